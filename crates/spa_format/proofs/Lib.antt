@@ -1,0 +1,13 @@
+pub mod WordLemmas
+pub mod FixedKinds
+pub mod Elements
+pub mod Choices
+pub mod Shapes
+pub mod Fronts
+pub mod Unique
+pub mod Short
+pub mod Back
+pub mod Origin
+pub mod Sequences
+pub mod Refused
+pub mod Normals

@@ -1,0 +1,49 @@
+-- A normal form is its own normal form.
+use Rattle.std.proofs.Common.{◌≡◌, ℕ, List, refl, ap}
+use Rattle.spa_format.specs.Kind.{Kind, none_kind, bool_kind, id_kind, int_kind, long_kind, float_kind, double_kind, rectangle_kind, fraction_kind, fd_kind, Fixed}
+use Rattle.spa_format.specs.Tree.{Shape, none_choice, range_choice, step_choice, enum_choice, flags_choice, Tree, fixed, string, bytes, array, choice, pointer, struct, object, Trees, no_trees, member, Properties, no_properties, property}
+use Rattle.spa_format.specs.Normal.{kept_elements, kept_flags, normal_of, normal_members, normal_properties}
+
+kept_elements-kept_elements : (k : Kind) (xs : List Fixed) → kept_elements k (kept_elements k xs) ≡ kept_elements k xs
+kept_elements-kept_elements none_kind xs = refl
+kept_elements-kept_elements bool_kind xs = refl
+kept_elements-kept_elements id_kind xs = refl
+kept_elements-kept_elements int_kind xs = refl
+kept_elements-kept_elements long_kind xs = refl
+kept_elements-kept_elements float_kind xs = refl
+kept_elements-kept_elements double_kind xs = refl
+kept_elements-kept_elements rectangle_kind xs = refl
+kept_elements-kept_elements fraction_kind xs = refl
+kept_elements-kept_elements fd_kind xs = refl
+
+kept_flags-kept_flags : (s : Shape) (f : ℕ) → kept_flags s (kept_flags s f) ≡ kept_flags s f
+kept_flags-kept_flags none_choice f = refl
+kept_flags-kept_flags range_choice f = refl
+kept_flags-kept_flags step_choice f = refl
+kept_flags-kept_flags enum_choice f = refl
+kept_flags-kept_flags flags_choice f = refl
+
+mutual
+  pub normal_of-normal_of : (v : Tree) → normal_of (normal_of v) ≡ normal_of v
+  normal_of-normal_of (fixed x) = refl
+  normal_of-normal_of (string s) = refl
+  normal_of-normal_of (bytes s) = refl
+  normal_of-normal_of (array k xs) = ap (array k) (kept_elements-kept_elements k xs)
+  normal_of-normal_of (choice s f k x xs) = ap (λ g. choice s g k x xs) (kept_flags-kept_flags s f)
+  normal_of-normal_of (pointer t a) = refl
+  normal_of-normal_of (struct vs) = ap struct (normal_members-normal_members vs)
+  normal_of-normal_of (object t i ps) = ap (object t i) (normal_properties-normal_properties ps)
+
+  normal_members-normal_members : (vs : Trees) → normal_members (normal_members vs) ≡ normal_members vs
+  normal_members-normal_members no_trees = refl
+  normal_members-normal_members (member v vs) =
+      let e0 = normal_of-normal_of v in
+      let e1 = normal_members-normal_members vs in
+      cc
+
+  normal_properties-normal_properties : (ps : Properties) → normal_properties (normal_properties ps) ≡ normal_properties ps
+  normal_properties-normal_properties no_properties = refl
+  normal_properties-normal_properties (property k f v ps) =
+      let e0 = normal_of-normal_of v in
+      let e1 = normal_properties-normal_properties ps in
+      cc

@@ -1,0 +1,11 @@
+pub mod Words
+pub mod Kind
+pub mod Tree
+pub mod Normal
+pub mod Pod
+pub mod Text
+pub mod Writable
+pub mod Front
+pub mod Typed
+pub mod Faults
+pub mod Opened

@@ -1,0 +1,50 @@
+-- Which values have a text that fits the format: docs/FORMAT.md, "Values that can be written".
+use Rattle.std.specs.Prelude.{◌≤◌, ◌⊎◌, length, Contains}
+use Rattle.spa_format.specs.Words.{size_limit}
+use Rattle.spa_format.specs.Tree.{Tree, fixed, string, bytes, array, choice, pointer, struct, object, Trees, no_trees, member, Properties, no_properties, property}
+use Rattle.spa_format.specs.Text.{text_body}
+
+-- a text in the value holds NUL
+abbrev mutual
+  pub HasNul : Tree → Type 0
+  HasNul (fixed x) = ⊥
+  HasNul (string s) = Contains s 0
+  HasNul (bytes s) = ⊥
+  HasNul (array k xs) = ⊥
+  HasNul (choice s f k x xs) = ⊥
+  HasNul (pointer t a) = ⊥
+  HasNul (struct vs) = SomeHasNul vs
+  HasNul (object t i ps) = SomeValueHasNul ps
+
+  pub SomeHasNul : Trees → Type 0
+  SomeHasNul no_trees = ⊥
+  SomeHasNul (member v vs) = HasNul v ⊎ SomeHasNul vs
+
+  pub SomeValueHasNul : Properties → Type 0
+  SomeValueHasNul no_properties = ⊥
+  SomeValueHasNul (property key flags v ps) = HasNul v ⊎ SomeValueHasNul ps
+
+-- a size word of the value's text is past 32 bits
+abbrev mutual
+  pub IsTooLarge : Tree → Type 0
+  IsTooLarge (fixed x) = ⊥
+  IsTooLarge (string s) = size_limit ≤ length (text_body (string s))
+  IsTooLarge (bytes s) = size_limit ≤ length (text_body (bytes s))
+  IsTooLarge (array k xs) = size_limit ≤ length (text_body (array k xs))
+  IsTooLarge (choice s f k x xs) = size_limit ≤ length (text_body (choice s f k x xs))
+  IsTooLarge (pointer t a) = ⊥
+  IsTooLarge (struct vs) = (size_limit ≤ length (text_body (struct vs))) ⊎ SomeTooLarge vs
+  IsTooLarge (object t i ps) = (size_limit ≤ length (text_body (object t i ps))) ⊎ SomeValueTooLarge ps
+
+  pub SomeTooLarge : Trees → Type 0
+  SomeTooLarge no_trees = ⊥
+  SomeTooLarge (member v vs) = IsTooLarge v ⊎ SomeTooLarge vs
+
+  pub SomeValueTooLarge : Properties → Type 0
+  SomeValueTooLarge no_properties = ⊥
+  SomeValueTooLarge (property key flags v ps) = IsTooLarge v ⊎ SomeValueTooLarge ps
+
+-- no text in it holds NUL, and no size word is past 32 bits
+pub record IsWritable (v : Tree) : Type 0 where
+  pub no_nul : ¬ (HasNul v)
+  pub fits : ¬ (IsTooLarge v)

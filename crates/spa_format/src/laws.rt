@@ -1,0 +1,58 @@
+//! Laws of the format, over its definitions alone. Each function does nothing: its contract is the law.
+ghost use Rattle.std.specs.Prelude.{◌≡◌, ◌≤◌, ◌↔◌, ◌++◌, [], List, length, ℕ};
+ghost use Rattle.spa_format.specs.Tree.{Tree};
+ghost use Rattle.spa_format.specs.Pod.{IsPod};
+ghost use Rattle.spa_format.specs.Text.{text_of};
+ghost use Rattle.spa_format.specs.Normal.{normal_of};
+ghost use Rattle.spa_format.specs.Faults.{Fault, Stands};
+ghost use Rattle.spa_format.specs.Front.{Begins, IsRefused, front_of};
+ghost use Rattle.spa_format.specs.Typed.{IsBytes, IsTyped};
+ghost use Rattle.spa_format.specs.Writable.{IsWritable};
+
+/// Bytes are a pod of one value at most.
+pub fn pods_have_one_value()
+    ensures { (b : List ℕ) (v w : Tree) → IsPod b v → IsPod b w → v ≡ w }
+{}
+
+/// No pod is a proper front of another.
+pub fn no_pod_begins_another()
+    ensures { (b r : List ℕ) (v w : Tree) → IsPod b v → IsPod (b ++ r) w → r ≡ [] }
+{}
+
+/// The text of a value that can be written reads back as the value's normal form, whatever follows it.
+pub fn texts_read_back()
+    ensures there { (v : Tree) (r : List ℕ) → IsTyped v → IsWritable v → front_of (text_of v ++ r) ≡ text_of v }
+    ensures value { (v : Tree) (r : List ℕ) → IsTyped v → IsWritable v → Begins (text_of v ++ r) (normal_of v) }
+{}
+
+/// A normal form is its own normal form.
+pub fn normal_forms_stay()
+    ensures { (v : Tree) → normal_of (normal_of v) ≡ normal_of v }
+{}
+
+/// What bytes say is a normal value, whose numbers are within their types and which can be written.
+pub fn readings_are_normal()
+    ensures normal { (b : List ℕ) (v : Tree) → IsPod b v → normal_of v ≡ v }
+    ensures typed { (b : List ℕ) (v : Tree) → IsBytes b → IsPod b v → IsTyped v }
+    ensures writable { (b : List ℕ) (v : Tree) → IsBytes b → IsPod b v → IsWritable v }
+{}
+
+/// A rewriting is a pod of the same value, and so its own rewriting.
+pub fn rewritings_are_pods()
+    ensures { (b : List ℕ) (v : Tree) → IsBytes b → IsPod b v → IsPod (text_of v) v }
+{}
+
+/// No pod of a value is shorter than the value's text.
+pub fn texts_are_shortest()
+    ensures { (b : List ℕ) (v : Tree) → IsPod b v → length (text_of v) ≤ length b }
+{}
+
+/// Two pods have one rewriting exactly where they are of one value.
+pub fn same_rewriting_same_value()
+    ensures { (b c : List ℕ) (v w : Tree) → IsBytes b → IsBytes c → IsPod b v → IsPod c w → (text_of v ≡ text_of w) ↔ (v ≡ w) }
+{}
+
+/// Where a fault stands, the front isn't there or is a pod of no value.
+pub fn faults_refuse()
+    ensures { (k : Fault) (place b : List ℕ) → Stands k place b → IsRefused b }
+{}

@@ -1,0 +1,116 @@
+//! Choices: a value that stands among others.
+ghost use Rattle.std.specs.Prelude.{⊤, ◌≡◌, [], ◌∷◌, codes, IfOk};
+ghost use Rattle.spa_utils.specs.Copies.{IsCopyOf, IsChoiceCopyOf};
+
+use bitflags::{Flag, Flags};
+use std::alloc::AllocError;
+
+/// A choice: its flags and its values.
+#[derive(Debug, PartialEq, Eq, Drop)]
+pub struct Choice<T>(pub ChoiceFlags, pub ChoiceEnum<T>);
+
+impl<T: Copy> Clone for Choice<T> {
+    ghost is_clone = { IsChoiceCopyOf };
+
+    fn clone(&self) -> Result<Choice<T>, AllocError> {
+        Ok(Choice(self.0, self.1.clone()?))
+    }
+}
+
+/// The flags of a choice. None has a meaning yet, and all bits are kept.
+#[derive(Clone, Copy, Debug, PartialEq, Eq)]
+pub struct ChoiceFlags(u32);
+
+impl ChoiceFlags {
+    /// A flag without a meaning, so that the table has one.
+    #[doc(hidden)]
+    pub const _FAKE: ChoiceFlags = ChoiceFlags(1);
+
+    const TABLE: &'static [Flag<ChoiceFlags>] = &[Flag {
+        name: "_FAKE",
+        value: ChoiceFlags::_FAKE,
+    }];
+}
+
+impl Flags for ChoiceFlags {
+    type Bits = u32;
+
+    ghost exact = { ⊤ };
+
+    ghost table = { (codes "_FAKE", 1) ∷ [] };
+
+    ghost set_of = { λ f. f.0 };
+
+    fn flags<'a>() -> &'a [Flag<ChoiceFlags>] {
+        ChoiceFlags::TABLE
+    }
+
+    fn bits(&self) -> u32 {
+        self.0
+    }
+
+    fn from_bits_retain(bits: u32) -> ChoiceFlags {
+        ChoiceFlags(bits)
+    }
+}
+
+/// The values of a choice, the default among them.
+#[derive(Debug, PartialEq, Eq, Drop)]
+pub enum ChoiceEnum<T> {
+    /// The one value.
+    None(T),
+    /// Any value from `min` to `max`.
+    Range { default: T, min: T, max: T },
+    /// Any value from `min` to `max`, in steps.
+    Step { default: T, min: T, max: T, step: T },
+    /// The default or one of the alternatives.
+    Enum { default: T, alternatives: Vec<T> },
+    /// Any of the flags together.
+    Flags { default: T, flags: Vec<T> },
+}
+
+impl<T: Copy> Clone for ChoiceEnum<T> {
+    ghost is_clone = { IsCopyOf };
+
+    fn clone(&self) -> Result<ChoiceEnum<T>, AllocError> {
+        match self {
+            ChoiceEnum::None(value) => Ok(ChoiceEnum::None(*value)),
+            ChoiceEnum::Range { default, min, max } => Ok(ChoiceEnum::Range {
+                default: *default,
+                min: *min,
+                max: *max,
+            }),
+            ChoiceEnum::Step {
+                default,
+                min,
+                max,
+                step,
+            } => Ok(ChoiceEnum::Step {
+                default: *default,
+                min: *min,
+                max: *max,
+                step: *step,
+            }),
+            ChoiceEnum::Enum {
+                default,
+                alternatives,
+            } => Ok(ChoiceEnum::Enum {
+                default: *default,
+                alternatives: copy_of(alternatives)?,
+            }),
+            ChoiceEnum::Flags { default, flags } => Ok(ChoiceEnum::Flags {
+                default: *default,
+                flags: copy_of(flags)?,
+            }),
+        }
+    }
+}
+
+/// The same elements, by the allocator of the given ones.
+fn copy_of<T: Copy>(values: &Vec<T>) -> Result<Vec<T>, AllocError>
+    ensures { IfOk result (λ copy. copy.items ≡ values.now.items) }
+{
+    let mut copy = Vec::new(*values.allocator());
+    copy.extend_from_slice(values.as_slice())?;
+    Ok(copy)
+}

@@ -1,0 +1,4 @@
+//! Numbers of the interface that belong to no type.
+
+/// The id that stands for none: all 32 bits are set.
+pub const ID_INVALID: u32 = 4294967295;

@@ -1,0 +1,5 @@
+//! File descriptors.
+
+/// A file descriptor's number, as pods carry it: in 64 bits.
+#[derive(Clone, Copy, Debug, PartialEq, Eq)]
+pub struct Fd(pub i64);

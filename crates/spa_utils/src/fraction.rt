@@ -1,0 +1,8 @@
+//! Fractions.
+
+/// A quotient that is kept as its two numbers: 2/4 is not 1/2, and `denom` may be 0.
+#[derive(Clone, Copy, Debug, PartialEq, Eq)]
+pub struct Fraction {
+    pub num: u32,
+    pub denom: u32,
+}

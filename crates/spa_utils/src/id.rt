@@ -1,0 +1,15 @@
+//! Ids.
+ghost use Rattle.std.specs.Prelude.{◌≡◌};
+
+/// The number of an object, a key or an entry of an enumeration.
+#[derive(Clone, Copy, Debug, PartialEq, Eq)]
+pub struct Id(pub u32);
+
+impl Id {
+    /// The number.
+    pub fn as_raw(&self) -> u32
+        ensures { result ≡ self.now.0 }
+    {
+        self.0
+    }
+}

@@ -1,0 +1,23 @@
+//! The plain types that every part of the library speaks of: each is its number or its fields.
+#![tactic(auto)]
+
+mod choice;
+pub mod constants;
+mod direction;
+mod errno;
+mod fd;
+mod float;
+mod fraction;
+mod id;
+mod rectangle;
+mod types;
+
+pub use choice::{Choice, ChoiceEnum, ChoiceFlags};
+pub use direction::Direction;
+pub use errno::Errno;
+pub use fd::Fd;
+pub use float::{Float32, Float64};
+pub use fraction::Fraction;
+pub use id::Id;
+pub use rectangle::Rectangle;
+pub use types::SpaTypes;

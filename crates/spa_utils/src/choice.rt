@@ -1,5 +1,10 @@
 //! Choices: a value that stands among others.
-ghost use Rattle.std.specs.Prelude.{⊤, ◌≡◌, [], ◌∷◌, codes, IfOk};
+ghost use Rattle.std.specs.Prelude.{⊤, ◌≡◌, [], ◌∷◌, codes, IfOk, nat_eq};
+ghost use Rattle.std.proofs.Common.{rules};
+ghost use Rattle.std.specs.Cmp.Lexicographic.{pointwise};
+ghost use Rattle.std.specs.Cmp.Rules.{comparing};
+ghost use Rattle.std.specs.Ordering.{eq_of_both, on};
+ghost use Rattle.spa_utils.specs.Equality.{shape_of, values_of};
 ghost use Rattle.spa_utils.specs.Copies.{IsCopyOf, IsChoiceCopyOf};
 
 use bitflags::{Flag, Flags};
@@ -55,7 +60,7 @@ impl Flags for ChoiceFlags {
 }
 
 /// The values of a choice, the default among them.
-#[derive(Debug, PartialEq, Eq, Drop)]
+#[derive(Debug, Drop)]
 pub enum ChoiceEnum<T> {
     /// The one value.
     None(T),
@@ -67,6 +72,62 @@ pub enum ChoiceEnum<T> {
     Enum { default: T, alternatives: Vec<T> },
     /// Any of the flags together.
     Flags { default: T, flags: Vec<T> },
+}
+
+impl<T: PartialEq> PartialEq for ChoiceEnum<T> {
+    ghost eq = { eq_of_both (on shape_of nat_eq) (on values_of (pointwise T.eq)) };
+
+    ghost laws = { Prim.search (comparing, rules) };
+
+    fn eq(&self, other: &Self) -> bool {
+        match (self, other) {
+            (ChoiceEnum::None(v), ChoiceEnum::None(w)) => v.eq(w),
+            (
+                ChoiceEnum::Range { default, min, max },
+                ChoiceEnum::Range {
+                    default: d,
+                    min: low,
+                    max: high,
+                },
+            ) => default.eq(d) && min.eq(low) && max.eq(high),
+            (
+                ChoiceEnum::Step {
+                    default,
+                    min,
+                    max,
+                    step,
+                },
+                ChoiceEnum::Step {
+                    default: d,
+                    min: low,
+                    max: high,
+                    step: by,
+                },
+            ) => default.eq(d) && min.eq(low) && max.eq(high) && step.eq(by),
+            (
+                ChoiceEnum::Enum {
+                    default,
+                    alternatives,
+                },
+                ChoiceEnum::Enum {
+                    default: d,
+                    alternatives: others,
+                },
+            ) => default.eq(d) && alternatives.eq(others),
+            (
+                ChoiceEnum::Flags { default, flags },
+                ChoiceEnum::Flags {
+                    default: d,
+                    flags: others,
+                },
+            ) => default.eq(d) && flags.eq(others),
+            _ => false,
+        }
+    }
+}
+
+impl<T: Eq> Eq for ChoiceEnum<T> {
+    ghost laws = { Prim.search (comparing, rules) };
 }
 
 impl<T: Copy> Clone for ChoiceEnum<T> {

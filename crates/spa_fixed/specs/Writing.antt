@@ -1,0 +1,23 @@
+-- What a refused write says: docs/FORMAT.md, "Values that can be written".
+use Rattle.std.specs.Prelude.{ℕ}
+use Rattle.spa_fixed.specs.declared.gen_error.GenError.{GenError}
+use Rattle.spa_fixed.specs.declared.gen_error.GenError.TheVariants.{Full, TooLarge, NulInText, WrongCount, Failed, Io, OutOfMemory}
+
+-- NulInText, TooLarge and any other refusal are answered only where these facts hold.
+abbrev pub RefusedFor : Type 0 → Type 0 → (GenError → Type 0) → GenError → Type 0
+RefusedFor nul large other Full = other Full
+RefusedFor nul large other TooLarge = large
+RefusedFor nul large other NulInText = nul
+RefusedFor nul large other WrongCount = other WrongCount
+RefusedFor nul large other Failed = other Failed
+RefusedFor nul large other Io = other Io
+RefusedFor nul large other OutOfMemory = other OutOfMemory
+
+-- A refused write: a text holds NUL, a size word is past 32 bits, or the sink refused.
+-- It is a record, so that lemmas find its arguments.
+pub record RefusesWrite (nul large : Type 0) (lacks : GenError → Type 0) (e : GenError) : Type 0 where
+  pub cause : RefusedFor nul large lacks e
+
+-- the sink may refuse so many bytes so, whatever it is left as
+abbrev pub MayRefuse : {S : Type 0} → (S → ℕ → S → GenError → Type 0) → S → ℕ → GenError → Type 0
+MayRefuse refuses old n e = (new : _) × refuses old n new e

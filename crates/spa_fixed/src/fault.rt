@@ -1,0 +1,125 @@
+//! Why a pod could not be read.
+ghost use Rattle.std.specs.Prelude.{◌≡◌, codes};
+ghost use Rattle.spa_fixed.specs.Faults.{kind_text};
+ghost use Rattle.spa_fixed.specs.declared.fault.DeserializeError.TheVariants as error;
+ghost use Rattle.spa_fixed.specs.declared.fault.Refusal.TheVariants as refusal;
+
+use std::alloc::{AllocError, AllocFailed};
+
+/// What is wrong with the bytes at a place.
+#[derive(Clone, Copy, PartialEq, Eq, Debug)]
+pub enum FaultKind {
+    /// Fewer bytes are there than a header, the header's size word, or a property's key and flags need.
+    Short,
+    /// A typed read finds another type number.
+    Tag,
+    /// A string's body is empty, doesn't end in NUL, holds another NUL, or isn't UTF-8 before the last one.
+    Text,
+}
+
+/// A fault of the bytes, and what was left of the input where it stands: from the refused pod on, or from the property's
+/// key that is short.
+#[derive(PartialEq, Debug, Drop)]
+pub struct Fault<I> {
+    pub input: I,
+    pub kind: FaultKind,
+}
+
+/// Why a pod could not be read.
+#[derive(PartialEq, Debug, Drop)]
+pub enum DeserializeError<I> {
+    /// The bytes at a place are short, of another type than the one asked for, or no text.
+    Nom(Fault<I>),
+    /// A visitor doesn't take what it is handed.
+    UnsupportedType,
+    /// The type number of a pod, of an array's elements or of a choice's values is none that is read.
+    InvalidType,
+    /// An object has no further property.
+    PropertyMissing,
+    /// The next property has this key, and not the one asked for.
+    PropertyWrongKey(u32),
+    /// A choice's kind word is above 4.
+    InvalidChoiceType,
+    /// A choice has fewer values than its kind needs.
+    MissingChoiceValues,
+    /// A body isn't as long as its type's bodies are, or isn't made of whole elements.
+    WrongSize,
+    /// A struct, object or array reader ended before its last member was read.
+    UnreadMembers,
+    /// An array has no further element.
+    NoElementLeft,
+    /// The reader was refused before.
+    FailedReader,
+    /// A growth was refused.
+    OutOfMemory,
+}
+
+impl<I> DeserializeError<I> {
+    /// The variant's name; for `Nom` the name of the fault's kind.
+    pub fn kind(&self) -> &'static str
+        ensures { result.now ≡ kind_text self.now }
+    {
+        match self {
+            DeserializeError::Nom(fault) => match fault.kind {
+                FaultKind::Short => "Short",
+                FaultKind::Tag => "Tag",
+                FaultKind::Text => "Text",
+            },
+            DeserializeError::UnsupportedType => "UnsupportedType",
+            DeserializeError::InvalidType => "InvalidType",
+            DeserializeError::PropertyMissing => "PropertyMissing",
+            DeserializeError::PropertyWrongKey(_) => "PropertyWrongKey",
+            DeserializeError::InvalidChoiceType => "InvalidChoiceType",
+            DeserializeError::MissingChoiceValues => "MissingChoiceValues",
+            DeserializeError::WrongSize => "WrongSize",
+            DeserializeError::UnreadMembers => "UnreadMembers",
+            DeserializeError::NoElementLeft => "NoElementLeft",
+            DeserializeError::FailedReader => "FailedReader",
+            DeserializeError::OutOfMemory => "OutOfMemory",
+        }
+    }
+}
+
+impl<I> From<Fault<I>> for DeserializeError<I> {
+    ghost from_gives = { λ f e. e ≡ error.Nom f };
+
+    fn from(fault: Fault<I>) -> DeserializeError<I> {
+        DeserializeError::Nom(fault)
+    }
+}
+
+impl<I> From<AllocError> for DeserializeError<I> {
+    ghost from_gives = { λ _ e. e ≡ error.OutOfMemory };
+
+    fn from(_error: AllocError) -> DeserializeError<I> {
+        DeserializeError::OutOfMemory
+    }
+}
+
+/// Why an untyped read refuses, without a place: what the readers of bodies answer to the readers of pods.
+#[derive(Clone, Copy, PartialEq, Eq, Debug)]
+pub enum Refusal {
+    Short,
+    Text,
+    InvalidType,
+    InvalidChoiceType,
+    MissingChoiceValues,
+    WrongSize,
+    OutOfMemory,
+}
+
+impl From<AllocError> for Refusal {
+    ghost from_gives = { λ _ e. e ≡ refusal.OutOfMemory };
+
+    fn from(_error: AllocError) -> Refusal {
+        Refusal::OutOfMemory
+    }
+}
+
+impl<T: Drop> From<AllocFailed<T>> for Refusal {
+    ghost from_gives = { λ _ e. e ≡ refusal.OutOfMemory };
+
+    fn from(_error: AllocFailed<T>) -> Refusal {
+        Refusal::OutOfMemory
+    }
+}

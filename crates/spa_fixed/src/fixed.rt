@@ -1,0 +1,458 @@
+//! The ten types whose bodies have one size each.
+ghost use Rattle.std.specs.Prelude.{◌≡◌, ◌<◌, ◌≤◌, ◌++◌, ℕ, IfErr, IfOk, OnErr, OnOk, drop, length, refl, take};
+ghost use Rattle.spa_fixed.specs.declared.fault.FaultKind.TheVariants as fault_kind;
+ghost use Rattle.spa_format.specs.Kind as k;
+ghost use Rattle.spa_format.specs.Kind.{Fixed, Kind, body_size, content, fixed_body, kind_of, type_number};
+ghost use Rattle.spa_format.specs.Typed.{IsTypedFixed};
+ghost use Rattle.std.proofs.Common.{arith};
+
+use crate::fault::{Fault, FaultKind};
+use crate::gen_error::GenError;
+use crate::sink::PodSink;
+use crate::words::{put_two, put_wide, put_word, u32_at, u64_at};
+use spa_utils::{Fd, Float32, Float64, Fraction, Id, Rectangle};
+
+mod sealed {
+    /// The types of fixed size are these ten, and no type of another crate.
+    pub trait Sealed {}
+}
+
+use sealed::Sealed;
+
+/// The length in bytes of a body that is one word.
+const WORD_LEN: usize = 4;
+
+/// The length in bytes of a body that is two words or a number of 64 bits.
+const WIDE_LEN: usize = 8;
+
+/// One of the ten types whose bodies have one size: `()`, `bool`, `Id`, `i32`, `i64`, `Float32`, `Float64`, `Rectangle`,
+/// `Fraction` and `Fd`.
+pub trait CanonicalFixedSizedPod: Sealed + Copy {
+    /// The type number.
+    const TYPE: u32;
+
+    /// How many bytes a body has.
+    const SIZE: usize;
+
+    ghost TYPE: { ℕ };
+
+    ghost SIZE: { ℕ };
+
+    /// The kind of the type's values.
+    ghost kind: { Kind };
+
+    /// What a value says.
+    ghost fixed: { Self → Fixed };
+
+    /// Appends the body, without padding. It is refused only where the sink refuses it.
+    fn serialize_body<O: PodSink>(&self, out: &mut O) -> Result<(), GenError>
+        ensures ok { OnOk result (O.appends out.old (fixed_body (fixed self.now)) out.new) }
+        ensures typed { IsTypedFixed (fixed self.now) }
+        ensures begun { OnErr result ((count : ℕ) × O.appends out.old (take count (fixed_body (fixed self.now))) out.new) }
+        ensures cause { IfErr result (λ e. O.refuses out.old SIZE out.new e) };
+
+    /// Reads the body at the front of the bytes, and answers what follows it and the value. It is refused, as short,
+    /// exactly where fewer than `SIZE` bytes are there.
+    fn deserialize_body(bytes: &[u8]) -> Result<(&[u8], Self), Fault<&[u8]>>
+        ensures enough { OnOk result (SIZE ≤ length bytes.now) }
+        ensures says { IfOk result (λ read. fixed read.1 ≡ content kind (take SIZE bytes.now)) }
+        ensures rest { IfOk result (λ read. read.0.now ≡ drop SIZE bytes.now) }
+        ensures short { IfErr result (λ fault. (length bytes.now < SIZE) × (fault.input.now ≡ bytes.now) × (fault.kind ≡ fault_kind.Short)) };
+
+    ghost its_type: { TYPE ≡ type_number kind };
+
+    ghost its_size: { SIZE ≡ body_size kind };
+
+    ghost its_kind: { (x : Self) → kind_of (fixed x) ≡ kind };
+}
+
+/// One of the nine types that a choice may be over, which are the ten without `()`.
+pub trait ChoiceElement: CanonicalFixedSizedPod {
+    ghost sized: { 0 < Self.SIZE };
+}
+
+impl Sealed for () {}
+
+impl CanonicalFixedSizedPod for () {
+    const TYPE: u32 = 1;
+
+    const SIZE: usize = 0;
+
+    ghost TYPE = { 1 };
+
+    ghost SIZE = { 0 };
+
+    ghost kind = { k.none_kind };
+
+    ghost fixed = { λ _. k.none };
+
+    ghost its_type = { refl };
+
+    ghost its_size = { refl };
+
+    ghost its_kind = { λ _. refl };
+
+    fn serialize_body<O: PodSink>(&self, out: &mut O) -> Result<(), GenError> {
+        out.append(&[])
+    }
+
+    fn deserialize_body(bytes: &[u8]) -> Result<(&[u8], ()), Fault<&[u8]>> {
+        Ok((bytes, ()))
+    }
+}
+
+impl Sealed for bool {}
+
+impl CanonicalFixedSizedPod for bool {
+    const TYPE: u32 = 2;
+
+    const SIZE: usize = WORD_LEN;
+
+    ghost TYPE = { 2 };
+
+    ghost SIZE = { 4 };
+
+    ghost kind = { k.bool_kind };
+
+    ghost fixed = { λ x. k.bool x };
+
+    ghost its_type = { refl };
+
+    ghost its_size = { refl };
+
+    ghost its_kind = { λ _. refl };
+
+    fn serialize_body<O: PodSink>(&self, out: &mut O) -> Result<(), GenError> {
+        put_word(out, u32::from(*self))
+    }
+
+    fn deserialize_body(bytes: &[u8]) -> Result<(&[u8], bool), Fault<&[u8]>> {
+        match cut(bytes, WORD_LEN) {
+            Ok((body, rest)) => Ok((rest, u32_at(body, 0) != 0)),
+            Err(fault) => Err(fault),
+        }
+    }
+}
+
+impl ChoiceElement for bool {
+    ghost sized = { Prim.omega arith };
+}
+
+impl Sealed for Id {}
+
+impl CanonicalFixedSizedPod for Id {
+    const TYPE: u32 = 3;
+
+    const SIZE: usize = WORD_LEN;
+
+    ghost TYPE = { 3 };
+
+    ghost SIZE = { 4 };
+
+    ghost kind = { k.id_kind };
+
+    ghost fixed = { λ x. k.id x.0 };
+
+    ghost its_type = { refl };
+
+    ghost its_size = { refl };
+
+    ghost its_kind = { λ _. refl };
+
+    fn serialize_body<O: PodSink>(&self, out: &mut O) -> Result<(), GenError> {
+        put_word(out, self.0)
+    }
+
+    fn deserialize_body(bytes: &[u8]) -> Result<(&[u8], Id), Fault<&[u8]>> {
+        match cut(bytes, WORD_LEN) {
+            Ok((body, rest)) => Ok((rest, Id(u32_at(body, 0)))),
+            Err(fault) => Err(fault),
+        }
+    }
+}
+
+impl ChoiceElement for Id {
+    ghost sized = { Prim.omega arith };
+}
+
+impl Sealed for i32 {}
+
+impl CanonicalFixedSizedPod for i32 {
+    const TYPE: u32 = 4;
+
+    const SIZE: usize = WORD_LEN;
+
+    ghost TYPE = { 4 };
+
+    ghost SIZE = { 4 };
+
+    ghost kind = { k.int_kind };
+
+    ghost fixed = { λ x. k.int x };
+
+    ghost its_type = { refl };
+
+    ghost its_size = { refl };
+
+    ghost its_kind = { λ _. refl };
+
+    fn serialize_body<O: PodSink>(&self, out: &mut O) -> Result<(), GenError> {
+        put_word(out, self.cast_unsigned())
+    }
+
+    fn deserialize_body(bytes: &[u8]) -> Result<(&[u8], i32), Fault<&[u8]>> {
+        match cut(bytes, WORD_LEN) {
+            Ok((body, rest)) => Ok((rest, u32_at(body, 0).cast_signed())),
+            Err(fault) => Err(fault),
+        }
+    }
+}
+
+impl ChoiceElement for i32 {
+    ghost sized = { Prim.omega arith };
+}
+
+impl Sealed for i64 {}
+
+impl CanonicalFixedSizedPod for i64 {
+    const TYPE: u32 = 5;
+
+    const SIZE: usize = WIDE_LEN;
+
+    ghost TYPE = { 5 };
+
+    ghost SIZE = { 8 };
+
+    ghost kind = { k.long_kind };
+
+    ghost fixed = { λ x. k.long x };
+
+    ghost its_type = { refl };
+
+    ghost its_size = { refl };
+
+    ghost its_kind = { λ _. refl };
+
+    fn serialize_body<O: PodSink>(&self, out: &mut O) -> Result<(), GenError> {
+        put_wide(out, self.cast_unsigned())
+    }
+
+    fn deserialize_body(bytes: &[u8]) -> Result<(&[u8], i64), Fault<&[u8]>> {
+        match cut(bytes, WIDE_LEN) {
+            Ok((body, rest)) => Ok((rest, u64_at(body, 0).cast_signed())),
+            Err(fault) => Err(fault),
+        }
+    }
+}
+
+impl ChoiceElement for i64 {
+    ghost sized = { Prim.omega arith };
+}
+
+impl Sealed for Float32 {}
+
+impl CanonicalFixedSizedPod for Float32 {
+    const TYPE: u32 = 6;
+
+    const SIZE: usize = WORD_LEN;
+
+    ghost TYPE = { 6 };
+
+    ghost SIZE = { 4 };
+
+    ghost kind = { k.float_kind };
+
+    ghost fixed = { λ x. k.float x.0 };
+
+    ghost its_type = { refl };
+
+    ghost its_size = { refl };
+
+    ghost its_kind = { λ _. refl };
+
+    fn serialize_body<O: PodSink>(&self, out: &mut O) -> Result<(), GenError> {
+        put_word(out, self.0)
+    }
+
+    fn deserialize_body(bytes: &[u8]) -> Result<(&[u8], Float32), Fault<&[u8]>> {
+        match cut(bytes, WORD_LEN) {
+            Ok((body, rest)) => Ok((rest, Float32(u32_at(body, 0)))),
+            Err(fault) => Err(fault),
+        }
+    }
+}
+
+impl ChoiceElement for Float32 {
+    ghost sized = { Prim.omega arith };
+}
+
+impl Sealed for Float64 {}
+
+impl CanonicalFixedSizedPod for Float64 {
+    const TYPE: u32 = 7;
+
+    const SIZE: usize = WIDE_LEN;
+
+    ghost TYPE = { 7 };
+
+    ghost SIZE = { 8 };
+
+    ghost kind = { k.double_kind };
+
+    ghost fixed = { λ x. k.double x.0 };
+
+    ghost its_type = { refl };
+
+    ghost its_size = { refl };
+
+    ghost its_kind = { λ _. refl };
+
+    fn serialize_body<O: PodSink>(&self, out: &mut O) -> Result<(), GenError> {
+        put_wide(out, self.0)
+    }
+
+    fn deserialize_body(bytes: &[u8]) -> Result<(&[u8], Float64), Fault<&[u8]>> {
+        match cut(bytes, WIDE_LEN) {
+            Ok((body, rest)) => Ok((rest, Float64(u64_at(body, 0)))),
+            Err(fault) => Err(fault),
+        }
+    }
+}
+
+impl ChoiceElement for Float64 {
+    ghost sized = { Prim.omega arith };
+}
+
+impl Sealed for Rectangle {}
+
+impl CanonicalFixedSizedPod for Rectangle {
+    const TYPE: u32 = 10;
+
+    const SIZE: usize = WIDE_LEN;
+
+    ghost TYPE = { 10 };
+
+    ghost SIZE = { 8 };
+
+    ghost kind = { k.rectangle_kind };
+
+    ghost fixed = { λ x. k.rectangle x.width x.height };
+
+    ghost its_type = { refl };
+
+    ghost its_size = { refl };
+
+    ghost its_kind = { λ _. refl };
+
+    fn serialize_body<O: PodSink>(&self, out: &mut O) -> Result<(), GenError> {
+        put_two(out, self.width, self.height)
+    }
+
+    fn deserialize_body(bytes: &[u8]) -> Result<(&[u8], Rectangle), Fault<&[u8]>> {
+        match cut(bytes, WIDE_LEN) {
+            Ok((body, rest)) => Ok((rest, Rectangle {
+                    width: u32_at(body, 0),
+                    height: u32_at(body, 4),
+                })),
+            Err(fault) => Err(fault),
+        }
+    }
+}
+
+impl ChoiceElement for Rectangle {
+    ghost sized = { Prim.omega arith };
+}
+
+impl Sealed for Fraction {}
+
+impl CanonicalFixedSizedPod for Fraction {
+    const TYPE: u32 = 11;
+
+    const SIZE: usize = WIDE_LEN;
+
+    ghost TYPE = { 11 };
+
+    ghost SIZE = { 8 };
+
+    ghost kind = { k.fraction_kind };
+
+    ghost fixed = { λ x. k.fraction x.num x.denom };
+
+    ghost its_type = { refl };
+
+    ghost its_size = { refl };
+
+    ghost its_kind = { λ _. refl };
+
+    fn serialize_body<O: PodSink>(&self, out: &mut O) -> Result<(), GenError> {
+        put_two(out, self.num, self.denom)
+    }
+
+    fn deserialize_body(bytes: &[u8]) -> Result<(&[u8], Fraction), Fault<&[u8]>> {
+        match cut(bytes, WIDE_LEN) {
+            Ok((body, rest)) => Ok((rest, Fraction {
+                    num: u32_at(body, 0),
+                    denom: u32_at(body, 4),
+                })),
+            Err(fault) => Err(fault),
+        }
+    }
+}
+
+impl ChoiceElement for Fraction {
+    ghost sized = { Prim.omega arith };
+}
+
+impl Sealed for Fd {}
+
+impl CanonicalFixedSizedPod for Fd {
+    const TYPE: u32 = 18;
+
+    const SIZE: usize = WIDE_LEN;
+
+    ghost TYPE = { 18 };
+
+    ghost SIZE = { 8 };
+
+    ghost kind = { k.fd_kind };
+
+    ghost fixed = { λ x. k.fd x.0 };
+
+    ghost its_type = { refl };
+
+    ghost its_size = { refl };
+
+    ghost its_kind = { λ _. refl };
+
+    fn serialize_body<O: PodSink>(&self, out: &mut O) -> Result<(), GenError> {
+        put_wide(out, self.0.cast_unsigned())
+    }
+
+    fn deserialize_body(bytes: &[u8]) -> Result<(&[u8], Fd), Fault<&[u8]>> {
+        match cut(bytes, WIDE_LEN) {
+            Ok((body, rest)) => Ok((rest, Fd(u64_at(body, 0).cast_signed()))),
+            Err(fault) => Err(fault),
+        }
+    }
+}
+
+impl ChoiceElement for Fd {
+    ghost sized = { Prim.omega arith };
+}
+
+/// The first bytes, and what follows them.
+fn cut(bytes: &[u8], size: usize) -> Result<(&[u8], &[u8]), Fault<&[u8]>>
+    ensures enough { OnOk result (size ≤ length bytes.now) }
+    ensures front { IfOk result (λ parts. parts.0.now ≡ take size bytes.now) }
+    ensures count { IfOk result (λ parts. length parts.0.now ≡ size) }
+    ensures rest { IfOk result (λ parts. parts.1.now ≡ drop size bytes.now) }
+    ensures short { IfErr result (λ fault. (length bytes.now < size) × (fault.input.now ≡ bytes.now) × (fault.kind ≡ fault_kind.Short)) }
+{
+    if bytes.len() < size {
+        return Err(Fault {
+            input: bytes,
+            kind: FaultKind::Short,
+        });
+    }
+    Ok(bytes.split_at(size))
+}

@@ -1,0 +1,14 @@
+//! and why a read or a write is refused.
+#![tactic(auto)]
+
+mod fault;
+mod fixed;
+mod gen_error;
+mod sink;
+mod words;
+
+pub use fault::{DeserializeError, Fault, FaultKind, Refusal};
+pub use fixed::{CanonicalFixedSizedPod, ChoiceElement};
+pub use gen_error::GenError;
+pub use sink::{PodOutput, PodSink};
+pub use words::{HEADER_LEN, put_padding, put_two, put_wide, put_word, two_words, u32_at, u64_at};

@@ -1,0 +1,138 @@
+//! What bytes are written to.
+ghost use Rattle.std.specs.Prelude.{◌≡◌, ℕ, ◌+◌, ◌<◌, ◌≤◌, List, ◌++◌, length, take, drop, OnOk, OnErr, IfErr};
+ghost use Rattle.spa_fixed.specs.declared.gen_error.GenError.{GenError};
+ghost use Rattle.spa_fixed.specs.declared.gen_error.GenError.TheVariants.{Full, TooLarge, NulInText, OutOfMemory};
+ghost use Rattle.std.proofs.Common.{ap, arith, append_assoc, length-append};
+
+use crate::gen_error::GenError;
+use arrayvec::ArrayVec;
+
+/// Takes bytes at its end.
+///
+/// What it took is a relation between the sink before and after, so that a device whose bytes nobody knows is a sink too.
+pub trait PodSink: Drop {
+    /// The first, with these bytes at its end, is the second.
+    ghost appends: { Self → List ℕ → Self → Type 0 };
+
+    /// The first, asked for this many bytes in all, may refuse so and be left as the second.
+    ghost refuses: { Self → ℕ → Self → GenError → Type 0 };
+
+    /// Appends the bytes. A refusal leaves a beginning of them appended.
+    fn append(&mut self, bytes: &[u8]) -> Result<(), GenError>
+        ensures ok { OnOk result (appends self.old bytes.now self.new) }
+        ensures begun { OnErr result ((count : ℕ) × appends self.old (take count bytes.now) self.new) }
+        ensures cause { IfErr result (λ e. refuses self.old (length bytes.now) self.new e) };
+
+    ghost appends_more: { (a b c : Self) (xs ys : List ℕ) → appends a xs b → appends b ys c → appends a (xs ++ ys) c };
+
+    ghost refuses_longer: { (a b : Self) (m n : ℕ) (e : GenError) → m ≤ n → refuses a m b e → refuses a n b e };
+
+    ghost refuses_after: { (a b c : Self) (xs : List ℕ) (n : ℕ) (e : GenError) → appends a xs b → refuses b n c e → refuses a (length xs + n) c e };
+
+    /// A sink knows nothing of texts, nor of sizes.
+    ghost never_nul: { (a b : Self) (n : ℕ) → refuses a n b NulInText → ⊥ };
+
+    ghost never_large: { (a b : Self) (n : ℕ) → refuses a n b TooLarge → ⊥ };
+}
+
+/// A sink whose bytes are known, and can be changed after they were written.
+pub trait PodOutput: PodSink {
+    /// The bytes that it holds.
+    ghost content: { Self → List ℕ };
+
+    /// How many bytes it holds.
+    fn len(&self) -> usize
+        ensures { result ≡ length (content self.now) };
+
+    /// Writes these four bytes over those from this place on.
+    fn overwrite(&mut self, at: usize, bytes: [u8; 4])
+        requires { at + 4 ≤ length (content self.old) }
+        ensures value { content self.new ≡ take at (content self.old) ++ (bytes ++ drop (at + 4) (content self.old)) }
+        ensures room { (c : Self) (n : ℕ) (e : GenError) → Self.refuses self.new n c e → Self.refuses self.old n c e };
+
+    ghost content_appends: { (a b : Self) (xs : List ℕ) → Self.appends a xs b → content b ≡ content a ++ xs };
+}
+
+impl PodSink for Vec<u8> {
+    ghost appends = { λ a xs b. b.items ≡ a.items ++ xs };
+
+    ghost refuses = { λ _ _ _ e. e ≡ OutOfMemory };
+
+    ghost appends_more = { λ a b c xs ys p q. Prim.rw (q, p) (append_assoc a.items xs ys) };
+
+    ghost refuses_longer = { λ a b m n e h r. r };
+
+    ghost refuses_after = { λ a b c xs n e p r. r };
+
+    ghost never_nul = { λ a b n r. Prim.cc (r) };
+
+    ghost never_large = { λ a b n r. Prim.cc (r) };
+
+    fn append(&mut self, bytes: &[u8]) -> Result<(), GenError>
+        ensures ok { OnOk result (self.new.items ≡ self.old.items ++ bytes.now) }
+        ensures begun { OnErr result ((count : ℕ) × (self.new.items ≡ self.old.items ++ take count bytes.now)) }
+        ensures cause { IfErr result (λ e. e ≡ OutOfMemory) }
+        ensures unchanged { OnErr result (self.new.items ≡ self.old.items) }
+    {
+        match self.extend_from_slice(bytes) {
+            Ok(()) => Ok(()),
+            Err(_) => Err(GenError::OutOfMemory),
+        }
+    }
+}
+
+impl PodOutput for Vec<u8> {
+    ghost content = { λ it. it.items };
+
+    ghost content_appends = { λ a b xs p. p };
+
+    fn len(&self) -> usize {
+        Vec::len(self)
+    }
+
+    fn overwrite(&mut self, at: usize, bytes: [u8; 4]) {
+        self[at..at + 4].copy_from_slice(&bytes);
+    }
+}
+
+impl<const N: usize> PodSink for ArrayVec<u8, N> {
+    ghost appends = { λ a xs b. b.items ≡ a.items ++ xs };
+
+    ghost refuses = { λ a n _ e. (e ≡ Full) × (N < length a.items + n) };
+
+    ghost appends_more = { λ a b c xs ys p q. Prim.rw (q, p) (append_assoc a.items xs ys) };
+
+    ghost refuses_longer = { λ a b m n e h r. (r.0, Prim.omega (arith, r.1)) };
+
+    ghost refuses_after = { λ a b c xs n e p r. (r.0, Prim.omega (arith, r.1, ap length p, length-append a.items xs)) };
+
+    ghost never_nul = { λ a b n r. Prim.cc (r.0) };
+
+    ghost never_large = { λ a b n r. Prim.cc (r.0) };
+
+    fn append(&mut self, bytes: &[u8]) -> Result<(), GenError>
+        ensures ok { OnOk result (self.new.items ≡ self.old.items ++ bytes.now) }
+        ensures begun { OnErr result ((count : ℕ) × (self.new.items ≡ self.old.items ++ take count bytes.now)) }
+        ensures cause { IfErr result (λ e. (e ≡ Full) × (N < length self.old.items + length bytes.now)) }
+        ensures unchanged { OnErr result (self.new.items ≡ self.old.items) }
+    {
+        match self.try_extend_from_slice(bytes) {
+            Ok(()) => Ok(()),
+            Err(_) => Err(GenError::Full),
+        }
+    }
+}
+
+impl<const N: usize> PodOutput for ArrayVec<u8, N> {
+    ghost content = { λ it. it.items };
+
+    ghost content_appends = { λ a b xs p. p };
+
+    fn len(&self) -> usize {
+        self.len()
+    }
+
+    fn overwrite(&mut self, at: usize, bytes: [u8; 4]) {
+        self[at..at + 4].copy_from_slice(&bytes);
+    }
+}

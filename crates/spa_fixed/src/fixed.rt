@@ -350,10 +350,13 @@ impl CanonicalFixedSizedPod for Rectangle {
 
     fn deserialize_body(bytes: &[u8]) -> Result<(&[u8], Rectangle), Fault<&[u8]>> {
         match cut(bytes, WIDE_LEN) {
-            Ok((body, rest)) => Ok((rest, Rectangle {
+            Ok((body, rest)) => Ok((
+                rest,
+                Rectangle {
                     width: u32_at(body, 0),
                     height: u32_at(body, 4),
-                })),
+                },
+            )),
             Err(fault) => Err(fault),
         }
     }
@@ -390,10 +393,13 @@ impl CanonicalFixedSizedPod for Fraction {
 
     fn deserialize_body(bytes: &[u8]) -> Result<(&[u8], Fraction), Fault<&[u8]>> {
         match cut(bytes, WIDE_LEN) {
-            Ok((body, rest)) => Ok((rest, Fraction {
+            Ok((body, rest)) => Ok((
+                rest,
+                Fraction {
                     num: u32_at(body, 0),
                     denom: u32_at(body, 4),
-                })),
+                },
+            )),
             Err(fault) => Err(fault),
         }
     }

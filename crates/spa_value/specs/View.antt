@@ -60,7 +60,7 @@ abbrev mutual
 
   -- the tree of an object
   pub object_view : Object → Tree
-  object_view (Object' type id shape ps) = object type id (property_row ps)
+  object_view (Object' type name shape ps) = object type name (property_row ps)
 
   pub row : {n : _} → Row_of-Value n → Trees
   row end_of-Value = no_trees

@@ -11,3 +11,4 @@ pub mod Origin
 pub mod Sequences
 pub mod Refused
 pub mod Normals
+pub mod WorkedRows

@@ -161,3 +161,15 @@ refused k place _ (in_property b ps first left f t l e m n s) = λ v h.
     property_refused left (property q g u us) n s m =
         let a = front_of_whole (drop 8 left) m.3 m.4 _ _ m.5 m.6 in
         s u (record { there = a.0; pod = subst (λ x. IsPod x u) a.1 m.6 })
+
+-- no pods one after another go on with an input that is refused
+pub refused_behind_members : (vs ws : Trees) (first left : List ℕ) → AreMembers vs first → left ≢ [] → IsRefused left → ¬ (AreMembers ws (first ++ left))
+refused_behind_members vs ws first left m n s c =
+    let r = members_left vs ws first left m c in
+    none_of left r.0 n s r.2
+  where
+    none_of : (left : List ℕ) (us : Trees) → left ≢ [] → IsRefused left → ¬ (AreMembers us left)
+    none_of left no_trees n s m = n m
+    none_of left (member u us) n s m =
+        let a = front_of_whole left m.0 m.1 _ _ m.2 m.3 in
+        s u (record { there = a.0; pod = subst (λ l. IsPod l u) a.1 m.3 })

@@ -1,7 +1,7 @@
 //! Laws of the format, over its definitions alone. Each function does nothing: its contract is the law.
-ghost use Rattle.std.specs.Prelude.{◌≡◌, ◌≤◌, ◌↔◌, ◌++◌, [], List, length, ℕ};
-ghost use Rattle.spa_format.specs.Tree.{Tree};
-ghost use Rattle.spa_format.specs.Pod.{IsPod};
+ghost use Rattle.std.specs.Prelude.{◌≡◌, ◌≢◌, ◌≤◌, ◌↔◌, ◌++◌, [], List, length, ℕ};
+ghost use Rattle.spa_format.specs.Tree.{Tree, Trees};
+ghost use Rattle.spa_format.specs.Pod.{AreMembers, IsPod};
 ghost use Rattle.spa_format.specs.Text.{text_of};
 ghost use Rattle.spa_format.specs.Normal.{normal_of};
 ghost use Rattle.spa_format.specs.Faults.{Fault, Stands};
@@ -55,4 +55,9 @@ pub fn same_rewriting_same_value()
 /// Where a fault stands, the front isn't there or is a pod of no value.
 pub fn faults_refuse()
     ensures { (k : Fault) (place b : List ℕ) → Stands k place b → IsRefused b }
+{}
+
+/// Where what is left behind some first pods is refused, the whole isn't pods one after another.
+pub fn refused_members_refuse()
+    ensures { (vs ws : Trees) (first left : List ℕ) → AreMembers vs first → left ≢ [] → IsRefused left → ¬ (AreMembers ws (first ++ left)) }
 {}

@@ -12,3 +12,9 @@ pub mod Sequences
 pub mod Refused
 pub mod Normals
 pub mod WorkedRows
+pub mod WalkLemmas
+pub mod WalkedMembers
+pub mod FixationLemmas
+pub mod FixatedValues
+pub mod FixatedObjects
+pub mod FixatedPlaces

@@ -9,3 +9,5 @@ pub mod Front
 pub mod Typed
 pub mod Faults
 pub mod Opened
+pub mod Walk
+pub mod Fixation

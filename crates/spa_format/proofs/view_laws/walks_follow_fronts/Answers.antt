@@ -1,0 +1,8 @@
+use Rattle.spa_format.proofs.WalkLemmas as lemmas
+use Rattle.spa_format.proofs.view_laws.walks_follow_fronts.Goals as goal
+
+pub returns-clause-there : goal.returns-clause-there
+returns-clause-there c = lemmas.walk-there
+
+pub returns-clause-end : goal.returns-clause-end
+returns-clause-end c = lemmas.walk-end

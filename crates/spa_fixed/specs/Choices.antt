@@ -1,5 +1,5 @@
 -- What a choice over one of the types of fixed size says, which is its tree: docs/FORMAT.md, "Choices".
-use Rattle.std.specs.Prelude.{ℕ, List, [], ◌∷◌, map}
+use Rattle.std.specs.Prelude.{ℕ, [], ◌∷◌, map}
 use Rattle.spa_format.specs.Kind.{Kind, Fixed}
 use Rattle.spa_format.specs.Tree.{none_choice, range_choice, step_choice, enum_choice, flags_choice, Tree, choice}
 use Rattle.spa_utils.specs.declared.choice.ChoiceEnum.{ChoiceEnum}

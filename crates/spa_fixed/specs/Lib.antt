@@ -1,3 +1,4 @@
 pub mod Faults
 pub mod Writing
 pub mod Choices
+pub mod Reading

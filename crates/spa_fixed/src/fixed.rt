@@ -1,5 +1,5 @@
 //! The ten types whose bodies have one size each.
-ghost use Rattle.std.specs.Prelude.{◌≡◌, ◌<◌, ◌≤◌, ◌++◌, ℕ, IfErr, IfOk, OnErr, OnOk, drop, length, refl, take};
+ghost use Rattle.std.specs.Prelude.{◌≡◌, ◌<◌, ◌≤◌, ◌++◌, ℕ, IfErr, IfOk, OnErr, OnOk, ◌-◌, drop, length, refl, replicate, take};
 ghost use Rattle.spa_fixed.specs.declared.fault.FaultKind.TheVariants as fault_kind;
 ghost use Rattle.spa_format.specs.Kind as k;
 ghost use Rattle.spa_format.specs.Kind.{Fixed, Kind, body_size, content, fixed_body, kind_of, type_number};
@@ -9,7 +9,7 @@ ghost use Rattle.std.proofs.Common.{arith};
 use crate::fault::{Fault, FaultKind};
 use crate::gen_error::GenError;
 use crate::sink::PodSink;
-use crate::words::{put_two, put_wide, put_word, u32_at, u64_at};
+use crate::words::{two_words, u32_at, u64_at, wide_body, word_body};
 use spa_utils::{Fd, Float32, Float64, Fraction, Id, Rectangle};
 
 mod sealed {
@@ -44,12 +44,29 @@ pub trait CanonicalFixedSizedPod: Sealed + Copy {
     /// What a value says.
     ghost fixed: { Self → Fixed };
 
+    /// The body, and zeros behind it up to eight bytes.
+    #[doc(hidden)]
+    fn padded_body(&self) -> [u8; WIDE_LEN]
+        ensures within { SIZE ≤ WIDE_LEN }
+        ensures body { take SIZE result ≡ fixed_body (fixed self.now) }
+        ensures zeros { drop SIZE result ≡ replicate (WIDE_LEN - SIZE) 0 }
+        ensures typed { IsTypedFixed (fixed self.now) };
+
+    /// The value of a body.
+    #[doc(hidden)]
+    fn of_body(body: &[u8]) -> Self
+        requires { length body.now ≡ SIZE }
+        ensures { fixed result ≡ content kind body.now };
+
     /// Appends the body, without padding. It is refused only where the sink refuses it.
     fn serialize_body<O: PodSink>(&self, out: &mut O) -> Result<(), GenError>
         ensures ok { OnOk result (O.appends out.old (fixed_body (fixed self.now)) out.new) }
         ensures typed { IsTypedFixed (fixed self.now) }
         ensures begun { OnErr result ((count : ℕ) × O.appends out.old (take count (fixed_body (fixed self.now))) out.new) }
-        ensures cause { IfErr result (λ e. O.refuses out.old SIZE out.new e) };
+        ensures cause { IfErr result (λ e. O.refuses out.old SIZE out.new e) }
+    {
+        out.append(&self.padded_body()[..Self::SIZE])
+    }
 
     /// Reads the body at the front of the bytes, and answers what follows it and the value. It is refused, as short,
     /// exactly where fewer than `SIZE` bytes are there.
@@ -57,7 +74,17 @@ pub trait CanonicalFixedSizedPod: Sealed + Copy {
         ensures enough { OnOk result (SIZE ≤ length bytes.now) }
         ensures says { IfOk result (λ read. fixed read.1 ≡ content kind (take SIZE bytes.now)) }
         ensures rest { IfOk result (λ read. read.0.now ≡ drop SIZE bytes.now) }
-        ensures short { IfErr result (λ fault. (length bytes.now < SIZE) × (fault.input.now ≡ bytes.now) × (fault.kind ≡ fault_kind.Short)) };
+        ensures short { IfErr result (λ fault. (length bytes.now < SIZE) × (fault.input.now ≡ bytes.now) × (fault.kind ≡ fault_kind.Short)) }
+    {
+        if bytes.len() < Self::SIZE {
+            return Err(Fault {
+                input: bytes,
+                kind: FaultKind::Short,
+            });
+        }
+        let (body, rest) = bytes.split_at(Self::SIZE);
+        Ok((rest, Self::of_body(body)))
+    }
 
     ghost its_type: { TYPE ≡ type_number kind };
 
@@ -92,13 +119,11 @@ impl CanonicalFixedSizedPod for () {
 
     ghost its_kind = { λ _. refl };
 
-    fn serialize_body<O: PodSink>(&self, out: &mut O) -> Result<(), GenError> {
-        out.append(&[])
+    fn padded_body(&self) -> [u8; WIDE_LEN] {
+        [0; WIDE_LEN]
     }
 
-    fn deserialize_body(bytes: &[u8]) -> Result<(&[u8], ()), Fault<&[u8]>> {
-        Ok((bytes, ()))
-    }
+    fn of_body(_body: &[u8]) {}
 }
 
 impl Sealed for bool {}
@@ -122,15 +147,12 @@ impl CanonicalFixedSizedPod for bool {
 
     ghost its_kind = { λ _. refl };
 
-    fn serialize_body<O: PodSink>(&self, out: &mut O) -> Result<(), GenError> {
-        put_word(out, u32::from(*self))
+    fn padded_body(&self) -> [u8; WIDE_LEN] {
+        word_body(u32::from(*self))
     }
 
-    fn deserialize_body(bytes: &[u8]) -> Result<(&[u8], bool), Fault<&[u8]>> {
-        match cut(bytes, WORD_LEN) {
-            Ok((body, rest)) => Ok((rest, u32_at(body, 0) != 0)),
-            Err(fault) => Err(fault),
-        }
+    fn of_body(body: &[u8]) -> bool {
+        u32_at(body, 0) != 0
     }
 }
 
@@ -159,15 +181,12 @@ impl CanonicalFixedSizedPod for Id {
 
     ghost its_kind = { λ _. refl };
 
-    fn serialize_body<O: PodSink>(&self, out: &mut O) -> Result<(), GenError> {
-        put_word(out, self.0)
+    fn padded_body(&self) -> [u8; WIDE_LEN] {
+        word_body(self.0)
     }
 
-    fn deserialize_body(bytes: &[u8]) -> Result<(&[u8], Id), Fault<&[u8]>> {
-        match cut(bytes, WORD_LEN) {
-            Ok((body, rest)) => Ok((rest, Id(u32_at(body, 0)))),
-            Err(fault) => Err(fault),
-        }
+    fn of_body(body: &[u8]) -> Id {
+        Id(u32_at(body, 0))
     }
 }
 
@@ -196,15 +215,12 @@ impl CanonicalFixedSizedPod for i32 {
 
     ghost its_kind = { λ _. refl };
 
-    fn serialize_body<O: PodSink>(&self, out: &mut O) -> Result<(), GenError> {
-        put_word(out, self.cast_unsigned())
+    fn padded_body(&self) -> [u8; WIDE_LEN] {
+        word_body(self.cast_unsigned())
     }
 
-    fn deserialize_body(bytes: &[u8]) -> Result<(&[u8], i32), Fault<&[u8]>> {
-        match cut(bytes, WORD_LEN) {
-            Ok((body, rest)) => Ok((rest, u32_at(body, 0).cast_signed())),
-            Err(fault) => Err(fault),
-        }
+    fn of_body(body: &[u8]) -> i32 {
+        u32_at(body, 0).cast_signed()
     }
 }
 
@@ -233,15 +249,12 @@ impl CanonicalFixedSizedPod for i64 {
 
     ghost its_kind = { λ _. refl };
 
-    fn serialize_body<O: PodSink>(&self, out: &mut O) -> Result<(), GenError> {
-        put_wide(out, self.cast_unsigned())
+    fn padded_body(&self) -> [u8; WIDE_LEN] {
+        wide_body(self.cast_unsigned())
     }
 
-    fn deserialize_body(bytes: &[u8]) -> Result<(&[u8], i64), Fault<&[u8]>> {
-        match cut(bytes, WIDE_LEN) {
-            Ok((body, rest)) => Ok((rest, u64_at(body, 0).cast_signed())),
-            Err(fault) => Err(fault),
-        }
+    fn of_body(body: &[u8]) -> i64 {
+        u64_at(body, 0).cast_signed()
     }
 }
 
@@ -270,15 +283,12 @@ impl CanonicalFixedSizedPod for Float32 {
 
     ghost its_kind = { λ _. refl };
 
-    fn serialize_body<O: PodSink>(&self, out: &mut O) -> Result<(), GenError> {
-        put_word(out, self.0)
+    fn padded_body(&self) -> [u8; WIDE_LEN] {
+        word_body(self.0)
     }
 
-    fn deserialize_body(bytes: &[u8]) -> Result<(&[u8], Float32), Fault<&[u8]>> {
-        match cut(bytes, WORD_LEN) {
-            Ok((body, rest)) => Ok((rest, Float32(u32_at(body, 0)))),
-            Err(fault) => Err(fault),
-        }
+    fn of_body(body: &[u8]) -> Float32 {
+        Float32(u32_at(body, 0))
     }
 }
 
@@ -307,15 +317,12 @@ impl CanonicalFixedSizedPod for Float64 {
 
     ghost its_kind = { λ _. refl };
 
-    fn serialize_body<O: PodSink>(&self, out: &mut O) -> Result<(), GenError> {
-        put_wide(out, self.0)
+    fn padded_body(&self) -> [u8; WIDE_LEN] {
+        wide_body(self.0)
     }
 
-    fn deserialize_body(bytes: &[u8]) -> Result<(&[u8], Float64), Fault<&[u8]>> {
-        match cut(bytes, WIDE_LEN) {
-            Ok((body, rest)) => Ok((rest, Float64(u64_at(body, 0)))),
-            Err(fault) => Err(fault),
-        }
+    fn of_body(body: &[u8]) -> Float64 {
+        Float64(u64_at(body, 0))
     }
 }
 
@@ -344,20 +351,14 @@ impl CanonicalFixedSizedPod for Rectangle {
 
     ghost its_kind = { λ _. refl };
 
-    fn serialize_body<O: PodSink>(&self, out: &mut O) -> Result<(), GenError> {
-        put_two(out, self.width, self.height)
+    fn padded_body(&self) -> [u8; WIDE_LEN] {
+        two_words(self.width, self.height)
     }
 
-    fn deserialize_body(bytes: &[u8]) -> Result<(&[u8], Rectangle), Fault<&[u8]>> {
-        match cut(bytes, WIDE_LEN) {
-            Ok((body, rest)) => Ok((
-                rest,
-                Rectangle {
-                    width: u32_at(body, 0),
-                    height: u32_at(body, 4),
-                },
-            )),
-            Err(fault) => Err(fault),
+    fn of_body(body: &[u8]) -> Rectangle {
+        Rectangle {
+            width: u32_at(body, 0),
+            height: u32_at(body, WORD_LEN),
         }
     }
 }
@@ -387,20 +388,14 @@ impl CanonicalFixedSizedPod for Fraction {
 
     ghost its_kind = { λ _. refl };
 
-    fn serialize_body<O: PodSink>(&self, out: &mut O) -> Result<(), GenError> {
-        put_two(out, self.num, self.denom)
+    fn padded_body(&self) -> [u8; WIDE_LEN] {
+        two_words(self.num, self.denom)
     }
 
-    fn deserialize_body(bytes: &[u8]) -> Result<(&[u8], Fraction), Fault<&[u8]>> {
-        match cut(bytes, WIDE_LEN) {
-            Ok((body, rest)) => Ok((
-                rest,
-                Fraction {
-                    num: u32_at(body, 0),
-                    denom: u32_at(body, 4),
-                },
-            )),
-            Err(fault) => Err(fault),
+    fn of_body(body: &[u8]) -> Fraction {
+        Fraction {
+            num: u32_at(body, 0),
+            denom: u32_at(body, WORD_LEN),
         }
     }
 }
@@ -430,35 +425,15 @@ impl CanonicalFixedSizedPod for Fd {
 
     ghost its_kind = { λ _. refl };
 
-    fn serialize_body<O: PodSink>(&self, out: &mut O) -> Result<(), GenError> {
-        put_wide(out, self.0.cast_unsigned())
+    fn padded_body(&self) -> [u8; WIDE_LEN] {
+        wide_body(self.0.cast_unsigned())
     }
 
-    fn deserialize_body(bytes: &[u8]) -> Result<(&[u8], Fd), Fault<&[u8]>> {
-        match cut(bytes, WIDE_LEN) {
-            Ok((body, rest)) => Ok((rest, Fd(u64_at(body, 0).cast_signed()))),
-            Err(fault) => Err(fault),
-        }
+    fn of_body(body: &[u8]) -> Fd {
+        Fd(u64_at(body, 0).cast_signed())
     }
 }
 
 impl ChoiceElement for Fd {
     ghost sized = { Prim.omega arith };
-}
-
-/// The first bytes, and what follows them.
-fn cut(bytes: &[u8], size: usize) -> Result<(&[u8], &[u8]), Fault<&[u8]>>
-    ensures enough { OnOk result (size ≤ length bytes.now) }
-    ensures front { IfOk result (λ parts. parts.0.now ≡ take size bytes.now) }
-    ensures count { IfOk result (λ parts. length parts.0.now ≡ size) }
-    ensures rest { IfOk result (λ parts. parts.1.now ≡ drop size bytes.now) }
-    ensures short { IfErr result (λ fault. (length bytes.now < size) × (fault.input.now ≡ bytes.now) × (fault.kind ≡ fault_kind.Short)) }
-{
-    if bytes.len() < size {
-        return Err(Fault {
-            input: bytes,
-            kind: FaultKind::Short,
-        });
-    }
-    Ok(bytes.split_at(size))
 }

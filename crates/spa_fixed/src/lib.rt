@@ -1,14 +1,17 @@
+//! What lies below the value tree: types of fixed size, bodies of arrays and choices, what bytes are written to,
 //! and why a read or a write is refused.
 #![tactic(auto)]
 
 mod fault;
 mod fixed;
 mod gen_error;
+mod pod;
 mod sink;
 mod words;
 
 pub use fault::{DeserializeError, Fault, FaultKind, Refusal};
 pub use fixed::{CanonicalFixedSizedPod, ChoiceElement};
 pub use gen_error::GenError;
+pub use pod::put_fixed;
 pub use sink::{PodOutput, PodSink};
 pub use words::{HEADER_LEN, put_padding, put_two, put_wide, put_word, two_words, u32_at, u64_at};

@@ -1,5 +1,5 @@
 //! Words in bytes: read at a place, cut off, and appended.
-ghost use Rattle.std.specs.Prelude.{◌≡◌, ◌+◌, ◌≤◌, ◌++◌, ℕ, IfErr, OnOk, length, take, OnErr};
+ghost use Rattle.std.specs.Prelude.{◌≡◌, ◌+◌, ◌≤◌, ◌++◌, ℕ, IfErr, OnOk, drop, length, replicate, take, OnErr};
 ghost use Rattle.spa_format.specs.Words.{word_bytes, wide_bytes, wide_at, word_at, padding};
 
 use crate::gen_error::GenError;
@@ -64,6 +64,24 @@ pub fn two_words(first: u32, second: u32) -> [u8; 8]
     let [a, b, c, d] = first.to_le_bytes();
     let [e, f, g, h] = second.to_le_bytes();
     [a, b, c, d, e, f, g, h]
+}
+
+/// A word as bytes, and four zeros.
+#[tactic(auto, unfolding(spa_format::specs::Words::word_bytes))]
+pub fn word_body(number: u32) -> [u8; 8]
+    ensures front { take 4 result ≡ word_bytes number }
+    ensures back { drop 4 result ≡ replicate 4 0 }
+{
+    let [a, b, c, d] = number.to_le_bytes();
+    [a, b, c, d, 0, 0, 0, 0]
+}
+
+/// A number in eight bytes.
+#[tactic(auto, unfolding(spa_format::specs::Words::wide_bytes))]
+pub fn wide_body(number: u64) -> [u8; 8]
+    ensures { result ≡ wide_bytes number }
+{
+    number.to_le_bytes()
 }
 
 /// Appends two words at once.

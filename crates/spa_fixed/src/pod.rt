@@ -1,0 +1,51 @@
+//! Whole pods of the types of fixed size.
+ghost use Rattle.std.specs.Prelude.{◌≡◌, ◌++◌, ℕ, IfErr, OnErr, OnOk, length, take};
+ghost use Rattle.spa_format.specs.Kind.{fixed_body};
+ghost use Rattle.spa_format.specs.Text.{framed_text};
+ghost use Rattle.spa_format.specs.Typed.{IsTypedFixed};
+ghost use Rattle.spa_format.specs.Words.{extent};
+
+use crate::fixed::CanonicalFixedSizedPod;
+use crate::gen_error::GenError;
+use crate::sink::PodSink;
+use crate::words::{HEADER_LEN, two_words};
+
+/// The length in bytes of the longest pod of fixed size: a header, and a body with its padding.
+const LONGEST_POD_LEN: usize = 16;
+
+/// Appends the pod of a value of fixed size: header, body and padding at once. It is refused only where the sink
+/// refuses it.
+pub fn put_fixed<T: CanonicalFixedSizedPod, S: PodSink>(
+    sink: &mut S,
+    value: &T,
+) -> Result<(), GenError>
+    ensures ok { OnOk result (S.appends sink.old (framed_text T.TYPE (fixed_body (T.fixed value.now))) sink.new) }
+    ensures typed { IsTypedFixed (T.fixed value.now) }
+    ensures begun { OnErr result ((count : ℕ) × S.appends sink.old (take count (framed_text T.TYPE (fixed_body (T.fixed value.now)))) sink.new) }
+    ensures cause { IfErr result (λ e. S.refuses sink.old (length (framed_text T.TYPE (fixed_body (T.fixed value.now)))) sink.new e) }
+{
+    sink.append(&pod_bytes(value)[..pod_len::<T>()])
+}
+
+/// The length in bytes of a pod of this type: that of a header, and of a body with its padding.
+fn pod_len<T: CanonicalFixedSizedPod>() -> usize
+    ensures { result ≡ extent T.SIZE }
+{
+    if T::SIZE == 0 {
+        HEADER_LEN
+    } else {
+        LONGEST_POD_LEN
+    }
+}
+
+/// A pod, and zeros behind it up to sixteen bytes.
+fn pod_bytes<T: CanonicalFixedSizedPod>(value: &T) -> [u8; LONGEST_POD_LEN]
+    ensures text { take (extent T.SIZE) result ≡ framed_text T.TYPE (fixed_body (T.fixed value.now)) }
+    ensures typed { IsTypedFixed (T.fixed value.now) }
+{
+    let mut pod = [0; LONGEST_POD_LEN];
+    let (header, body) = pod.split_at_mut(HEADER_LEN);
+    body.copy_from_slice(&value.padded_body());
+    header.copy_from_slice(&two_words(T::SIZE as u32, T::TYPE));
+    pod
+}

@@ -1,0 +1,4 @@
+pub mod Left
+pub mod Pairs
+pub mod Parsing
+pub mod Reading

@@ -1,0 +1,17 @@
+-- What a look-up answers: docs/FORMAT.md, "Dictionaries".
+use Rattle.std.specs.Prelude.{◌≡◌, ℕ, List, Option, Some, None, Result, MatchOption, MatchResult}
+use Rattle.spa_dict.specs.Pairs.{Pair, pairs_of}
+use Rattle.spa_dict.specs.declared.dict.DictRef.{DictRef}
+use Rattle.spa_dict.specs.declared.parse.ParseValueError.{ParseValueError}
+
+-- the pairs of a dictionary
+abbrev pub pairs : DictRef → List Pair
+pairs dict = pairs_of dict.items.now
+
+-- what a reading of a text answers: the value that the text reads as, or the text back where it reads as none
+abbrev pub IsAnswerFor : {T : Type 0} → (List ℕ → Option T → Type 0) → List ℕ → Result T ParseValueError → Type 0
+IsAnswerFor reads text answer = MatchResult answer (λ v. reads text (Some v)) (λ e. reads text None × (e.text.now ≡ text))
+
+-- the same of a value that may be missing: an answer is there exactly where the value is
+abbrev pub IsReadingOf : {T : Type 0} → (List ℕ → Option T → Type 0) → Option (List ℕ) → Option (Result T ParseValueError) → Type 0
+IsReadingOf reads value found = MatchOption value (found ≡ None) (λ text. MatchOption found ⊥ (IsAnswerFor reads text))

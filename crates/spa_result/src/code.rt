@@ -1,0 +1,80 @@
+//! Result codes, and what they mean.
+ghost use Rattle.std.specs.Prelude.{◌≡◌, ◌⊎◌, ◌<ℤ◌, pos, IsTrue};
+ghost use Rattle.spa_result.specs.ResultCode.{async_code, is_asynchronous, meaning_of};
+
+use crate::async_seq::{AsyncSeq, SEQ_BITS};
+use crate::error::Error;
+use spa_utils::Errno;
+
+/// The code that a call returned.
+#[derive(Debug, PartialEq, Eq, Drop)]
+pub struct SpaResult(i32);
+
+/// What a call that didn't fail answered.
+#[derive(Debug, PartialEq, Eq, Drop)]
+pub enum SpaSuccess {
+    /// The call is done, with that code.
+    Sync(i32),
+    /// The call will be done later, under that sequence number.
+    Async(AsyncSeq),
+}
+
+impl SpaResult {
+    ghost use Rattle.spa_result.specs.Answers.{IsAnswer, IsAsyncAnswer, IsSyncAnswer};
+
+    /// The result of that code.
+    pub fn from_c(code: i32) -> SpaResult
+        ensures { result.0 ≡ code }
+    {
+        SpaResult(code)
+    }
+
+    /// The result of a call that will be done later, under the low 30 bits of that number.
+    pub fn new_return_async(seq: i32) -> SpaResult
+        ensures { result.0 ≡ async_code seq }
+    {
+        SpaResult(AsyncSeq::from_seq(seq).raw())
+    }
+
+    /// The code's top two bits are 01: the call will be done later.
+    pub fn is_async(&self) -> bool
+        ensures { result ≡ is_asynchronous self.now.0 }
+    {
+        self.0.cast_unsigned() >> SEQ_BITS == 1
+    }
+
+    /// What the code means. A code below 0 is the error of its magnitude.
+    pub fn into_result(self) -> Result<SpaSuccess, Error>
+        ensures { IsAnswer (meaning_of self.0) result }
+    {
+        if self.0 < 0 {
+            Err(Error(Errno::from_raw(self.0.unsigned_abs())))
+        } else if self.is_async() {
+            Ok(SpaSuccess::Async(AsyncSeq::from_raw(self.0)))
+        } else {
+            Ok(SpaSuccess::Sync(self.0))
+        }
+    }
+
+    /// The code of a call that is done, or the error. For codes that aren't asynchronous.
+    pub fn into_sync_result(self) -> Result<i32, Error>
+        requires { ¬ (IsTrue (is_asynchronous self.0)) }
+        ensures { IsSyncAnswer (meaning_of self.0) result }
+    {
+        match self.into_result()? {
+            SpaSuccess::Sync(code) => Ok(code),
+            SpaSuccess::Async(_) => unreachable!(),
+        }
+    }
+
+    /// The sequence number of a call that will be done later, or the error. For codes that are below 0 or asynchronous.
+    pub fn into_async_result(self) -> Result<AsyncSeq, Error>
+        requires { (self.0 <ℤ pos 0) ⊎ IsTrue (is_asynchronous self.0) }
+        ensures { IsAsyncAnswer (meaning_of self.0) result }
+    {
+        match self.into_result()? {
+            SpaSuccess::Async(seq) => Ok(seq),
+            SpaSuccess::Sync(_) => unreachable!(),
+        }
+    }
+}

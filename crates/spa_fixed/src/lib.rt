@@ -2,6 +2,7 @@
 //! and why a read or a write is refused.
 #![tactic(auto)]
 
+mod array;
 mod fault;
 mod fixed;
 mod gen_error;
@@ -9,6 +10,7 @@ mod pod;
 mod sink;
 mod words;
 
+pub use array::{next_element, open_array, read_array};
 pub use fault::{DeserializeError, Fault, FaultKind, Refusal};
 pub use fixed::{CanonicalFixedSizedPod, ChoiceElement};
 pub use gen_error::GenError;

@@ -1,0 +1,83 @@
+//! Bodies of arrays.
+ghost use Rattle.std.specs.Prelude.{◌≡◌, ◌+◌, ◌*◌, ◌≤◌, IfErr, IfNone, IfOk, IfSome, OnSome, drop, length, map, take};
+ghost use Rattle.spa_fixed.specs.Reading.{AreWhole, RefusesArray};
+ghost use Rattle.spa_format.specs.Faults.{IsWrongArray};
+ghost use Rattle.spa_format.specs.Kind.{IsFixedBody, body_size};
+ghost use Rattle.spa_format.specs.Pod.{AreElements, IsArray};
+ghost use Rattle.spa_format.specs.Words.{header_size, word_at};
+
+use crate::fault::Refusal;
+use crate::fixed::CanonicalFixedSizedPod;
+use crate::words::{HEADER_LEN, u32_at};
+use std::alloc::{AllocError, Global};
+
+/// The bodies of the elements in the body of an array of this type, where its sizes are right: the child size is the
+/// type's, and whole elements follow. It asks for no memory.
+pub fn open_array<T: CanonicalFixedSizedPod>(body: &[u8]) -> Option<&[u8]>
+    requires header { header_size ≤ length body.now }
+    requires child_type { word_at body.now 4 ≡ T.TYPE }
+    ensures elements { IfSome result (λ elements. elements.now ≡ drop header_size body.now) }
+    ensures child_size { OnSome result (word_at body.now 0 ≡ body_size T.kind) }
+    ensures whole { IfSome result (λ elements. AreWhole T.SIZE elements.now) }
+    ensures none { IfNone result (IsWrongArray T.kind body.now) }
+{
+    let (_, elements) = body.split_at(HEADER_LEN);
+    if u32_at(body, 0) as usize != T::SIZE {
+        return None;
+    }
+    if T::SIZE == 0 {
+        if !elements.is_empty() {
+            return None;
+        }
+        return Some(elements);
+    }
+    if elements.len() % T::SIZE != 0 {
+        return None;
+    }
+    Some(elements)
+}
+
+/// The first element, and what follows it.
+pub fn next_element<T: CanonicalFixedSizedPod>(elements: &[u8]) -> (&[u8], T)
+    requires { T.SIZE ≤ length elements.now }
+    ensures says { IsFixedBody T.kind (take T.SIZE elements.now) (T.fixed result.1) }
+    ensures rest { result.0.now ≡ drop T.SIZE elements.now }
+{
+    let (first, rest) = elements.split_at(T::SIZE);
+    (rest, T::of_body(first))
+}
+
+/// Reads whole elements to the end. It is refused only for want of memory.
+pub(crate) fn read_elements<T: CanonicalFixedSizedPod>(
+    alloc: Global,
+    elements: &[u8],
+) -> Result<Vec<T>, AllocError>
+    requires { AreWhole T.SIZE elements.now }
+    ensures { IfOk result (λ values. AreElements T.kind (map T.fixed values.items) elements.now) }
+{
+    if T::SIZE == 0 {
+        return Ok(Vec::new(alloc));
+    }
+    let mut values = Vec::with_capacity(alloc, elements.len() / T::SIZE)?;
+    let mut left = elements;
+    while left.len() >= T::SIZE {
+        let read = next_element::<T>(left);
+        values.push(read.1)?;
+        left = read.0;
+    }
+    Ok(values)
+}
+
+/// Reads the body of an array of this type. It is refused with `WrongSize` where the child size isn't the type's or the
+/// elements aren't whole, before any memory is asked for, and else only for want of memory.
+pub fn read_array<T: CanonicalFixedSizedPod>(alloc: Global, body: &[u8]) -> Result<Vec<T>, Refusal>
+    requires header { header_size ≤ length body.now }
+    requires child_type { word_at body.now 4 ≡ T.TYPE }
+    ensures read { IfOk result (λ values. IsArray T.kind (map T.fixed values.items) body.now) }
+    ensures refused { IfErr result (RefusesArray (IsWrongArray T.kind body.now)) }
+{
+    let Some(elements) = open_array::<T>(body) else {
+        return Err(Refusal::WrongSize);
+    };
+    Ok(read_elements::<T>(alloc, elements)?)
+}

@@ -3,6 +3,7 @@
 
 mod array;
 mod choice_value;
+mod copies;
 mod object;
 mod value;
 

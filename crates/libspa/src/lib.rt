@@ -1,0 +1,46 @@
+//! SPA's value format, verified: pods, their values, readers, writers and views, and the small types around them.
+//!
+//! This crate holds no function of its own. It gives the parts, each of which is a crate, under the paths of libspa.
+#![tactic(auto)]
+
+/// Numbers that other parts of PipeWire speak of.
+pub mod constants {
+    pub use spa_utils::constants::ID_INVALID;
+}
+
+/// Plain types: ids, numbers, choices, type numbers, directions and errors.
+pub mod utils {
+    pub use spa_utils::{
+        Choice, ChoiceEnum, ChoiceFlags, Direction, Errno, Fd, Float32, Float64, Fraction, Id,
+        Rectangle, SpaTypes,
+    };
+
+    /// Dictionaries: lists of pairs of byte strings.
+    pub mod dict {
+        pub use spa_dict::{
+            CIter, DictRef, Flags, Iter, Keys, ParsableValue, ParseValueError, Values,
+        };
+    }
+
+    /// Result codes, which say an error, a value, or that the answer comes later.
+    pub mod result {
+        pub use spa_result::{AsyncSeq, Error, SpaResult, SpaSuccess};
+    }
+}
+
+/// Pods: values and their rewriting, and borrowed views.
+pub mod pod {
+    pub use spa_fixed::{CanonicalFixedSizedPod, ChoiceElement};
+    pub use spa_format::laws;
+    pub use spa_value::{ChoiceValue, Object, Property, PropertyFlags, Value, ValueArray};
+
+    /// Writing values.
+    pub mod serialize {
+        pub use spa_fixed::{GenError, PodOutput, PodSink};
+    }
+
+    /// Reading values.
+    pub mod deserialize {
+        pub use spa_fixed::{DeserializeError, Fault, FaultKind};
+    }
+}

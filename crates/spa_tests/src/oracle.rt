@@ -1,0 +1,369 @@
+//! A second reader, written from docs/FORMAT.md alone: it calls itself, makes no value, and collects every fault that stands.
+ghost use Rattle.std.specs.Prelude.{◌+◌, ◌≤◌, length, IfOk, IfSome};
+
+use crate::said::{say_bytes, say_comma, say_text};
+use std::alloc::{AllocError, Global};
+
+/// The length in bytes of a header, of an array's child header, and of a property's key and flags.
+const HEADER_LEN: usize = 8;
+
+/// The length in bytes of a choice's body before its values.
+const CHOICE_HEADER_LEN: usize = 16;
+
+/// A fault that can stand at a pod.
+#[derive(Clone, Copy, PartialEq, Eq, Debug)]
+pub enum Fault {
+    Short,
+    Text,
+    InvalidType,
+    InvalidChoiceType,
+    MissingChoiceValues,
+    WrongSize,
+}
+
+impl Fault {
+    /// The name as the library gives it.
+    pub fn name(self) -> &'static str {
+        match self {
+            Fault::Short => "Short",
+            Fault::Text => "Text",
+            Fault::InvalidType => "InvalidType",
+            Fault::InvalidChoiceType => "InvalidChoiceType",
+            Fault::MissingChoiceValues => "MissingChoiceValues",
+            Fault::WrongSize => "WrongSize",
+        }
+    }
+}
+
+/// Why the front of an input is no pod.
+#[derive(Debug, Drop)]
+pub enum Refusal<'a> {
+    /// The place of the faults that stand, and which ones.
+    Faults(&'a [u8], Vec<Fault>),
+    /// A list could not grow.
+    OutOfMemory,
+}
+
+impl<'a> From<AllocError> for Refusal<'a> {
+    fn from(_error: AllocError) -> Refusal<'a> {
+        Refusal::OutOfMemory
+    }
+}
+
+/// What follows the pod at the front of the input, after what it says was appended, as `said::say_value` says it.
+#[cycle(oracle)]
+pub fn read<'a>(alloc: Global, out: &mut String, input: &'a [u8]) -> Result<&'a [u8], Refusal<'a>>
+    ensures { IfOk result (λ rest. length rest.now + 8 ≤ length input.now) }
+{
+    let Some((body, rest)) = split_front(input) else {
+        return Err(refused(alloc, input, Fault::Short));
+    };
+    let kind = word(input, 1);
+    match kind {
+        8 => say_string(alloc, out, input, body)?,
+        9 => say_bytes(out, body)?,
+        13 => say_array(alloc, out, input, body)?,
+        14 => say_struct(alloc, out, body)?,
+        15 if body.len() < HEADER_LEN => return Err(refused(alloc, input, Fault::WrongSize)),
+        15 => say_object(alloc, out, body)?,
+        17 => say_pointer(alloc, out, input, body)?,
+        19 => say_choice(alloc, out, input, body)?,
+        _ => say_fixed(alloc, out, input, kind, body)?,
+    }
+    Ok(rest)
+}
+
+#[cycle(oracle)]
+fn say_struct<'a>(alloc: Global, out: &mut String, body: &'a [u8]) -> Result<(), Refusal<'a>> {
+    out.push_str("{\"t\":\"Struct\",\"v\":[")?;
+    let mut left = body;
+    while !left.is_empty() {
+        say_comma(out, body.len() - left.len())?;
+        left = read(alloc, out, left)?;
+    }
+    out.push_str("]}")?;
+    Ok(())
+}
+
+#[cycle(oracle)]
+fn say_object<'a>(alloc: Global, out: &mut String, body: &'a [u8]) -> Result<(), Refusal<'a>> {
+    let (type_, id) = (word(body, 0), word(body, 1));
+    write!(
+        out,
+        "{{\"t\":\"Object\",\"type\":{type_},\"id\":{id},\"v\":["
+    )?;
+    let mut left = behind_header(body);
+    let whole = left.len();
+    while !left.is_empty() {
+        if left.len() < HEADER_LEN {
+            return Err(refused(alloc, left, Fault::Short));
+        }
+        say_comma(out, whole - left.len())?;
+        let (key, flags) = (word(left, 0), word(left, 1));
+        write!(out, "{{\"key\":{key},\"flags\":{flags},\"v\":")?;
+        left = read(alloc, out, behind_header(left))?;
+        out.push_str("}")?;
+    }
+    out.push_str("]}")?;
+    Ok(())
+}
+
+fn say_string<'a>(
+    alloc: Global,
+    out: &mut String,
+    place: &'a [u8],
+    body: &[u8],
+) -> Result<(), Refusal<'a>> {
+    let text = match body.split_last() {
+        Some((0, before)) if !before.contains(&0) => before,
+        _ => return Err(refused(alloc, place, Fault::Text)),
+    };
+    match std::str::from_utf8(text) {
+        Ok(text) => {
+            say_text(out, text)?;
+            Ok(())
+        }
+        Err(_) => Err(refused(alloc, place, Fault::Text)),
+    }
+}
+
+fn say_pointer<'a>(
+    alloc: Global,
+    out: &mut String,
+    place: &'a [u8],
+    body: &[u8],
+) -> Result<(), Refusal<'a>> {
+    let address = match body.len() {
+        12 => u64::from(word(body, 2)),
+        16 => wide(body, 2),
+        _ => return Err(refused(alloc, place, Fault::WrongSize)),
+    };
+    let type_ = word(body, 0);
+    write!(
+        out,
+        "{{\"t\":\"Pointer\",\"type\":{type_},\"v\":{address}}}"
+    )?;
+    Ok(())
+}
+
+fn say_fixed<'a>(
+    alloc: Global,
+    out: &mut String,
+    place: &'a [u8],
+    kind: u32,
+    body: &[u8],
+) -> Result<(), Refusal<'a>> {
+    let Some((name, size)) = kind_of_fixed_size(kind) else {
+        return Err(refused(alloc, place, Fault::InvalidType));
+    };
+    if body.len() != size {
+        return Err(refused(alloc, place, Fault::WrongSize));
+    }
+    write!(out, "{{\"t\":\"{name}\",\"v\":")?;
+    say_content(out, kind, body)?;
+    out.push_str("}")?;
+    Ok(())
+}
+
+fn say_array<'a>(
+    alloc: Global,
+    out: &mut String,
+    place: &'a [u8],
+    body: &[u8],
+) -> Result<(), Refusal<'a>> {
+    if body.len() < HEADER_LEN {
+        return Err(refused(alloc, place, Fault::WrongSize));
+    }
+    let kind = word(body, 1);
+    let Some((name, size)) = kind_of_fixed_size(kind) else {
+        return Err(refused(alloc, place, Fault::InvalidType));
+    };
+    let elements = behind_header(body);
+    if word(body, 0) as usize != size || !is_whole(elements, size) {
+        return Err(refused(alloc, place, Fault::WrongSize));
+    }
+    write!(out, "{{\"t\":\"Array\",\"of\":\"{name}\",\"v\":[")?;
+    say_contents(out, kind, size, elements, usize::MAX)?;
+    out.push_str("]}")?;
+    Ok(())
+}
+
+fn say_choice<'a>(
+    alloc: Global,
+    out: &mut String,
+    place: &'a [u8],
+    body: &[u8],
+) -> Result<(), Refusal<'a>> {
+    if body.len() < CHOICE_HEADER_LEN {
+        return Err(refused(alloc, place, Fault::WrongSize));
+    }
+    let mut faults = Vec::new(alloc);
+    let shape = shape_of(word(body, 0));
+    if shape.is_none() {
+        push(&mut faults, Fault::InvalidChoiceType)?;
+    }
+    let kind = word(body, 3);
+    let element = match kind_of_fixed_size(kind) {
+        Some((_, 0)) => None,
+        other => other,
+    };
+    let values = behind_header(behind_header(body));
+    if let Some((_, size)) = element {
+        let is_sized = word(body, 2) as usize == size;
+        if !is_sized || !is_whole(values, size) {
+            push(&mut faults, Fault::WrongSize)?;
+        }
+        if let Some((_, least, _)) = shape
+            && is_sized
+            && values.len() / size < least
+        {
+            push(&mut faults, Fault::MissingChoiceValues)?;
+        }
+    } else {
+        push(&mut faults, Fault::InvalidType)?;
+    }
+    match (shape, element) {
+        (Some((shape_name, _, taken)), Some((name, size))) if faults.is_empty() => {
+            let flags = if taken == 1 { 0 } else { word(body, 1) };
+            write!(
+                out,
+                "{{\"t\":\"Choice\",\"of\":\"{name}\",\"kind\":\"{shape_name}\","
+            )?;
+            write!(out, "\"flags\":{flags},\"v\":[")?;
+            say_contents(out, kind, size, values, taken)?;
+            out.push_str("]}")?;
+            Ok(())
+        }
+        _ => Err(Refusal::Faults(place, faults)),
+    }
+}
+
+/// The bodies of a kind one after another, so many at most, separated by commas.
+fn say_contents(
+    out: &mut String,
+    kind: u32,
+    size: usize,
+    bodies: &[u8],
+    most: usize,
+) -> Result<(), AllocError> {
+    if size == 0 {
+        return Ok(());
+    }
+    for (place, body) in bodies.chunks(size).enumerate() {
+        if place >= most {
+            break;
+        }
+        say_comma(out, place)?;
+        say_content(out, kind, body)?;
+    }
+    Ok(())
+}
+
+/// What a body of a kind of fixed size says.
+fn say_content(out: &mut String, kind: u32, body: &[u8]) -> Result<(), AllocError> {
+    let (first, second, both) = (word(body, 0), word(body, 1), wide(body, 0));
+    match kind {
+        2 => write!(out, "{}", first != 0),
+        3 | 6 => write!(out, "{first}"),
+        4 => write!(out, "{}", first.cast_signed()),
+        5 | 18 => write!(out, "{}", both.cast_signed()),
+        7 => write!(out, "{both}"),
+        10 | 11 => write!(out, "[{first},{second}]"),
+        _ => out.push_str("null"),
+    }
+}
+
+/// The name of the kind with this type number, and how many bytes its bodies have.
+fn kind_of_fixed_size(kind: u32) -> Option<(&'static str, usize)> {
+    match kind {
+        1 => Some(("None", 0)),
+        2 => Some(("Bool", 4)),
+        3 => Some(("Id", 4)),
+        4 => Some(("Int", 4)),
+        5 => Some(("Long", 8)),
+        6 => Some(("Float", 4)),
+        7 => Some(("Double", 8)),
+        10 => Some(("Rectangle", 8)),
+        11 => Some(("Fraction", 8)),
+        18 => Some(("Fd", 8)),
+        _ => None,
+    }
+}
+
+/// The name of the choice with this number, how many values it needs, and how many it takes.
+fn shape_of(number: u32) -> Option<(&'static str, usize, usize)> {
+    match number {
+        0 => Some(("None", 1, 1)),
+        1 => Some(("Range", 3, 3)),
+        2 => Some(("Step", 4, 4)),
+        3 => Some(("Enum", 1, usize::MAX)),
+        4 => Some(("Flags", 1, usize::MAX)),
+        _ => None,
+    }
+}
+
+/// Are the bytes bodies of this size, without remainder?
+fn is_whole(bodies: &[u8], size: usize) -> bool {
+    if size == 0 {
+        bodies.is_empty()
+    } else {
+        bodies.len() % size == 0
+    }
+}
+
+/// The body of the pod at the front, and what follows its padding, where the pod is there.
+fn split_front(input: &[u8]) -> Option<(&[u8], &[u8])>
+    ensures body { IfSome result (λ split. length split.0.now + 8 ≤ length input.now) }
+    ensures rest { IfSome result (λ split. length split.1.now + 8 ≤ length input.now) }
+{
+    if input.len() < HEADER_LEN {
+        return None;
+    }
+    let size = word(input, 0) as usize;
+    let padded = size.div_ceil(8) * 8;
+    let behind = behind_header(input);
+    if behind.len() < padded {
+        return None;
+    }
+    Some((&behind[..size], &behind[padded..]))
+}
+
+/// What follows the first 8 bytes.
+fn behind_header(bytes: &[u8]) -> &[u8]
+    ensures shorter { length result.now ≤ length bytes.now }
+    ensures whole { 8 ≤ length bytes.now → length result.now + 8 ≤ length bytes.now }
+{
+    if bytes.len() < HEADER_LEN {
+        return &[];
+    }
+    &bytes[HEADER_LEN..]
+}
+
+/// The word with this number, counted from 0, where it is there.
+fn word(bytes: &[u8], number: usize) -> u32 {
+    match bytes.as_chunks::<4>().0.get(number) {
+        Some(four) => u32::from_le_bytes(*four),
+        None => 0,
+    }
+}
+
+/// The number that this word and the next one spell.
+fn wide(bytes: &[u8], number: usize) -> u64 {
+    let next = number.wrapping_add(1);
+    u64::from(word(bytes, number)) | u64::from(word(bytes, next)) << 32
+}
+
+fn refused<'a>(alloc: Global, place: &'a [u8], fault: Fault) -> Refusal<'a> {
+    let mut faults = Vec::new(alloc);
+    match push(&mut faults, fault) {
+        Ok(()) => Refusal::Faults(place, faults),
+        Err(_) => Refusal::OutOfMemory,
+    }
+}
+
+fn push(faults: &mut Vec<Fault>, fault: Fault) -> Result<(), AllocError> {
+    if faults.push(fault).is_err() {
+        return Err(AllocError);
+    }
+    Ok(())
+}

@@ -1,0 +1,2 @@
+//! The tests, by subject.
+mod second_reader;

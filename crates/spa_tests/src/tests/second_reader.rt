@@ -1,0 +1,54 @@
+//! The second reader itself, on tables that other programs and hands made.
+use crate::bytes::bytes_of;
+use crate::oracle::{Fault, Refusal, read};
+use crate::tables::built::BUILT;
+use crate::tables::read_rows::READ_ROWS;
+use std::alloc::Global;
+use std::process::Abort;
+use std::test::Fail;
+
+/// Compares what the second reader finds with what a row says: a tree, or a fault that stands among others.
+fn compare(rt: &impl Abort, alloc: Global, input: &[u8], wanted: &str) -> Result<(), Fail> {
+    let mut said = String::new(alloc);
+    match read(alloc, &mut said, input) {
+        Ok(_) => assert_eq!(rt; said.as_str(), wanted, "at {input:?}"),
+        Err(Refusal::Faults(_, faults)) => {
+            let name = wanted.strip_prefix("refused ").unwrap_or("");
+            assert!(rt;
+                stands(faults.as_slice(), name),
+                "{faults:?} and not {wanted} at {input:?}"
+            );
+        }
+        Err(Refusal::OutOfMemory) => return Err(Fail::from("out of memory")),
+    }
+    Ok(())
+}
+
+fn stands(faults: &[Fault], name: &str) -> bool {
+    faults.iter().any(|fault| fault.name() == name)
+}
+
+#[test]
+fn agrees_with_the_worked_rows(rt: HostRuntime) -> Result<(), Fail> {
+    let mut lines = READ_ROWS.lines();
+    while let Some(input) = lines.next() {
+        let wanted = lines.next().unwrap_or("");
+        let _ = (lines.next(), lines.next());
+        let input = bytes_of(rt.alloc(), input)?;
+        compare(&rt, rt.alloc(), input.as_slice(), wanted)?;
+    }
+    Ok(())
+}
+
+#[test]
+fn agrees_with_the_builder(rt: HostRuntime) -> Result<(), Fail> {
+    let mut lines = BUILT.lines();
+    while let Some(_) = lines.next() {
+        let input = lines.next().unwrap_or("");
+        let wanted = lines.next().unwrap_or("");
+        let _ = lines.next();
+        let input = bytes_of(rt.alloc(), input)?;
+        compare(&rt, rt.alloc(), input.as_slice(), wanted)?;
+    }
+    Ok(())
+}

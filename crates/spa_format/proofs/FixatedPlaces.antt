@@ -29,11 +29,11 @@ kind_word-set p l =
     ∙ ap (λ z. z ++ (word_bytes 0 ++ drop 12 q)) (sym t)
     ∙ ap (λ z. take 16 p ++ (word_bytes 0 ++ z)) (drop-drop 12 8 p)
 
-when_fixable : (p : List ℕ) → is_fixable p ≡ true → 16 ≤ length p → fixated_property p ≡ take 16 p ++ (word_bytes 0 ++ drop 20 p)
+pub when_fixable : (p : List ℕ) → is_fixable p ≡ true → 16 ≤ length p → fixated_property p ≡ take 16 p ++ (word_bytes 0 ++ drop 20 p)
 when_fixable p h l = ap (λ t. if t then take 8 p ++ none_choice_pod (drop 8 p) else p) h ∙ kind_word-set p l
 
 -- a property that fixation changes has room for a kind word
-fixable_size : (p : List ℕ) → is_fixable p ≡ true → length p ≡ extent_behind 8 p → 24 ≤ length p
+pub fixable_size : (p : List ℕ) → is_fixable p ≡ true → length p ≡ extent_behind 8 p → 24 ≤ length p
 fixable_size p h l =
     elim (leb_tells 16 (word_at (drop 8 p) 0)) [
       | inl q ↦ let e : word_at (drop 8 p) 0 ≡ word_at p 8 = word_at-drop 8 0 p in let le = q.1 in omega arith

@@ -1,0 +1,2 @@
+pub mod FixationSteps
+pub mod ViewedPods

@@ -1,0 +1,3 @@
+pub mod Tests
+pub mod View
+pub mod Found

@@ -1,0 +1,70 @@
+-- What the tests of a view ask of its pod's bytes: docs/FORMAT.md, "Walks over views".
+use Rattle.std.specs.Prelude.{◌≡◌, ℕ, ◌-◌, ◌≤◌, ◌⊎◌, ◌==◌, List, slice_index}
+use Rattle.std.specs.List.{before_first}
+use Rattle.spa_format.specs.Words.{word_at, wide_at, header_size, body_of}
+use Rattle.spa_format.specs.Kind.{Kind, type_number, body_size}
+use Rattle.spa_format.specs.Tree.{string_type, bytes_type, array_type, struct_type, object_type, pointer_type, choice_type}
+use Rattle.spa_format.specs.Faults.{choice_header_size}
+
+-- the type numbers that a view knows and no value has
+abbrev pub bitmap_type : ℕ
+bitmap_type = 12
+
+abbrev pub sequence_type : ℕ
+sequence_type = 16
+
+-- a pod of this kind of fixed size, by its type and its size
+abbrev pub IsOfKind : Kind → List ℕ → Type 0
+IsOfKind k b = (word_at b 4 ≡ type_number k) × (word_at b 0 ≡ body_size k)
+
+-- a pod of this type and at least this size
+abbrev pub IsOfType : ℕ → ℕ → List ℕ → Type 0
+IsOfType type least b = (word_at b 4 ≡ type) × (least ≤ word_at b 0)
+
+abbrev pub IsString : List ℕ → Type 0
+IsString = IsOfType string_type 1
+
+abbrev pub IsBytes : List ℕ → Type 0
+IsBytes b = word_at b 4 ≡ bytes_type
+
+abbrev pub IsBitmap : List ℕ → Type 0
+IsBitmap b = word_at b 4 ≡ bitmap_type
+
+abbrev pub IsArray : List ℕ → Type 0
+IsArray = IsOfType array_type header_size
+
+abbrev pub IsStruct : List ℕ → Type 0
+IsStruct b = word_at b 4 ≡ struct_type
+
+abbrev pub IsObject : List ℕ → Type 0
+IsObject = IsOfType object_type header_size
+
+abbrev pub IsSequence : List ℕ → Type 0
+IsSequence b = word_at b 4 ≡ sequence_type
+
+abbrev pub IsChoice : List ℕ → Type 0
+IsChoice = IsOfType choice_type choice_header_size
+
+-- the sizes of a pointer's body: a type word, a free word, and the address in four or eight bytes
+abbrev pub short_pointer_size : ℕ
+short_pointer_size = 12
+
+abbrev pub long_pointer_size : ℕ
+long_pointer_size = 16
+
+abbrev pub IsPointer : List ℕ → Type 0
+IsPointer b = (word_at b 4 ≡ pointer_type) × ((word_at b 0 ≡ short_pointer_size) ⊎ (word_at b 0 ≡ long_pointer_size))
+
+-- the address in a pointer's body, by its length
+abbrev pub IsAddress : ℕ → List ℕ → Type 0
+IsAddress a b =
+    (word_at b 0 ≡ short_pointer_size → a ≡ word_at (body_of b) header_size)
+    × (word_at b 0 ≡ long_pointer_size → a ≡ wide_at (body_of b) header_size)
+
+-- a string's pod whose last body byte is NUL
+abbrev pub IsNulEnded : List ℕ → Type 0
+IsNulEnded b = IsString b × (slice_index (body_of b) (word_at b 0 - 1) ≡ 0)
+
+-- the bytes before the first NUL
+abbrev pub before_nul : List ℕ → List ℕ
+before_nul b = before_first (λ x. x == 0) b

@@ -1,0 +1,43 @@
+//! Laws of views: a view of an accepted pod passes its value's test, and what its getter then owes is what the value
+//! says. Each function does nothing: its contract is the law.
+ghost use Rattle.std.specs.Prelude.{◌≡◌, List, ℕ};
+ghost use Rattle.spa_format.specs.Kind.{Fixed, Kind, content, kind_of};
+ghost use Rattle.spa_format.specs.Pod.{IsPod};
+ghost use Rattle.spa_format.specs.Tree.{Properties, Shape, Trees, array, bytes, choice, fixed, object, pointer, string, struct};
+ghost use Rattle.spa_format.specs.Words.{body_of, word_at};
+ghost use Rattle.spa_view.specs.Tests as t;
+
+/// A value of fixed size passes the test of its kind, and its body says it.
+pub fn fixed_pods_are_read()
+    ensures test { (b : List ℕ) (x : Fixed) → IsPod b (fixed x) → t.IsOfKind (kind_of x) b }
+    ensures value { (b : List ℕ) (x : Fixed) → IsPod b (fixed x) → content (kind_of x) (body_of b) ≡ x }
+{}
+
+/// A string passes its test and ends in NUL, and what stands before its first NUL is its text.
+pub fn strings_are_read()
+    ensures test { (b s : List ℕ) → IsPod b (string s) → t.IsNulEnded b }
+    ensures value { (b s : List ℕ) → IsPod b (string s) → t.before_nul (body_of b) ≡ s }
+{}
+
+/// Bytes pass their test, and the body is the bytes.
+pub fn bytes_are_read()
+    ensures test { (b s : List ℕ) → IsPod b (bytes s) → t.IsBytes b }
+    ensures value { (b s : List ℕ) → IsPod b (bytes s) → body_of b ≡ s }
+{}
+
+/// A pointer passes its test, and its body says its type and, at its size, no address but its own.
+pub fn pointers_are_read()
+    ensures test { (b : List ℕ) (type a : ℕ) → IsPod b (pointer type a) → t.IsPointer b }
+    ensures type_of_target { (b : List ℕ) (type a : ℕ) → IsPod b (pointer type a) → word_at (body_of b) 0 ≡ type }
+    ensures address { (b : List ℕ) (type a c : ℕ) → IsPod b (pointer type a) → t.IsAddress c b → c ≡ a }
+{}
+
+/// Arrays, choices, structs and objects pass their tests, and an object's body says its type and its id.
+pub fn parts_are_seen()
+    ensures array { (b : List ℕ) (k : Kind) (xs : List Fixed) → IsPod b (array k xs) → t.IsArray b }
+    ensures choice { (b : List ℕ) (s : Shape) (f : ℕ) (k : Kind) (x : Fixed) (xs : List Fixed) → IsPod b (choice s f k x xs) → t.IsChoice b }
+    ensures members { (b : List ℕ) (vs : Trees) → IsPod b (struct vs) → t.IsStruct b }
+    ensures object { (b : List ℕ) (type id : ℕ) (ps : Properties) → IsPod b (object type id ps) → t.IsObject b }
+    ensures object_type { (b : List ℕ) (type id : ℕ) (ps : Properties) → IsPod b (object type id ps) → word_at (body_of b) 0 ≡ type }
+    ensures object_id { (b : List ℕ) (type id : ℕ) (ps : Properties) → IsPod b (object type id ps) → word_at (body_of b) 4 ≡ id }
+{}

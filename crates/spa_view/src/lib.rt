@@ -1,0 +1,17 @@
+//! Views of pods: borrowed bytes, their members and properties, and fixation in place.
+#![tactic(auto)]
+
+mod conversions;
+mod fields;
+mod fixation;
+mod flags;
+mod getters;
+pub mod laws;
+mod pod;
+mod props;
+mod type_tests;
+
+pub use fields::{PodStruct, PodStructIter};
+pub use flags::PodPropFlags;
+pub use pod::Pod;
+pub use props::{PodObject, PodObjectIter, PodProp};

@@ -1,0 +1,81 @@
+//! Views of whole pods.
+ghost use Rattle.std.specs.Prelude.{◌≡◌, ◌≤◌, ◌<◌, ◌+◌, ◌^◌, IfNone, IfSome, length, take};
+ghost use Rattle.spa_format.specs.Front.{HasFront, front_of};
+ghost use Rattle.spa_format.specs.Words.{body_of, extent, header_size, size_limit, word_at};
+
+use spa_fixed::{HEADER_LEN, u32_at};
+use spa_utils::SpaTypes;
+
+/// Where the size word and the type word of a pod stand.
+const SIZE_AT: usize = 0;
+
+const TYPE_AT: usize = 4;
+
+/// A view of a whole pod, with its padding, in bytes that outlive it.
+#[derive(Clone, Copy, Debug)]
+pub struct Pod<'a> {
+    pub(crate) bytes: &'a [u8],
+    ghost whole: { length bytes.now ≡ extent (word_at bytes.now 0) },
+}
+
+impl<'a> Pod<'a> {
+    ghost use Rattle.spa_view.specs.View.{pod_bytes};
+
+    /// The pod at the front of the bytes: None where fewer than 8 bytes are there, or fewer than the whole pod takes.
+    pub fn from_bytes(bytes: &'a [u8]) -> Option<Pod<'a>>
+        ensures there { IfSome result (λ pod. HasFront bytes.now) }
+        ensures front { IfSome result (λ pod. pod_bytes pod ≡ front_of bytes.now) }
+        ensures none { IfNone result (¬ (HasFront bytes.now)) }
+    {
+        if bytes.len() < HEADER_LEN {
+            return None;
+        }
+        let extent = extent_at(bytes, SIZE_AT);
+        if (bytes.len() as u64) < extent {
+            return None;
+        }
+        Some(Pod {
+            bytes: &bytes[..extent as usize],
+        })
+    }
+
+    /// Header and body, without the padding.
+    pub fn as_bytes(&self) -> &'a [u8]
+        ensures { result.now ≡ take (header_size + word_at (pod_bytes self.now) 0) (pod_bytes self.now) }
+    {
+        &self.bytes[..HEADER_LEN + self.size() as usize]
+    }
+
+    /// The type that the header names.
+    pub fn type_(&self) -> SpaTypes
+        ensures { result.0 ≡ word_at (pod_bytes self.now) 4 }
+    {
+        SpaTypes(u32_at(self.bytes, TYPE_AT))
+    }
+
+    /// The size of the body, in bytes.
+    pub fn size(&self) -> u32
+        ensures { result ≡ word_at (pod_bytes self.now) 0 }
+    {
+        u32_at(self.bytes, SIZE_AT)
+    }
+
+    /// The bytes of the body.
+    pub(crate) fn body(&self) -> &'a [u8]
+        ensures body { result.now ≡ body_of (pod_bytes self.now) }
+        ensures length { length result.now ≡ word_at (pod_bytes self.now) 0 }
+        ensures small { length result.now < size_limit }
+    {
+        &self.bytes[HEADER_LEN..HEADER_LEN + self.size() as usize]
+    }
+}
+
+/// How many bytes the whole pod takes that stands at this place.
+pub(crate) fn extent_at(bytes: &[u8], at: usize) -> u64
+    requires { at + 4 ≤ length bytes.now }
+    ensures extent { result ≡ extent (word_at bytes.now at) }
+    ensures bounded { result ≤ header_size + size_limit }
+{
+    let size = u32_at(bytes, at) as u64;
+    HEADER_LEN as u64 + size.div_ceil(HEADER_LEN as u64) * HEADER_LEN as u64
+}

@@ -1,0 +1,180 @@
+//! Tests of a pod's type and size, on any bytes.
+ghost use Rattle.std.specs.Prelude.{◌≡◌, ◌↔◌, IsTrue};
+ghost use Rattle.spa_format.specs.Kind as k;
+ghost use Rattle.spa_view.specs.Tests as t;
+
+use crate::pod::Pod;
+use spa_fixed::{CanonicalFixedSizedPod, u32_at};
+use spa_utils::{Fd, Float32, Float64, Fraction, Id, Rectangle, SpaTypes};
+
+/// A string's body has its NUL at least.
+const LEAST_STRING: u32 = 1;
+
+/// What stands before the elements of an array, and before an object's properties: two words.
+const TWO_WORDS: u32 = 8;
+
+/// What stands before a choice's values: its kind, its flags and the child header.
+const FOUR_WORDS: u32 = 16;
+
+/// The sizes of a pointer's body, whose address has four or eight bytes.
+pub(crate) const SHORT_POINTER: u32 = 12;
+
+pub(crate) const LONG_POINTER: u32 = 16;
+
+/// Where a choice's pod has its kind word, and the kind word of a None choice.
+pub(crate) const CHOICE_KIND_AT: usize = 8;
+
+const NONE_KIND: u32 = 0;
+
+impl<'a> Pod<'a> {
+    ghost use Rattle.spa_view.specs.View.{pod_bytes};
+    ghost use Rattle.spa_format.specs.Fixation.{is_choice_pod, is_settled_pod};
+
+    /// Whether the type is that of `T` and the size is its size.
+    pub(crate) fn is_of<T: CanonicalFixedSizedPod>(&self) -> bool
+        ensures { IsTrue result ↔ t.IsOfKind T.kind (pod_bytes self.now) }
+    {
+        self.type_().as_raw() == T::TYPE && self.size() as usize == T::SIZE
+    }
+
+    /// Whether the type is None and the size 0.
+    pub fn is_none(&self) -> bool
+        ensures { IsTrue result ↔ t.IsOfKind k.none_kind (pod_bytes self.now) }
+    {
+        self.is_of::<()>()
+    }
+
+    /// Whether the type is Bool and the size 4.
+    pub fn is_bool(&self) -> bool
+        ensures { IsTrue result ↔ t.IsOfKind k.bool_kind (pod_bytes self.now) }
+    {
+        self.is_of::<bool>()
+    }
+
+    /// Whether the type is Id and the size 4.
+    pub fn is_id(&self) -> bool
+        ensures { IsTrue result ↔ t.IsOfKind k.id_kind (pod_bytes self.now) }
+    {
+        self.is_of::<Id>()
+    }
+
+    /// Whether the type is Int and the size 4.
+    pub fn is_int(&self) -> bool
+        ensures { IsTrue result ↔ t.IsOfKind k.int_kind (pod_bytes self.now) }
+    {
+        self.is_of::<i32>()
+    }
+
+    /// Whether the type is Long and the size 8.
+    pub fn is_long(&self) -> bool
+        ensures { IsTrue result ↔ t.IsOfKind k.long_kind (pod_bytes self.now) }
+    {
+        self.is_of::<i64>()
+    }
+
+    /// Whether the type is Float and the size 4.
+    pub fn is_float(&self) -> bool
+        ensures { IsTrue result ↔ t.IsOfKind k.float_kind (pod_bytes self.now) }
+    {
+        self.is_of::<Float32>()
+    }
+
+    /// Whether the type is Double and the size 8.
+    pub fn is_double(&self) -> bool
+        ensures { IsTrue result ↔ t.IsOfKind k.double_kind (pod_bytes self.now) }
+    {
+        self.is_of::<Float64>()
+    }
+
+    /// Whether the type is Fd and the size 8.
+    pub fn is_fd(&self) -> bool
+        ensures { IsTrue result ↔ t.IsOfKind k.fd_kind (pod_bytes self.now) }
+    {
+        self.is_of::<Fd>()
+    }
+
+    /// Whether the type is Rectangle and the size 8.
+    pub fn is_rectangle(&self) -> bool
+        ensures { IsTrue result ↔ t.IsOfKind k.rectangle_kind (pod_bytes self.now) }
+    {
+        self.is_of::<Rectangle>()
+    }
+
+    /// Whether the type is Fraction and the size 8.
+    pub fn is_fraction(&self) -> bool
+        ensures { IsTrue result ↔ t.IsOfKind k.fraction_kind (pod_bytes self.now) }
+    {
+        self.is_of::<Fraction>()
+    }
+
+    /// Whether the type is String and the size at least 1.
+    pub fn is_string(&self) -> bool
+        ensures { IsTrue result ↔ t.IsString (pod_bytes self.now) }
+    {
+        self.type_() == SpaTypes::String && self.size() >= LEAST_STRING
+    }
+
+    /// Whether the type is Bytes.
+    pub fn is_bytes(&self) -> bool
+        ensures { IsTrue result ↔ t.IsBytes (pod_bytes self.now) }
+    {
+        self.type_() == SpaTypes::Bytes
+    }
+
+    /// Whether the type is Bitmap.
+    pub fn is_bitmap(&self) -> bool
+        ensures { IsTrue result ↔ t.IsBitmap (pod_bytes self.now) }
+    {
+        self.type_() == SpaTypes::Bitmap
+    }
+
+    /// Whether the type is Array and the size at least 8, a child header.
+    pub fn is_array(&self) -> bool
+        ensures { IsTrue result ↔ t.IsArray (pod_bytes self.now) }
+    {
+        self.type_() == SpaTypes::Array && self.size() >= TWO_WORDS
+    }
+
+    /// Whether the type is Struct.
+    pub fn is_struct(&self) -> bool
+        ensures { IsTrue result ↔ t.IsStruct (pod_bytes self.now) }
+    {
+        self.type_() == SpaTypes::Struct
+    }
+
+    /// Whether the type is Object and the size at least 8, a type and an id.
+    pub fn is_object(&self) -> bool
+        ensures { IsTrue result ↔ t.IsObject (pod_bytes self.now) }
+    {
+        self.type_() == SpaTypes::Object && self.size() >= TWO_WORDS
+    }
+
+    /// Whether the type is Sequence.
+    pub fn is_sequence(&self) -> bool
+        ensures { IsTrue result ↔ t.IsSequence (pod_bytes self.now) }
+    {
+        self.type_() == SpaTypes::Sequence
+    }
+
+    /// Whether the type is Choice and the size at least 16, kind, flags and a child header.
+    pub fn is_choice(&self) -> bool
+        ensures { IsTrue result ↔ t.IsChoice (pod_bytes self.now) }
+    {
+        self.type_() == SpaTypes::Choice && self.size() >= FOUR_WORDS
+    }
+
+    /// Whether the type is Pointer and the size 12 or 16.
+    pub fn is_pointer(&self) -> bool
+        ensures { IsTrue result ↔ t.IsPointer (pod_bytes self.now) }
+    {
+        self.type_() == SpaTypes::Pointer
+            && (self.size() == SHORT_POINTER || self.size() == LONG_POINTER)
+    }
+
+    /// Whether it is no choice, or one of the kind None.
+    pub(crate) fn is_settled(&self) -> bool
+        ensures { result ≡ is_settled_pod (pod_bytes self.now) }
+    {
+        !self.is_choice() || u32_at(self.bytes, CHOICE_KIND_AT) == NONE_KIND
+    }
+}

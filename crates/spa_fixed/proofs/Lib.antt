@@ -1,2 +1,4 @@
 pub mod Pods
+pub mod Refusals
 pub mod Arrays
+pub mod ChoiceReading

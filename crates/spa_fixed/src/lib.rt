@@ -3,6 +3,7 @@
 #![tactic(auto)]
 
 mod array;
+mod choice;
 mod fault;
 mod fixed;
 mod gen_error;
@@ -11,6 +12,7 @@ mod sink;
 mod words;
 
 pub use array::{next_element, open_array, read_array};
+pub use choice::read_choice;
 pub use fault::{DeserializeError, Fault, FaultKind, Refusal};
 pub use fixed::{CanonicalFixedSizedPod, ChoiceElement};
 pub use gen_error::GenError;

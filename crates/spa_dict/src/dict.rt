@@ -143,7 +143,10 @@ impl<'a> DictRef<'a> {
 }
 
 impl<'a> AsRef<DictRef<'a>> for DictRef<'a> {
-    fn as_ref(&self) -> &DictRef<'a> {
+    /// The dictionary itself.
+    fn as_ref(&self) -> &DictRef<'a>
+        ensures { result.now ≡ self.now }
+    {
         self
     }
 }

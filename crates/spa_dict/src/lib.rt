@@ -8,3 +8,6 @@ mod parse;
 pub use dict::{DictRef, Flags};
 pub use iter::{CIter, Iter, Keys, Values};
 pub use parse::{ParsableValue, ParseValueError};
+
+#[cfg(test)]
+mod tests;

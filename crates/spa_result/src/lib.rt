@@ -8,3 +8,6 @@ mod error;
 pub use async_seq::AsyncSeq;
 pub use code::{SpaResult, SpaSuccess};
 pub use error::Error;
+
+#[cfg(test)]
+mod tests;

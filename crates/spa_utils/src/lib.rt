@@ -21,3 +21,6 @@ pub use fraction::Fraction;
 pub use id::Id;
 pub use rectangle::Rectangle;
 pub use types::SpaTypes;
+
+#[cfg(test)]
+mod tests;

@@ -1,0 +1,242 @@
+//! Look-ups, iterators and readings, against values from outside, and each call once.
+use crate::{DictRef, Flags, ParsableValue};
+use bitflags::Flags as _;
+use std::fmt::Debug;
+use std::process::Abort;
+use std::test::Fail;
+
+#[test]
+fn pairs_come_in_order(rt: HostRuntime) -> Result<(), Fail> {
+    let items: [(&[u8], &[u8]); 2] = [(b"K0", b"V0"), (b"K1", b"V1")];
+    let dict = DictRef::new(&items, Flags::empty());
+    assert_eq!(rt; dict.len(), 2);
+    assert!(rt; !dict.is_empty());
+    let mut pairs = dict.iter_cstr();
+    assert_eq!(rt; pairs.next(), Some((b"K0".as_slice(), b"V0".as_slice())));
+    let mut others = pairs.clone()?;
+    assert_eq!(rt; others.next(), Some((b"K1".as_slice(), b"V1".as_slice())));
+    assert_eq!(rt; pairs.next(), Some((b"K1".as_slice(), b"V1".as_slice())));
+    assert_eq!(rt; pairs.next(), None);
+    let mut texts = dict.iter();
+    for wanted in [Some(("K0", "V0")), Some(("K1", "V1")), None, None] {
+        assert_eq!(rt; texts.next(), wanted);
+    }
+    let mut keys = dict.keys();
+    for wanted in [Some("K0"), Some("K1"), None, None] {
+        assert_eq!(rt; keys.next(), wanted);
+    }
+    let mut values = dict.values();
+    for wanted in [Some("V0"), Some("V1"), None, None] {
+        assert_eq!(rt; values.next(), wanted);
+    }
+    Ok(())
+}
+
+#[test]
+fn an_empty_dictionary_has_nothing(rt: HostRuntime) {
+    let dict = DictRef::new(&[], Flags::empty());
+    assert_eq!(rt; dict.len(), 0);
+    assert!(rt; dict.is_empty());
+    assert_eq!(rt; dict.iter_cstr().next(), None);
+    assert_eq!(rt; dict.get("a"), None);
+    assert_eq!(rt; dict.parse::<bool>("a"), None);
+}
+
+#[test]
+fn what_is_no_text_is_passed_over(rt: HostRuntime) {
+    let items: [(&[u8], &[u8]); 4] = [(b"a", b"\xff"), (b"\xc3", b"0"), (b"a", b"1"), (b"a", b"2")];
+    let dict = DictRef::new(&items, Flags::empty());
+    assert_eq!(rt; dict.get("a"), Some("1"));
+    assert_eq!(rt; dict.get("b"), None);
+    let read = dict.parse::<bool>("a");
+    assert!(rt; matches!(read, Some(Ok(true))));
+    assert_eq!(rt; DictRef::new(&items, Flags::SORTED).get("a"), Some("1"));
+    assert_eq!(rt; dict.as_ref().len(), 4);
+    assert_eq!(rt; dict.iter_cstr().count(), 4);
+    let mut texts = dict.iter();
+    for wanted in [Some(("a", "1")), Some(("a", "2")), None] {
+        assert_eq!(rt; texts.next(), wanted);
+    }
+    let mut keys = dict.keys();
+    for wanted in [Some("a"), Some("a"), Some("a"), None] {
+        assert_eq!(rt; keys.next(), wanted);
+    }
+    let mut values = dict.values();
+    for wanted in [Some("0"), Some("1"), Some("2"), None] {
+        assert_eq!(rt; values.next(), wanted);
+    }
+}
+
+#[test]
+fn flags_keep_all_bits(rt: HostRuntime) {
+    assert_eq!(rt; Flags::SORTED.bits(), 1);
+    for bits in [0, 1, 6, 0xffff_ffff] {
+        let flags = Flags::from_bits_retain(bits);
+        assert_eq!(rt; DictRef::new(&[], flags).flags().bits(), bits);
+        assert_eq!(rt; flags.contains(Flags::SORTED), bits % 2 == 1, "at {bits}");
+        assert_eq!(rt; flags.union(Flags::SORTED).bits(), bits | 1, "at {bits}");
+    }
+}
+
+#[test]
+fn hints_count_the_pairs_that_are_left(rt: HostRuntime) {
+    let items: [(&[u8], &[u8]); 3] = [(b"a", b"1"), (b"b", b"2"), (b"c", b"3")];
+    let dict = DictRef::new(&items, Flags::empty());
+    assert_eq!(rt; dict.iter_cstr().size_hint(), (3, Some(3)));
+    assert_eq!(rt; dict.iter().size_hint(), (0, Some(3)));
+    assert_eq!(rt; dict.keys().size_hint(), (0, Some(3)));
+    assert_eq!(rt; dict.values().size_hint(), (0, Some(3)));
+    let mut keys = dict.keys();
+    assert_eq!(rt; keys.next(), Some("a"));
+    assert_eq!(rt; keys.size_hint(), (0, Some(2)));
+}
+
+/// Reads each text as a `T`, by itself and out of a dictionary.
+fn check_readings<T>(rt: &impl Abort, rows: &[(&str, Option<T>)])
+where
+    T: ParsableValue + PartialEq + Debug,
+{
+    for (text, wanted) in rows {
+        assert_eq!(rt; T::parse_value(text), *wanted, "{text} as {}", T::TYPE_NAME);
+        let items: [(&[u8], &[u8]); 1] = [(b"key", text.as_bytes())];
+        let found = DictRef::new(&items, Flags::empty()).parse::<T>("key");
+        let found = found.and_then(|read| read.ok());
+        assert_eq!(rt; found, *wanted, "{text} as {}", T::TYPE_NAME);
+    }
+}
+
+#[test]
+fn texts_read_as_truth_values(rt: HostRuntime) {
+    check_readings::<bool>(
+        &rt,
+        &[
+            ("true", Some(true)),
+            ("1", Some(true)),
+            ("+1", Some(true)),
+            ("01", Some(true)),
+            ("True", Some(false)),
+            ("false", Some(false)),
+            ("10", Some(false)),
+            ("-1", Some(false)),
+            ("4294967297", Some(false)),
+            ("badger", Some(false)),
+            ("", Some(false)),
+        ],
+    );
+}
+
+#[test]
+fn texts_read_as_unsigned_numbers(rt: HostRuntime) {
+    check_readings::<u8>(
+        &rt,
+        &[
+            ("1", Some(1)),
+            ("+5", Some(5)),
+            ("255", Some(255)),
+            ("256", None),
+            ("-0", None),
+            ("-10", None),
+            ("+", None),
+            ("", None),
+            (" 1", None),
+            ("1.5", None),
+            ("badger", None),
+        ],
+    );
+    check_readings::<u16>(&rt, &[("00000000300", Some(300)), ("65536", None)]);
+    check_readings::<u32>(
+        &rt,
+        &[("4294967295", Some(4294967295)), ("4294967296", None)],
+    );
+    check_readings::<u64>(
+        &rt,
+        &[
+            ("9223372036854775807", Some(9223372036854775807)),
+            ("18446744073709551616", None),
+        ],
+    );
+    check_readings::<usize>(&rt, &[("1", Some(1)), ("18446744073709551616", None)]);
+    check_readings::<u128>(
+        &rt,
+        &[
+            ("18446744073709551616", Some(18446744073709551616)),
+            ("340282366920938463463374607431768211456", None),
+        ],
+    );
+}
+
+#[test]
+fn texts_read_as_signed_numbers(rt: HostRuntime) {
+    check_readings::<i8>(
+        &rt,
+        &[
+            ("-0", Some(0)),
+            ("-10", Some(-10)),
+            ("127", Some(127)),
+            ("128", None),
+            ("-128", Some(-128)),
+            ("-129", None),
+            ("-", None),
+            ("+-1", None),
+        ],
+    );
+    check_readings::<i16>(&rt, &[("-32768", Some(-32768)), ("32768", None)]);
+    check_readings::<i32>(
+        &rt,
+        &[
+            ("-10", Some(-10)),
+            ("-2147483648", Some(-2147483648)),
+            ("9223372036854775807", None),
+            ("badger", None),
+        ],
+    );
+    check_readings::<i64>(
+        &rt,
+        &[
+            ("9223372036854775807", Some(9223372036854775807)),
+            ("9223372036854775808", None),
+        ],
+    );
+    check_readings::<isize>(&rt, &[("-10", Some(-10)), ("9223372036854775808", None)]);
+    check_readings::<i128>(
+        &rt,
+        &[
+            ("-10", Some(-10)),
+            ("170141183460469231731687303715884105728", None),
+        ],
+    );
+}
+
+#[test]
+fn refusals_name_the_text_and_the_type(rt: HostRuntime) -> Result<(), Fail> {
+    let items: [(&[u8], &[u8]); 1] = [(b"i64-max", b"9223372036854775807")];
+    let Some(Err(refusal)) = DictRef::new(&items, Flags::empty()).parse::<i32>("i64-max") else {
+        assert!(rt; false, "it is too large");
+        return Ok(());
+    };
+    let printed = format!(in rt.alloc(); "{refusal}")?;
+    assert_eq!(rt;
+        printed.as_str(),
+        "'9223372036854775807' cannot be parsed to i32"
+    );
+    assert_eq!(rt; bool::TYPE_NAME, "bool");
+    let names = [
+        i8::TYPE_NAME,
+        i16::TYPE_NAME,
+        i32::TYPE_NAME,
+        i64::TYPE_NAME,
+        i128::TYPE_NAME,
+        isize::TYPE_NAME,
+        u8::TYPE_NAME,
+        u16::TYPE_NAME,
+        u32::TYPE_NAME,
+        u64::TYPE_NAME,
+        u128::TYPE_NAME,
+        usize::TYPE_NAME,
+    ];
+    let wanted = [
+        "i8", "i16", "i32", "i64", "i128", "isize", "u8", "u16", "u32", "u64", "u128", "usize",
+    ];
+    assert_eq!(rt; names, wanted);
+    Ok(())
+}

@@ -1,0 +1,95 @@
+//! Codes with their meanings, from outside, and each call once.
+use crate::{AsyncSeq, SpaResult, SpaSuccess};
+use spa_utils::Errno;
+use std::test::Fail;
+
+/// How many sequence numbers there are.
+const COUNT: i32 = 1073741824;
+
+#[test]
+fn codes_have_three_meanings(rt: HostRuntime) {
+    let rows = [
+        (0, Ok(SpaSuccess::Sync(0))),
+        (1, Ok(SpaSuccess::Sync(1))),
+        (COUNT - 1, Ok(SpaSuccess::Sync(1073741823))),
+        (COUNT, Ok(SpaSuccess::Async(AsyncSeq::from_seq(0)))),
+        (COUNT + 1, Ok(SpaSuccess::Async(AsyncSeq::from_seq(1)))),
+        (
+            i32::MAX,
+            Ok(SpaSuccess::Async(AsyncSeq::from_seq(COUNT - 1))),
+        ),
+        (-1, Err(1)),
+        (-16, Err(16)),
+        (i32::MIN, Err(2147483648)),
+    ];
+    for (code, wanted) in rows {
+        let found = SpaResult::from_c(code)
+            .into_result()
+            .map_err(|e| e.errno().raw_os_error());
+        assert_eq!(rt; found, wanted, "at {code}");
+        assert_eq!(rt;
+            SpaResult::from_c(code).is_async(),
+            code >= COUNT,
+            "at {code}"
+        );
+    }
+}
+
+#[test]
+fn sequence_numbers_are_the_low_bits(rt: HostRuntime) -> Result<(), Fail> {
+    let rows = [
+        (0, 0, 1073741824, "AsyncSeq seq: 0 raw: 1073741824"),
+        (1, 1, 1073741825, "AsyncSeq seq: 1 raw: 1073741825"),
+        (
+            -1,
+            1073741823,
+            2147483647,
+            "AsyncSeq seq: 1073741823 raw: 2147483647",
+        ),
+        (COUNT, 0, 1073741824, "AsyncSeq seq: 0 raw: 1073741824"),
+        (i32::MIN, 0, 1073741824, "AsyncSeq seq: 0 raw: 1073741824"),
+    ];
+    for (number, seq, raw, text) in rows {
+        let found = AsyncSeq::from_seq(number);
+        assert_eq!(rt; found.seq(), seq, "at {number}");
+        assert_eq!(rt; found.raw(), raw, "at {number}");
+        assert_eq!(rt;
+            SpaResult::new_return_async(number),
+            SpaResult::from_c(raw),
+            "at {number}"
+        );
+        let printed = format!(in rt.alloc(); "{found:?}")?;
+        assert_eq!(rt; printed.as_str(), text, "at {number}");
+    }
+    assert_eq!(rt; AsyncSeq::from_raw(1073741825), AsyncSeq::from_seq(1));
+    Ok(())
+}
+
+#[test]
+fn results_are_taken_as_done_or_later(rt: HostRuntime) -> Result<(), Fail> {
+    assert_eq!(rt; SpaResult::from_c(0).into_sync_result(), Ok(0));
+    assert_eq!(rt;
+        SpaResult::from_c(1073741823).into_sync_result(),
+        Ok(1073741823)
+    );
+    let later = SpaResult::new_return_async(1).into_async_result();
+    assert_eq!(rt; later, Ok(AsyncSeq::from_seq(1)));
+    let rows = [(-1, "1"), (-16, "16"), (i32::MIN, "2147483648")];
+    for (code, text) in rows {
+        let done = SpaResult::from_c(code).into_sync_result();
+        let later = SpaResult::from_c(code).into_async_result();
+        let (Err(done), Err(later)) = (done, later) else {
+            assert!(rt; false, "{code} is an error");
+            continue;
+        };
+        assert_eq!(rt; done, later, "at {code}");
+        assert_eq!(rt;
+            done.errno(),
+            Errno::from_raw(code.unsigned_abs()),
+            "at {code}"
+        );
+        let printed = format!(in rt.alloc(); "{done}")?;
+        assert_eq!(rt; printed.as_str(), text, "at {code}");
+    }
+    Ok(())
+}

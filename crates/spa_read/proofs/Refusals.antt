@@ -1,0 +1,118 @@
+-- What a refusal of a part says of the whole, and what the public refusal says.
+use Rattle.std.proofs.Common.{◌≡◌, ℕ, ◌<◌, ◌≤◌, List, ◌++◌, length, drop, Result, refl, sym, ap, ◌∙◌, subst, arith, inl, inr}
+use Rattle.std.specs.Prelude.{IfErr, IsErrAnd, ⊤}
+use Rattle.std.specs.Borrow.{Bor}
+use Rattle.std.proofs.lemmas.Result.{err_from_is_err_and}
+use Rattle.spa_format.specs.Words.{word_at, body_of, header_size}
+use Rattle.spa_format.specs.Kind.{Kind, body_size}
+use Rattle.spa_format.specs.Tree.{array_type, choice_type, struct_type, object_type}
+use Rattle.spa_format.specs.Front.{HasFront}
+use Rattle.spa_format.specs.Faults.{Fault, Short, Text, InvalidType, InvalidChoiceType, MissingChoiceValues, WrongSize, of_array, of_choice, choice_header_size, short_object, IsWrongArray, StandsAtFront, Stands, at_front, in_member, in_key, in_property}
+use Rattle.spa_format.proofs.Refused as format
+use Rattle.spa_fixed.specs.declared.fault.Refusal.{Refusal}
+use Rattle.spa_fixed.specs.declared.fault.Refusal.TheVariants as refusal
+use Rattle.spa_fixed.specs.Reading.{RefusesArray, RefusesChoice}
+use Rattle.spa_read.specs.Opening.{Opens}
+use Rattle.spa_read.specs.Reading.{TakesMemory, MayLackMemory, RefusesInput}
+use Rattle.spa_read.specs.Refusing.{Says, StandsInBody, RefusesBody, StandsInMembers, StandsInProperties, RefusesPod, error_of}
+
+-- what a `?` passes on
+pub passed_on : {T E : Type 0} (r : Result T E) (e : E) (Q : E → Type 0) → IsErrAnd r (λ y. y ≡ e) → Q e → IfErr r Q
+passed_on r e Q h q = let p = err_from_is_err_and r h in rw (p.1, p.2) q
+
+-- a refusal says of the whole what follows there
+pub says_through : (stands stands' : Fault → Type 0) (memory memory' : Type 0) →
+    ((k : Fault) → stands k → stands' k) → (memory → memory') → (why : Refusal) → Says stands memory why → Says stands' memory' why
+says_through stands stands' memory memory' f g refusal.Short h = f Short h
+says_through stands stands' memory memory' f g refusal.Text h = f Text h
+says_through stands stands' memory memory' f g refusal.InvalidType h = f InvalidType h
+says_through stands stands' memory memory' f g refusal.InvalidChoiceType h = f InvalidChoiceType h
+says_through stands stands' memory memory' f g refusal.MissingChoiceValues h = f MissingChoiceValues h
+says_through stands stands' memory memory' f g refusal.WrongSize h = f WrongSize h
+says_through stands stands' memory memory' f g refusal.OutOfMemory h = g h
+
+-- a fault of the body stands at the front
+at_front_of : (b : List ℕ) (k : Fault) → HasFront b → StandsInBody (word_at b 4) (body_of b) k → StandsAtFront k b
+at_front_of b Short h s = absurd s
+at_front_of b Text h s = (h, s.0, s.1)
+at_front_of b InvalidType h s = (h, s)
+at_front_of b InvalidChoiceType h s = (h, s.0, s.1, s.2)
+at_front_of b MissingChoiceValues h s = (h, s.0, s.1)
+at_front_of b WrongSize h s = (h, s)
+
+-- the refusal of a pod whose front is there
+refused_inside : (input place : List ℕ) (why : Refusal) → HasFront input →
+    Says (λ k. Stands k place input) (MayLackMemory input) why → RefusesPod input place why
+refused_inside input place why h s = record { named = s; short_first = λ n. absurd (n h) }
+
+pub no_front : (input : List ℕ) → ¬ (HasFront input) → RefusesPod input input refusal.Short
+no_front input n = record { named = at_front input refl n; short_first = λ _. (refl, refl) }
+
+pub body_refused : (input body rest : List ℕ) (kind : ℕ) (why : Refusal) → Opens input kind body rest → RefusesBody kind body why → RefusesPod input input why
+body_refused input body rest kind why o s =
+    let stands : (k : Fault) → StandsInBody kind body k → Stands k input input = λ k i.
+    at_front input refl (at_front_of input k o.there
+    (subst (λ b. StandsInBody (word_at input 4) b k) o.its_body (subst (λ t. StandsInBody t body k) o.its_kind i))) in
+    refused_inside input input why o.there
+    (says_through _ _ _ _ stands (λ m. (o.there, subst TakesMemory o.its_kind m)) why s)
+
+pub members_refused : (input place body rest : List ℕ) (kind : ℕ) (why : Refusal) → Opens input kind body rest → kind ≡ struct_type →
+    Says (StandsInMembers body place) ⊤ why → RefusesPod input place why
+members_refused input place body rest kind why o t s =
+    let its_type : word_at input 4 ≡ struct_type = sym o.its_kind ∙ t in
+    let stands : (k : Fault) → StandsInMembers body place k → Stands k place input = λ k m.
+    in_member input m.0 m.1 m.2 o.there its_type (sym o.its_body ∙ m.3) m.4 m.5 m.6 in
+    refused_inside input place why o.there
+    (says_through _ _ _ _ stands (λ _. (o.there, inr (inr (inr (inl its_type))))) why s)
+
+pub short_object_refused : (input body rest : List ℕ) (kind : ℕ) → Opens input kind body rest → kind ≡ object_type →
+    length body < header_size → RefusesPod input input refusal.WrongSize
+short_object_refused input body rest kind o t l = body_refused input body rest kind refusal.WrongSize o (short_object t l)
+
+pub properties_refused : (input place body rest behind : List ℕ) (kind : ℕ) (why : Refusal) → Opens input kind body rest → kind ≡ object_type →
+    header_size ≤ length body → behind ≡ drop header_size body → Says (StandsInProperties behind place) ⊤ why → RefusesPod input place why
+properties_refused input place body rest behind kind why o t l d s =
+    let its_type : word_at input 4 ≡ object_type = sym o.its_kind ∙ t in
+    let long : header_size ≤ length (body_of input) = omega (arith, ap length o.its_body) in
+    let its_behind : drop header_size (body_of input) ≡ behind = ap (drop header_size) (sym o.its_body) ∙ sym d in
+    refused_inside input place why o.there
+    (says_through _ _ _ _ (in_object input place behind o.there its_type long its_behind) (λ _. (o.there, inr (inr (inr (inr (inl its_type)))))) why s)
+  where
+    in_object : (input place behind : List ℕ) → HasFront input → word_at input 4 ≡ object_type → header_size ≤ length (body_of input) →
+        drop header_size (body_of input) ≡ behind → (k : Fault) → StandsInProperties behind place k → Stands k place input
+    in_object input place behind h t l d k m =
+        elim m.5 [
+          | inl x ↦ in_key input m.0 m.1 h t l (d ∙ m.3 ∙ ap (λ y. m.1 ++ y) (sym x.1)) m.4 (λ n. x.2 (sym x.1 ∙ n)) (omega (arith, x.3, ap length x.1)) x.0
+          | inr x ↦ in_property input m.0 m.1 m.2 h t l (d ∙ m.3) m.4 x.0 x.1
+        ]
+
+-- the refusal of an array of elements of this kind
+pub array_refused : (k : Kind) (b : List ℕ) (why : Refusal) → RefusesArray (IsWrongArray k b) why → RefusesBody array_type b why
+array_refused k b refusal.Short r = absurd r
+array_refused k b refusal.Text r = absurd r
+array_refused k b refusal.InvalidType r = absurd r
+array_refused k b refusal.InvalidChoiceType r = absurd r
+array_refused k b refusal.MissingChoiceValues r = absurd r
+array_refused k b refusal.WrongSize r = of_array k refl r
+array_refused k b refusal.OutOfMemory r = inr (inr (inl refl))
+
+-- the refusal of a choice over values of this kind
+pub choice_refused : (k : Kind) (b : List ℕ) (why : Refusal) → choice_header_size ≤ length b → 0 < body_size k → RefusesChoice k b why → RefusesBody choice_type b why
+choice_refused k b refusal.Short l p r = absurd r
+choice_refused k b refusal.Text l p r = absurd r
+choice_refused k b refusal.InvalidType l p r = absurd r
+choice_refused k b refusal.InvalidChoiceType l p r = (refl, l, r)
+choice_refused k b refusal.MissingChoiceValues l p r = (refl, r)
+choice_refused k b refusal.WrongSize l p r = of_choice k refl p r
+choice_refused k b refusal.OutOfMemory l p r = inr (inr (inr (inr (inr refl))))
+
+-- The public refusal that is made of one.
+
+pub refused_as : (input : List ℕ) (place : Bor (List ℕ)) (why : Refusal) → RefusesPod input place.now why → RefusesInput input (error_of place why)
+refused_as input place refusal.Short h = record { refused = format.refused Short place.now input h.named; memory = tt; short_first = λ n. (refl, (h.short_first n).1); named = h.named }
+refused_as input place refusal.Text h = record { refused = format.refused Text place.now input h.named; memory = tt; short_first = λ n. cc ((h.short_first n).0); named = h.named }
+refused_as input place refusal.InvalidType h = record { refused = format.refused InvalidType place.now input h.named; memory = tt; short_first = λ n. cc ((h.short_first n).0); named = (place.now, h.named) }
+refused_as input place refusal.InvalidChoiceType h = record { refused = format.refused InvalidChoiceType place.now input h.named; memory = tt; short_first = λ n. cc ((h.short_first n).0); named = (place.now, h.named) }
+refused_as input place refusal.MissingChoiceValues h = record { refused = format.refused MissingChoiceValues place.now input h.named; memory = tt; short_first = λ n. cc ((h.short_first n).0); named = (place.now, h.named) }
+refused_as input place refusal.WrongSize h = record { refused = format.refused WrongSize place.now input h.named; memory = tt; short_first = λ n. cc ((h.short_first n).0); named = (place.now, h.named) }
+refused_as input place refusal.OutOfMemory h = record { refused = tt; memory = h.named; short_first = λ n. cc ((h.short_first n).0); named = tt }

@@ -1,0 +1,18 @@
+-- The pod at the front of an input, opened: docs/FORMAT.md, "The front of an input".
+use Rattle.std.specs.Prelude.{◌≡◌, ℕ, ◌+◌, ◌≤◌, List, length}
+use Rattle.spa_format.specs.Words.{word_at, body_of, header_size}
+use Rattle.spa_format.specs.Tree.{Tree}
+use Rattle.spa_format.specs.Front.{HasFront, Begins, rest_of}
+
+-- the front is there, and these are its type number, its body and what follows it
+pub record Opens (input : List ℕ) (kind : ℕ) (body rest : List ℕ) : Type 0 where
+  pub there : HasFront input
+  pub its_kind : kind ≡ word_at input 4
+  pub its_body : body ≡ body_of input
+  pub its_rest : rest ≡ rest_of input
+  pub shorter : length body + header_size ≤ length input
+
+-- the input begins with a pod of this value, and this is what follows it
+pub record BeginsWith (input : List ℕ) (v : Tree) (rest : List ℕ) : Type 0 where
+  pub begins : Begins input v
+  pub follows : rest ≡ rest_of input

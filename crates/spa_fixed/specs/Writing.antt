@@ -1,5 +1,5 @@
 -- What a refused write says: docs/FORMAT.md, "Values that can be written".
-use Rattle.std.specs.Prelude.{ℕ}
+use Rattle.std.specs.Prelude.{◌≡◌, ℕ, List, []}
 use Rattle.spa_fixed.specs.declared.gen_error.GenError.{GenError}
 use Rattle.spa_fixed.specs.declared.gen_error.GenError.TheVariants.{Full, TooLarge, NulInText, WrongCount, Failed, Io, OutOfMemory}
 
@@ -21,3 +21,8 @@ pub record RefusesWrite (nul large : Type 0) (lacks : GenError → Type 0) (e : 
 -- the sink may refuse so many bytes so, whatever it is left as
 abbrev pub MayRefuse : {S : Type 0} → (S → ℕ → S → GenError → Type 0) → S → ℕ → GenError → Type 0
 MayRefuse refuses old n e = (new : _) × refuses old n new e
+
+-- these bytes were appended, or there are none and nothing was done
+pub data Sent {S : Type 0} (appends : S → List ℕ → S → Type 0) (old : S) (bytes : List ℕ) (new : S) : Type 0 where
+  none_sent : bytes ≡ [] → old ≡ new → Sent appends old bytes new
+  some_sent : appends old bytes new → Sent appends old bytes new

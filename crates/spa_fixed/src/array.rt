@@ -1,14 +1,22 @@
-//! Bodies of arrays.
-ghost use Rattle.std.specs.Prelude.{◌≡◌, ◌+◌, ◌*◌, ◌≤◌, IfErr, IfNone, IfOk, IfSome, OnSome, drop, length, map, take};
+//! Arrays: their bodies read, and their pods written.
+ghost use Rattle.std.specs.Prelude.{◌≡◌, ◌+◌, ◌*◌, ◌<◌, ◌≤◌, IfErr, IfNone, IfOk, IfSome, OnOk, OnSome, drop, length, map, take};
 ghost use Rattle.spa_fixed.specs.Reading.{AreWhole, RefusesArray};
 ghost use Rattle.spa_format.specs.Faults.{IsWrongArray};
 ghost use Rattle.spa_format.specs.Kind.{IsFixedBody, body_size};
 ghost use Rattle.spa_format.specs.Pod.{AreElements, IsArray};
-ghost use Rattle.spa_format.specs.Words.{header_size, word_at};
+ghost use Rattle.spa_fixed.specs.Writing.{RefusesWrite};
+ghost use Rattle.spa_format.specs.Text.{array_body, framed_text};
+ghost use Rattle.spa_format.specs.Tree.{array_type};
+ghost use Rattle.spa_format.specs.Typed.{AreOf};
+ghost use Rattle.spa_format.specs.Words.{header_size, size_limit, word_at};
 
+use crate::elements::{body_len, put_parts};
 use crate::fault::Refusal;
 use crate::fixed::CanonicalFixedSizedPod;
-use crate::words::{HEADER_LEN, u32_at};
+use crate::gen_error::GenError;
+use crate::sink::PodSink;
+use crate::words::{HEADER_LEN, joined, two_words, u32_at};
+use spa_utils::SpaTypes;
 use std::alloc::{AllocError, Global};
 
 /// The bodies of the elements in the body of an array of this type, where its sizes are right: the child size is the
@@ -80,4 +88,25 @@ pub fn read_array<T: CanonicalFixedSizedPod>(alloc: Global, body: &[u8]) -> Resu
         return Err(Refusal::WrongSize);
     };
     Ok(read_elements::<T>(alloc, elements)?)
+}
+
+/// Appends the pod of an array. It is refused with `TooLarge` where a size word would be 4294967296 or more, before a
+/// byte is appended, and else only where the sink refuses it. Of units only the child header is written.
+pub fn put_array<T: CanonicalFixedSizedPod, S: PodSink>(
+    sink: &mut S,
+    values: &[T],
+) -> Result<(), GenError>
+    ensures ok { OnOk result (S.appends sink.old (framed_text array_type (array_body T.kind (map T.fixed values.now))) sink.new) }
+    ensures typed { OnOk result (AreOf T.kind (map T.fixed values.now)) }
+    ensures fits { OnOk result (length (array_body T.kind (map T.fixed values.now)) < size_limit) }
+    ensures refused { IfErr result (RefusesWrite ⊥ (size_limit ≤ length (array_body T.kind (map T.fixed values.now))) (λ e. S.refuses sink.old (length (framed_text array_type (array_body T.kind (map T.fixed values.now)))) sink.new e)) }
+{
+    let Some(size) = body_len::<T>(HEADER_LEN, values.len()) else {
+        return Err(GenError::TooLarge);
+    };
+    let header = joined(
+        two_words(size, SpaTypes::Array.0),
+        two_words(T::SIZE as u32, T::TYPE),
+    );
+    put_parts(sink, &header, &[], values, size)
 }

@@ -4,6 +4,7 @@
 
 mod array;
 mod choice;
+mod elements;
 mod fault;
 mod fixed;
 mod gen_error;
@@ -11,7 +12,7 @@ mod pod;
 mod sink;
 mod words;
 
-pub use array::{next_element, open_array, read_array};
+pub use array::{next_element, open_array, put_array, read_array};
 pub use choice::read_choice;
 pub use fault::{DeserializeError, Fault, FaultKind, Refusal};
 pub use fixed::{CanonicalFixedSizedPod, ChoiceElement};

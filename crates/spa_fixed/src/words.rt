@@ -101,3 +101,14 @@ pub fn put_padding<S: PodSink>(sink: &mut S, size: usize) -> Result<(), GenError
     let zeros = [0; HEADER_LEN];
     sink.append(&zeros[..(HEADER_LEN - size % HEADER_LEN) % HEADER_LEN])
 }
+
+/// Eight bytes, and eight more.
+pub(crate) fn joined(front: [u8; 8], back: [u8; 8]) -> [u8; 16]
+    ensures { result ≡ front ++ back }
+{
+    let mut bytes = [0; 16];
+    let (first, last) = bytes.split_at_mut(8);
+    first.copy_from_slice(&front);
+    last.copy_from_slice(&back);
+    bytes
+}

@@ -1,1 +1,3 @@
 mod Copying
+mod Comparing
+mod Unlike

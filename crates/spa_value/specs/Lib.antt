@@ -1,3 +1,5 @@
 pub mod View
 pub mod Views
 pub mod ViewLaws
+pub mod Equality
+pub mod EqualityLaws

@@ -4,6 +4,8 @@
 mod array;
 mod choice_value;
 mod copies;
+mod equality;
+pub mod laws;
 mod object;
 mod value;
 

@@ -80,48 +80,36 @@ impl<T: PartialEq> PartialEq for ChoiceEnum<T> {
     ghost laws = { Prim.search (comparing, rules) };
 
     fn eq(&self, other: &Self) -> bool {
-        match (self, other) {
-            (ChoiceEnum::None(v), ChoiceEnum::None(w)) => v.eq(w),
-            (
-                ChoiceEnum::Range { default, min, max },
-                ChoiceEnum::Range {
-                    default: d,
-                    min: low,
-                    max: high,
-                },
-            ) => default.eq(d) && min.eq(low) && max.eq(high),
-            (
-                ChoiceEnum::Step {
-                    default,
-                    min,
-                    max,
-                    step,
-                },
-                ChoiceEnum::Step {
-                    default: d,
-                    min: low,
-                    max: high,
-                    step: by,
-                },
-            ) => default.eq(d) && min.eq(low) && max.eq(high) && step.eq(by),
-            (
-                ChoiceEnum::Enum {
-                    default,
-                    alternatives,
-                },
-                ChoiceEnum::Enum {
-                    default: d,
-                    alternatives: others,
-                },
-            ) => default.eq(d) && alternatives.eq(others),
-            (
-                ChoiceEnum::Flags { default, flags },
-                ChoiceEnum::Flags {
-                    default: d,
-                    flags: others,
-                },
-            ) => default.eq(d) && flags.eq(others),
-            _ => false,
+        match self {
+            ChoiceEnum::None(value) => matches!(other, ChoiceEnum::None(v) if value.eq(v)),
+            ChoiceEnum::Range { default, min, max } => matches!(
+                other,
+                ChoiceEnum::Range { default: d, min: low, max: high }
+                    if default.eq(d) && min.eq(low) && max.eq(high)
+            ),
+            ChoiceEnum::Step {
+                default,
+                min,
+                max,
+                step,
+            } => matches!(
+                other,
+                ChoiceEnum::Step { default: d, min: low, max: high, step: by }
+                    if default.eq(d) && min.eq(low) && max.eq(high) && step.eq(by)
+            ),
+            ChoiceEnum::Enum {
+                default,
+                alternatives,
+            } => matches!(
+                other,
+                ChoiceEnum::Enum { default: d, alternatives: others }
+                    if default.eq(d) && alternatives.eq(others)
+            ),
+            ChoiceEnum::Flags { default, flags } => matches!(
+                other,
+                ChoiceEnum::Flags { default: d, flags: others }
+                    if default.eq(d) && flags.eq(others)
+            ),
         }
     }
 }

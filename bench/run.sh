@@ -1,10 +1,11 @@
 #!/usr/bin/env bash
-# run.sh [INPUTS]: times `podtool rewrite` beside `cat` on the inputs that make.py writes, and prints a table. The folder
-# INPUTS is made where it is missing (bench/out/inputs by default). ROUNDS=N in place of 7 rounds.
+# run.sh [INPUTS]: times `podtool` beside `cat` on the inputs that make.py writes, and prints a table. The folder INPUTS is
+# made where it is missing (bench/out/inputs by default). ROUNDS=N in place of 7 rounds; WORDS='rewrite' for that word alone.
 set -eu
 here=$(dirname "$(readlink -f "${BASH_SOURCE[0]}")")
 inputs=${1:-$here/out/inputs}
 rounds=${ROUNDS:-7}
+read -ra words <<< "${WORDS:-rewrite fixate show}"
 
 [ -d "$inputs" ] || python3 "$here/make.py" "$inputs"
 # built where a source is newer; then the program itself is timed, and not the script that finds it
@@ -24,19 +25,21 @@ best_of() {
   echo "$best"
 }
 
-# MB a second, since a byte a microsecond is one.
-rate() { echo $(($1 / $2)); }
+# Two cells of the table: milliseconds, and MB a second (a byte a microsecond is one).
+cells() { printf ' %d.%d | %d |' $(($1 / 1000)) $(($1 / 100 % 10)) $((size / $1)); }
 
-echo '| Input | MB | `podtool rewrite`, ms | MB/s | `cat`, ms | MB/s | times `cat` |'
-echo '|---|---|---|---|---|---|---|'
+printf '| Input | MB | `cat`, ms | MB/s |'
+printf ' `%s`, ms | MB/s |' "${words[@]}"
+printf '\n|---|---|---|---|'
+printf -- '---|---|%.0s' "${words[@]}"
+echo
 for input in "$inputs"/*.pod; do
   size=$(stat -c %s "$input")
   cat "$input" > /dev/null
-  tool=$(best_of "$input" "$program" rewrite)
-  plain=$(best_of "$input" cat)
-  printf '| %s | %d.%d | %d.%d | %d | %d.%d | %d | %d.%d |\n' "$(basename "$input" .pod)" \
-    $((size / 1000000)) $((size / 100000 % 10)) \
-    $((tool / 1000)) $((tool / 100 % 10)) "$(rate "$size" "$tool")" \
-    $((plain / 1000)) $((plain / 100 % 10)) "$(rate "$size" "$plain")" \
-    $((tool / plain)) $((tool * 10 / plain % 10))
+  printf '| %s | %d.%d |' "$(basename "$input" .pod)" $((size / 1000000)) $((size / 100000 % 10))
+  cells "$(best_of "$input" cat)"
+  for word in "${words[@]}"; do
+    cells "$(best_of "$input" "$program" "$word")"
+  done
+  echo
 done

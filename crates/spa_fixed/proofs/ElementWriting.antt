@@ -40,8 +40,8 @@ bodies_push : (xs : List Fixed) (x : Fixed) → fixed_bodies (xs ++ x ∷ []) �
 bodies_push xs x = fixed_bodies-append xs (x ∷ []) ∙ ap (λ l. fixed_bodies xs ++ l) (append-nil (fixed_body x))
 
 -- the place of a value is in the block
-pub within_block : {at i s n long : ℕ} → at ≡ i * s → i < n → n ≤ 64 → s ≤ 8 → long ≡ 512 → at ≤ long
-within_block e l m h b = grind arith
+pub within_block : {at i s n long : ℕ} (most : ℕ) → at ≡ i * s → i < n → n ≤ most → s ≤ 8 → long ≡ most * 8 → at ≤ long
+within_block most e l m h b = grind arith
 
 -- one more value in the block
 pub filled_more : {T : Type 0} (k : Kind) (f : T → Fixed) (s size at i : ℕ) (block after piece : List ℕ) (vs : List T) (v : T) → IsFilled k f s at i block vs → i < length vs → v ≡ get_or vs i v → kind_of (f v) ≡ k → size ≡ s → take (at + size) after ≡ take at block ++ piece → piece ≡ fixed_body (f v) → IsTypedFixed (f v) → IsFilled k f s (at + size) (i + 1) after vs

@@ -5,3 +5,4 @@ pub mod ChoiceReading
 pub mod Sending
 pub mod ElementWriting
 pub mod ArrayWriting
+pub mod ChoiceWriting

@@ -39,39 +39,28 @@ by_sink refuses no_nul no_large a b n Failed r = record { cause = r }
 by_sink refuses no_nul no_large a b n Io r = record { cause = r }
 by_sink refuses no_nul no_large a b n OutOfMemory r = record { cause = r }
 
--- A header, some bytes, some more, and the last.
+-- A header, some bytes, and the last.
 
-pub parts_sent : {S : Type 0} {appends : S → List ℕ → S → Type 0} (law : AppendsMore appends) (a b c d e : S) (h xs ys all zs : List ℕ) → all ≡ xs ++ ys → appends a h b → Sent appends b xs c → Sent appends c ys d → appends d zs e → appends a (h ++ (all ++ zs)) e
-parts_sent {appends = appends} law a b c d e h xs ys all zs w p q r t =
-    let one = sent_behind law a b c h xs p q in
-    let two = sent_behind law a c d (h ++ xs) ys one r in
-    let three = law a d e ((h ++ xs) ++ ys) zs two t in
-    subst (λ l. appends a (h ++ (l ++ zs)) e) (sym w) (subst (λ l. appends a l e) (simp append_assoc) three)
+pub parts_sent : {S : Type 0} {appends : S → List ℕ → S → Type 0} (law : AppendsMore appends) (a b c d : S) (h xs zs : List ℕ) → appends a h b → Sent appends b xs c → appends c zs d → appends a (h ++ (xs ++ zs)) d
+parts_sent {appends = appends} law a b c d h xs zs p q t =
+    subst (λ l. appends a l d) (append_assoc h xs zs) (law a c d (h ++ xs) zs (sent_behind law a b c h xs p q) t)
 
-parts_length : (h xs ys all zs : List ℕ) → all ≡ xs ++ ys → length (h ++ (all ++ zs)) ≡ length h + length xs + length ys + length zs
-parts_length h xs ys all zs w =
-    let e0 = length-append h (all ++ zs) in
-    let e1 = length-append all zs in
-    let e2 = ap length w ∙ length-append xs ys in
+parts_length : (h xs zs : List ℕ) → length (h ++ (xs ++ zs)) ≡ length h + length xs + length zs
+parts_length h xs zs =
+    let e0 = length-append h (xs ++ zs) in
+    let e1 = length-append xs zs in
     omega arith
 
-pub first_refused : {S : Type 0} {appends : S → List ℕ → S → Type 0} {refuses : S → ℕ → S → GenError → Type 0} (after : RefusesAfter appends refuses) (longer : RefusesLonger refuses) (a b c : S) (h xs ys all zs : List ℕ) (x : GenError) → all ≡ xs ++ ys → appends a h b → refuses b (length xs) c x → refuses a (length (h ++ (all ++ zs))) c x
-first_refused after longer a b c h xs ys all zs x w p r =
-    let e = parts_length h xs ys all zs w in
-    longer a c (length h + length xs) (length (h ++ (all ++ zs))) x (omega arith) (after a b c h (length xs) x p r)
+pub parts_refused : {S : Type 0} {appends : S → List ℕ → S → Type 0} {refuses : S → ℕ → S → GenError → Type 0} (after : RefusesAfter appends refuses) (longer : RefusesLonger refuses) (a b c : S) (h xs zs : List ℕ) (x : GenError) → appends a h b → refuses b (length xs) c x → refuses a (length (h ++ (xs ++ zs))) c x
+parts_refused after longer a b c h xs zs x p r =
+    let e = parts_length h xs zs in
+    longer a c (length h + length xs) (length (h ++ (xs ++ zs))) x (omega arith) (after a b c h (length xs) x p r)
 
-pub second_refused : {S : Type 0} {appends : S → List ℕ → S → Type 0} {refuses : S → ℕ → S → GenError → Type 0} (law : AppendsMore appends) (after : RefusesAfter appends refuses) (longer : RefusesLonger refuses) (a b c d : S) (h xs ys all zs : List ℕ) (x : GenError) → all ≡ xs ++ ys → appends a h b → Sent appends b xs c → refuses c (length ys) d x → refuses a (length (h ++ (all ++ zs))) d x
-second_refused law after longer a b c d h xs ys all zs x w p q r =
-    let e = parts_length h xs ys all zs w in
+pub last_refused : {S : Type 0} {appends : S → List ℕ → S → Type 0} {refuses : S → ℕ → S → GenError → Type 0} (law : AppendsMore appends) (after : RefusesAfter appends refuses) (longer : RefusesLonger refuses) (a b c d : S) (h xs zs : List ℕ) (x : GenError) → appends a h b → Sent appends b xs c → refuses c (length zs) d x → refuses a (length (h ++ (xs ++ zs))) d x
+last_refused law after longer a b c d h xs zs x p q r =
+    let e = parts_length h xs zs in
     let l = length-append h xs in
-    longer a d (length (h ++ xs) + length ys) (length (h ++ (all ++ zs))) x (omega arith) (after a c d (h ++ xs) (length ys) x (sent_behind law a b c h xs p q) r)
-
-pub last_refused : {S : Type 0} {appends : S → List ℕ → S → Type 0} {refuses : S → ℕ → S → GenError → Type 0} (law : AppendsMore appends) (after : RefusesAfter appends refuses) (longer : RefusesLonger refuses) (a b c d y : S) (h xs ys all zs : List ℕ) (x : GenError) → all ≡ xs ++ ys → appends a h b → Sent appends b xs c → Sent appends c ys d → refuses d (length zs) y x → refuses a (length (h ++ (all ++ zs))) y x
-last_refused law after longer a b c d y h xs ys all zs x w p q r t =
-    let e = parts_length h xs ys all zs w in
-    let l0 = length-append h xs in
-    let l1 = length-append (h ++ xs) ys in
-    longer a y (length ((h ++ xs) ++ ys) + length zs) (length (h ++ (all ++ zs))) x (omega arith) (after a d y ((h ++ xs) ++ ys) (length zs) x (sent_behind law a c d (h ++ xs) ys (sent_behind law a b c h xs p q) r) t)
+    longer a d (length (h ++ xs) + length zs) (length (h ++ (xs ++ zs))) x (omega arith) (after a c d (h ++ xs) (length zs) x (sent_behind law a b c h xs p q) r)
 
 -- a refusal of one text is one of the same text
 pub refused_text : {S : Type 0} (refuses : S → ℕ → S → GenError → Type 0) (a b : S) (xs ys : List ℕ) (e : GenError) → xs ≡ ys → refuses a (length xs) b e → refuses a (length ys) b e

@@ -108,5 +108,5 @@ pub fn put_array<T: CanonicalFixedSizedPod, S: PodSink>(
         two_words(size, SpaTypes::Array.0),
         two_words(T::SIZE as u32, T::TYPE),
     );
-    put_parts(sink, &header, &[], values, size)
+    put_parts(sink, &header, values, size)
 }

@@ -1,19 +1,25 @@
-//! Bodies of choices.
-ghost use Rattle.std.specs.Prelude.{◌≡◌, ◌*◌, ◌≤◌, ◌∷◌, IfErr, IfOk, OnOk, drop, length, map, take};
-ghost use Rattle.spa_fixed.specs.Choices.{choice_tree};
+//! Choices: their bodies read, and their pods written.
+ghost use Rattle.std.specs.Prelude.{◌≡◌, ◌*◌, ◌<◌, ◌≤◌, ◌∷◌, ◌++◌, IfErr, IfOk, OnOk, drop, length, map, take};
+ghost use Rattle.spa_fixed.specs.Choices.{choice_body, choice_tree};
 ghost use Rattle.spa_fixed.specs.Reading.{AreWhole, ReadsAs, RefusesChoice, RefusesValues};
 ghost use Rattle.spa_format.specs.Faults.{choice_header_size};
 ghost use Rattle.spa_format.specs.Kind.{IsFixedBody};
 ghost use Rattle.spa_format.specs.Pod.{AreElements, IsBody};
-ghost use Rattle.spa_format.specs.Tree.{enum_choice, none_choice, range_choice, step_choice};
-ghost use Rattle.spa_format.specs.Words.{word_at};
+ghost use Rattle.spa_fixed.specs.Writing.{RefusesWrite};
+ghost use Rattle.spa_format.specs.Text.{fixed_bodies, framed_text, text_body, text_of};
+ghost use Rattle.spa_format.specs.Tree.{choice_type, enum_choice, none_choice, range_choice, step_choice};
+ghost use Rattle.spa_format.specs.Typed.{AreOf, IsTyped};
+ghost use Rattle.spa_format.specs.Words.{size_limit, word_at};
 
 use crate::array::{next_element, open_array, read_elements};
+use crate::elements::{body_len, put_parts};
 use crate::fault::Refusal;
-use crate::fixed::ChoiceElement;
-use crate::words::{HEADER_LEN, u32_at};
+use crate::fixed::{CanonicalFixedSizedPod, ChoiceElement};
+use crate::gen_error::GenError;
+use crate::sink::PodSink;
+use crate::words::{HEADER_LEN, joined, two_words, u32_at};
 use bitflags::Flags;
-use spa_utils::{Choice, ChoiceEnum, ChoiceFlags};
+use spa_utils::{Choice, ChoiceEnum, ChoiceFlags, SpaTypes};
 use std::alloc::Global;
 
 /// The kind word of a choice with no alternative.
@@ -30,6 +36,18 @@ const ENUM_KIND: u32 = 3;
 
 /// The kind word of a choice with flags.
 const FLAGS_KIND: u32 = 4;
+
+/// How many values a choice has beside a list of any length, at most: default, minimum, maximum and step.
+const MOST_FIRST: usize = 4;
+
+/// The length in bytes of a choice's pod before its values: its header, its kind and flags, and the child header.
+const HEADERS_LEN: usize = 24;
+
+/// The length in bytes of so many bodies, at most.
+const FIRST_LEN: usize = 32;
+
+/// The length in bytes of these together.
+const START_LEN: usize = 56;
 
 /// How many elements there are.
 fn count<T: ChoiceElement>(elements: &[u8]) -> usize
@@ -137,5 +155,99 @@ pub fn read_choice<T: ChoiceElement>(alloc: Global, body: &[u8]) -> Result<Choic
             Ok(Choice(flags, values))
         }
         _ => Err(Refusal::InvalidChoiceType),
+    }
+}
+
+/// The bodies of up to four values one after another, and zeros behind them.
+fn first_bodies<T: CanonicalFixedSizedPod>(values: &[&T]) -> [u8; FIRST_LEN]
+    requires { length values.now ≤ MOST_FIRST }
+    ensures bodies { take (length values.now * T.SIZE) result ≡ fixed_bodies (map (λ x. T.fixed x.now) values.now) }
+    ensures typed { AreOf T.kind (map (λ x. T.fixed x.now) values.now) }
+{
+    let mut bodies = [0; FIRST_LEN];
+    let mut at = 0;
+    for value in values {
+        bodies[at..at + T::SIZE].copy_from_slice(&value.padded_body()[..T::SIZE]);
+        at += T::SIZE;
+    }
+    bodies
+}
+
+/// The first words of a choice's pod, which are its header, its kind and flags, and the child header, and its first values.
+fn start_of(
+    pod: [u8; 8],
+    choice: [u8; 8],
+    child: [u8; 8],
+    bodies: [u8; FIRST_LEN],
+) -> [u8; START_LEN]
+    ensures { result ≡ ((pod ++ choice) ++ child) ++ bodies }
+{
+    let mut start = [0; START_LEN];
+    let (words, back) = start.split_at_mut(HEADERS_LEN);
+    back.copy_from_slice(&bodies);
+    let (front, last) = words.split_at_mut(2 * HEADER_LEN);
+    front.copy_from_slice(&joined(pod, choice));
+    last.copy_from_slice(&child);
+    start
+}
+
+/// Appends the pod of a choice with this kind word, these flags and these values: the first ones, and some more.
+fn put_values<T: CanonicalFixedSizedPod, S: PodSink>(
+    sink: &mut S,
+    kind: u32,
+    flags: u32,
+    first: &[&T],
+    more: &[T],
+) -> Result<(), GenError>
+    requires { length first.now ≤ MOST_FIRST }
+    ensures ok { OnOk result (S.appends sink.old (framed_text choice_type (choice_body kind flags T.kind (map (λ x. T.fixed x.now) first.now ++ map T.fixed more.now))) sink.new) }
+    ensures typed { OnOk result ((flags < size_limit) × AreOf T.kind (map (λ x. T.fixed x.now) first.now ++ map T.fixed more.now)) }
+    ensures fits { OnOk result (length (choice_body kind flags T.kind (map (λ x. T.fixed x.now) first.now ++ map T.fixed more.now)) < size_limit) }
+    ensures refused { IfErr result (RefusesWrite ⊥ (size_limit ≤ length (choice_body kind flags T.kind (map (λ x. T.fixed x.now) first.now ++ map T.fixed more.now))) (λ e. S.refuses sink.old (length (framed_text choice_type (choice_body kind flags T.kind (map (λ x. T.fixed x.now) first.now ++ map T.fixed more.now)))) sink.new e)) }
+{
+    let first_len = first.len() * T::SIZE;
+    let Some(size) = body_len::<T>(2 * HEADER_LEN + first_len, more.len()) else {
+        return Err(GenError::TooLarge);
+    };
+    let start = start_of(
+        two_words(size, SpaTypes::Choice.0),
+        two_words(kind, flags),
+        two_words(T::SIZE as u32, T::TYPE),
+        first_bodies(first),
+    );
+    put_parts(sink, &start[..HEADERS_LEN + first_len], more, size)
+}
+
+/// Appends the pod of a choice, with its flags as it holds them. It is refused with `TooLarge` where a size word would be
+/// 4294967296 or more, before a byte is appended, and else only where the sink refuses it.
+pub fn put_choice<T: ChoiceElement, S: PodSink>(
+    sink: &mut S,
+    choice: &Choice<T>,
+) -> Result<(), GenError>
+    ensures ok { OnOk result (S.appends sink.old (text_of (choice_tree T.kind T.fixed choice.now)) sink.new) }
+    ensures typed { OnOk result (IsTyped (choice_tree T.kind T.fixed choice.now)) }
+    ensures fits { OnOk result (length (text_body (choice_tree T.kind T.fixed choice.now)) < size_limit) }
+    ensures refused { IfErr result (RefusesWrite ⊥ (size_limit ≤ length (text_body (choice_tree T.kind T.fixed choice.now))) (λ e. S.refuses sink.old (length (text_of (choice_tree T.kind T.fixed choice.now))) sink.new e)) }
+{
+    let flags = choice.0.bits();
+    match &choice.1 {
+        ChoiceEnum::None(value) => put_values(sink, NONE_KIND, flags, &[value], &[]),
+        ChoiceEnum::Range { default, min, max } => {
+            put_values(sink, RANGE_KIND, flags, &[default, min, max], &[])
+        }
+        ChoiceEnum::Step {
+            default,
+            min,
+            max,
+            step,
+        } => put_values(sink, STEP_KIND, flags, &[default, min, max, step], &[]),
+        ChoiceEnum::Enum {
+            default,
+            alternatives,
+        } => put_values(sink, ENUM_KIND, flags, &[default], alternatives.as_slice()),
+        ChoiceEnum::Flags {
+            default,
+            flags: listed,
+        } => { put_values(sink, FLAGS_KIND, flags, &[default], listed.as_slice()) }
     }
 }

@@ -63,21 +63,18 @@ pub(crate) fn body_len<T: CanonicalFixedSizedPod>(before: usize, count: usize) -
     u32::try_from(size).ok()
 }
 
-/// Appends a header, the bodies of the first values and of some more, and then zeros up to a multiple of 8 behind a body
-/// of this size.
+/// Appends a header, the bodies of the values, and then zeros up to a multiple of 8 behind a body of this size.
 pub(crate) fn put_parts<T: CanonicalFixedSizedPod, S: PodSink>(
     sink: &mut S,
     header: &[u8],
-    first: &[T],
-    more: &[T],
+    values: &[T],
     size: u32,
 ) -> Result<(), GenError>
-    ensures ok { OnOk result (S.appends sink.old (header.now ++ (fixed_bodies (map T.fixed first.now ++ map T.fixed more.now) ++ padding size)) sink.new) }
-    ensures typed { OnOk result (AreOf T.kind (map T.fixed first.now ++ map T.fixed more.now)) }
-    ensures cause { IfErr result (λ e. S.refuses sink.old (length (header.now ++ (fixed_bodies (map T.fixed first.now ++ map T.fixed more.now) ++ padding size))) sink.new e) }
+    ensures ok { OnOk result (S.appends sink.old (header.now ++ (fixed_bodies (map T.fixed values.now) ++ padding size)) sink.new) }
+    ensures typed { OnOk result (AreOf T.kind (map T.fixed values.now)) }
+    ensures cause { IfErr result (λ e. S.refuses sink.old (length (header.now ++ (fixed_bodies (map T.fixed values.now) ++ padding size))) sink.new e) }
 {
     sink.append(header)?;
-    put_elements(sink, first)?;
-    put_elements(sink, more)?;
+    put_elements(sink, values)?;
     put_padding(sink, size as usize)
 }

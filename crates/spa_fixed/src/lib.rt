@@ -13,7 +13,7 @@ mod sink;
 mod words;
 
 pub use array::{next_element, open_array, put_array, read_array};
-pub use choice::read_choice;
+pub use choice::{put_choice, read_choice};
 pub use fault::{DeserializeError, Fault, FaultKind, Refusal};
 pub use fixed::{CanonicalFixedSizedPod, ChoiceElement};
 pub use gen_error::GenError;

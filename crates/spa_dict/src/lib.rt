@@ -10,4 +10,6 @@ pub use iter::{CIter, Iter, Keys, Values};
 pub use parse::{ParsableValue, ParseValueError};
 
 #[cfg(test)]
+mod equality;
+#[cfg(test)]
 mod tests;

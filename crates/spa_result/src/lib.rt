@@ -10,4 +10,6 @@ pub use code::{SpaResult, SpaSuccess};
 pub use error::Error;
 
 #[cfg(test)]
+mod equality;
+#[cfg(test)]
 mod tests;

@@ -23,4 +23,6 @@ pub use rectangle::Rectangle;
 pub use types::SpaTypes;
 
 #[cfg(test)]
+mod equality;
+#[cfg(test)]
 mod tests;

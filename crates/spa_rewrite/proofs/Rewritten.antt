@@ -1,0 +1,99 @@
+-- What a rewriting is worth, and what a run over pods has done so far.
+use Rattle.std.proofs.Common.{◌≡◌, ◌≢◌, ◌≤◌, ◌+◌, ℕ, List, [], ◌++◌, length, refl, ap, sym, ◌∙◌, arith, subst, append_assoc, inl, inr}
+use Rattle.std.proofs.lemmas.List.{append-nil}
+use Rattle.spa_format.specs.Tree.{Tree, Trees, no_trees, member, join_members}
+use Rattle.spa_format.specs.Words.{word_at, extent}
+use Rattle.spa_format.specs.Pod.{AreMembers, IsPod}
+use Rattle.spa_format.specs.Text.{text_of, member_texts}
+use Rattle.spa_format.specs.Typed.{IsBytes}
+use Rattle.spa_format.specs.Writable.{IsWritable, HasNul, IsTooLarge}
+use Rattle.spa_format.specs.Front.{Begins, front_of}
+use Rattle.spa_format.proofs.WordLemmas.{IsBytes-take}
+use Rattle.spa_format.proofs.Origin.{rewriting_is_pod, same_rewriting, writable}
+use Rattle.spa_format.proofs.Short.{shortest}
+use Rattle.spa_format.proofs.Fronts.{front_and_rest}
+use Rattle.spa_format.proofs.Sequences.{members_push}
+use Rattle.spa_fixed.specs.Writing.{RefusesWrite}
+use Rattle.spa_fixed.specs.declared.gen_error.GenError.{GenError}
+use Rattle.spa_fixed.specs.declared.gen_error.GenError.TheVariants.{Full, TooLarge, NulInText, WrongCount, Failed, Io, OutOfMemory}
+use Rattle.spa_rewrite.specs.Rewriting.{IsRewriting, TakesFront, LeavesOutput}
+use Rattle.spa_rewrite.specs.Tails.{KeepsStart, keeps_both, tail_bytes}
+use Rattle.spa_rewrite.specs.declared.tail.Tail.{Tail}
+
+IsBytes-front_of : (b : List ℕ) → IsBytes b → IsBytes (front_of b)
+IsBytes-front_of b h = IsBytes-take (extent (word_at b 0)) b h
+
+pub rewriting_of : (input out : List ℕ) (v : Tree) → IsBytes input → Begins input v → out ≡ text_of v → IsRewriting input out
+rewriting_of input out v f b e =
+    let g = IsBytes-front_of input f in
+    record {
+      value = v;
+      begins = b;
+      written = e;
+      again = subst (λ l. IsPod l v) (sym e) (rewriting_is_pod (front_of input) v g b.pod);
+      shortest = λ c k. subst (λ l. length l ≤ length c) (sym e) (shortest c v k);
+      same = λ c w h k. (λ i. ap text_of i ∙ sym e, λ i. same_rewriting c (front_of input) w v h g k b.pod (i ∙ e));
+    }
+
+-- what was read can be written
+pub writable_reading : (input : List ℕ) (v : Tree) → IsBytes input → Begins input v → IsWritable v
+writable_reading input v f b = writable (front_of input) v (IsBytes-front_of input f) b.pod
+
+-- a value that can be written is refused by the output alone
+pub memory_alone : {lacks : GenError → Type 0} (v : Tree) (e : GenError) → ((d : GenError) → lacks d → d ≡ OutOfMemory) → IsWritable v → RefusesWrite (HasNul v) (IsTooLarge v) lacks e → e ≡ OutOfMemory
+memory_alone v Full m w r = m Full r.cause
+memory_alone v TooLarge m w r = absurd (w.fits r.cause)
+memory_alone v NulInText m w r = absurd (w.no_nul r.cause)
+memory_alone v WrongCount m w r = m WrongCount r.cause
+memory_alone v Failed m w r = m Failed r.cause
+memory_alone v Io m w r = m Io r.cause
+memory_alone v OutOfMemory m w r = refl
+
+-- the texts of some values, and of one more
+member_texts-push : (vs : Trees) (v : Tree) → member_texts (join_members vs (member v no_trees)) ≡ member_texts vs ++ text_of v
+member_texts-push no_trees v = append-nil (text_of v)
+member_texts-push (member w vs) v = ap (λ l. text_of w ++ l) (member_texts-push vs v) ∙ sym (append_assoc (text_of w) (member_texts vs) (text_of v))
+
+-- some first pods of the input are rewritten, and this is left behind them
+pub record IsRewrittenTo (input left : List ℕ) (old new : Tail) : Type 0 where
+  pub values : Trees
+  pub first : List ℕ
+  pub split : input ≡ first ++ left
+  pub members : AreMembers values first
+  pub bytes : tail_bytes new ≡ tail_bytes old ++ member_texts values
+  pub kept : KeepsStart old new
+
+pub none_rewritten : (input : List ℕ) (old : Tail) → IsRewrittenTo input input old old
+none_rewritten input old = record {
+  values = no_trees;
+  first = [];
+  split = refl;
+  members = refl;
+  bytes = sym (append-nil (tail_bytes old));
+  kept = record { place = refl; bytes = refl };
+}
+
+abbrev pub tail_refuses : Tail → ℕ → Tail → GenError → Type 0
+tail_refuses a n b e = (e ≡ OutOfMemory) × KeepsStart a b
+
+-- the bytes that stay do so where the front's rewriting was appended,
+pub kept_by_front : (input rest : List ℕ) (old new : Tail) → TakesFront tail_bytes tail_refuses input old rest new → KeepsStart old new
+kept_by_front input rest old new n = (n.written.text.room new 0 OutOfMemory (refl, record { place = refl; bytes = refl })).1
+
+-- and where it wasn't
+pub kept_by_refusal : (old new : Tail) → LeavesOutput tail_refuses old new → KeepsStart old new
+kept_by_refusal old new (inl e) = subst (KeepsStart old) (sym e) (record { place = refl; bytes = refl })
+kept_by_refusal old new (inr r) = r.1.1
+
+-- one more pod
+pub next_rewritten : (input left rest : List ℕ) (old mid new : Tail) → IsRewrittenTo input left old mid → TakesFront tail_bytes tail_refuses left mid rest new → IsRewrittenTo input rest old new
+next_rewritten input left rest old mid new h n =
+    let v = n.value in
+    record {
+      values = join_members h.values (member v no_trees);
+      first = h.first ++ front_of left;
+      split = h.split ∙ ap (λ l. h.first ++ l) (front_and_rest left ∙ ap (λ l. front_of left ++ l) (sym n.follows)) ∙ sym (append_assoc h.first (front_of left) rest);
+      members = members_push h.values v h.first (front_of left) h.members n.begins.pod;
+      bytes = n.written.text.bytes ∙ ap (λ l. l ++ text_of v) h.bytes ∙ append_assoc (tail_bytes old) (member_texts h.values) (text_of v) ∙ ap (λ l. tail_bytes old ++ l) (sym (member_texts-push h.values v));
+      kept = keeps_both old mid new h.kept (kept_by_front left rest mid new n);
+    }

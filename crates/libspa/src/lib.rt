@@ -32,15 +32,21 @@ pub mod utils {
 pub mod pod {
     pub use spa_fixed::{CanonicalFixedSizedPod, ChoiceElement};
     pub use spa_format::laws;
+    pub use spa_rewrite::{rewrite, rewrite_all};
     pub use spa_value::{ChoiceValue, Object, Property, PropertyFlags, Value, ValueArray};
+    pub use spa_view::{
+        Pod, PodObject, PodObjectIter, PodProp, PodPropFlags, PodStruct, PodStructIter,
+    };
 
     /// Writing values.
     pub mod serialize {
         pub use spa_fixed::{GenError, PodOutput, PodSink};
+        pub use spa_write::{PodSerialize, PodSerializer, SerializeSuccess};
     }
 
     /// Reading values.
     pub mod deserialize {
         pub use spa_fixed::{DeserializeError, Fault, FaultKind};
+        pub use spa_read::{DeserializeSuccess, PodDeserialize, PodDeserializer};
     }
 }

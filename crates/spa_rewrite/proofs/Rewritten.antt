@@ -7,7 +7,7 @@ use Rattle.spa_format.specs.Pod.{AreMembers, IsPod}
 use Rattle.spa_format.specs.Text.{text_of, member_texts}
 use Rattle.spa_format.specs.Typed.{IsBytes}
 use Rattle.spa_format.specs.Writable.{IsWritable, HasNul, IsTooLarge}
-use Rattle.spa_format.specs.Front.{Begins, front_of}
+use Rattle.spa_format.specs.Front.{Begins, IsRefused, front_of}
 use Rattle.spa_format.proofs.WordLemmas.{IsBytes-take}
 use Rattle.spa_format.proofs.Origin.{rewriting_is_pod, same_rewriting, writable}
 use Rattle.spa_format.proofs.Short.{shortest}
@@ -16,7 +16,11 @@ use Rattle.spa_format.proofs.Sequences.{members_push}
 use Rattle.spa_fixed.specs.Writing.{RefusesWrite}
 use Rattle.spa_fixed.specs.declared.gen_error.GenError.{GenError}
 use Rattle.spa_fixed.specs.declared.gen_error.GenError.TheVariants.{Full, TooLarge, NulInText, WrongCount, Failed, Io, OutOfMemory}
-use Rattle.spa_rewrite.specs.Rewriting.{IsRewriting, TakesFront, LeavesOutput}
+use Rattle.spa_fixed.specs.declared.fault.DeserializeError.{DeserializeError}
+use Rattle.spa_fixed.specs.declared.fault.DeserializeError.TheVariants as error
+use Rattle.spa_format.proofs.Refused.{refused_behind_members}
+use Rattle.spa_read.specs.Reading.{OnFault}
+use Rattle.spa_rewrite.specs.Rewriting.{IsLeft, IsRewriting, TakesFront, LeavesOutput}
 use Rattle.spa_rewrite.specs.Tails.{KeepsStart, keeps_both, tail_bytes}
 use Rattle.spa_rewrite.specs.declared.tail.Tail.{Tail}
 
@@ -97,3 +101,21 @@ next_rewritten input left rest old mid new h n =
       bytes = n.written.text.bytes ∙ ap (λ l. l ++ text_of v) h.bytes ∙ append_assoc (tail_bytes old) (member_texts h.values) (text_of v) ∙ ap (λ l. tail_bytes old ++ l) (sym (member_texts-push h.values v));
       kept = keeps_both old mid new h.kept (kept_by_front left rest mid new n);
     }
+
+on_fault : {I : Type 0} {A B : Type 0} → (A → B) → (e : DeserializeError I) → OnFault A e → OnFault B e
+on_fault f (error.Nom x) h = f h
+on_fault f error.UnsupportedType h = f h
+on_fault f error.InvalidType h = f h
+on_fault f error.PropertyMissing h = f h
+on_fault f (error.PropertyWrongKey k) h = f h
+on_fault f error.InvalidChoiceType h = f h
+on_fault f error.MissingChoiceValues h = f h
+on_fault f error.WrongSize h = f h
+on_fault f error.UnreadMembers h = f h
+on_fault f error.NoElementLeft h = f h
+on_fault f error.FailedReader h = f h
+on_fault f error.OutOfMemory h = tt
+
+-- what is left behind some first pods is refused, and so the input isn't pods one after another
+pub no_members : {I : Type 0} (input left : List ℕ) → IsLeft input left → (e : DeserializeError I) → OnFault (IsRefused left) e → OnFault ((vs : Trees) → ¬ (AreMembers vs input)) e
+no_members input left l e h = on_fault (λ r ws m. refused_behind_members l.0 ws l.1 left l.3 l.4 r (subst (AreMembers ws) l.2 m)) e h

@@ -108,8 +108,10 @@ fn rewrite_front<'a, O: PodOutput>(
     let (rest, value) = PodDeserializer::deserialize_any_from(alloc, input)?;
     match write_value(out, &value) {
         Ok(()) => Ok(rest),
-        Err(GenError::OutOfMemory) => Err(DeserializeError::OutOfMemory),
-        // What was read can be written, so that the output alone refuses.
-        Err(_) => unreachable!(),
+        Err(error) => match error {
+            GenError::OutOfMemory => Err(DeserializeError::OutOfMemory),
+            // What was read can be written, so that the output alone refuses.
+            _ => unreachable!(),
+        },
     }
 }

@@ -1,0 +1,197 @@
+//! The program's work, over a reader and two writers.
+ghost use Rattle.std.specs.Prelude.{◌≡◌, ◌<◌, ◌≤◌, IfErr, IfOk, IfSome, length};
+ghost use Rattle.spa_format.specs.Front.{IsRefused, rest_of};
+ghost use Rattle.spa_format.specs.Words.{extent, word_at};
+ghost use Rattle.spa_read.specs.Reading.{OnFault};
+
+use crate::listing::Listing;
+use libspa::pod::deserialize::{DeserializeError, PodDeserializer};
+use libspa::pod::{Pod, PodObject, rewrite_all};
+use std::alloc::{AllocError, Global};
+use std::fmt;
+use std::io::{ErrorKind, Read, Write};
+
+/// The status of a run that did its work.
+const DONE: u8 = 0;
+
+/// The status of a run that was refused.
+const REFUSED: u8 = 1;
+
+/// The status of a run whose words are none of the program's.
+const MISUSED: u8 = 2;
+
+/// The length in bytes of a pod's header.
+const HEADER_LEN: usize = 8;
+
+/// Why a run was refused.
+#[derive(Debug, Drop)]
+pub enum Failure {
+    /// The name of a refusal, and the byte of the input where the refused top-level pod begins.
+    Pod { place: usize, kind: &'static str },
+    OutOfMemory,
+    ReadFailed,
+    WriteFailed,
+}
+
+impl fmt::Display for Failure {
+    fn fmt<W: fmt::Write>(&self, f: &mut fmt::Formatter<W>) -> fmt::Result {
+        match self {
+            Failure::Pod { place, kind } => write!(f, "podtool: byte {place}: {kind}"),
+            Failure::OutOfMemory => write!(f, "podtool: out of memory"),
+            Failure::ReadFailed => write!(f, "podtool: read failed"),
+            Failure::WriteFailed => write!(f, "podtool: write failed"),
+        }
+    }
+}
+
+impl From<AllocError> for Failure {
+    fn from(_error: AllocError) -> Failure {
+        Failure::OutOfMemory
+    }
+}
+
+/// Does what the words ask for, and answers the program's status: 0 where the work was done, 1 where it was refused, 2
+/// where the words aren't exactly one of `rewrite`, `fixate` and `show`.
+///
+/// The words are settled before anything is read, the input is read whole, and nothing is written to the output before
+/// the whole input was accepted. A refusal is one line on `faults`; where that can't be written, nothing changes.
+pub fn run<R: Read, W: Write, E: Write>(
+    alloc: Global,
+    words: &[&str],
+    input: &mut R,
+    output: &mut W,
+    faults: &mut E,
+) -> u8
+    ensures { result ≤ 2 }
+{
+    let done = match words {
+        ["rewrite"] => rewrite(alloc, input, output),
+        ["fixate"] => fixate(alloc, input, output),
+        ["show"] => show(alloc, input, output),
+        _ => {
+            let _ = writeln!(faults, "usage: podtool rewrite|fixate|show");
+            return MISUSED;
+        }
+    };
+    match done {
+        Ok(()) => DONE,
+        Err(failure) => {
+            let _ = writeln!(faults, "{failure}");
+            REFUSED
+        }
+    }
+}
+
+/// Writes the rewritings of the pods that the input consists of.
+fn rewrite<R: Read, W: Write>(alloc: Global, input: &mut R, output: &mut W) -> Result<(), Failure> {
+    let bytes = read_whole(alloc, input)?;
+    let mut rewritten = Vec::new(alloc);
+    match rewrite_all(alloc, bytes.as_slice(), &mut rewritten) {
+        Ok(()) => write_whole(output, rewritten.as_slice()),
+        Err((left, error)) => Err(refused(bytes.len() - left.len(), &error)),
+    }
+}
+
+/// Writes the input with each top-level object fixated in place, and the other pods as they came.
+fn fixate<R: Read, W: Write>(alloc: Global, input: &mut R, output: &mut W) -> Result<(), Failure> {
+    let mut bytes = read_whole(alloc, input)?;
+    accept(alloc, bytes.as_slice())?;
+    let mut left = bytes.as_mut_slice();
+    while let Some((_, extent)) = first_of(left) {
+        // A pod that isn't an object stays as it came.
+        let _ = PodObject::fixate(left);
+        left = &mut left[extent..];
+    }
+    write_whole(output, bytes.as_slice())
+}
+
+/// Lists the pods that the input consists of, and the pods inside them.
+fn show<R: Read, W: Write>(alloc: Global, input: &mut R, output: &mut W) -> Result<(), Failure> {
+    let bytes = read_whole(alloc, input)?;
+    if let Some(place) = first_short(bytes.as_slice()) {
+        return Err(Failure::Pod {
+            place,
+            kind: "Short",
+        });
+    }
+    let mut listing = Listing::new(alloc, output);
+    let mut left = bytes.as_slice();
+    while let Some((pod, extent)) = first_of(left) {
+        listing.add(pod)?;
+        left = &left[extent..];
+    }
+    listing.finish()
+}
+
+/// The byte behind some first whole pods where none begins, unless the input ends there.
+fn first_short(bytes: &[u8]) -> Option<usize> {
+    let mut left = bytes;
+    while let Some((_, extent)) = first_of(left) {
+        left = &left[extent..];
+    }
+    if left.is_empty() {
+        return None;
+    }
+    Some(bytes.len() - left.len())
+}
+
+/// Refuses the input where it isn't pods one after another that are read.
+fn accept(alloc: Global, bytes: &[u8]) -> Result<(), Failure> {
+    let mut left = bytes;
+    while !left.is_empty() {
+        match behind_first(alloc, left) {
+            Ok(behind) => left = behind,
+            Err(error) => return Err(refused(bytes.len() - left.len(), &error)),
+        }
+    }
+    Ok(())
+}
+
+/// What follows the first pod, which is read.
+fn behind_first(alloc: Global, bytes: &[u8]) -> Result<&[u8], DeserializeError<&[u8]>>
+    ensures rest { IfOk result (λ behind. behind.now ≡ rest_of bytes.now) }
+    ensures less { IfOk result (λ behind. length behind.now < length bytes.now) }
+    ensures refused { IfErr result (OnFault (IsRefused bytes.now)) }
+{
+    let (behind, _) = PodDeserializer::deserialize_any_from(alloc, bytes)?;
+    Ok(behind)
+}
+
+/// The refusal of the top-level pod at this byte.
+fn refused(place: usize, error: &DeserializeError<&[u8]>) -> Failure {
+    match error {
+        DeserializeError::OutOfMemory => Failure::OutOfMemory,
+        _ => Failure::Pod {
+            place,
+            kind: error.kind(),
+        },
+    }
+}
+
+/// The first pod, where it is there, and how many bytes it takes with its padding.
+fn first_of(bytes: &[u8]) -> Option<(Pod<'_>, usize)>
+    ensures extent { IfSome result (λ first. first.1 ≡ extent (word_at bytes.now 0)) }
+    ensures within { IfSome result (λ first. first.1 ≤ length bytes.now) }
+{
+    let pod = Pod::from_bytes(bytes)?;
+    let extent = HEADER_LEN + (pod.size() as usize).div_ceil(HEADER_LEN) * HEADER_LEN;
+    Some((pod, extent))
+}
+
+/// All bytes that the reader gives.
+fn read_whole<R: Read>(alloc: Global, input: &mut R) -> Result<Vec<u8>, Failure> {
+    let mut bytes = Vec::new(alloc);
+    match input.read_to_end(&mut bytes) {
+        Ok(_) => Ok(bytes),
+        Err(error) if error.kind() == ErrorKind::OutOfMemory => Err(Failure::OutOfMemory),
+        Err(_) => Err(Failure::ReadFailed),
+    }
+}
+
+/// Writes all bytes.
+fn write_whole<W: Write>(output: &mut W, bytes: &[u8]) -> Result<(), Failure> {
+    match output.write_all(bytes).and_then(|()| output.flush()) {
+        Ok(()) => Ok(()),
+        Err(_) => Err(Failure::WriteFailed),
+    }
+}

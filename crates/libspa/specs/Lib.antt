@@ -1,0 +1,16 @@
+pub use Rattle.spa_format.specs.Words
+pub use Rattle.spa_format.specs.Kind
+pub use Rattle.spa_format.specs.Tree
+pub use Rattle.spa_format.specs.Normal
+pub use Rattle.spa_format.specs.Pod
+pub use Rattle.spa_format.specs.Text
+pub use Rattle.spa_format.specs.Writable
+pub use Rattle.spa_format.specs.Front
+pub use Rattle.spa_format.specs.Typed
+pub use Rattle.spa_format.specs.Faults
+pub use Rattle.spa_format.specs.Walk
+pub use Rattle.spa_format.specs.Fixation
+pub use Rattle.spa_value.specs.View
+pub use Rattle.spa_read.specs.Reading
+pub use Rattle.spa_write.specs.Written
+pub use Rattle.spa_rewrite.specs.Rewriting

@@ -1,8 +1,8 @@
 //! The program's work, over a reader and two writers.
 ghost use Rattle.std.specs.Prelude.{◌≡◌, ◌<◌, ◌≤◌, IfErr, IfOk, IfSome, length};
-ghost use Rattle.spa_format.specs.Front.{IsRefused, rest_of};
-ghost use Rattle.spa_format.specs.Words.{extent, word_at};
-ghost use Rattle.spa_read.specs.Reading.{OnFault};
+ghost use Rattle.libspa.specs.Front.{IsRefused, rest_of};
+ghost use Rattle.libspa.specs.Words.{extent, word_at};
+ghost use Rattle.libspa.specs.Reading.{OnFault};
 
 use crate::listing::Listing;
 use libspa::pod::deserialize::{DeserializeError, PodDeserializer};

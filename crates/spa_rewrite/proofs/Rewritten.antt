@@ -1,5 +1,5 @@
 -- What a rewriting is worth, and what a run over pods has done so far.
-use Rattle.std.proofs.Common.{◌≡◌, ◌≢◌, ◌≤◌, ◌+◌, ℕ, List, [], ◌++◌, length, refl, ap, sym, ◌∙◌, arith, subst, append_assoc, inl, inr}
+use Rattle.std.proofs.Common.{◌≡◌, ◌≤◌, ℕ, List, [], ◌++◌, length, refl, ap, sym, ◌∙◌, subst, append_assoc, inl, inr}
 use Rattle.std.proofs.lemmas.List.{append-nil}
 use Rattle.spa_format.specs.Tree.{Tree, Trees, no_trees, member, join_members}
 use Rattle.spa_format.specs.Words.{word_at, extent}

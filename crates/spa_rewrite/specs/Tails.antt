@@ -1,6 +1,6 @@
 -- The end of a vector: the bytes that stay, and those behind them.
 use Rattle.std.specs.Prelude.{◌≡◌, ℕ, List, ◌++◌, take, drop}
-use Rattle.std.proofs.Common.{◌∙◌, ap, sym, subst, append_assoc}
+use Rattle.std.proofs.Common.{◌∙◌, ap, append_assoc}
 use Rattle.spa_format.specs.Tree.{Trees}
 use Rattle.spa_format.specs.Pod.{AreMembers}
 use Rattle.spa_format.specs.Text.{member_texts}

@@ -1,0 +1,6 @@
+pub mod Texts
+pub mod Refusals
+pub mod Extending
+pub mod Frames
+pub mod Structs
+pub mod Objects

@@ -1,0 +1,9 @@
+use Rattle.std.proofs.Common.{ap, ◌∙◌, subst}
+use Rattle.spa_value.specs.View.{view}
+use Rattle.spa_value.specs.ViewLaws.{view-fields}
+use Rattle.spa_write.specs.Written.{IsLeaf}
+use Rattle.spa_write.proofs.leaf.put_leaf.Goals as goal
+
+pub unreachable-requires-in-Object : goal.unreachable-requires-in-Object
+unreachable-requires-in-Object g c =
+    subst IsLeaf (ap view c.in-Object.is ∙ view-fields c.in-Object.field-0) c.requires

@@ -1,0 +1,94 @@
+-- What a writer did to its output: docs/FORMAT.md, "The text of a value".
+use Rattle.std.specs.Prelude.{◌≡◌, ℕ, ◌+◌, ◌-◌, ◌<◌, List, ◌++◌, length, take, drop}
+use Rattle.spa_fixed.specs.declared.gen_error.GenError.{GenError}
+use Rattle.spa_fixed.specs.Writing.{RefusesWrite}
+use Rattle.spa_format.specs.Words.{header_size, size_limit, word_bytes}
+use Rattle.spa_format.specs.Tree.{Tree, fixed, string, bytes, array, choice, pointer, struct, object, Trees, Properties}
+use Rattle.spa_format.specs.Text.{text_of, member_texts, property_texts}
+use Rattle.spa_format.specs.Typed.{IsTyped, AllTyped, AllPropertiesTyped}
+use Rattle.spa_format.specs.Writable.{IsWritable, HasNul, IsTooLarge, SomeHasNul, SomeTooLarge, SomeValueHasNul, SomeValueTooLarge}
+
+-- what a sink may refuse: the sink as it was, how many bytes were asked for in all, the sink as it is left, and the answer
+abbrev pub Refusing : Type 0 → Type 1
+Refusing S = S → ℕ → S → GenError → Type 0
+
+-- what a sink takes: the sink as it was, the bytes, and the sink with these at its end
+abbrev pub Appending : Type 0 → Type 1
+Appending S = S → List ℕ → S → Type 0
+
+-- a value without members
+abbrev pub IsLeaf : Tree → Type 0
+IsLeaf (fixed x) = Unit {0}
+IsLeaf (string s) = Unit {0}
+IsLeaf (bytes s) = Unit {0}
+IsLeaf (array k xs) = Unit {0}
+IsLeaf (choice s f k x xs) = Unit {0}
+IsLeaf (pointer t a) = Unit {0}
+IsLeaf (struct vs) = ⊥
+IsLeaf (object t i ps) = ⊥
+
+-- a sink took the text of this value, which can be written
+pub record IsPut {S : Type 0} (appends : Appending S) (old : S) (v : Tree) (new : S) : Type 0 where
+  pub text : appends old (text_of v) new
+  pub typed : IsTyped v
+  pub writable : IsWritable v
+
+-- An output holds what it held and these bytes behind it. What it may refuse from now on, it might have refused together
+-- with these bytes.
+pub record IsExtended {S : Type 0} (content : S → List ℕ) (refuses : Refusing S)
+    (old : S) (added : List ℕ) (new : S) : Type 0 where
+  pub bytes : content new ≡ content old ++ added
+  pub room : (after : S) (n : ℕ) (e : GenError) → refuses new n after e → refuses old (length added + n)
+      after e
+
+-- an output got the text of this value, which can be written
+pub record IsWritten {S : Type 0} (content : S → List ℕ) (refuses : Refusing S)
+    (old : S) (v : Tree) (new : S) : Type 0 where
+  pub text : IsExtended content refuses old (text_of v) new
+  pub typed : IsTyped v
+  pub writable : IsWritable v
+
+-- an output got the texts of these values, one after another
+pub record AreWritten {S : Type 0} (content : S → List ℕ) (refuses : Refusing S)
+    (old : S) (vs : Trees) (new : S) : Type 0 where
+  pub texts : IsExtended content refuses old (member_texts vs) new
+  pub typed : AllTyped vs
+  pub no_nul : ¬ (SomeHasNul vs)
+  pub fits : ¬ (SomeTooLarge vs)
+
+-- an output got these properties, one after another
+pub record ArePropertiesWritten {S : Type 0} (content : S → List ℕ) (refuses : Refusing S)
+    (old : S) (ps : Properties) (new : S) : Type 0 where
+  pub texts : IsExtended content refuses old (property_texts ps) new
+  pub typed : AllPropertiesTyped ps
+  pub no_nul : ¬ (SomeValueHasNul ps)
+  pub fits : ¬ (SomeValueTooLarge ps)
+
+-- why the text of this value was refused: a text in it holds NUL, a size word is past 32 bits, or the sink refused so many
+-- bytes and was left as the second
+abbrev pub RefusesText : {S : Type 0} → Refusing S → S → Tree → S → GenError → Type 0
+RefusesText refuses old v new =
+    RefusesWrite (HasNul v) (IsTooLarge v) (refuses old (length (text_of v)) new)
+
+-- the same of values, one after another
+abbrev pub RefusesTexts : {S : Type 0} → Refusing S → S → Trees → S → GenError → Type 0
+RefusesTexts refuses old vs new =
+    RefusesWrite (SomeHasNul vs) (SomeTooLarge vs) (refuses old (length (member_texts vs)) new)
+
+-- the same of properties, one after another
+abbrev pub RefusesProperties : {S : Type 0} → Refusing S → S → Properties → S → GenError → Type 0
+RefusesProperties refuses old ps new =
+    RefusesWrite (SomeValueHasNul ps) (SomeValueTooLarge ps)
+    (refuses old (length (property_texts ps)) new)
+
+-- how long the body is of a pod that begins at this place and ends with the bytes
+abbrev pub begun_length : List ℕ → ℕ → ℕ
+begun_length b start = length b - (start + header_size)
+
+-- the size word of the pod that begins there was written, and nothing else was changed
+pub record IsClosed {S : Type 0} (content : S → List ℕ) (refuses : Refusing S)
+    (old : S) (start : ℕ) (new : S) : Type 0 where
+  pub sized : content new ≡ take start (content old) ++
+      (word_bytes (begun_length (content old) start) ++ drop (start + 4) (content old))
+  pub room : (after : S) (n : ℕ) (e : GenError) → refuses new n after e → refuses old n after e
+  pub fits : begun_length (content old) start < size_limit

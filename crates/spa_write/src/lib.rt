@@ -1,0 +1,16 @@
+//! The writer of values: a value's text is appended to any output.
+#![tactic(auto)]
+
+mod frame;
+pub mod laws;
+mod leaf;
+mod serializer;
+#[cfg(test)]
+mod tests;
+mod text;
+mod value;
+
+pub use leaf::put_leaf;
+pub use serializer::{PodSerialize, PodSerializer, SerializeSuccess};
+pub use text::{put_bytes, put_pointer, put_text};
+pub use value::write_value;

@@ -1,0 +1,65 @@
+//! Texts, bytes and pointers.
+ghost use Rattle.std.specs.Prelude.{◌≡◌, ◌+◌, ◌≤◌, [], ◌∷◌, ◌++◌, Contains, IfErr, OnOk, length, replicate};
+ghost use Rattle.spa_fixed.specs.Writing.{RefusesWrite};
+ghost use Rattle.spa_format.specs.Text.{text_of};
+ghost use Rattle.spa_format.specs.Tree as tree;
+ghost use Rattle.spa_format.specs.Words.{padding, size_limit, wide_bytes, word_bytes};
+ghost use Rattle.spa_write.specs.Written.{IsPut, RefusesText};
+
+use spa_fixed::{GenError, HEADER_LEN, PodSink, put_padding, put_two, put_wide};
+use spa_utils::SpaTypes;
+
+/// The length in bytes of a pointer's body: a type word, a free word, and the address.
+const POINTER_LEN: u32 = 16;
+
+/// Appends the pod of a text, in UTF-8 and with a NUL at its end. It is refused as `NulInText` where the text holds a NUL
+/// of its own, and as `TooLarge` where text and NUL are 4294967296 bytes or more; nothing is appended then.
+pub fn put_text<S: PodSink>(sink: &mut S, text: &str) -> Result<(), GenError>
+    ensures put { OnOk result (IsPut S.appends sink.old (tree.string text.now) sink.new) }
+    ensures refused { IfErr result (RefusesText S.refuses sink.old (tree.string text.now) sink.new) }
+{
+    let bytes = text.as_bytes();
+    if bytes.contains(&0) {
+        return Err(GenError::NulInText);
+    }
+    let Ok(size) = u32::try_from(bytes.len() + 1) else {
+        return Err(GenError::TooLarge);
+    };
+    put_two(sink, size, SpaTypes::String.0)?;
+    sink.append(bytes)?;
+    put_end(sink, bytes.len())
+}
+
+/// Appends the NUL that ends a text of this length, and the padding behind it.
+fn put_end<S: PodSink>(sink: &mut S, len: usize) -> Result<(), GenError>
+    ensures ok { OnOk result (S.appends sink.old (0 ∷ padding (len + 1)) sink.new) }
+    ensures cause { IfErr result (λ e. S.refuses sink.old (length (0 ∷ padding (len + 1))) sink.new e) }
+{
+    let zeros = [0; HEADER_LEN];
+    sink.append(&zeros[..HEADER_LEN - len % HEADER_LEN])
+}
+
+/// Appends the pod of bytes. It is refused as `TooLarge` where they are 4294967296 or more; nothing is appended then.
+#[tactic(auto, using(crate::proofs::Texts::header_within))]
+pub fn put_bytes<S: PodSink>(sink: &mut S, bytes: &[u8]) -> Result<(), GenError>
+    ensures put { OnOk result (IsPut S.appends sink.old (tree.bytes bytes.now) sink.new) }
+    ensures refused { IfErr result (RefusesText S.refuses sink.old (tree.bytes bytes.now) sink.new) }
+{
+    let Ok(size) = u32::try_from(bytes.len()) else {
+        return Err(GenError::TooLarge);
+    };
+    put_two(sink, size, SpaTypes::Bytes.0)?;
+    sink.append(bytes)?;
+    put_padding(sink, bytes.len())
+}
+
+/// Appends the pod of a pointer: a type number and an address.
+#[tactic(auto, using(crate::proofs::Texts::pointer_text, crate::proofs::Texts::pointer_text_length, crate::proofs::Texts::two_words_length))]
+pub fn put_pointer<S: PodSink>(sink: &mut S, type_: u32, address: u64) -> Result<(), GenError>
+    ensures put { OnOk result (IsPut S.appends sink.old (tree.pointer type_ address) sink.new) }
+    ensures refused { IfErr result (RefusesText S.refuses sink.old (tree.pointer type_ address) sink.new) }
+{
+    put_two(sink, POINTER_LEN, SpaTypes::Pointer.0)?;
+    put_two(sink, type_, 0)?;
+    put_wide(sink, address)
+}

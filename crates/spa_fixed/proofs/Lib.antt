@@ -6,3 +6,4 @@ pub mod Sending
 pub mod ElementWriting
 pub mod ArrayWriting
 pub mod ChoiceWriting
+pub mod Chunks

@@ -2,7 +2,7 @@
 ghost use Rattle.std.specs.Prelude.{◌≡◌, ◌+◌, ◌*◌, ◌<◌, ◌≤◌, IfErr, IfNone, IfOk, IfSome, OnOk, OnSome, drop, length, map, take};
 ghost use Rattle.spa_fixed.specs.Reading.{AreWhole, RefusesArray};
 ghost use Rattle.spa_format.specs.Faults.{IsWrongArray};
-ghost use Rattle.spa_format.specs.Kind.{IsFixedBody, body_size};
+ghost use Rattle.spa_format.specs.Kind.{IsFixedBody, body_size, content};
 ghost use Rattle.spa_format.specs.Pod.{AreElements, IsArray};
 ghost use Rattle.spa_fixed.specs.Writing.{RefusesWrite};
 ghost use Rattle.spa_format.specs.Text.{array_body, framed_text};
@@ -12,7 +12,7 @@ ghost use Rattle.spa_format.specs.Words.{header_size, size_limit, word_at};
 
 use crate::elements::{body_len, put_parts};
 use crate::fault::Refusal;
-use crate::fixed::CanonicalFixedSizedPod;
+use crate::fixed::{CanonicalFixedSizedPod, WIDE_LEN, WORD_LEN};
 use crate::gen_error::GenError;
 use crate::sink::PodSink;
 use crate::words::{HEADER_LEN, joined, two_words, u32_at};
@@ -55,6 +55,28 @@ pub fn next_element<T: CanonicalFixedSizedPod>(elements: &[u8]) -> (&[u8], T)
     (rest, T::of_body(first))
 }
 
+/// Reads whole elements of this size to the end. It is refused only for want of memory.
+fn read_chunks<T: CanonicalFixedSizedPod, const N: usize>(
+    alloc: Global,
+    elements: &[u8],
+) -> Result<Vec<T>, AllocError>
+    requires whole { AreWhole T.SIZE elements.now }
+    requires size { T.SIZE ≡ N }
+    requires sized { 0 < N }
+    ensures { IfOk result (λ values. AreElements T.kind (map T.fixed values.items) elements.now) }
+{
+    let (bodies, _) = elements.as_chunks::<N>();
+    bodies
+        .iter()
+        .map(
+            |body: &[u8; N]| -> T
+                requires { T.SIZE ≡ N }
+                ensures { T.fixed result ≡ content T.kind body.entry.now }
+            { T::of_body(body) },
+        )
+        .collect(alloc)
+}
+
 /// Reads whole elements to the end. It is refused only for want of memory.
 pub(crate) fn read_elements<T: CanonicalFixedSizedPod>(
     alloc: Global,
@@ -63,17 +85,11 @@ pub(crate) fn read_elements<T: CanonicalFixedSizedPod>(
     requires { AreWhole T.SIZE elements.now }
     ensures { IfOk result (λ values. AreElements T.kind (map T.fixed values.items) elements.now) }
 {
-    if T::SIZE == 0 {
-        return Ok(Vec::new(alloc));
+    match T::SIZE {
+        0 => Ok(Vec::new(alloc)),
+        WORD_LEN => read_chunks::<T, WORD_LEN>(alloc, elements),
+        _ => read_chunks::<T, WIDE_LEN>(alloc, elements),
     }
-    let mut values = Vec::with_capacity(alloc, elements.len() / T::SIZE)?;
-    let mut left = elements;
-    while left.len() >= T::SIZE {
-        let read = next_element::<T>(left);
-        values.push(read.1)?;
-        left = read.0;
-    }
-    Ok(values)
 }
 
 /// Reads the body of an array of this type. It is refused with `WrongSize` where the child size isn't the type's or the

@@ -11,10 +11,10 @@ use crate::sink::PodSink;
 use crate::words::put_padding;
 
 /// How many elements are handed to a sink at once, at most.
-const BLOCK_COUNT: usize = 64;
+const BLOCK_COUNT: usize = 32;
 
 /// The length in bytes of so many elements, at most.
-const BLOCK_LEN: usize = 512;
+const BLOCK_LEN: usize = 256;
 
 /// The bodies of some values one after another, and zeros behind them.
 fn block_of<T: CanonicalFixedSizedPod>(values: &[T]) -> [u8; BLOCK_LEN]

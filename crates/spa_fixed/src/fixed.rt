@@ -20,10 +20,10 @@ mod sealed {
 use sealed::Sealed;
 
 /// The length in bytes of a body that is one word.
-const WORD_LEN: usize = 4;
+pub(crate) const WORD_LEN: usize = 4;
 
 /// The length in bytes of a body that is two words or a number of 64 bits.
-const WIDE_LEN: usize = 8;
+pub(crate) const WIDE_LEN: usize = 8;
 
 /// One of the ten types whose bodies have one size: `()`, `bool`, `Id`, `i32`, `i64`, `Float32`, `Float64`, `Rectangle`,
 /// `Fraction` and `Fd`.
@@ -59,7 +59,7 @@ pub trait CanonicalFixedSizedPod: Sealed + Copy {
         ensures { fixed result ≡ content kind body.now };
 
     /// Appends the body, without padding. It is refused only where the sink refuses it.
-    fn serialize_body<O: PodSink>(&self, out: &mut O) -> Result<(), GenError>
+    final fn serialize_body<O: PodSink>(&self, out: &mut O) -> Result<(), GenError>
         ensures ok { OnOk result (O.appends out.old (fixed_body (fixed self.now)) out.new) }
         ensures typed { IsTypedFixed (fixed self.now) }
         ensures begun { OnErr result ((count : ℕ) × O.appends out.old (take count (fixed_body (fixed self.now))) out.new) }
@@ -70,7 +70,7 @@ pub trait CanonicalFixedSizedPod: Sealed + Copy {
 
     /// Reads the body at the front of the bytes, and answers what follows it and the value. It is refused, as short,
     /// exactly where fewer than `SIZE` bytes are there.
-    fn deserialize_body(bytes: &[u8]) -> Result<(&[u8], Self), Fault<&[u8]>>
+    final fn deserialize_body(bytes: &[u8]) -> Result<(&[u8], Self), Fault<&[u8]>>
         ensures enough { OnOk result (SIZE ≤ length bytes.now) }
         ensures says { IfOk result (λ read. fixed read.1 ≡ content kind (take SIZE bytes.now)) }
         ensures rest { IfOk result (λ read. read.0.now ≡ drop SIZE bytes.now) }

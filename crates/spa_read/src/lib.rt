@@ -11,3 +11,6 @@ mod types;
 mod value;
 
 pub use deserializer::{DeserializeSuccess, PodDeserialize, PodDeserializer};
+
+#[cfg(test)]
+mod tests;

@@ -6,14 +6,14 @@ use Rattle.std.proofs.lemmas.Result.{err_from_is_err_and}
 use Rattle.spa_format.specs.Words.{word_at, body_of, header_size}
 use Rattle.spa_format.specs.Kind.{Kind, body_size}
 use Rattle.spa_format.specs.Tree.{array_type, choice_type, struct_type, object_type}
-use Rattle.spa_format.specs.Front.{HasFront}
+use Rattle.spa_format.specs.Front.{HasFront, IsRefused}
 use Rattle.spa_format.specs.Faults.{Fault, Short, Text, InvalidType, InvalidChoiceType, MissingChoiceValues, WrongSize, of_array, of_choice, choice_header_size, short_object, IsWrongArray, StandsAtFront, Stands, at_front, in_member, in_key, in_property}
 use Rattle.spa_format.proofs.Refused as format
 use Rattle.spa_fixed.specs.declared.fault.Refusal.{Refusal}
 use Rattle.spa_fixed.specs.declared.fault.Refusal.TheVariants as refusal
 use Rattle.spa_fixed.specs.Reading.{RefusesArray, RefusesChoice}
 use Rattle.spa_read.specs.Opening.{Opens}
-use Rattle.spa_read.specs.Reading.{TakesMemory, MayLackMemory, RefusesInput}
+use Rattle.spa_read.specs.Reading.{TakesMemory, MayLackMemory, OnFault, OnMemory, IsShortAt, Names, RefusesInput}
 use Rattle.spa_read.specs.Refusing.{Says, StandsInBody, RefusesBody, StandsInMembers, StandsInProperties, RefusesPod, error_of}
 
 -- what a `?` passes on
@@ -22,7 +22,8 @@ passed_on r e Q h q = let p = err_from_is_err_and r h in rw (p.1, p.2) q
 
 -- a refusal says of the whole what follows there
 pub says_through : (stands stands' : Fault → Type 0) (memory memory' : Type 0) →
-    ((k : Fault) → stands k → stands' k) → (memory → memory') → (why : Refusal) → Says stands memory why → Says stands' memory' why
+    ((k : Fault) → stands k → stands' k) → (memory → memory') →
+    (why : Refusal) → Says stands memory why → Says stands' memory' why
 says_through stands stands' memory memory' f g refusal.Short h = f Short h
 says_through stands stands' memory memory' f g refusal.Text h = f Text h
 says_through stands stands' memory memory' f g refusal.InvalidType h = f InvalidType h
@@ -32,7 +33,8 @@ says_through stands stands' memory memory' f g refusal.WrongSize h = f WrongSize
 says_through stands stands' memory memory' f g refusal.OutOfMemory h = g h
 
 -- a fault of the body stands at the front
-at_front_of : (b : List ℕ) (k : Fault) → HasFront b → StandsInBody (word_at b 4) (body_of b) k → StandsAtFront k b
+at_front_of : (b : List ℕ) (k : Fault) →
+    HasFront b → StandsInBody (word_at b 4) (body_of b) k → StandsAtFront k b
 at_front_of b Short h s = absurd s
 at_front_of b Text h s = (h, s.0, s.1)
 at_front_of b InvalidType h s = (h, s)
@@ -40,54 +42,61 @@ at_front_of b InvalidChoiceType h s = (h, s.0, s.1, s.2)
 at_front_of b MissingChoiceValues h s = (h, s.0, s.1)
 at_front_of b WrongSize h s = (h, s)
 
--- the refusal of a pod whose front is there
-refused_inside : (input place : List ℕ) (why : Refusal) → HasFront input →
-    Says (λ k. Stands k place input) (MayLackMemory input) why → RefusesPod input place why
-refused_inside input place why h s = record { named = s; short_first = λ n. absurd (n h) }
-
-pub no_front : (input : List ℕ) → ¬ (HasFront input) → RefusesPod input input refusal.Short
-no_front input n = record { named = at_front input refl n; short_first = λ _. (refl, refl) }
-
-pub body_refused : (input body rest : List ℕ) (kind : ℕ) (why : Refusal) → Opens input kind body rest → RefusesBody kind body why → RefusesPod input input why
+-- where the body is refused
+pub body_refused : (input body rest : List ℕ) (kind : ℕ) (why : Refusal) →
+    Opens input kind body rest → RefusesBody kind body why → RefusesPod input input why
 body_refused input body rest kind why o s =
+    let its_fault : (k : Fault) → StandsInBody kind body k → StandsInBody (word_at input 4) (body_of input) k = λ k i.
+    subst (λ b. StandsInBody (word_at input 4) b k) o.its_body (subst (λ t. StandsInBody t body k) o.its_kind i) in
     let stands : (k : Fault) → StandsInBody kind body k → Stands k input input = λ k i.
-    at_front input refl (at_front_of input k o.there
-    (subst (λ b. StandsInBody (word_at input 4) b k) o.its_body (subst (λ t. StandsInBody t body k) o.its_kind i))) in
-    refused_inside input input why o.there
-    (says_through _ _ _ _ stands (λ m. (o.there, subst TakesMemory o.its_kind m)) why s)
+    at_front input refl (at_front_of input k o.there (its_fault k i)) in
+    says_through _ _ _ _ stands (λ m. (o.there, subst TakesMemory o.its_kind m)) why s
 
-pub members_refused : (input place body rest : List ℕ) (kind : ℕ) (why : Refusal) → Opens input kind body rest → kind ≡ struct_type →
+-- where a member is refused
+pub members_refused : (input place body rest : List ℕ) (kind : ℕ) (why : Refusal) →
+    Opens input kind body rest → kind ≡ struct_type →
     Says (StandsInMembers body place) ⊤ why → RefusesPod input place why
 members_refused input place body rest kind why o t s =
     let its_type : word_at input 4 ≡ struct_type = sym o.its_kind ∙ t in
     let stands : (k : Fault) → StandsInMembers body place k → Stands k place input = λ k m.
     in_member input m.0 m.1 m.2 o.there its_type (sym o.its_body ∙ m.3) m.4 m.5 m.6 in
-    refused_inside input place why o.there
-    (says_through _ _ _ _ stands (λ _. (o.there, inr (inr (inr (inl its_type))))) why s)
+    says_through _ _ _ _ stands (λ _. (o.there, inr (inr (inr (inl its_type))))) why s
 
-pub short_object_refused : (input body rest : List ℕ) (kind : ℕ) → Opens input kind body rest → kind ≡ object_type →
-    length body < header_size → RefusesPod input input refusal.WrongSize
-short_object_refused input body rest kind o t l = body_refused input body rest kind refusal.WrongSize o (short_object t l)
+-- where an object lacks its type or its id
+pub short_object_refused : (input body rest : List ℕ) (kind : ℕ) →
+    Opens input kind body rest → kind ≡ object_type → length body < header_size →
+    RefusesPod input input refusal.WrongSize
+short_object_refused input body rest kind o t l =
+    body_refused input body rest kind refusal.WrongSize o (short_object t l)
 
-pub properties_refused : (input place body rest behind : List ℕ) (kind : ℕ) (why : Refusal) → Opens input kind body rest → kind ≡ object_type →
-    header_size ≤ length body → behind ≡ drop header_size body → Says (StandsInProperties behind place) ⊤ why → RefusesPod input place why
+-- where a property is refused
+pub properties_refused : (input place body rest behind : List ℕ) (kind : ℕ) (why : Refusal) →
+    Opens input kind body rest → kind ≡ object_type → header_size ≤ length body → behind ≡ drop header_size body →
+    Says (StandsInProperties behind place) ⊤ why → RefusesPod input place why
 properties_refused input place body rest behind kind why o t l d s =
     let its_type : word_at input 4 ≡ object_type = sym o.its_kind ∙ t in
     let long : header_size ≤ length (body_of input) = omega (arith, ap length o.its_body) in
     let its_behind : drop header_size (body_of input) ≡ behind = ap (drop header_size) (sym o.its_body) ∙ sym d in
-    refused_inside input place why o.there
-    (says_through _ _ _ _ (in_object input place behind o.there its_type long its_behind) (λ _. (o.there, inr (inr (inr (inr (inl its_type)))))) why s)
+    let stands : (k : Fault) → StandsInProperties behind place k → Stands k place input =
+    in_object input place behind o.there its_type long its_behind in
+    says_through _ _ _ _ stands (λ _. (o.there, inr (inr (inr (inr (inl its_type)))))) why s
   where
-    in_object : (input place behind : List ℕ) → HasFront input → word_at input 4 ≡ object_type → header_size ≤ length (body_of input) →
-        drop header_size (body_of input) ≡ behind → (k : Fault) → StandsInProperties behind place k → Stands k place input
+    in_object : (input place behind : List ℕ) →
+        HasFront input → word_at input 4 ≡ object_type → header_size ≤ length (body_of input) →
+        drop header_size (body_of input) ≡ behind →
+        (k : Fault) → StandsInProperties behind place k → Stands k place input
     in_object input place behind h t l d k m =
         elim m.5 [
-          | inl x ↦ in_key input m.0 m.1 h t l (d ∙ m.3 ∙ ap (λ y. m.1 ++ y) (sym x.1)) m.4 (λ n. x.2 (sym x.1 ∙ n)) (omega (arith, x.3, ap length x.1)) x.0
+          | inl x ↦
+              let here : drop header_size (body_of input) ≡ m.1 ++ place = d ∙ m.3 ∙ ap (λ y. m.1 ++ y) (sym x.1) in
+              let short : length place < header_size = omega (arith, x.3, ap length x.1) in
+              in_key input m.0 m.1 h t l here m.4 (λ n. x.2 (sym x.1 ∙ n)) short x.0
           | inr x ↦ in_property input m.0 m.1 m.2 h t l (d ∙ m.3) m.4 x.0 x.1
         ]
 
 -- the refusal of an array of elements of this kind
-pub array_refused : (k : Kind) (b : List ℕ) (why : Refusal) → RefusesArray (IsWrongArray k b) why → RefusesBody array_type b why
+pub array_refused : (k : Kind) (b : List ℕ) (why : Refusal) →
+    RefusesArray (IsWrongArray k b) why → RefusesBody array_type b why
 array_refused k b refusal.Short r = absurd r
 array_refused k b refusal.Text r = absurd r
 array_refused k b refusal.InvalidType r = absurd r
@@ -97,7 +106,8 @@ array_refused k b refusal.WrongSize r = of_array k refl r
 array_refused k b refusal.OutOfMemory r = inr (inr (inl refl))
 
 -- the refusal of a choice over values of this kind
-pub choice_refused : (k : Kind) (b : List ℕ) (why : Refusal) → choice_header_size ≤ length b → 0 < body_size k → RefusesChoice k b why → RefusesBody choice_type b why
+pub choice_refused : (k : Kind) (b : List ℕ) (why : Refusal) →
+    choice_header_size ≤ length b → 0 < body_size k → RefusesChoice k b why → RefusesBody choice_type b why
 choice_refused k b refusal.Short l p r = absurd r
 choice_refused k b refusal.Text l p r = absurd r
 choice_refused k b refusal.InvalidType l p r = absurd r
@@ -106,13 +116,57 @@ choice_refused k b refusal.MissingChoiceValues l p r = (refl, r)
 choice_refused k b refusal.WrongSize l p r = of_choice k refl p r
 choice_refused k b refusal.OutOfMemory l p r = inr (inr (inr (inr (inr refl))))
 
--- The public refusal that is made of one.
+-- The public refusal that is made of one at a place.
 
-pub refused_as : (input : List ℕ) (place : Bor (List ℕ)) (why : Refusal) → RefusesPod input place.now why → RefusesInput input (error_of place why)
-refused_as input place refusal.Short h = record { refused = format.refused Short place.now input h.named; memory = tt; short_first = λ n. (refl, (h.short_first n).1); named = h.named }
-refused_as input place refusal.Text h = record { refused = format.refused Text place.now input h.named; memory = tt; short_first = λ n. cc ((h.short_first n).0); named = h.named }
-refused_as input place refusal.InvalidType h = record { refused = format.refused InvalidType place.now input h.named; memory = tt; short_first = λ n. cc ((h.short_first n).0); named = (place.now, h.named) }
-refused_as input place refusal.InvalidChoiceType h = record { refused = format.refused InvalidChoiceType place.now input h.named; memory = tt; short_first = λ n. cc ((h.short_first n).0); named = (place.now, h.named) }
-refused_as input place refusal.MissingChoiceValues h = record { refused = format.refused MissingChoiceValues place.now input h.named; memory = tt; short_first = λ n. cc ((h.short_first n).0); named = (place.now, h.named) }
-refused_as input place refusal.WrongSize h = record { refused = format.refused WrongSize place.now input h.named; memory = tt; short_first = λ n. cc ((h.short_first n).0); named = (place.now, h.named) }
-refused_as input place refusal.OutOfMemory h = record { refused = tt; memory = h.named; short_first = λ n. cc ((h.short_first n).0); named = tt }
+said_refused : (input : List ℕ) (place : Bor (List ℕ)) (why : Refusal) →
+    RefusesPod input place.now why → OnFault (IsRefused input) (error_of place why)
+said_refused input place refusal.Short s = format.refused Short place.now input s
+said_refused input place refusal.Text s = format.refused Text place.now input s
+said_refused input place refusal.InvalidType s = format.refused InvalidType place.now input s
+said_refused input place refusal.InvalidChoiceType s = format.refused InvalidChoiceType place.now input s
+said_refused input place refusal.MissingChoiceValues s = format.refused MissingChoiceValues place.now input s
+said_refused input place refusal.WrongSize s = format.refused WrongSize place.now input s
+said_refused input place refusal.OutOfMemory s = tt
+
+said_memory : (input : List ℕ) (place : Bor (List ℕ)) (why : Refusal) →
+    RefusesPod input place.now why → OnMemory (MayLackMemory input) (error_of place why)
+said_memory input place refusal.OutOfMemory s = s
+said_memory input place _ s = tt
+
+-- where the front isn't there, no fault stands but that it is short
+only_short : (k : Fault) (place input : List ℕ) → Stands k place input → ¬ (HasFront input) → (k ≡ Short) × (place ≡ input)
+only_short Short place _ (at_front b e s) n = (refl, e)
+only_short Text place _ (at_front b e s) n = absurd (n s.0)
+only_short InvalidType place _ (at_front b e s) n = absurd (n s.0)
+only_short InvalidChoiceType place _ (at_front b e s) n = absurd (n s.0)
+only_short MissingChoiceValues place _ (at_front b e s) n = absurd (n s.0)
+only_short WrongSize place _ (at_front b e s) n = absurd (n s.0)
+only_short k place _ (in_member b vs first left h _ _ _ _ _) n = absurd (n h)
+only_short k place _ (in_key b ps first h _ _ _ _ _ _ _) n = absurd (n h)
+only_short k place _ (in_property b ps first left h _ _ _ _ _ _) n = absurd (n h)
+
+said_short : (input : List ℕ) (place : Bor (List ℕ)) (why : Refusal) →
+    RefusesPod input place.now why → ¬ (HasFront input) → IsShortAt input (error_of place why)
+said_short input place refusal.Short s n = (refl, (only_short Short place.now input s n).1)
+said_short input place refusal.Text s n = cc ((only_short Text place.now input s n).0)
+said_short input place refusal.InvalidType s n = cc ((only_short InvalidType place.now input s n).0)
+said_short input place refusal.InvalidChoiceType s n = cc ((only_short InvalidChoiceType place.now input s n).0)
+said_short input place refusal.MissingChoiceValues s n = cc ((only_short MissingChoiceValues place.now input s n).0)
+said_short input place refusal.WrongSize s n = cc ((only_short WrongSize place.now input s n).0)
+said_short input place refusal.OutOfMemory s n = absurd (n s.0)
+
+said_fault : (input : List ℕ) (place : Bor (List ℕ)) (why : Refusal) →
+    RefusesPod input place.now why → Names (λ k at. Stands k at input) (error_of place why)
+said_fault input place refusal.Short s = s
+said_fault input place refusal.Text s = s
+said_fault input place refusal.OutOfMemory s = tt
+said_fault input place _ s = (place.now, s)
+
+pub refused_as : (input : List ℕ) (place : Bor (List ℕ)) (why : Refusal) →
+    RefusesPod input place.now why → RefusesInput input (error_of place why)
+refused_as input place why s = record {
+  refused = said_refused input place why s;
+  memory = said_memory input place why s;
+  short_first = said_short input place why s;
+  named = said_fault input place why s;
+}

@@ -86,9 +86,9 @@ impl<'de> PodDeserializer<'de> {
 
     /// Reads the pod at the front of the input, whatever it is, and answers what follows it.
     ///
-    /// Want of memory aside, this succeeds exactly where the front that the first size word names is there and is a pod.
-    /// Refusals: `Nom` with `Short` or `Text`, `InvalidType`, `InvalidChoiceType`, `MissingChoiceValues`, `WrongSize`, each
-    /// where that fault stands in the input, and `OutOfMemory`.
+    /// Want of memory aside, this succeeds exactly where the front that the first size word names is there and is a
+    /// pod. Refusals: `Nom` with `Short` or `Text`, `InvalidType`, `InvalidChoiceType`, `MissingChoiceValues`,
+    /// `WrongSize`, each where that fault stands in the input, and `OutOfMemory`.
     pub fn deserialize_any_from(
         alloc: Global,
         input: &'de [u8],
@@ -123,10 +123,8 @@ impl<'de> PodDeserializer<'de> {
         ensures rest { IfOk result (λ read. read.1 ≡ rest_of self.entry) }
         ensures refused { IfErr result (RefusesInput self.entry) }
     {
-        match read_value(self.alloc, self.input) {
-            Ok((rest, value)) => Ok((value, self.after(rest))),
-            Err(refused) => Err(error_at(refused.place, refused.why)),
-        }
+        let (rest, value) = PodDeserializer::deserialize_any_from(self.alloc, self.input)?;
+        Ok((value, self.after(rest)))
     }
 
     /// The allocator that it was given.

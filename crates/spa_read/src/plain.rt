@@ -3,7 +3,7 @@ ghost use Rattle.std.specs.Prelude.{◌≡◌, ◌≢◌, ◌++◌, ◌∷◌, [
 ghost use Rattle.spa_fixed.specs.declared.fault.Refusal.TheVariants as refusal;
 ghost use Rattle.spa_format.specs.Kind.{IsFixedBody, body_size, type_number};
 ghost use Rattle.spa_format.specs.Pod.{IsBody, IsPointer, IsText};
-ghost use Rattle.spa_format.specs.Tree.{object_type, struct_type, type_of};
+ghost use Rattle.spa_format.specs.Tree.{object_type, pointer_type, string_type, struct_type, type_of};
 ghost use Rattle.spa_read.specs.Refusing.{RefusesBody};
 ghost use Rattle.spa_value.specs.View.{view};
 
@@ -56,7 +56,7 @@ const LONG_POINTER_LEN: usize = 16;
 /// A pointer's type and address.
 pub(crate) fn read_pointer(body: &[u8]) -> Result<(u32, u64), Refusal>
     ensures read { IfOk result (λ p. IsPointer p.0 p.1 body.now) }
-    ensures refused { IfErr result (λ why. (why ≡ refusal.WrongSize) × (length body.now ≢ 12) × (length body.now ≢ 16)) }
+    ensures refused { IfErr result (RefusesBody pointer_type body.now) }
 {
     match body.len() {
         SHORT_POINTER_LEN => Ok((u32_at(body, 0), u64::from(u32_at(body, ADDRESS_AT)))),
@@ -68,7 +68,7 @@ pub(crate) fn read_pointer(body: &[u8]) -> Result<(u32, u64), Refusal>
 /// A text as a `String`.
 fn read_string(alloc: Global, body: &[u8]) -> Result<String, Refusal>
     ensures read { IfOk result (λ s. IsText (string_bytes s) × (body.now ≡ string_bytes s ++ 0 ∷ [])) }
-    ensures refused { IfErr result (λ why. (why ≡ refusal.OutOfMemory) ⊎ ((why ≡ refusal.Text) × ((s : List ℕ) → IsText s → body.now ≢ s ++ 0 ∷ []))) }
+    ensures refused { IfErr result (RefusesBody string_type body.now) }
 {
     let Some(text) = text_of(body) else {
         return Err(Refusal::Text);
@@ -80,8 +80,8 @@ fn read_string(alloc: Global, body: &[u8]) -> Result<String, Refusal>
 pub(crate) fn read_plain(alloc: Global, kind: u32, body: &[u8]) -> Result<Value, Refusal>
     requires no_struct { kind ≢ struct_type }
     requires no_object { kind ≢ object_type }
-    ensures kind { IfOk result (λ v. type_of (view v) ≡ kind) }
-    ensures body { IfOk result (λ v. IsBody (view v) body.now) }
+    ensures its_type { IfOk result (λ value. type_of (view value) ≡ kind) }
+    ensures read { IfOk result (λ value. IsBody (view value) body.now) }
     ensures refused { IfErr result (RefusesBody kind body.now) }
 {
     match kind {

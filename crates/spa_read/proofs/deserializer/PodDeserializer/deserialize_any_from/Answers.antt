@@ -9,4 +9,4 @@ returns-in-Ok-clause-one c = only_value _ _ _ c.in-Ok.ensures.read
 
 pub returns-in-Err-clause-refused : goal.returns-in-Err-clause-refused
 returns-in-Err-clause-refused c =
-    (subst (RefusesInput c.args.input.now) (sym c.error_at.ensures) (refused_as _ _ _ c.in-Err.ensures.refused)).refused
+    (subst (RefusesInput c.args.input.now) (sym c.error_at.ensures) (refused_as _ c.in-Err.refused.place c.in-Err.refused.why c.in-Err.ensures.refused)).refused

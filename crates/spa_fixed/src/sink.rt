@@ -91,7 +91,7 @@ impl PodOutput for Vec<u8> {
     }
 
     fn overwrite(&mut self, at: usize, bytes: [u8; 4]) {
-        self[at..at + 4].copy_from_slice(&bytes);
+        self[at..at + bytes.len()].copy_from_slice(&bytes);
     }
 }
 

@@ -47,13 +47,12 @@ pub fn put_word<S: PodSink>(sink: &mut S, number: u32) -> Result<(), GenError>
 }
 
 /// Appends a number in eight bytes.
-#[tactic(auto, unfolding(spa_format::specs::Words::wide_bytes))]
 pub fn put_wide<S: PodSink>(sink: &mut S, number: u64) -> Result<(), GenError>
     ensures ok { OnOk result (S.appends sink.old (wide_bytes number) sink.new) }
     ensures begun { OnErr result ((count : ℕ) × S.appends sink.old (take count (wide_bytes number)) sink.new) }
     ensures cause { IfErr result (λ e. S.refuses sink.old 8 sink.new e) }
 {
-    sink.append(&number.to_le_bytes())
+    sink.append(&wide_body(number))
 }
 
 /// Two words as bytes.
@@ -68,7 +67,7 @@ pub fn two_words(first: u32, second: u32) -> [u8; 8]
 
 /// A word as bytes, and four zeros.
 #[tactic(auto, unfolding(spa_format::specs::Words::word_bytes))]
-pub fn word_body(number: u32) -> [u8; 8]
+pub(crate) fn word_body(number: u32) -> [u8; 8]
     ensures front { take 4 result ≡ word_bytes number }
     ensures back { drop 4 result ≡ replicate 4 0 }
 {
@@ -78,7 +77,7 @@ pub fn word_body(number: u32) -> [u8; 8]
 
 /// A number in eight bytes.
 #[tactic(auto, unfolding(spa_format::specs::Words::wide_bytes))]
-pub fn wide_body(number: u64) -> [u8; 8]
+pub(crate) fn wide_body(number: u64) -> [u8; 8]
     ensures { result ≡ wide_bytes number }
 {
     number.to_le_bytes()

@@ -46,16 +46,26 @@ object_parts b h big =
     let nd = length-drop (8 + s) b in
     let e0 = length-append a (f ++ d) in
     let e1 = length-append f d in
-    let same_size : word_at (fixated_bytes b) 0 ≡ s = word_at-append a (f ++ d) 0 (omega arith) ∙ word_at-take 16 0 b (omega arith) in
+    let same_size : word_at (fixated_bytes b) 0 ≡ s =
+    word_at-append a (f ++ d) 0 (omega arith)
+    ∙ word_at-take 16 0 b (omega arith) in
     let a8 : drop 8 a ≡ take 8 (drop 8 b) = drop-take 8 8 b in
     let g = take 8 (drop 8 b) in
     let n8 = length-drop 8 b in
     let ng : length g ≡ 8 = length-take-le 8 (drop 8 b) (omega arith) in
     let e2 = length-append g f in
     let e3 = length-append a f in
-    let behind : drop 8 (fixated_bytes b) ≡ (g ++ f) ++ d = drop-append-le 8 a (f ++ d) (omega arith) ∙ ap (λ z. z ++ (f ++ d)) a8 ∙ sym (append_assoc g f d) in
-    let body_is : body_of (fixated_bytes b) ≡ g ++ f = ap (λ n. take n (drop 8 (fixated_bytes b))) same_size ∙ ap (take s) behind ∙ take_at (g ++ f) d s (omega arith) in
-    let d_is : drop (8 + s) (fixated_bytes b) ≡ d = ap (drop (8 + s)) (sym (append_assoc a f d)) ∙ drop_at (a ++ f) d (8 + s) (omega arith) in
+    let behind : drop 8 (fixated_bytes b) ≡ (g ++ f) ++ d =
+    drop-append-le 8 a (f ++ d) (omega arith)
+    ∙ ap (λ z. z ++ (f ++ d)) a8
+    ∙ sym (append_assoc g f d) in
+    let body_is : body_of (fixated_bytes b) ≡ g ++ f =
+    ap (λ n. take n (drop 8 (fixated_bytes b))) same_size
+    ∙ ap (take s) behind
+    ∙ take_at (g ++ f) d s (omega arith) in
+    let d_is : drop (8 + s) (fixated_bytes b) ≡ d =
+    ap (drop (8 + s)) (sym (append_assoc a f d))
+    ∙ drop_at (a ++ f) d (8 + s) (omega arith) in
     let r = padded_size s - s in
     let er : (8 + s) + r ≡ extent s = omega arith in
     let same : rest_of (fixated_bytes b) ≡ rest_of b =
@@ -88,7 +98,8 @@ length-fixated_bytes b h = (object_parts b h.front h.parts).same_length
 pub rest_of-fixated_bytes : (b : List ℕ) → HasObject b → rest_of (fixated_bytes b) ≡ rest_of b
 rest_of-fixated_bytes b h = (object_parts b h.front h.parts).same_rest
 
-pub object_fixated : (t i : ℕ) (ps : Properties) (b : List ℕ) → Begins b (object t i ps) → Begins (fixated_bytes b) (object t i (default_properties ps))
+pub object_fixated : (t i : ℕ) (ps : Properties) (b : List ℕ) → Begins b (object t i ps) →
+    Begins (fixated_bytes b) (object t i (default_properties ps))
 object_fixated t i ps b h =
     let w = of_whole_front b 15 (IsBody (object t i ps)) h.pod in
     let c = w.1 in

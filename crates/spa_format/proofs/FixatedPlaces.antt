@@ -14,7 +14,8 @@ use Rattle.spa_format.proofs.FixationLemmas.{never, walk_induction, fixated_prop
 use Rattle.spa_format.proofs.FixatedObjects.{object_parts}
 
 -- a property with its kind word set, by places
-pub kind_word-set : (p : List ℕ) → 16 ≤ length p → take 8 p ++ none_choice_pod (drop 8 p) ≡ take 16 p ++ (word_bytes 0 ++ drop 20 p)
+pub kind_word-set : (p : List ℕ) → 16 ≤ length p →
+    take 8 p ++ none_choice_pod (drop 8 p) ≡ take 16 p ++ (word_bytes 0 ++ drop 20 p)
 kind_word-set p l =
     let h = take 8 p in
     let q = drop 8 p in
@@ -23,13 +24,17 @@ kind_word-set p l =
     let n8 : length h ≡ 8 = length-take-le 8 p (omega arith) in
     let m8 : length a ≡ 8 = length-take-le 8 q (omega arith) in
     let n16 : length (h ++ a) ≡ 16 = length-append h a ∙ omega arith in
-    let whole : p ≡ (h ++ a) ++ drop 8 q = sym (take-append-drop 8 p) ∙ ap (λ z. h ++ z) (sym (take-append-drop 8 q)) ∙ sym (append_assoc h a (drop 8 q)) in
+    let whole : p ≡ (h ++ a) ++ drop 8 q =
+    sym (take-append-drop 8 p)
+    ∙ ap (λ z. h ++ z) (sym (take-append-drop 8 q))
+    ∙ sym (append_assoc h a (drop 8 q)) in
     let t : take 16 p ≡ h ++ a = ap (take 16) whole ∙ take_at (h ++ a) (drop 8 q) 16 n16 in
     sym (append_assoc h a (word_bytes 0 ++ drop 12 q))
     ∙ ap (λ z. z ++ (word_bytes 0 ++ drop 12 q)) (sym t)
     ∙ ap (λ z. take 16 p ++ (word_bytes 0 ++ z)) (drop-drop 12 8 p)
 
-pub when_fixable : (p : List ℕ) → is_fixable p ≡ true → 16 ≤ length p → fixated_property p ≡ take 16 p ++ (word_bytes 0 ++ drop 20 p)
+pub when_fixable : (p : List ℕ) → is_fixable p ≡ true → 16 ≤ length p →
+    fixated_property p ≡ take 16 p ++ (word_bytes 0 ++ drop 20 p)
 when_fixable p h l = ap (λ t. if t then take 8 p ++ none_choice_pod (drop 8 p) else p) h ∙ kind_word-set p l
 
 -- a property that fixation changes has room for a kind word
@@ -50,12 +55,14 @@ kind_word p h l =
     ap (λ b. word_at b 16) (when_fixable p h (omega arith))
     ∙ word_inside (take 16 p) (drop 20 p) 0 16 (length-take-le 16 p (omega arith)) (omega arith)
 
-same_index : (t : Bool) (a p : List ℕ) (i : ℕ) → (t ≡ true → slice_index a i ≡ slice_index p i) → slice_index (if t then a else p) i ≡ slice_index p i
+same_index : (t : Bool) (a p : List ℕ) (i : ℕ) → (t ≡ true → slice_index a i ≡ slice_index p i) →
+    slice_index (if t then a else p) i ≡ slice_index p i
 same_index true a p i h = h refl
 same_index false a p i h = refl
 
 -- every other byte of a property stays
-other_byte : (p : List ℕ) (i : ℕ) → length p ≡ extent_behind 8 p → (is_fixable p ≡ true → (i < 16) ⊎ (20 ≤ i)) → slice_index (fixated_property p) i ≡ slice_index p i
+other_byte : (p : List ℕ) (i : ℕ) → length p ≡ extent_behind 8 p →
+    (is_fixable p ≡ true → (i < 16) ⊎ (20 ≤ i)) → slice_index (fixated_property p) i ≡ slice_index p i
 other_byte p i l h = same_index (is_fixable p) (take 8 p ++ none_choice_pod (drop 8 p)) p i (λ f.
     let big = fixable_size p f l in
     let a = take 16 p in
@@ -94,13 +101,18 @@ are_set = walk_induction AreSet
     let np : length p ≡ n = length-take-le n b l in
     let nf = length-first_fixated n b refl l in
     let w = length-take_extent 8 n b refl l in
-    let h' : (IsTrue (is_fixable p) × (at + i ≡ at + 16)) ⊎ IsKindPlace (at + length p) (property_walk (drop n b)) (at + i) = subst (λ q. IsKindPlace at q (at + i)) (walk_behind-there 8 b l) h in
-    ap (λ z. word_at (z ++ t) i) (fixated_properties-there b l) ∙ ap (λ z. word_at z i) (append_assoc (fixated_property p) r t) ∙ elim h' [
+    let h' : (IsTrue (is_fixable p) × (at + i ≡ at + 16)) ⊎ IsKindPlace (at + length p) (property_walk (drop n b)) (at + i) =
+    subst (λ q. IsKindPlace at q (at + i)) (walk_behind-there 8 b l) h in
+    ap (λ z. word_at (z ++ t) i) (fixated_properties-there b l)
+    ∙ ap (λ z. word_at z i) (append_assoc (fixated_property p) r t)
+    ∙ elim h' [
       | inl q ↦
           let e = q.1 in
           let i16 : i ≡ 16 = omega arith in
           let big = fixable_size p q.0 w in
-          ap (word_at (fixated_property p ++ (r ++ t))) i16 ∙ word_at-append (fixated_property p) (r ++ t) 16 (omega arith) ∙ kind_word p q.0 big
+          ap (word_at (fixated_property p ++ (r ++ t))) i16
+          ∙ word_at-append (fixated_property p) (r ++ t) 16 (omega arith)
+          ∙ kind_word p q.0 big
       | inr q ↦
           let le = not_past (at + length p) (property_walk (drop n b)) (at + i) q in
           let j = i - n in
@@ -135,7 +147,8 @@ others = walk_induction OthersStay
     let np : length p ≡ n = length-take-le n b l in
     let nf = length-first_fixated n b refl l in
     let w = length-take_extent 8 n b refl l in
-    let h' : IsOther at (p ∷ property_walk (drop n b)) (at + i) = subst (λ q. IsOther at q (at + i)) (walk_behind-there 8 b l) h in
+    let h' : IsOther at (p ∷ property_walk (drop n b)) (at + i) =
+    subst (λ q. IsOther at q (at + i)) (walk_behind-there 8 b l) h in
     ap (λ z. slice_index z i) (fixated_properties-there b l) ∙ elim (cases_lt i n) [
       | inl q ↦
           get_or_append_left (fixated_property p) r 0 i (omega arith)
@@ -167,7 +180,8 @@ kind_words_set b i o h =
     ∙ ap (λ z. word_at z j) (drop_at a (f ++ d) 16 k.beginning)
     ∙ are_set ps 16 j d (subst (IsKindPlace 16 (property_walk ps)) ei h)
 
-pub others_stay : (b : List ℕ) (i : ℕ) → HasObject b → ((k : ℕ) → IsFixatedPlace b k → (i < k) ⊎ (k + 4 ≤ i)) → slice_index (fixated_bytes b) i ≡ slice_index b i
+pub others_stay : (b : List ℕ) (i : ℕ) → HasObject b →
+    ((k : ℕ) → IsFixatedPlace b k → (i < k) ⊎ (k + 4 ≤ i)) → slice_index (fixated_bytes b) i ≡ slice_index b i
 others_stay b i o h =
     let k = object_parts b o.front o.parts in
     let a = take 16 b in

@@ -34,19 +34,23 @@ none_choice_of b l =
       same_size = word_at-append a (word_bytes 0 ++ drop 12 b) 0 (omega arith) ∙ word_at-take 8 0 b (omega arith);
       same_type = word_at-append a (word_bytes 0 ++ drop 12 b) 4 (omega arith) ∙ word_at-take 8 4 b (omega arith);
       none = word_inside a (drop 12 b) 0 8 n8 (omega arith);
-      same_rest = ap (drop 12) (sym (append_assoc a (word_bytes 0) (drop 12 b))) ∙ drop_at (a ++ word_bytes 0) (drop 12 b) 12 n12;
+      same_rest = ap (drop 12) (sym (append_assoc a (word_bytes 0) (drop 12 b)))
+          ∙ drop_at (a ++ word_bytes 0) (drop 12 b) 12 n12;
     }
 
 -- the part of a body behind its first eight bytes
 behind_header : (b : List ℕ) (m : ℕ) → word_at b 0 ≡ 8 + m → drop 8 (body_of b) ≡ take m (drop 4 (drop 12 b))
 behind_header b m e =
-    ap (λ n. drop 8 (take n (drop 8 b))) e ∙ drop-take 8 m (drop 8 b) ∙ ap (take m) (drop-drop 8 8 b ∙ sym (drop-drop 4 12 b))
+    ap (λ n. drop 8 (take n (drop 8 b))) e
+    ∙ drop-take 8 m (drop 8 b)
+    ∙ ap (take m) (drop-drop 8 8 b ∙ sym (drop-drop 4 12 b))
 
 length-whole_body : (b : List ℕ) (t : ℕ) (P : List ℕ → Type 0) → IsWhole b t P → length (body_of b) ≡ word_at b 0
 length-whole_body b t P w = let x = w.whole in let d = length-drop 8 b in length-take-le (word_at b 0) (drop 8 b) (omega arith)
 
 -- a choice's pod has room for its header
-choice_size : (s : Shape) (f : ℕ) (k : Kind) (x : Fixed) (xs : List Fixed) (b : List ℕ) → IsWhole b 19 (IsChoice s f k x xs) → 16 ≤ word_at b 0
+choice_size : (s : Shape) (f : ℕ) (k : Kind) (x : Fixed) (xs : List Fixed) (b : List ℕ) →
+    IsWhole b 19 (IsChoice s f k x xs) → 16 ≤ word_at b 0
 choice_size s f k x xs b w =
     let l = length-whole_body b _ _ w in
     let h = w.content.header in
@@ -54,7 +58,8 @@ choice_size s f k x xs b w =
     let d = length-drop 8 (body_of b) in
     omega arith
 
-is_choice_pod-of : (s : Shape) (f : ℕ) (k : Kind) (x : Fixed) (xs : List Fixed) (b : List ℕ) → IsWhole b 19 (IsChoice s f k x xs) → is_choice_pod b ≡ true
+is_choice_pod-of : (s : Shape) (f : ℕ) (k : Kind) (x : Fixed) (xs : List Fixed) (b : List ℕ) →
+    IsWhole b 19 (IsChoice s f k x xs) → is_choice_pod b ≡ true
 is_choice_pod-of s f k x xs b w =
     ap (λ n. nat_eq n 19 && nat_le 16 (word_at b 0)) w.kind
     ∙ ap (λ t. true && t) (le-leb 16 (word_at b 0) (choice_size s f k x xs b w))
@@ -62,7 +67,8 @@ is_choice_pod-of s f k x xs b w =
 is_choice_pod-other : (t : ℕ) (P : List ℕ → Type 0) (b : List ℕ) → IsWhole b t P → t ≢ 19 → is_choice_pod b ≡ false
 is_choice_pod-other t P b w ne = ap (λ z. z && nat_le 16 (word_at b 0)) (ne_eqb (word_at b 4) 19 (λ q. ne (sym w.kind ∙ q)))
 
-choice_fixated : (s : Shape) (f : ℕ) (k : Kind) (x : Fixed) (xs : List Fixed) (b : List ℕ) → IsWhole b 19 (IsChoice s f k x xs) → IsWhole (none_choice_pod b) 19 (IsChoice none_choice 0 k x [])
+choice_fixated : (s : Shape) (f : ℕ) (k : Kind) (x : Fixed) (xs : List Fixed) (b : List ℕ) →
+    IsWhole b 19 (IsChoice s f k x xs) → IsWhole (none_choice_pod b) 19 (IsChoice none_choice 0 k x [])
 choice_fixated s f k x xs b w =
     let big = choice_size s f k x xs b w in
     let ex = w.whole in
@@ -72,11 +78,17 @@ choice_fixated s f k x xs b w =
     let e0 : word_at b 0 ≡ 8 + m = omega arith in
     let ez0 = z.same_size in
     let e1 : word_at y 0 ≡ 8 + m = ez0 ∙ e0 in
-    let same : drop 8 (body_of y) ≡ drop 8 (body_of b) = behind_header y m e1 ∙ ap (λ q. take m (drop 4 q)) z.same_rest ∙ sym (behind_header b m e0) in
+    let same : drop 8 (body_of y) ≡ drop 8 (body_of b) =
+    behind_header y m e1
+    ∙ ap (λ q. take m (drop 4 q)) z.same_rest
+    ∙ sym (behind_header b m e0) in
     let whole : length y ≡ extent (word_at y 0) = z.same_length ∙ ex ∙ ap extent (sym ez0) in
     let d = length-drop 8 y in
     let lb : length (body_of y) ≡ word_at y 0 = length-take-le (word_at y 0) (drop 8 y) (omega arith) in
-    let shape : word_at (body_of y) 0 ≡ 0 = word_at-take (word_at y 0) 0 (drop 8 y) (omega arith) ∙ word_at-drop 8 0 y ∙ z.none in
+    let shape : word_at (body_of y) 0 ≡ 0 =
+    word_at-take (word_at y 0) 0 (drop 8 y) (omega arith)
+    ∙ word_at-drop 8 0 y
+    ∙ z.none in
     record {
       whole = whole;
       kind = z.same_type ∙ w.kind;
@@ -95,7 +107,8 @@ choice_fixated s f k x xs b w =
 abbrev pub IsFixatedTo : List ℕ → List ℕ → Tree → Tree → Type 0
 IsFixatedTo h first v w = (q : List ℕ) × (fixated_property (h ++ first) ≡ h ++ q) × IsPod q (if may_fixate (word_at (h ++ first) 4) then w else v)
 
-choose : (t : Bool) (a p h first z : List ℕ) (v w : Tree) → a ≡ h ++ z → p ≡ h ++ first → IsPod z w → IsPod first v → (q : List ℕ) × ((if t then a else p) ≡ h ++ q) × IsPod q (if t then w else v)
+choose : (t : Bool) (a p h first z : List ℕ) (v w : Tree) → a ≡ h ++ z → p ≡ h ++ first → IsPod z w →
+    IsPod first v → (q : List ℕ) × ((if t then a else p) ≡ h ++ q) × IsPod q (if t then w else v)
 choose true a p h first z v w ea ep pw pv = (z, ea, pw)
 choose false a p h first z v w ea ep pw pv = (first, ep, pv)
 
@@ -107,17 +120,22 @@ and-false : (x : Bool) → (x && false) ≡ false
 and-false true = refl
 and-false false = refl
 
-other_fixated : (v : Tree) (h first : List ℕ) → length h ≡ 8 → IsPod first v → type_of v ≢ 19 → IsFixatedTo h first v v
+other_fixated : (v : Tree) (h first : List ℕ) → length h ≡ 8 → IsPod first v → type_of v ≢ 19 →
+    IsFixatedTo h first v v
 other_fixated v h first l p ne =
     let flag = may_fixate (word_at (h ++ first) 4) in
-    let e : is_choice_pod (drop 8 (h ++ first)) ≡ false = ap is_choice_pod (drop_at h first 8 l) ∙ is_choice_pod-other _ _ first p ne in
+    let e : is_choice_pod (drop 8 (h ++ first)) ≡ false =
+    ap is_choice_pod (drop_at h first 8 l)
+    ∙ is_choice_pod-other _ _ first p ne in
     let f : is_fixable (h ++ first) ≡ false = ap (λ t. flag && t) e ∙ and-false flag in
     (first, ap (λ t. if t then take 8 (h ++ first) ++ none_choice_pod (drop 8 (h ++ first)) else h ++ first) f, subst (IsPod first) (sym (same_choice flag v)) p)
 
 value_fixated : (v : Tree) (h first : List ℕ) → length h ≡ 8 → IsPod first v → IsFixatedTo h first v (default_of v)
 value_fixated (choice s f k x xs) h first l p =
     let a = take 8 (h ++ first) ++ none_choice_pod (drop 8 (h ++ first)) in
-    let ea : a ≡ h ++ none_choice_pod first = ap (λ z. z ++ none_choice_pod (drop 8 (h ++ first))) (take_at h first 8 l) ∙ ap (λ z. h ++ none_choice_pod z) (drop_at h first 8 l) in
+    let ea : a ≡ h ++ none_choice_pod first =
+    ap (λ z. z ++ none_choice_pod (drop 8 (h ++ first))) (take_at h first 8 l)
+    ∙ ap (λ z. h ++ none_choice_pod z) (drop_at h first 8 l) in
     let flag = may_fixate (word_at (h ++ first) 4) in
     let e : is_fixable (h ++ first) ≡ flag =
     ap (λ z. flag && is_choice_pod z) (drop_at h first 8 l)
@@ -133,7 +151,8 @@ value_fixated (pointer t a) h first l p = other_fixated (pointer t a) h first l 
 value_fixated (struct vs) h first l p = other_fixated (struct vs) h first l p (λ e. omega arith)
 value_fixated (object t i ps) h first l p = other_fixated (object t i ps) h first l p (λ e. omega arith)
 
-pub properties_fixated : (ps : Properties) (b : List ℕ) → AreProperties ps b → AreProperties (default_properties ps) (fixated_properties b)
+pub properties_fixated : (ps : Properties) (b : List ℕ) → AreProperties ps b →
+    AreProperties (default_properties ps) (fixated_properties b)
 properties_fixated no_properties b h = fixated_properties-end b (let l = ap length h in omega arith) ∙ h
 properties_fixated (property key flags v ps) b h =
     let first = h.3 in
@@ -152,7 +171,10 @@ properties_fixated (property key flags v ps) b h =
     ∙ ap (λ z. z ++ tail) c.1
     ∙ append_assoc hd q tail in
     let la = length-append hd (q ++ tail) in
-    let fl : word_at (hd ++ first) 4 ≡ flags = word_at-append hd first 4 (omega arith) ∙ word_at-take 8 4 b (omega arith) ∙ sym h.2 in
+    let fl : word_at (hd ++ first) 4 ≡ flags =
+    word_at-append hd first 4 (omega arith)
+    ∙ word_at-take 8 4 b (omega arith)
+    ∙ sym h.2 in
     subst (AreProperties (default_properties (property key flags v ps))) (sym e) (
       omega arith,
       h.1 ∙ sym (word_at-append hd (q ++ tail) 0 (omega arith) ∙ word_at-take 8 0 b (omega arith)),
@@ -171,7 +193,10 @@ other_settled v b h ne = ap (λ t. not t || nat_eq (word_at b 8) 0) (is_choice_p
 one_settled : (v : Tree) (b : List ℕ) → IsPod b v → is_settled_pod b ≡ is_settled v
 one_settled (choice s f k x xs) b h =
     let big = choice_size s f k x xs b h in
-    let sh : word_at b 8 ≡ _ = sym (word_at-drop 8 0 b) ∙ sym (word_at-take (word_at b 0) 0 (drop 8 b) (omega arith)) ∙ h.content.shape in
+    let sh : word_at b 8 ≡ _ =
+    sym (word_at-drop 8 0 b)
+    ∙ sym (word_at-take (word_at b 0) 0 (drop 8 b) (omega arith))
+    ∙ h.content.shape in
     ap (λ t. not t || nat_eq (word_at b 8) 0) (is_choice_pod-of s f k x xs b h) ∙ ap (λ n. nat_eq n 0) sh
 one_settled (fixed x) b h = other_settled (fixed x) b h (λ e. let i = number_is (kind_of x) in grind arith)
 one_settled (string s) b h = other_settled (string s) b h (λ e. omega arith)

@@ -32,7 +32,8 @@ pub walk_induction : (P : List ℕ → Type 0) →
 walk_induction P end step b = walk_induction_at P end step (length b) b (omega arith)
 
 -- the first property changed, and then the same of the rest
-pub fixated_properties-there : (b : List ℕ) → extent_behind 8 b ≤ length b → fixated_properties b ≡ fixated_property (take (extent_behind 8 b) b) ++ fixated_properties (drop (extent_behind 8 b) b)
+pub fixated_properties-there : (b : List ℕ) → extent_behind 8 b ≤ length b →
+    fixated_properties b ≡ fixated_property (take (extent_behind 8 b) b) ++ fixated_properties (drop (extent_behind 8 b) b)
 unfolding fixated_properties
 fixated_properties-there b h =
     let n = extent_behind 8 b in
@@ -43,7 +44,8 @@ fixated_properties-there b h =
     ∙ ap (λ z. (fixated_property p ++ fixated_walk ps) ++ z) (sym (drop-drop (walk_size ps) n b))
     ∙ append_assoc (fixated_property p) (fixated_walk ps) (drop (walk_size ps) (drop n b))
 
-pub fixated_properties-next : (n : ℕ) (b : List ℕ) → n ≡ extent_behind 8 b → n ≤ length b → fixated_properties b ≡ fixated_property (take n b) ++ fixated_properties (drop n b)
+pub fixated_properties-next : (n : ℕ) (b : List ℕ) → n ≡ extent_behind 8 b → n ≤ length b →
+    fixated_properties b ≡ fixated_property (take n b) ++ fixated_properties (drop n b)
 fixated_properties-next n b e h = rw e (fixated_properties-there b (omega arith))
 
 pub fixated_properties-end : (b : List ℕ) → length b < extent_behind 8 b → fixated_properties b ≡ b
@@ -90,7 +92,8 @@ length-fixated_property p h =
     ]
 
 -- and so does the first one of the bytes
-pub length-first_fixated : (n : ℕ) (b : List ℕ) → n ≡ extent_behind 8 b → n ≤ length b → length (fixated_property (take n b)) ≡ n
+pub length-first_fixated : (n : ℕ) (b : List ℕ) → n ≡ extent_behind 8 b → n ≤ length b →
+    length (fixated_property (take n b)) ≡ n
 length-first_fixated n b e l = length-fixated_property (take n b) (length-take_extent 8 n b e l) ∙ length-take-le n b l
 
 pub length-fixated_properties : (b : List ℕ) → length (fixated_properties b) ≡ length b

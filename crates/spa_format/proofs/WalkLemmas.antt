@@ -9,19 +9,22 @@ use Rattle.spa_format.specs.Walk.{extent_behind, walk_at_most, walk_behind, walk
 use Rattle.spa_format.proofs.WordLemmas.{word_at-take, word_at-drop}
 
 -- whole bytes behind k others keep their size word
-pub length-take_extent : (k n : ℕ) (b : List ℕ) → n ≡ extent_behind k b → n ≤ length b → length (take n b) ≡ extent_behind k (take n b)
+pub length-take_extent : (k n : ℕ) (b : List ℕ) → n ≡ extent_behind k b → n ≤ length b →
+    length (take n b) ≡ extent_behind k (take n b)
 length-take_extent k n b h i =
     let e = word_at-take n k b (omega arith) in
     let l = length-take n b in
     rw e (omega arith)
 
-pub length-drop_extent : (b : List ℕ) → length b ≡ extent_behind 8 b → length (drop 8 b) ≡ extent (word_at (drop 8 b) 0)
+pub length-drop_extent : (b : List ℕ) → length b ≡ extent_behind 8 b →
+    length (drop 8 b) ≡ extent (word_at (drop 8 b) 0)
 length-drop_extent b h =
     let e : word_at (drop 8 b) 0 ≡ word_at b 8 = word_at-drop 8 0 b in
     let l = length-drop 8 b in
     rw e (omega arith)
 
-walk_at_most-there : (n k : ℕ) (b : List ℕ) → extent_behind k b ≤ length b → walk_at_most (suc n) k b ≡ take (extent_behind k b) b ∷ walk_at_most n k (drop (extent_behind k b) b)
+walk_at_most-there : (n k : ℕ) (b : List ℕ) → extent_behind k b ≤ length b →
+    walk_at_most (suc n) k b ≡ take (extent_behind k b) b ∷ walk_at_most n k (drop (extent_behind k b) b)
 walk_at_most-there n k b h =
     let e = le-leb (extent_behind k b) (length b) h in
     ap (λ t. if t then take (extent_behind k b) b ∷ walk_at_most n k (drop (extent_behind k b) b) else []) e
@@ -48,7 +51,8 @@ walk_at_most-enough (suc n) (suc m) k b h i =
     ]
 
 -- where the first one is there, it comes first, and then the walk of the rest
-pub walk_behind-there : (k : ℕ) (b : List ℕ) → extent_behind k b ≤ length b → walk_behind k b ≡ take (extent_behind k b) b ∷ walk_behind k (drop (extent_behind k b) b)
+pub walk_behind-there : (k : ℕ) (b : List ℕ) → extent_behind k b ≤ length b →
+    walk_behind k b ≡ take (extent_behind k b) b ∷ walk_behind k (drop (extent_behind k b) b)
 unfolding walk_behind
 walk_behind-there k b h =
     let d = length-drop (extent_behind k b) b in
@@ -78,7 +82,8 @@ unfolding walk_behind
 length-walk_behind k b = length-walk_at_most (length b) k b
 
 -- the same step, where the extent has another name
-pub walk_behind-next : (k n : ℕ) (b : List ℕ) → n ≡ extent_behind k b → n ≤ length b → walk_behind k b ≡ take n b ∷ walk_behind k (drop n b)
+pub walk_behind-next : (k n : ℕ) (b : List ℕ) → n ≡ extent_behind k b → n ≤ length b →
+    walk_behind k b ≡ take n b ∷ walk_behind k (drop n b)
 walk_behind-next k n b e h = rw e (walk_behind-there k b (omega arith))
 
 -- pods stand behind no bytes
@@ -104,7 +109,8 @@ walk-named b p h e =
     walk-there b h ∙ ap (λ q. q ∷ walk (rest_of b)) (sym e) ∙ ap (λ m. p ∷ walk (drop m b)) n
 
 -- properties stand behind key and flags
-pub property_walk-there : (b : List ℕ) → HasProperty b → property_walk b ≡ property_of b ∷ property_walk (behind_property b)
+pub property_walk-there : (b : List ℕ) → HasProperty b →
+    property_walk b ≡ property_of b ∷ property_walk (behind_property b)
 property_walk-there b h =
     let w = h.value.whole in
     let e : word_at (drop 8 b) 0 ≡ word_at b 8 = word_at-drop 8 0 b in

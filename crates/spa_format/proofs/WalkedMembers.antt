@@ -26,17 +26,26 @@ pub record IsPropertyOf (b first others : List ℕ) : Type 0 where
   pub taken : take (8 + length first) b ≡ take 8 b ++ first
   pub left : drop (8 + length first) b ≡ others
 
-pub property_parts : (b first others : List ℕ) (t : ℕ) (P : List ℕ → Type 0) → 8 ≤ length b → drop 8 b ≡ first ++ others → IsWhole first t P → IsPropertyOf b first others
+pub property_parts : (b first others : List ℕ) (t : ℕ) (P : List ℕ → Type 0) → 8 ≤ length b →
+    drop 8 b ≡ first ++ others → IsWhole first t P → IsPropertyOf b first others
 property_parts b first others t P l e w =
     let n8 : length (take 8 b) ≡ 8 = length-take-le 8 b l in
     let d = length-drop 8 b in
     let q = ap length e in
     let a = length-append first others in
     let x = w.whole in
-    let joined : b ≡ (take 8 b ++ first) ++ others = sym (take-append-drop 8 b) ∙ ap (λ z. take 8 b ++ z) e ∙ sym (append_assoc (take 8 b) first others) in
-    let n : length (take 8 b ++ first) ≡ 8 + length first = length-append (take 8 b) first ∙ ap (λ m. m + length first) n8 in
+    let joined : b ≡ (take 8 b ++ first) ++ others =
+    sym (take-append-drop 8 b)
+    ∙ ap (λ z. take 8 b ++ z) e
+    ∙ sym (append_assoc (take 8 b) first others) in
+    let n : length (take 8 b ++ first) ≡ 8 + length first =
+    length-append (take 8 b) first
+    ∙ ap (λ m. m + length first) n8 in
     let same_size : word_at b 8 ≡ word_at first 0 =
-    (let z : 8 + 0 ≡ 8 = omega arith in sym (ap (word_at b) z)) ∙ sym (word_at-drop 8 0 b) ∙ ap (λ z. word_at z 0) e ∙ word_at-append first others 0 (omega arith) in
+    (let z : 8 + 0 ≡ 8 = omega arith in sym (ap (word_at b) z))
+    ∙ sym (word_at-drop 8 0 b)
+    ∙ ap (λ z. word_at z 0) e
+    ∙ word_at-append first others 0 (omega arith) in
     record {
       here = omega arith;
       fits = omega arith;
@@ -62,5 +71,6 @@ properties_walked (property key flags v ps) b h =
 pub struct_walked : (vs : Trees) (b : List ℕ) → IsPod b (struct vs) → ArePodsOf vs (walk (body_of b))
 struct_walked vs b h = members_walked vs (body_of b) h.content
 
-pub object_walked : (t i : ℕ) (ps : Properties) (b : List ℕ) → IsPod b (object t i ps) → ArePropertiesOf ps (property_walk (properties_of b))
+pub object_walked : (t i : ℕ) (ps : Properties) (b : List ℕ) → IsPod b (object t i ps) →
+    ArePropertiesOf ps (property_walk (properties_of b))
 object_walked t i ps b h = properties_walked ps (properties_of b) h.content.3

@@ -18,7 +18,8 @@ pub fn walks_follow_fronts()
 
 /// A walk over properties is the first one, where it is there, and then the walk of what follows it.
 pub fn walks_follow_properties()
-    ensures there { (b : List ℕ) → HasProperty b → property_walk b ≡ property_of b ∷ property_walk (behind_property b) }
+    ensures there { (b : List ℕ) → HasProperty b →
+        property_walk b ≡ property_of b ∷ property_walk (behind_property b) }
     ensures end { (b : List ℕ) → ¬ (HasProperty b) → property_walk b ≡ [] }
 {}
 
@@ -31,23 +32,29 @@ pub fn walks_are_short()
 /// The walk over the body of an accepted struct or object gives its members or properties in order.
 pub fn walks_find_members()
     ensures members { (vs : Trees) (b : List ℕ) → AreMembers vs b → ArePodsOf vs (walk b) }
-    ensures properties { (ps : Properties) (b : List ℕ) → AreProperties ps b → ArePropertiesOf ps (property_walk b) }
+    ensures properties { (ps : Properties) (b : List ℕ) → AreProperties ps b →
+        ArePropertiesOf ps (property_walk b) }
     ensures of_struct { (vs : Trees) (b : List ℕ) → IsPod b (struct vs) → ArePodsOf vs (walk (body_of b)) }
-    ensures of_object { (t i : ℕ) (ps : Properties) (b : List ℕ) → IsPod b (object t i ps) → ArePropertiesOf ps (property_walk (properties_of b)) }
+    ensures of_object { (t i : ℕ) (ps : Properties) (b : List ℕ) → IsPod b (object t i ps) →
+        ArePropertiesOf ps (property_walk (properties_of b)) }
 {}
 
 /// Fixating the bytes of an accepted object leaves a pod of the fixated value.
 pub fn fixation_is_of_the_value()
-    ensures properties { (ps : Properties) (b : List ℕ) → AreProperties ps b → AreProperties (default_properties ps) (fixated_properties b) }
-    ensures object { (t i : ℕ) (ps : Properties) (b : List ℕ) → Begins b (object t i ps) → Begins (fixated_bytes b) (object t i (default_properties ps)) }
+    ensures properties { (ps : Properties) (b : List ℕ) → AreProperties ps b →
+        AreProperties (default_properties ps) (fixated_properties b) }
+    ensures object { (t i : ℕ) (ps : Properties) (b : List ℕ) → Begins b (object t i ps) →
+        Begins (fixated_bytes b) (object t i (default_properties ps)) }
 {}
 
 /// Fixating the object at the front of any bytes sets to 0 the kind word of each choice that is the value of a property
 /// without DONT_FIXATE, and changes no other byte.
 pub fn fixation_changes_kind_words()
     ensures length { (b : List ℕ) → HasObject b → length (fixated_bytes b) ≡ length b }
-    ensures kind_words { (b : List ℕ) (i : ℕ) → HasObject b → IsFixatedPlace b i → word_at (fixated_bytes b) i ≡ shape_number none_choice }
-    ensures others { (b : List ℕ) (i : ℕ) → HasObject b → ((k : ℕ) → IsFixatedPlace b k → (i < k) ⊎ (k + 4 ≤ i)) → slice_index (fixated_bytes b) i ≡ slice_index b i }
+    ensures kind_words { (b : List ℕ) (i : ℕ) → HasObject b → IsFixatedPlace b i →
+        word_at (fixated_bytes b) i ≡ shape_number none_choice }
+    ensures others { (b : List ℕ) (i : ℕ) → HasObject b →
+        ((k : ℕ) → IsFixatedPlace b k → (i < k) ⊎ (k + 4 ≤ i)) → slice_index (fixated_bytes b) i ≡ slice_index b i }
     ensures rest { (b : List ℕ) → HasObject b → rest_of (fixated_bytes b) ≡ rest_of b }
 {}
 

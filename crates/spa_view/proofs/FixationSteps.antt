@@ -50,7 +50,9 @@ pub put_fixated : (xs p ys : List ℕ) (s : ℕ) → HasFront xs → p ≡ front
     ys ≡ fixated_properties (take (8 + s - 16) (drop 16 xs)) → put_mid 16 (8 + s - 16) xs ys ≡ fixated_bytes xs
 put_fixated xs p ys s h e es l ey =
     let x = h.whole in
-    let w : word_at p 0 ≡ word_at xs 0 = ap (λ z. word_at z 0) e ∙ word_at-take (extent (word_at xs 0)) 0 xs (omega arith) in
+    let w : word_at p 0 ≡ word_at xs 0 =
+    ap (λ z. word_at z 0) e
+    ∙ word_at-take (extent (word_at xs 0)) 0 xs (omega arith) in
     let k : 8 + s - 16 ≡ word_at xs 0 - 8 = omega arith in
     let d : 16 + (word_at xs 0 - 8) ≡ 8 + word_at xs 0 = omega arith in
     ap (λ z. take 16 xs ++ (z ++ drop (8 + s - 16) (drop 16 xs))) ey

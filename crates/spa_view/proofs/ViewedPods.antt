@@ -68,7 +68,8 @@ pointer_address b type a c h i =
 pub array_test : (b : List ℕ) (k : Kind) (xs : List Fixed) → IsPod b (array k xs) → t.IsArray b
 array_test b k xs h = let n = length-whole_body b _ _ h in let l = h.content.header in (h.kind, omega arith)
 
-pub choice_test : (b : List ℕ) (s : Shape) (f : ℕ) (k : Kind) (x : Fixed) (xs : List Fixed) → IsPod b (choice s f k x xs) → t.IsChoice b
+pub choice_test : (b : List ℕ) (s : Shape) (f : ℕ) (k : Kind) (x : Fixed) (xs : List Fixed) →
+    IsPod b (choice s f k x xs) → t.IsChoice b
 choice_test b s f k x xs h =
     let n = length-whole_body b _ _ h in
     let l = h.content.values.header in
@@ -81,8 +82,10 @@ struct_test b vs h = h.kind
 pub object_test : (b : List ℕ) (type id : ℕ) (ps : Properties) → IsPod b (object type id ps) → t.IsObject b
 object_test b type id ps h = let n = length-whole_body b _ _ h in let l = h.content.0 in (h.kind, omega arith)
 
-pub object_type : (b : List ℕ) (type id : ℕ) (ps : Properties) → IsPod b (object type id ps) → word_at (body_of b) 0 ≡ type
+pub object_type : (b : List ℕ) (type id : ℕ) (ps : Properties) → IsPod b (object type id ps) →
+    word_at (body_of b) 0 ≡ type
 object_type b type id ps h = sym h.content.1
 
-pub object_id : (b : List ℕ) (type id : ℕ) (ps : Properties) → IsPod b (object type id ps) → word_at (body_of b) 4 ≡ id
+pub object_id : (b : List ℕ) (type id : ℕ) (ps : Properties) → IsPod b (object type id ps) →
+    word_at (body_of b) 4 ≡ id
 object_id b type id ps h = sym h.content.2

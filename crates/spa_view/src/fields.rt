@@ -26,7 +26,8 @@ impl<'a> PodStruct<'a> {
     /// The members in order, as long as whole pods are there.
     pub fn fields(&self) -> PodStructIter<'a>
         ensures walk { fields_left result ≡ walk (body_of (struct_bytes self.now)) }
-        ensures accepted { (vs : Trees) → IsPod (struct_bytes self.now) (struct vs) → ArePodsOf vs (fields_left result) }
+        ensures accepted { (vs : Trees) → IsPod (struct_bytes self.now) (struct vs) →
+            ArePodsOf vs (fields_left result) }
         ensures few { length (fields_left result) * header_size ≤ word_at (struct_bytes self.now) 0 }
         ensures bound { length (fields_left result) < size_limit }
     {

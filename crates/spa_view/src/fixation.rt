@@ -49,7 +49,8 @@ impl<'a> PodObject<'a> {
     pub fn fixate(bytes: &mut [u8]) -> Result<(), Errno>
         ensures ok { OnOk result (HasObject bytes.old) }
         ensures fixated { OnOk result (bytes.new ≡ fixated_bytes bytes.old) }
-        ensures accepted { IfOk result (λ _. (t i : ℕ) (ps : Properties) → Begins bytes.old (object t i ps) → Begins bytes.new (object t i (default_properties ps))) }
+        ensures accepted { IfOk result (λ _. (t i : ℕ) (ps : Properties) → Begins bytes.old (object t i ps) →
+            Begins bytes.new (object t i (default_properties ps))) }
         ensures length { length bytes.new ≡ length bytes.old }
         ensures rest { rest_of bytes.new ≡ rest_of bytes.old }
         ensures refused { IfErr result (λ e. (¬ (HasObject bytes.old)) × (e ≡ Errno.INVAL)) }

@@ -117,7 +117,8 @@ impl<'a> Pod<'a> {
         self.get::<Fraction>()
     }
 
-    /// The bytes before the first NUL of a string. INVAL exactly where `is_string` is false or the last body byte isn't NUL.
+    /// The bytes before the first NUL of a string. INVAL exactly where `is_string` is false or the last body byte isn't
+    /// NUL.
     pub fn get_string_raw(&self) -> Result<&'a [u8], Errno>
         ensures ok { OnOk result (t.IsNulEnded (pod_bytes self.now)) }
         ensures value { IfOk result (λ text. text.now ≡ t.before_nul (body_of (pod_bytes self.now))) }

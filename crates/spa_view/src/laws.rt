@@ -35,9 +35,12 @@ pub fn pointers_are_read()
 /// Arrays, choices, structs and objects pass their tests, and an object's body says its type and its id.
 pub fn parts_are_seen()
     ensures array { (b : List ℕ) (k : Kind) (xs : List Fixed) → IsPod b (array k xs) → t.IsArray b }
-    ensures choice { (b : List ℕ) (s : Shape) (f : ℕ) (k : Kind) (x : Fixed) (xs : List Fixed) → IsPod b (choice s f k x xs) → t.IsChoice b }
+    ensures choice { (b : List ℕ) (s : Shape) (f : ℕ) (k : Kind) (x : Fixed) (xs : List Fixed) →
+        IsPod b (choice s f k x xs) → t.IsChoice b }
     ensures members { (b : List ℕ) (vs : Trees) → IsPod b (struct vs) → t.IsStruct b }
     ensures object { (b : List ℕ) (type id : ℕ) (ps : Properties) → IsPod b (object type id ps) → t.IsObject b }
-    ensures object_type { (b : List ℕ) (type id : ℕ) (ps : Properties) → IsPod b (object type id ps) → word_at (body_of b) 0 ≡ type }
-    ensures object_id { (b : List ℕ) (type id : ℕ) (ps : Properties) → IsPod b (object type id ps) → word_at (body_of b) 4 ≡ id }
+    ensures object_type { (b : List ℕ) (type id : ℕ) (ps : Properties) → IsPod b (object type id ps) →
+        word_at (body_of b) 0 ≡ type }
+    ensures object_id { (b : List ℕ) (type id : ℕ) (ps : Properties) → IsPod b (object type id ps) →
+        word_at (body_of b) 4 ≡ id }
 {}

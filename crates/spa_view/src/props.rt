@@ -59,7 +59,8 @@ impl<'a> PodObject<'a> {
     /// The properties in order, as long as whole ones are there.
     pub fn props(&self) -> PodObjectIter<'a>
         ensures walk { props_left result ≡ property_walk (properties_of (object_bytes self.now)) }
-        ensures accepted { (t i : ℕ) (ps : Properties) → IsPod (object_bytes self.now) (object t i ps) → ArePropertiesOf ps (props_left result) }
+        ensures accepted { (t i : ℕ) (ps : Properties) → IsPod (object_bytes self.now) (object t i ps) →
+            ArePropertiesOf ps (props_left result) }
         ensures few { length (props_left result) * header_size ≤ word_at (object_bytes self.now) 0 }
         ensures bound { length (props_left result) < size_limit }
     {
@@ -82,7 +83,8 @@ impl<'a> PodObject<'a> {
     /// Whether no property's value is a choice of another kind than None.
     pub fn is_fixated(&self) -> bool
         ensures settled { result ≡ all_settled (property_walk (properties_of (object_bytes self.now))) }
-        ensures accepted { (t i : ℕ) (ps : Properties) → IsPod (object_bytes self.now) (object t i ps) → result ≡ are_settled ps }
+        ensures accepted { (t i : ℕ) (ps : Properties) → IsPod (object_bytes self.now) (object t i ps) →
+            result ≡ are_settled ps }
     {
         for prop in self.props() {
             if !prop.value().is_settled() {

@@ -29,10 +29,15 @@ pub extended_twice : {S : Type 0} {content : S → List ℕ} {refuses : Refusing
     IsExtended content refuses a (xs ++ ys) c
 extended_twice {content = content} {refuses = refuses} a b c xs ys p q = record {
   bytes = q.bytes ∙ ap (λ l. l ++ ys) p.bytes ∙ append_assoc (content a) xs ys;
-  room = λ after n e r. let P : ℕ → Type 0 = λ m. refuses a m after e in let same : length xs + (length ys + n) ≡ length (xs ++ ys) + n = omega (arith, length-append xs ys) in subst P same (p.room after (length ys + n) e (q.room after n e r));
+  room = λ after n e r.
+      let P : ℕ → Type 0 = λ m. refuses a m after e in
+      let same : length xs + (length ys + n) ≡ length (xs ++ ys) + n = omega (arith, length-append xs ys) in
+      subst P same (p.room after (length ys + n) e (q.room after n e r));
 }
 
 -- the same bytes, written otherwise
 pub extended_as : {S : Type 0} {content : S → List ℕ} {refuses : Refusing S} (a b : S)
     (xs ys : List ℕ) → xs ≡ ys → IsExtended content refuses a xs b → IsExtended content refuses a ys b
-extended_as {content = content} {refuses = refuses} a b xs ys e p = let P : List ℕ → Type 0 = λ l. IsExtended content refuses a l b in subst P e p
+extended_as {content = content} {refuses = refuses} a b xs ys e p =
+    let P : List ℕ → Type 0 = λ l. IsExtended content refuses a l b in
+    subst P e p

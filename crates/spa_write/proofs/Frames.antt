@@ -89,7 +89,10 @@ closed_text {content = content} {refuses = refuses} a b c start type body whole 
     let f = q.fits in (
       record {
         bytes = here ∙ sized_text (content a) body type whole;
-        room = λ after n e r. let P : ℕ → Type 0 = λ m. refuses a m after e in let same : length inside + n ≡ length (framed_text type body) + n = omega (arith, whole) in subst P same (p.room after n e (q.room after n e r));
+        room = λ after n e r.
+            let P : ℕ → Type 0 = λ m. refuses a m after e in
+            let same : length inside + n ≡ length (framed_text type body) + n = omega (arith, whole) in
+            subst P same (p.room after n e (q.room after n e r));
       },
       omega arith,
     )
@@ -117,4 +120,7 @@ header_refused s nul large a c type body e r =
 -- the refusal of the size
 pub size_refused : (nul large : Type 0) (other : GenError → Type 0) (big : Type 0) → (big → large) →
     (e : GenError) → (e ≡ TooLarge) × big → RefusesWrite nul large other e
-size_refused nul large other big f e r = let P : GenError → Type 0 = RefusesWrite nul large other in let h : P TooLarge = record { cause = f r.1 } in subst P (sym r.0) h
+size_refused nul large other big f e r =
+    let P : GenError → Type 0 = RefusesWrite nul large other in
+    let h : P TooLarge = record { cause = f r.1 } in
+    subst P (sym r.0) h

@@ -133,7 +133,8 @@ next_key_refused {refuses = refuses} s a b c ps i p below here h e r =
     omega arith in
     let P : Properties → Type 0 = λ qs. RefusesProperties refuses a qs c e in
     subst P (sym (property_views-at ps i p below here))
-    (part_refused s absurd absurd a b c (length (property_texts first)) 8 (length (property_texts (join_properties first rest))) e h.texts.room le (sink_refused s ⊥ ⊥ b c 8 e r))
+    (part_refused s absurd absurd a b c (length (property_texts first)) 8
+    (length (property_texts (join_properties first rest))) e h.texts.room le (sink_refused s ⊥ ⊥ b c 8 e r))
 
 -- the refusal of a property's value
 pub next_value_refused : {S : Type 0} {content : S → List ℕ} {appends : Appending S}
@@ -157,7 +158,9 @@ next_value_refused {refuses = refuses} s a b keyed c ps i p below here h x e r =
     omega arith in
     let P : Properties → Type 0 = λ qs. RefusesProperties refuses a qs c e in
     subst P (sym (property_views-at ps i p below here))
-    (part_refused s (λ n. nul_in_join first rest (inl n)) (λ n. large_in_join first rest (inl n)) a keyed c (length before) (length (text_of (view p.value))) (length (property_texts (join_properties first rest))) e (extended_twice a b keyed (property_texts first) (key_words p.key p.flags.0) h.texts x).room le r)
+    (part_refused s (λ n. nul_in_join first rest (inl n)) (λ n. large_in_join first rest (inl n)) a keyed c
+    (length before) (length (text_of (view p.value))) (length (property_texts (join_properties first rest))) e
+    (extended_twice a b keyed (property_texts first) (key_words p.key p.flags.0) h.texts x).room le r)
 
 -- the header, type and id, and the properties
 object_begun : {S : Type 0} {content : S → List ℕ} {refuses : Refusing S} (a head named b : S) (t i : ℕ)
@@ -218,7 +221,8 @@ object_words_refused {refuses = refuses} s a head c t i v ps is p e r =
     let m = two_words_length 0 object_type in
     let P : Tree → Type 0 = λ w. RefusesText refuses a w c e in
     subst P (sym is)
-    (inside_refused s absurd absurd a head c (key_words 0 object_type) 8 object_type (text_body (object t i ps)) e p (omega arith) (sink_refused s ⊥ ⊥ head c 8 e r))
+    (inside_refused s absurd absurd a head c (key_words 0 object_type) 8 object_type
+    (text_body (object t i ps)) e p (omega arith) (sink_refused s ⊥ ⊥ head c 8 e r))
 
 pub object_properties_refused : {S : Type 0} {content : S → List ℕ} {appends : Appending S}
     {refuses : Refusing S} → IsSink appends refuses → (a head named c : S) (t i : ℕ) (v : Tree)
@@ -234,7 +238,9 @@ object_properties_refused {refuses = refuses} s a head named c t i v ps is p q e
     let o = length-append (key_words 0 object_type) (key_words t i) in
     let P : Tree → Type 0 = λ w. RefusesText refuses a w c e in
     subst P (sym is)
-    (inside_refused s (λ y. y) inr a named c before (length (property_texts ps)) object_type (text_body (object t i ps)) e (extended_twice a head named (key_words 0 object_type) (key_words t i) p q) (omega arith) r)
+    (inside_refused s (λ y. y) inr a named c before (length (property_texts ps)) object_type
+    (text_body (object t i ps)) e (extended_twice a head named (key_words 0 object_type) (key_words t i) p q)
+    (omega arith) r)
 
 pub object_size_refused : {S : Type 0} {content : S → List ℕ} {refuses : Refusing S}
     (other : GenError → Type 0) (a head named b : S) (start t i : ℕ) (v : Tree) (ps : Properties) →
@@ -249,4 +255,6 @@ object_size_refused {content = content} other a head named b start t i v ps is s
     (object_begun a head named b t i ps p q h) in
     let P : Tree → Type 0 = λ w. RefusesWrite (HasNul w) (IsTooLarge w) other e in
     subst P (sym is)
-    (size_refused (SomeValueHasNul ps) (IsTooLarge (object t i ps)) other (size_limit ≤ begun_length (content b) start) (λ l. inl (let k : size_limit ≤ length (text_body (object t i ps)) = omega arith in k)) e r)
+    (size_refused (SomeValueHasNul ps) (IsTooLarge (object t i ps)) other
+    (size_limit ≤ begun_length (content b) start)
+    (λ l. inl (let k : size_limit ≤ length (text_body (object t i ps)) = omega arith in k)) e r)

@@ -102,7 +102,9 @@ next_refused {refuses = refuses} s a b c vs i v below here h e r =
     omega arith in
     let P : Trees → Type 0 = λ ws. RefusesTexts refuses a ws c e in
     subst P (sym (views-at vs i v below here))
-    (part_refused s (λ n. nul_in_join first rest (inl n)) (λ n. large_in_join first rest (inl n)) a b c (length (member_texts first)) (length (text_of (view v))) (length (member_texts (join_members first rest))) e h.texts.room le r)
+    (part_refused s (λ n. nul_in_join first rest (inl n)) (λ n. large_in_join first rest (inl n)) a b c
+    (length (member_texts first)) (length (text_of (view v)))
+    (length (member_texts (join_members first rest))) e h.texts.room le r)
 
 -- the header and the members
 struct_begun : {S : Type 0} {content : S → List ℕ} {refuses : Refusing S} (a head b : S) (vs : Trees) →
@@ -150,7 +152,8 @@ struct_members_refused {refuses = refuses} s a head c v vs is p e r =
     let l = two_words_length 0 struct_type in
     let P : Tree → Type 0 = λ w. RefusesText refuses a w c e in
     subst P (sym is)
-    (inside_refused s (λ n. n) inr a head c (word_bytes 0 ++ word_bytes struct_type) (length (member_texts vs)) struct_type (member_texts vs) e p (omega arith) r)
+    (inside_refused s (λ n. n) inr a head c (word_bytes 0 ++ word_bytes struct_type) (length (member_texts vs))
+    struct_type (member_texts vs) e p (omega arith) r)
 
 pub struct_size_refused : {S : Type 0} {content : S → List ℕ} {refuses : Refusing S}
     (other : GenError → Type 0) (a head b : S) (start : ℕ) (v : Tree) (vs : Trees) → v ≡ struct vs →
@@ -162,4 +165,5 @@ struct_size_refused {content = content} other a head b start v vs is s p h e r =
     let size = begun_size a b start struct_type (member_texts vs) s (struct_begun a head b vs p h) in
     let P : Tree → Type 0 = λ w. RefusesWrite (HasNul w) (IsTooLarge w) other e in
     subst P (sym is)
-    (size_refused (SomeHasNul vs) (IsTooLarge (struct vs)) other (size_limit ≤ begun_length (content b) start) (λ l. inl (let k : size_limit ≤ length (member_texts vs) = omega arith in k)) e r)
+    (size_refused (SomeHasNul vs) (IsTooLarge (struct vs)) other (size_limit ≤ begun_length (content b) start)
+    (λ l. inl (let k : size_limit ≤ length (member_texts vs) = omega arith in k)) e r)

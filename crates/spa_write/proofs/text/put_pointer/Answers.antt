@@ -20,7 +20,8 @@ returns-in_err-put_two-2-clause-refused g c =
     let e0 = two_words_length 16 pointer_type in
     let e1 = pointer_text_length c.args.type_ c.args.address in
     passed_on _ _ _ c.from_residual-in_err-put_two-2.ensures.1
-    (later_refused (sink_of g) _ _ c.args.sink.now _ _ (word_bytes 16 ++ word_bytes pointer_type) 8 _ _ c.in_ok-put_two.ensures.ok (omega arith) c.in_err-put_two-2.ensures.cause)
+    (later_refused (sink_of g) _ _ c.args.sink.now _ _ (word_bytes 16 ++ word_bytes pointer_type) 8 _ _
+    c.in_ok-put_two.ensures.ok (omega arith) c.in_err-put_two-2.ensures.cause)
 
 pub returns-clause-refused : goal.returns-clause-refused
 returns-clause-refused g c =
@@ -34,5 +35,6 @@ returns-clause-refused g c =
     g.met.S.PodSink.appends_more c.args.sink.now c.put_two.new.sink c.put_two-2.new.sink header words
     c.in_ok-put_two.ensures.ok c.in_ok-put_two-2.ensures.ok in
     IfErr-weaker c.put_wide.result _ _
-    (λ e r. later_refused (sink_of g) _ _ c.args.sink.now c.put_two-2.new.sink c.put_wide.new.sink (header ++ words) 8 _ e p (omega arith) r)
+    (λ e r. later_refused (sink_of g) _ _ c.args.sink.now c.put_two-2.new.sink c.put_wide.new.sink
+    (header ++ words) 8 _ e p (omega arith) r)
     c.put_wide.ensures.cause

@@ -37,13 +37,16 @@ pub write_members-returns-in_err-write_value-clause-refused :
     goal.write_members-returns-in_err-write_value-clause-refused
 write_members-returns-in_err-write_value-clause-refused g t c =
     passed_on _ _ _ c.from_residual.ensures.1
-    (next_refused (sink_of g) c.args.out.now c.loop-member.out _ c.args.members.now c.loop-member.member-index c.member-item.result c.loop-member-test.true c.member-item.is c.loop-member.invariant _ c.in_err-write_value.ensures.refused)
+    (next_refused (sink_of g) c.args.out.now c.loop-member.out _ c.args.members.now c.loop-member.member-index
+    c.member-item.result c.loop-member-test.true c.member-item.is c.loop-member.invariant _
+    c.in_err-write_value.ensures.refused)
 
 pub write_value-returns-in_err-start-in-Struct-clause-refused :
     goal.write_value-returns-in_err-start-in-Struct-clause-refused
 write_value-returns-in_err-start-in-Struct-clause-refused g t c =
     passed_on _ _ _ c.from_residual.ensures.1
-    (struct_header_refused (sink_of g) c.args.out.now _ (view c.args.value.now) _ c.in_err-start-in-Struct.ensures.cause)
+    (struct_header_refused (sink_of g) c.args.out.now _ (view c.args.value.now) _
+    c.in_err-start-in-Struct.ensures.cause)
 
 pub write_value-returns-in_err-write_members-in-Struct-clause-refused :
     goal.write_value-returns-in_err-write_members-in-Struct-clause-refused
@@ -55,7 +58,8 @@ write_value-returns-in_err-write_members-in-Struct-clause-refused g t c =
     extended_by (output_of g) c.args.out.now c.begin.new.out (word_bytes 0 ++ word_bytes struct_type)
     c.in_ok-start-in-Struct.ensures.header in
     passed_on _ _ _ c.from_residual-in_err-write_members-in-Struct.ensures.1
-    (struct_members_refused (sink_of g) c.args.out.now c.begin.new.out _ (view c.args.value.now) (views c.as_slice.result.now) is head _ c.in_err-write_members-in-Struct.ensures.refused)
+    (struct_members_refused (sink_of g) c.args.out.now c.begin.new.out _ (view c.args.value.now)
+    (views c.as_slice.result.now) is head _ c.in_err-write_members-in-Struct.ensures.refused)
 
 pub write_value-close-requires : goal.write_value-close-requires
 write_value-close-requires g t c =
@@ -77,7 +81,9 @@ write_value-returns-in_ok-write_members-in-Struct-clause-written g t c =
     extended_by (output_of g) c.args.out.now c.begin.new.out (word_bytes 0 ++ word_bytes struct_type)
     b.header in
     on_ok_weaker c.close.result
-    (λ k. struct_written c.args.out.now c.begin.new.out c.write_members.new.out c.close.new.out c.in_ok-start-in-Struct.start (view c.args.value.now) (views c.as_slice.result.now) is b.start head c.in_ok-write_members-in-Struct.ensures.written k)
+    (λ k. struct_written c.args.out.now c.begin.new.out c.write_members.new.out c.close.new.out
+    c.in_ok-start-in-Struct.start (view c.args.value.now) (views c.as_slice.result.now) is b.start head
+    c.in_ok-write_members-in-Struct.ensures.written k)
     c.close.ensures.closed
 
 pub write_value-returns-in_ok-write_members-in-Struct-clause-refused :
@@ -91,7 +97,9 @@ write_value-returns-in_ok-write_members-in-Struct-clause-refused g t c =
     extended_by (output_of g) c.args.out.now c.begin.new.out (word_bytes 0 ++ word_bytes struct_type)
     b.header in
     IfErr-weaker c.close.result _ _
-    (λ e r. struct_size_refused _ c.args.out.now c.begin.new.out c.write_members.new.out c.in_ok-start-in-Struct.start (view c.args.value.now) (views c.as_slice.result.now) is b.start head c.in_ok-write_members-in-Struct.ensures.written e r)
+    (λ e r. struct_size_refused _ c.args.out.now c.begin.new.out c.write_members.new.out
+    c.in_ok-start-in-Struct.start (view c.args.value.now) (views c.as_slice.result.now) is b.start head
+    c.in_ok-write_members-in-Struct.ensures.written e r)
     c.close.ensures.large
 
 pub write_properties-loop-property-init : goal.write_properties-loop-property-init
@@ -106,7 +114,8 @@ write_properties-loop-property-preserved g t c =
     let words = ap (λ n. word_bytes p.key ++ word_bytes n) bits in
     let keyed =
     extended_as c.loop-property.out c.put_two.new.sink _ _ words
-    (extended_by (output_of g) c.loop-property.out c.put_two.new.sink (word_bytes p.key ++ word_bytes c.bits.result) c.in_ok-put_two.ensures.ok)
+    (extended_by (output_of g) c.loop-property.out c.put_two.new.sink
+    (word_bytes p.key ++ word_bytes c.bits.result) c.in_ok-put_two.ensures.ok)
     in
     next_property_written c.args.out.now c.loop-property.out c.put_two.new.sink c.write_value.new.out
     c.args.properties.now c.loop-property.property-index p c.loop-property-test.true c.property-item.is
@@ -116,7 +125,9 @@ pub write_properties-returns-in_err-put_two-clause-refused :
     goal.write_properties-returns-in_err-put_two-clause-refused
 write_properties-returns-in_err-put_two-clause-refused g t c =
     passed_on _ _ _ c.from_residual.ensures.1
-    (next_key_refused (sink_of g) c.args.out.now c.loop-property.out _ c.args.properties.now c.loop-property.property-index c.property-item.result c.loop-property-test.true c.property-item.is c.loop-property.invariant _ c.in_err-put_two.ensures.cause)
+    (next_key_refused (sink_of g) c.args.out.now c.loop-property.out _ c.args.properties.now
+    c.loop-property.property-index c.property-item.result c.loop-property-test.true c.property-item.is
+    c.loop-property.invariant _ c.in_err-put_two.ensures.cause)
 
 pub write_properties-returns-in_err-write_value-clause-refused :
     goal.write_properties-returns-in_err-write_value-clause-refused
@@ -126,16 +137,20 @@ write_properties-returns-in_err-write_value-clause-refused g t c =
     let words = ap (λ n. word_bytes p.key ++ word_bytes n) bits in
     let keyed =
     extended_as c.loop-property.out c.put_two.new.sink _ _ words
-    (extended_by (output_of g) c.loop-property.out c.put_two.new.sink (word_bytes p.key ++ word_bytes c.bits.result) c.in_ok-put_two.ensures.ok)
+    (extended_by (output_of g) c.loop-property.out c.put_two.new.sink
+    (word_bytes p.key ++ word_bytes c.bits.result) c.in_ok-put_two.ensures.ok)
     in
     passed_on _ _ _ c.from_residual-in_err-write_value.ensures.1
-    (next_value_refused (sink_of g) c.args.out.now c.loop-property.out c.put_two.new.sink _ c.args.properties.now c.loop-property.property-index p c.loop-property-test.true c.property-item.is c.loop-property.invariant keyed _ c.in_err-write_value.ensures.refused)
+    (next_value_refused (sink_of g) c.args.out.now c.loop-property.out c.put_two.new.sink _
+    c.args.properties.now c.loop-property.property-index p c.loop-property-test.true c.property-item.is
+    c.loop-property.invariant keyed _ c.in_err-write_value.ensures.refused)
 
 pub write_value-returns-in_err-start-in-Object-clause-refused :
     goal.write_value-returns-in_err-start-in-Object-clause-refused
 write_value-returns-in_err-start-in-Object-clause-refused g t c =
     passed_on _ _ _ c.from_residual-in_err-start-in-Object.ensures.1
-    (struct_header_refused (sink_of g) c.args.out.now _ (view c.args.value.now) _ c.in_err-start-in-Object.ensures.cause)
+    (struct_header_refused (sink_of g) c.args.out.now _ (view c.args.value.now) _
+    c.in_err-start-in-Object.ensures.cause)
 
 pub write_value-returns-in_err-put_two-in-Object-clause-refused :
     goal.write_value-returns-in_err-put_two-in-Object-clause-refused
@@ -146,7 +161,9 @@ write_value-returns-in_err-put_two-in-Object-clause-refused g t c =
     extended_by (output_of g) c.args.out.now c.begin-in-Object.new.out
     (word_bytes 0 ++ word_bytes object_type) c.in_ok-start-in-Object.ensures.header in
     passed_on _ _ _ c.from_residual-in_err-put_two-in-Object.ensures.1
-    (object_words_refused (sink_of g) c.args.out.now c.begin-in-Object.new.out _ o.type_ o.id (view c.args.value.now) (property_views o.properties.items) is head _ c.in_err-put_two-in-Object.ensures.cause)
+    (object_words_refused (sink_of g) c.args.out.now c.begin-in-Object.new.out _ o.type_ o.id
+    (view c.args.value.now) (property_views o.properties.items) is head _
+    c.in_err-put_two-in-Object.ensures.cause)
 
 pub write_value-returns-in_err-write_properties-in-Object-clause-refused :
     goal.write_value-returns-in_err-write_properties-in-Object-clause-refused
@@ -162,7 +179,9 @@ write_value-returns-in_err-write_properties-in-Object-clause-refused g t c =
     extended_by (output_of g) c.begin-in-Object.new.out c.put_two.new.sink
     (word_bytes o.type_ ++ word_bytes o.id) c.in_ok-put_two-in-Object.ensures.ok in
     passed_on _ _ _ c.from_residual-in_err-write_properties-in-Object.ensures.1
-    (object_properties_refused (sink_of g) c.args.out.now c.begin-in-Object.new.out c.put_two.new.sink _ o.type_ o.id (view c.args.value.now) (property_views c.as_slice-in-Object.result.now) is head named _ c.in_err-write_properties-in-Object.ensures.refused)
+    (object_properties_refused (sink_of g) c.args.out.now c.begin-in-Object.new.out c.put_two.new.sink _
+    o.type_ o.id (view c.args.value.now) (property_views c.as_slice-in-Object.result.now) is head named _
+    c.in_err-write_properties-in-Object.ensures.refused)
 
 pub write_value-close-requires-in-Object : goal.write_value-close-requires-in-Object
 write_value-close-requires-in-Object g t c =
@@ -195,7 +214,10 @@ write_value-returns-in_ok-write_properties-in-Object-clause-written g t c =
     extended_by (output_of g) c.begin-in-Object.new.out c.put_two.new.sink
     (word_bytes o.type_ ++ word_bytes o.id) c.in_ok-put_two-in-Object.ensures.ok in
     on_ok_weaker c.close-in-Object.result
-    (λ k. object_written c.args.out.now c.begin-in-Object.new.out c.put_two.new.sink c.write_properties.new.out c.close-in-Object.new.out c.in_ok-start-in-Object.start o.type_ o.id (view c.args.value.now) (property_views c.as_slice-in-Object.result.now) tf jf is b.start head named c.in_ok-write_properties-in-Object.ensures.written k)
+    (λ k. object_written c.args.out.now c.begin-in-Object.new.out c.put_two.new.sink c.write_properties.new.out
+    c.close-in-Object.new.out c.in_ok-start-in-Object.start o.type_ o.id (view c.args.value.now)
+    (property_views c.as_slice-in-Object.result.now) tf jf is b.start head named
+    c.in_ok-write_properties-in-Object.ensures.written k)
     c.close-in-Object.ensures.closed
 
 pub write_value-returns-in_ok-write_properties-in-Object-clause-refused :
@@ -213,5 +235,8 @@ write_value-returns-in_ok-write_properties-in-Object-clause-refused g t c =
     extended_by (output_of g) c.begin-in-Object.new.out c.put_two.new.sink
     (word_bytes o.type_ ++ word_bytes o.id) c.in_ok-put_two-in-Object.ensures.ok in
     IfErr-weaker c.close-in-Object.result _ _
-    (λ e r. object_size_refused _ c.args.out.now c.begin-in-Object.new.out c.put_two.new.sink c.write_properties.new.out c.in_ok-start-in-Object.start o.type_ o.id (view c.args.value.now) (property_views c.as_slice-in-Object.result.now) is b.start head named c.in_ok-write_properties-in-Object.ensures.written e r)
+    (λ e r. object_size_refused _ c.args.out.now c.begin-in-Object.new.out c.put_two.new.sink
+    c.write_properties.new.out c.in_ok-start-in-Object.start o.type_ o.id (view c.args.value.now)
+    (property_views c.as_slice-in-Object.result.now) is b.start head named
+    c.in_ok-write_properties-in-Object.ensures.written e r)
     c.close-in-Object.ensures.large

@@ -96,35 +96,37 @@ fn found(
 /// Room for all that these tests write.
 const AMPLE: usize = 1_000_000;
 
+/// A word, the words of an input, and those that are written.
+const DONE: [(&str, &[u32], &[u32]); 8] = [
+    ("rewrite", &[], &[]),
+    ("rewrite", &[4, 2, 7, 9], &[4, 2, 1, 0]),
+    ("rewrite", &[0, 1, 4, 4, 3, 0], &[0, 1, 4, 4, 3, 0]),
+    (
+        "rewrite",
+        &[28, 19, 0, 5, 4, 4, 7, 9, 11, 0],
+        &[20, 19, 0, 0, 4, 4, 7, 0],
+    ),
+    ("fixate", &[], &[]),
+    (
+        "fixate",
+        &[
+            56, 15, 5, 3, 1, 0, 28, 19, 1, 0, 4, 4, 5, 2, 10, 0, 4, 2, 7, 9,
+        ],
+        &[
+            56, 15, 5, 3, 1, 0, 28, 19, 0, 0, 4, 4, 5, 2, 10, 0, 4, 2, 7, 9,
+        ],
+    ),
+    (
+        "fixate",
+        &[56, 15, 5, 3, 1, 16, 28, 19, 1, 0, 4, 4, 5, 2, 10, 0],
+        &[56, 15, 5, 3, 1, 16, 28, 19, 1, 0, 4, 4, 5, 2, 10, 0],
+    ),
+    ("show", &[], &[]),
+];
+
 #[test]
 fn words_are_done(rt: HostRuntime) -> Result<(), Fail> {
-    let rows: [(&str, &[u32], &[u32]); 8] = [
-        ("rewrite", &[], &[]),
-        ("rewrite", &[4, 2, 7, 9], &[4, 2, 1, 0]),
-        ("rewrite", &[0, 1, 4, 4, 3, 0], &[0, 1, 4, 4, 3, 0]),
-        (
-            "rewrite",
-            &[28, 19, 0, 5, 4, 4, 7, 9, 11, 0],
-            &[20, 19, 0, 0, 4, 4, 7, 0],
-        ),
-        ("fixate", &[], &[]),
-        (
-            "fixate",
-            &[
-                56, 15, 5, 3, 1, 0, 28, 19, 1, 0, 4, 4, 5, 2, 10, 0, 4, 2, 7, 9,
-            ],
-            &[
-                56, 15, 5, 3, 1, 0, 28, 19, 0, 0, 4, 4, 5, 2, 10, 0, 4, 2, 7, 9,
-            ],
-        ),
-        (
-            "fixate",
-            &[56, 15, 5, 3, 1, 16, 28, 19, 1, 0, 4, 4, 5, 2, 10, 0],
-            &[56, 15, 5, 3, 1, 16, 28, 19, 1, 0, 4, 4, 5, 2, 10, 0],
-        ),
-        ("show", &[], &[]),
-    ];
-    for (word, input, wanted) in rows {
+    for (word, input, wanted) in DONE {
         let input = bytes_of(rt.alloc(), input)?;
         let wanted = bytes_of(rt.alloc(), wanted)?;
         let (written, said, status) = found(
@@ -242,10 +244,16 @@ fn other_words_are_misuse(rt: HostRuntime) -> Result<(), Fail> {
     Ok(())
 }
 
+/// One Int pod.
+const INT: [u32; 4] = [4, 4, 3, 0];
+
+/// The three words of the program.
+const WORDS: [&str; 3] = ["rewrite", "fixate", "show"];
+
 #[test]
-fn streams_refuse(rt: HostRuntime) -> Result<(), Fail> {
-    let input = bytes_of(rt.alloc(), &[4, 4, 3, 0])?;
-    for word in ["rewrite", "fixate", "show"] {
+fn sources_break_off(rt: HostRuntime) -> Result<(), Fail> {
+    let input = bytes_of(rt.alloc(), &INT)?;
+    for word in WORDS {
         let (written, said, status) = found(
             rt.alloc(),
             &[word],
@@ -261,6 +269,14 @@ fn streams_refuse(rt: HostRuntime) -> Result<(), Fail> {
             "{word}"
         );
         assert_eq!(rt; status, 1, "{word}");
+    }
+    Ok(())
+}
+
+#[test]
+fn outputs_are_full(rt: HostRuntime) -> Result<(), Fail> {
+    let input = bytes_of(rt.alloc(), &INT)?;
+    for word in WORDS {
         for room in 0..6 {
             let (written, said, status) = found(
                 rt.alloc(),
@@ -278,7 +294,13 @@ fn streams_refuse(rt: HostRuntime) -> Result<(), Fail> {
             );
             assert_eq!(rt; status, 1, "{word} with room for {room}");
         }
-        // A refusal that can't be said changes nothing.
+    }
+    Ok(())
+}
+
+#[test]
+fn refusals_that_cannot_be_said_change_nothing(rt: HostRuntime) {
+    for word in WORDS {
         let (written, said, status) = found(rt.alloc(), &[word], &[1], false, AMPLE, 3);
         assert_eq!(rt; written.len(), 0, "{word}");
         assert_eq!(rt; said.as_slice(), "pod".as_bytes(), "{word}");
@@ -287,5 +309,4 @@ fn streams_refuse(rt: HostRuntime) -> Result<(), Fail> {
     let (_, said, status) = found(rt.alloc(), &["other"], &[], false, AMPLE, 3);
     assert_eq!(rt; said.as_slice(), "usa".as_bytes());
     assert_eq!(rt; status, 2);
-    Ok(())
 }

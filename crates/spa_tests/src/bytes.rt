@@ -2,7 +2,7 @@
 use std::alloc::{AllocError, Global};
 
 /// The bytes that a text of words spells: decimal words, and bytes in hexadecimal behind an `x`, in any order.
-pub fn bytes_of(alloc: Global, text: &str) -> Result<Vec<u8>, AllocError> {
+pub(crate) fn bytes_of(alloc: Global, text: &str) -> Result<Vec<u8>, AllocError> {
     let mut bytes = Vec::new(alloc);
     for word in text.split_whitespace() {
         match word.strip_prefix("x") {

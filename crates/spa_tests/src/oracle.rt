@@ -23,7 +23,7 @@ pub enum Fault {
 
 impl Fault {
     /// The name as the library gives it.
-    pub fn name(self) -> &'static str {
+    pub(crate) fn name(self) -> &'static str {
         match self {
             Fault::Short => "Short",
             Fault::Text => "Text",
@@ -52,7 +52,11 @@ impl<'a> From<AllocError> for Refusal<'a> {
 
 /// What follows the pod at the front of the input, after what it says was appended, as `said::say_value` says it.
 #[cycle(oracle)]
-pub fn read<'a>(alloc: Global, out: &mut String, input: &'a [u8]) -> Result<&'a [u8], Refusal<'a>>
+pub(crate) fn read<'a>(
+    alloc: Global,
+    out: &mut String,
+    input: &'a [u8],
+) -> Result<&'a [u8], Refusal<'a>>
     ensures { IfOk result (λ rest. length rest.now + 8 ≤ length input.now) }
 {
     let Some((body, rest)) = split_front(input) else {
@@ -197,45 +201,53 @@ fn say_choice<'a>(
     if body.len() < CHOICE_HEADER_LEN {
         return Err(refused(alloc, place, Fault::WrongSize));
     }
+    let faults = choice_faults(alloc, body)?;
+    if !faults.is_empty() {
+        return Err(Refusal::Faults(place, faults));
+    }
+    let kind = word(body, 3);
+    let values = behind_header(behind_header(body));
+    if let Some((shape, _, taken)) = shape_of(word(body, 0))
+        && let Some((name, size)) = kind_of_fixed_size(kind)
+    {
+        let flags = if taken == 1 { 0 } else { word(body, 1) };
+        write!(
+            out,
+            "{{\"t\":\"Choice\",\"of\":\"{name}\",\"kind\":\"{shape}\","
+        )?;
+        write!(out, "\"flags\":{flags},\"v\":[")?;
+        say_contents(out, kind, size, values, taken)?;
+        out.push_str("]}")?;
+    }
+    Ok(())
+}
+
+/// The faults that stand in a choice's body of 16 bytes or more.
+fn choice_faults(alloc: Global, body: &[u8]) -> Result<Vec<Fault>, AllocError> {
     let mut faults = Vec::new(alloc);
     let shape = shape_of(word(body, 0));
     if shape.is_none() {
         push(&mut faults, Fault::InvalidChoiceType)?;
     }
-    let kind = word(body, 3);
-    let element = match kind_of_fixed_size(kind) {
-        Some((_, 0)) => None,
-        other => other,
+    let size = match kind_of_fixed_size(word(body, 3)) {
+        None | Some((_, 0)) => {
+            push(&mut faults, Fault::InvalidType)?;
+            return Ok(faults);
+        }
+        Some((_, size)) => size,
     };
     let values = behind_header(behind_header(body));
-    if let Some((_, size)) = element {
-        let is_sized = word(body, 2) as usize == size;
-        if !is_sized || !is_whole(values, size) {
-            push(&mut faults, Fault::WrongSize)?;
-        }
-        if let Some((_, least, _)) = shape
-            && is_sized
-            && values.len() / size < least
-        {
-            push(&mut faults, Fault::MissingChoiceValues)?;
-        }
-    } else {
-        push(&mut faults, Fault::InvalidType)?;
+    let is_sized = word(body, 2) as usize == size;
+    if !is_sized || !is_whole(values, size) {
+        push(&mut faults, Fault::WrongSize)?;
     }
-    match (shape, element) {
-        (Some((shape_name, _, taken)), Some((name, size))) if faults.is_empty() => {
-            let flags = if taken == 1 { 0 } else { word(body, 1) };
-            write!(
-                out,
-                "{{\"t\":\"Choice\",\"of\":\"{name}\",\"kind\":\"{shape_name}\","
-            )?;
-            write!(out, "\"flags\":{flags},\"v\":[")?;
-            say_contents(out, kind, size, values, taken)?;
-            out.push_str("]}")?;
-            Ok(())
-        }
-        _ => Err(Refusal::Faults(place, faults)),
+    if let Some((_, least, _)) = shape
+        && is_sized
+        && values.len() / size < least
+    {
+        push(&mut faults, Fault::MissingChoiceValues)?;
     }
+    Ok(faults)
 }
 
 /// The bodies of a kind one after another, so many at most, separated by commas.

@@ -80,7 +80,7 @@ impl Element for Fd {
 
 /// Appends what the value says, as JSON without spaces: `{"t":"Int","v":3}`, and so inside structs and objects.
 #[cycle(said)]
-pub fn say_value(out: &mut String, value: &Value) -> Result<(), AllocError> {
+pub(crate) fn say_value(out: &mut String, value: &Value) -> Result<(), AllocError> {
     match value {
         Value::None => say_fixed(out, "None", ()),
         Value::Bool(x) => say_fixed(out, "Bool", *x),
@@ -135,7 +135,7 @@ fn say_object(out: &mut String, object: &Object) -> Result<(), AllocError> {
 }
 
 /// A comma between things, and none before the first one.
-pub fn say_comma(out: &mut String, place: usize) -> Result<(), AllocError> {
+pub(crate) fn say_comma(out: &mut String, place: usize) -> Result<(), AllocError> {
     if place == 0 {
         return Ok(());
     }
@@ -149,7 +149,7 @@ fn say_fixed<T: Element>(out: &mut String, name: &str, x: T) -> Result<(), Alloc
 }
 
 /// A text, in which quotes, backslashes and characters below a space are escaped.
-pub fn say_text(out: &mut String, text: &str) -> Result<(), AllocError> {
+pub(crate) fn say_text(out: &mut String, text: &str) -> Result<(), AllocError> {
     out.push_str("{\"t\":\"String\",\"v\":\"")?;
     for c in text.chars() {
         match c {
@@ -166,7 +166,7 @@ pub fn say_text(out: &mut String, text: &str) -> Result<(), AllocError> {
 }
 
 /// Bytes, in hexadecimal.
-pub fn say_bytes(out: &mut String, bytes: &[u8]) -> Result<(), AllocError> {
+pub(crate) fn say_bytes(out: &mut String, bytes: &[u8]) -> Result<(), AllocError> {
     out.push_str("{\"t\":\"Bytes\",\"v\":\"")?;
     for byte in bytes {
         write!(out, "{byte:02x}")?;

@@ -1,2 +1,8 @@
 //! The tests, by subject.
+mod fixation;
+mod hostile;
+mod reading;
+mod readme;
 mod second_reader;
+mod viewing;
+mod writing;

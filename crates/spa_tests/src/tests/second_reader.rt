@@ -2,6 +2,7 @@
 use crate::bytes::bytes_of;
 use crate::oracle::{Fault, Refusal, read};
 use crate::tables::built::BUILT;
+use crate::tables::lines_of;
 use crate::tables::read_rows::READ_ROWS;
 use std::alloc::Global;
 use std::process::Abort;
@@ -30,10 +31,9 @@ fn stands(faults: &[Fault], name: &str) -> bool {
 
 #[test]
 fn agrees_with_the_worked_rows(rt: HostRuntime) -> Result<(), Fail> {
-    let mut lines = READ_ROWS.lines();
-    while let Some(input) = lines.next() {
-        let wanted = lines.next().unwrap_or("");
-        let _ = (lines.next(), lines.next());
+    let lines = lines_of(rt.alloc(), READ_ROWS)?;
+    for row in lines.as_slice().as_chunks::<4>().0 {
+        let [input, wanted, _, _] = *row;
         let input = bytes_of(rt.alloc(), input)?;
         compare(&rt, rt.alloc(), input.as_slice(), wanted)?;
     }
@@ -42,11 +42,9 @@ fn agrees_with_the_worked_rows(rt: HostRuntime) -> Result<(), Fail> {
 
 #[test]
 fn agrees_with_the_builder(rt: HostRuntime) -> Result<(), Fail> {
-    let mut lines = BUILT.lines();
-    while let Some(_) = lines.next() {
-        let input = lines.next().unwrap_or("");
-        let wanted = lines.next().unwrap_or("");
-        let _ = lines.next();
+    let lines = lines_of(rt.alloc(), BUILT)?;
+    for row in lines.as_slice().as_chunks::<4>().0 {
+        let [_, input, wanted, _] = *row;
         let input = bytes_of(rt.alloc(), input)?;
         compare(&rt, rt.alloc(), input.as_slice(), wanted)?;
     }

@@ -11,6 +11,8 @@ read -ra words <<< "${WORDS:-rewrite fixate show}"
 # built where a source is newer; then the program itself is timed, and not the script that finds it
 "$here/../podtool" rewrite < /dev/null
 program=$here/../crates/podtool/out/podtool
+# as the script sets it
+export GLIBC_TUNABLES=${GLIBC_TUNABLES:-glibc.malloc.hugetlb=1}
 
 # The least of so many rounds, in microseconds: from a file in memory, into a pipe that is emptied at once.
 best_of() {

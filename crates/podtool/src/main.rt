@@ -1,6 +1,8 @@
 //! `podtool rewrite|fixate|show`: pods from standard input are rewritten, fixated or listed on standard output.
 #![tactic(auto)]
 
+#[cfg(test)]
+mod example_pods;
 mod listing;
 mod run;
 #[cfg(test)]

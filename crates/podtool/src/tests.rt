@@ -1,3 +1,4 @@
+use crate::example_pods::EXAMPLES;
 use crate::run::run;
 use std::alloc::Global;
 use std::io::{self, Error, ErrorKind, Read, Write};
@@ -178,6 +179,45 @@ fn pods_are_shown(rt: HostRuntime) -> Result<(), Fail> {
         assert_eq!(rt; said.len(), 0, "at {input:?}");
         assert_eq!(rt; status, 0, "at {input:?}");
     }
+    Ok(())
+}
+
+#[test]
+fn example_pods_are_shown(rt: HostRuntime) -> Result<(), Fail> {
+    for (name, input, wanted) in EXAMPLES {
+        let input = bytes_of(rt.alloc(), input)?;
+        let (written, said, status) = found(
+            rt.alloc(),
+            &["show"],
+            input.as_slice(),
+            false,
+            AMPLE,
+            AMPLE,
+        );
+        assert_eq!(rt; written.as_slice(), wanted.as_bytes(), "{name}");
+        assert_eq!(rt; said.len(), 0, "{name}");
+        assert_eq!(rt; status, 0, "{name}");
+    }
+    Ok(())
+}
+
+/// The length in bytes of the rewriting of 300 structs, each but the innermost holding one.
+const NESTED_LEN: u32 = 2400;
+
+#[test]
+fn nested_structs_are_shown(rt: HostRuntime) -> Result<(), Fail> {
+    let mut input = Vec::new(rt.alloc());
+    let mut wanted = String::new(rt.alloc());
+    let mut size = NESTED_LEN;
+    for depth in 0..NESTED_LEN / 8 {
+        size = size.saturating_sub(8);
+        input.extend_from_slice(&size.to_le_bytes())?;
+        input.extend_from_slice(&14u32.to_le_bytes())?;
+        writeln!(wanted, "{depth} 14 {size}")?;
+    }
+    let (written, _, status) = found(rt.alloc(), &["show"], input.as_slice(), false, AMPLE, AMPLE);
+    assert_eq!(rt; written.as_slice(), wanted.as_bytes());
+    assert_eq!(rt; status, 0);
     Ok(())
 }
 

@@ -86,13 +86,13 @@ fn texts_and_bytes_have_these_texts(rt: HostRuntime) -> Result<(), Fail> {
 }
 
 #[test]
-fn arrays_have_these_texts(rt: HostRuntime) -> Result<(), Fail> {
+fn arrays_and_choices_have_these_texts(rt: HostRuntime) -> Result<(), Fail> {
     let alloc = rt.alloc();
     let fractions = [
         Fraction { num: 1, denom: 2 },
         Fraction { num: 30, denom: 1 },
     ];
-    let rows: [(Value, &[u32]); 4] = [
+    let rows: [(Value, &[u32]); 7] = [
         (
             Value::ValueArray(ValueArray::None(Vec::from_slice(alloc, &[(); 5])?)),
             &[8, 13, 0, 1],
@@ -109,17 +109,6 @@ fn arrays_have_these_texts(rt: HostRuntime) -> Result<(), Fail> {
             Value::ValueArray(ValueArray::Long(Vec::from_slice(alloc, &[1, 2])?)),
             &[24, 13, 8, 5, 1, 0, 2, 0],
         ),
-    ];
-    for (value, words) in rows {
-        assert_text(&rt, alloc, &value, words)?;
-    }
-    Ok(())
-}
-
-#[test]
-fn choices_have_these_texts(rt: HostRuntime) -> Result<(), Fail> {
-    let alloc = rt.alloc();
-    let rows: [(Value, &[u32]); 3] = [
         (
             Value::Choice(ChoiceValue::Int(Choice(
                 ChoiceFlags::from_bits_retain(5),

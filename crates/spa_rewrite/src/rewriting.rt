@@ -59,7 +59,10 @@ pub fn rewrite_all<'a>(
     // and names a fault that stands there.
     ensures named { IfErr result (λ refusal. Names (λ fault place. Stands fault place refusal.0.now) refusal.1) }
 {
-    let mut tail = Tail::behind(mem::replace(out, Vec::new(alloc)));
+    let mut bytes = mem::replace(out, Vec::new(alloc));
+    // No rewriting is longer than its pod. Where so much memory isn't there at once, each growth asks for its own.
+    let _ = bytes.reserve(input.len());
+    let mut tail = Tail::behind(bytes);
     match rewrite_pods(alloc, input, &mut tail) {
         Ok(()) => {
             *out = tail.into_whole();

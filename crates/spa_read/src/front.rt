@@ -8,16 +8,17 @@ use spa_fixed::{HEADER_LEN, u32_at};
 
 /// The pod at the front of an input, opened.
 #[derive(Clone, Copy)]
-pub(crate) struct Front<'de> {
+pub struct Front<'de> {
     /// The type number.
-    pub(crate) kind: u32,
-    pub(crate) body: &'de [u8],
+    pub kind: u32,
+    /// The bytes behind the header, as many as the size word says, without the padding.
+    pub body: &'de [u8],
     /// What follows the pod and its padding.
-    pub(crate) rest: &'de [u8],
+    pub rest: &'de [u8],
 }
 
 /// Opens the pod that the first size word names, where all of it is there.
-pub(crate) fn open(input: &[u8]) -> Option<Front<'_>>
+pub fn open(input: &[u8]) -> Option<Front<'_>>
     ensures there { IfSome result (λ front. Opens input.now front.kind front.body.now front.rest.now) }
     ensures short { IfNone result (¬ (HasFront input.now)) }
 {

@@ -7,10 +7,13 @@ mod deserializer;
 mod front;
 mod plain;
 mod refused;
-mod types;
+pub mod types;
 mod value;
 
 pub use deserializer::{DeserializeSuccess, PodDeserialize, PodDeserializer};
+pub use front::{Front, open};
+pub use plain::{read_fixed, read_plain, text_of};
+pub use refused::{Refused, error_at};
 
 #[cfg(test)]
 mod tests;

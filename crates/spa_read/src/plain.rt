@@ -16,8 +16,8 @@ use spa_value::Value;
 use std::alloc::Global;
 use std::str;
 
-/// A body that is one of this type's, and nothing else.
-pub(crate) fn read_fixed<T: CanonicalFixedSizedPod>(body: &[u8]) -> Result<T, Refusal>
+/// The value of a body that is one of this type's, and nothing else. A body of another length is refused as `WrongSize`.
+pub fn read_fixed<T: CanonicalFixedSizedPod>(body: &[u8]) -> Result<T, Refusal>
     ensures read { IfOk result (λ x. IsFixedBody T.kind body.now (T.fixed x)) }
     ensures refused { IfErr result (RefusesBody (type_number T.kind) body.now) }
 {
@@ -27,8 +27,9 @@ pub(crate) fn read_fixed<T: CanonicalFixedSizedPod>(body: &[u8]) -> Result<T, Re
     Ok(T::of_body(body))
 }
 
-/// The text before the one NUL, which is at the end.
-pub(crate) fn text_of(body: &[u8]) -> Option<&str>
+/// The text that a body holds before its one NUL, which is its last byte. There is none where the body is empty, where its
+/// last byte isn't NUL or another one is, and where the bytes before it aren't UTF-8.
+pub fn text_of(body: &[u8]) -> Option<&str>
     ensures some { IfSome result (λ s. IsText s.now × (body.now ≡ s.now ++ 0 ∷ [])) }
     ensures none { IfNone result ((s : List ℕ) → IsText s → body.now ≢ s ++ 0 ∷ []) }
 {
@@ -76,8 +77,11 @@ fn read_string(alloc: Global, body: &[u8]) -> Result<String, Refusal>
     Ok(String::from_str(alloc, text)?)
 }
 
-/// Any body but that of a struct or of an object.
-pub(crate) fn read_plain(alloc: Global, kind: u32, body: &[u8]) -> Result<Value, Refusal>
+/// The value of a body of this type number, which is any but that of a struct or of an object.
+///
+/// Only texts, bytes, arrays and choices ask for memory. A type number that isn't of the format is refused as
+/// `InvalidType`.
+pub fn read_plain(alloc: Global, kind: u32, body: &[u8]) -> Result<Value, Refusal>
     requires no_struct { kind ≢ struct_type }
     requires no_object { kind ≢ object_type }
     ensures its_type { IfOk result (λ value. type_of (view value) ≡ kind) }

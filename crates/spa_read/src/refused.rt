@@ -8,9 +8,10 @@ use std::alloc::AllocFailed;
 
 /// A refusal, and what was left of the input where its fault stands.
 #[derive(Clone, Copy)]
-pub(crate) struct Refused<'de> {
-    pub(crate) place: &'de [u8],
-    pub(crate) why: Refusal,
+pub struct Refused<'de> {
+    /// Want of memory stands nowhere: its place says nothing.
+    pub place: &'de [u8],
+    pub why: Refusal,
 }
 
 impl<'de, T: Drop> From<AllocFailed<T>> for Refused<'de> {
@@ -24,8 +25,8 @@ impl<'de, T: Drop> From<AllocFailed<T>> for Refused<'de> {
     }
 }
 
-/// The public refusal.
-pub(crate) fn error_at(place: &[u8], why: Refusal) -> DeserializeError<&[u8]>
+/// The public refusal that is made of one at this place. Only `Short` and `Text` keep the place.
+pub fn error_at(place: &[u8], why: Refusal) -> DeserializeError<&[u8]>
     ensures { result ≡ error_of place.entry why }
 {
     match why {

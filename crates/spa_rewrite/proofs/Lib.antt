@@ -1,2 +1,4 @@
 pub mod TailLemmas
+pub mod Steps
+pub mod Refusals
 pub mod Rewritten

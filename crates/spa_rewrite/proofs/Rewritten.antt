@@ -20,11 +20,11 @@ use Rattle.spa_fixed.specs.declared.fault.DeserializeError.{DeserializeError}
 use Rattle.spa_fixed.specs.declared.fault.DeserializeError.TheVariants as error
 use Rattle.spa_format.proofs.Refused.{refused_behind_members}
 use Rattle.spa_read.specs.Reading.{OnFault}
-use Rattle.spa_rewrite.specs.Rewriting.{IsLeft, IsRewriting, TakesFront, LeavesOutput}
+use Rattle.spa_rewrite.specs.Rewriting.{IsLeft, IsRewriting}
 use Rattle.spa_rewrite.specs.Tails.{KeepsStart, keeps_both, tail_bytes}
 use Rattle.spa_rewrite.specs.declared.tail.Tail.{Tail}
 
-IsBytes-front_of : (b : List ℕ) → IsBytes b → IsBytes (front_of b)
+pub IsBytes-front_of : (b : List ℕ) → IsBytes b → IsBytes (front_of b)
 IsBytes-front_of b h = IsBytes-take (extent (word_at b 0)) b h
 
 pub rewriting_of : (input out : List ℕ) (v : Tree) → IsBytes input → Begins input v → out ≡ text_of v → IsRewriting input out
@@ -54,53 +54,9 @@ memory_alone v Io m w r = m Io r.cause
 memory_alone v OutOfMemory m w r = refl
 
 -- the texts of some values, and of one more
-member_texts-push : (vs : Trees) (v : Tree) → member_texts (join_members vs (member v no_trees)) ≡ member_texts vs ++ text_of v
+pub member_texts-push : (vs : Trees) (v : Tree) → member_texts (join_members vs (member v no_trees)) ≡ member_texts vs ++ text_of v
 member_texts-push no_trees v = append-nil (text_of v)
 member_texts-push (member w vs) v = ap (λ l. text_of w ++ l) (member_texts-push vs v) ∙ sym (append_assoc (text_of w) (member_texts vs) (text_of v))
-
--- some first pods of the input are rewritten, and this is left behind them
-pub record IsRewrittenTo (input left : List ℕ) (old new : Tail) : Type 0 where
-  pub values : Trees
-  pub first : List ℕ
-  pub split : input ≡ first ++ left
-  pub members : AreMembers values first
-  pub bytes : tail_bytes new ≡ tail_bytes old ++ member_texts values
-  pub kept : KeepsStart old new
-
-pub none_rewritten : (input : List ℕ) (old : Tail) → IsRewrittenTo input input old old
-none_rewritten input old = record {
-  values = no_trees;
-  first = [];
-  split = refl;
-  members = refl;
-  bytes = sym (append-nil (tail_bytes old));
-  kept = record { place = refl; bytes = refl };
-}
-
-abbrev pub tail_refuses : Tail → ℕ → Tail → GenError → Type 0
-tail_refuses a n b e = (e ≡ OutOfMemory) × KeepsStart a b
-
--- the bytes that stay do so where the front's rewriting was appended,
-pub kept_by_front : (input rest : List ℕ) (old new : Tail) → TakesFront tail_bytes tail_refuses input old rest new → KeepsStart old new
-kept_by_front input rest old new n = (n.written.text.room new 0 OutOfMemory (refl, record { place = refl; bytes = refl })).1
-
--- and where it wasn't
-pub kept_by_refusal : (old new : Tail) → LeavesOutput tail_refuses old new → KeepsStart old new
-kept_by_refusal old new (inl e) = subst (KeepsStart old) (sym e) (record { place = refl; bytes = refl })
-kept_by_refusal old new (inr r) = r.1.1
-
--- one more pod
-pub next_rewritten : (input left rest : List ℕ) (old mid new : Tail) → IsRewrittenTo input left old mid → TakesFront tail_bytes tail_refuses left mid rest new → IsRewrittenTo input rest old new
-next_rewritten input left rest old mid new h n =
-    let v = n.value in
-    record {
-      values = join_members h.values (member v no_trees);
-      first = h.first ++ front_of left;
-      split = h.split ∙ ap (λ l. h.first ++ l) (front_and_rest left ∙ ap (λ l. front_of left ++ l) (sym n.follows)) ∙ sym (append_assoc h.first (front_of left) rest);
-      members = members_push h.values v h.first (front_of left) h.members n.begins.pod;
-      bytes = n.written.text.bytes ∙ ap (λ l. l ++ text_of v) h.bytes ∙ append_assoc (tail_bytes old) (member_texts h.values) (text_of v) ∙ ap (λ l. tail_bytes old ++ l) (sym (member_texts-push h.values v));
-      kept = keeps_both old mid new h.kept (kept_by_front left rest mid new n);
-    }
 
 on_fault : {I : Type 0} {A B : Type 0} → (A → B) → (e : DeserializeError I) → OnFault A e → OnFault B e
 on_fault f (error.Nom x) h = f h

@@ -1,17 +1,19 @@
 -- What a rewriting is: docs/FORMAT.md, "The text of a value".
-use Rattle.std.specs.Prelude.{◌≡◌, ◌≢◌, ◌≤◌, ◌↔◌, ◌⊎◌, ◌++◌, List, [], ℕ, length}
+use Rattle.std.specs.Prelude.{⊤, ◌≡◌, ◌≢◌, ◌≤◌, ◌↔◌, ◌++◌, List, [], ℕ, length}
 use Rattle.std.specs.Borrow.{Bor}
 use Rattle.spa_fixed.specs.declared.fault.DeserializeError.{DeserializeError}
-use Rattle.spa_fixed.specs.declared.gen_error.GenError.{GenError}
-use Rattle.spa_fixed.specs.declared.gen_error.GenError.TheVariants.{OutOfMemory}
-use Rattle.spa_format.specs.Tree.{Tree, Trees}
-use Rattle.spa_format.specs.Pod.{AreMembers, IsPod}
-use Rattle.spa_format.specs.Text.{text_of, member_texts}
-use Rattle.spa_format.specs.Front.{HasFront, Begins, IsRefused, rest_of}
+use Rattle.spa_fixed.specs.declared.fault.Refusal.{Refusal}
+use Rattle.spa_format.specs.Tree.{Tree, Trees, Properties}
+use Rattle.spa_format.specs.Pod.{AreMembers, AreProperties, IsPod}
+use Rattle.spa_format.specs.Text.{text_of, member_texts, property_texts}
+use Rattle.spa_format.specs.Front.{HasFront, Begins, IsRefused}
 use Rattle.spa_format.specs.Typed.{IsBytes}
 use Rattle.spa_format.specs.Faults.{Stands}
+use Rattle.spa_read.specs.Opening.{BeginsWith}
 use Rattle.spa_read.specs.Reading.{IsShortAt, Names, OnFault, OnMemory}
-use Rattle.spa_write.specs.Written.{IsWritten}
+use Rattle.spa_read.specs.Refusing.{Says, StandsInProperties}
+use Rattle.spa_rewrite.specs.Tails.{KeepsStart, TailAppends}
+use Rattle.spa_rewrite.specs.declared.tail.Tail.{Tail}
 
 -- the text of the value that the front of the input says
 pub record IsRewriting (input out : List ℕ) : Type 0 where
@@ -40,13 +42,40 @@ pub record RefusesFront (input : List ℕ) (e : DeserializeError (Bor (List ℕ)
   pub short_first : ¬ (HasFront input) → IsShortAt input e
   pub memory : OnMemory (HasFront input) e
 
--- an output got the rewriting of the front, and this follows the front
-pub record TakesFront {O : Type 0} (content : O → List ℕ) (refuses : O → ℕ → O → GenError → Type 0) (input : List ℕ) (old : O) (rest : List ℕ) (new : O) : Type 0 where
+-- the output got the rewriting of the front, and this follows the front
+pub record TakesFront (input : List ℕ) (old : Tail) (rest : List ℕ) (new : Tail) : Type 0 where
   pub value : Tree
-  pub begins : Begins input value
-  pub follows : rest ≡ rest_of input
-  pub written : IsWritten content refuses old value new
+  pub begins : BeginsWith input value rest
+  pub text : TailAppends old (text_of value) new
 
--- an output is as it was, or as it is left where it refuses for want of memory
-abbrev pub LeavesOutput : {O : Type 0} → (O → ℕ → O → GenError → Type 0) → O → O → Type 0
-LeavesOutput refuses old new = (new ≡ old) ⊎ ((n : ℕ) × refuses old n new OutOfMemory)
+-- the bytes are pods of some values one after another, and the output got their rewritings
+pub record TakesMembers (body : List ℕ) (old new : Tail) : Type 0 where
+  pub values : Trees
+  pub members : AreMembers values body
+  pub texts : TailAppends old (member_texts values) new
+
+-- the bytes are properties one after another, and the output got these with their pods rewritten
+pub record TakesProperties (body : List ℕ) (old new : Tail) : Type 0 where
+  pub values : Properties
+  pub properties : AreProperties values body
+  pub texts : TailAppends old (property_texts values) new
+
+-- Why the front isn't rewritten: a fault that stands at this place, or want of memory.
+abbrev pub RefusesAt : List ℕ → List ℕ → Refusal → Type 0
+RefusesAt input place = Says (λ k. Stands k place input) (HasFront input)
+
+-- the front is refused so, and the bytes that stay are the same
+pub record LeavesFront (input place : List ℕ) (why : Refusal) (old new : Tail) : Type 0 where
+  pub says : RefusesAt input place why
+  pub kept : KeepsStart old new
+
+-- what is left behind some first pods is refused so, and the bytes that stay are the same
+pub record LeavesMembers (body left place : List ℕ) (why : Refusal) (old new : Tail) : Type 0 where
+  pub behind : IsLeft body left
+  pub says : RefusesAt left place why
+  pub kept : KeepsStart old new
+
+-- a property is refused, and the bytes that stay are the same
+pub record LeavesProperties (body place : List ℕ) (why : Refusal) (old new : Tail) : Type 0 where
+  pub says : Says (StandsInProperties body place) ⊤ why
+  pub kept : KeepsStart old new

@@ -1,19 +1,16 @@
 //! The rewriting of a pod is the text of its value.
-ghost use Rattle.std.specs.Prelude.{◌≡◌, ◌≢◌, ℕ, List, IfErr, IfOk, IsErrAnd, OnErr, OnOk};
-ghost use Rattle.spa_fixed.specs.declared.gen_error.GenError.{GenError};
-ghost use Rattle.spa_fixed.specs.declared.gen_error.GenError.TheVariants.{OutOfMemory};
+ghost use Rattle.std.specs.Prelude.{◌≡◌, IfErr, IfOk, IsErrAnd, OnErr, OnOk};
 ghost use Rattle.spa_format.specs.Faults.{Stands};
 ghost use Rattle.spa_format.specs.Front.{HasFront, IsRefused, rest_of};
 ghost use Rattle.spa_format.specs.Pod.{AreMembers};
 ghost use Rattle.spa_format.specs.Tree.{Trees};
 ghost use Rattle.spa_read.specs.Reading.{IsShortAt, Names, OnFault, OnMemory};
-ghost use Rattle.spa_rewrite.specs.Rewriting.{AreRewritten, IsLeft, IsRewriting, LeavesOutput, RefusesFront, TakesFront};
-ghost use Rattle.spa_rewrite.specs.Tails.{AreRewrittenBehind, KeepsStart};
+ghost use Rattle.spa_rewrite.specs.Rewriting.{AreRewritten, IsLeft, IsRewriting};
 
+use crate::pod::{rewrite_members, rewrite_pod};
 use crate::tail::Tail;
-use spa_fixed::{DeserializeError, GenError, PodOutput};
-use spa_read::PodDeserializer;
-use spa_write::write_value;
+use spa_fixed::DeserializeError;
+use spa_read::error_at;
 use std::alloc::Global;
 use std::mem;
 
@@ -33,9 +30,11 @@ pub fn rewrite(alloc: Global, input: &[u8]) -> Result<(&[u8], Vec<u8>), Deserial
     ensures short_first { ¬ (HasFront input.now) → IsErrAnd result (IsShortAt input.now) }
     ensures memory { IfErr result (OnMemory (HasFront input.now)) }
 {
-    let mut text = Vec::new(alloc);
-    let rest = rewrite_front(alloc, input, &mut text)?;
-    Ok((rest, text))
+    let mut tail = Tail::behind(Vec::new(alloc));
+    match rewrite_pod(alloc, input, &mut tail) {
+        Ok(rest) => Ok((rest, tail.into_whole())),
+        Err(refused) => Err(error_at(refused.place, refused.why)),
+    }
 }
 
 /// Appends the rewritings of all pods that the input consists of.
@@ -63,58 +62,14 @@ pub fn rewrite_all<'a>(
     // No rewriting is longer than its pod. Where so much memory isn't there at once, each growth asks for its own.
     let _ = bytes.reserve(input.len());
     let mut tail = Tail::behind(bytes);
-    match rewrite_pods(alloc, input, &mut tail) {
+    match rewrite_members(alloc, input, &mut tail) {
         Ok(()) => {
             *out = tail.into_whole();
             Ok(())
         }
-        Err(refusal) => {
+        Err((left, refused)) => {
             *out = tail.into_start();
-            Err(refusal)
+            Err((left, error_at(refused.place, refused.why)))
         }
-    }
-}
-
-/// Appends the rewritings of all pods that the input consists of, behind the bytes that stay.
-fn rewrite_pods<'a>(
-    alloc: Global,
-    input: &'a [u8],
-    tail: &mut Tail,
-) -> Result<(), (&'a [u8], DeserializeError<&'a [u8]>)>
-    ensures rewritten { OnOk result (AreRewrittenBehind input.now tail.old tail.new) }
-    ensures start { KeepsStart tail.old tail.new }
-    ensures left { IfErr result (λ refusal. IsLeft input.now refusal.0.now) }
-    ensures refused { IfErr result (λ refusal. RefusesFront refusal.0.now refusal.1) }
-{
-    let mut left = input;
-    while !left.is_empty() {
-        match rewrite_front(alloc, left, tail) {
-            Ok(rest) => left = rest,
-            Err(error) => return Err((left, error)),
-        }
-    }
-    Ok(())
-}
-
-/// Appends the rewriting of the front of the input to an output that refuses for want of memory alone, and answers what
-/// follows that front.
-fn rewrite_front<'a, O: PodOutput>(
-    alloc: Global,
-    input: &'a [u8],
-    out: &mut O,
-) -> Result<&'a [u8], DeserializeError<&'a [u8]>>
-    requires { (a b : O) (n : ℕ) (e : GenError) → O.refuses a n b e → e ≡ OutOfMemory }
-    ensures taken { IfOk result (λ rest. TakesFront O.content O.refuses input.now out.old rest.now out.new) }
-    ensures refused { IfErr result (RefusesFront input.now) }
-    ensures output { OnErr result (LeavesOutput O.refuses out.old out.new) }
-{
-    let (rest, value) = PodDeserializer::deserialize_any_from(alloc, input)?;
-    match write_value(out, &value) {
-        Ok(()) => Ok(rest),
-        Err(error) => match error {
-            GenError::OutOfMemory => Err(DeserializeError::OutOfMemory),
-            // What was read can be written, so that the output alone refuses.
-            _ => unreachable!(),
-        },
     }
 }

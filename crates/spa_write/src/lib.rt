@@ -10,6 +10,7 @@ mod tests;
 mod text;
 mod value;
 
+pub use frame::{begin, close};
 pub use leaf::put_leaf;
 pub use serializer::{PodSerialize, PodSerializer, SerializeSuccess};
 pub use text::{put_bytes, put_pointer, put_text};

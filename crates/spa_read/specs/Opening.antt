@@ -1,6 +1,6 @@
 -- The pod at the front of an input, opened: docs/FORMAT.md, "The front of an input".
-use Rattle.std.specs.Prelude.{◌≡◌, ℕ, ◌+◌, ◌≤◌, List, length}
-use Rattle.spa_format.specs.Words.{word_at, body_of, header_size}
+use Rattle.std.specs.Prelude.{◌≡◌, ℕ, ◌+◌, ◌<◌, ◌≤◌, List, length}
+use Rattle.spa_format.specs.Words.{word_at, body_of, header_size, size_limit}
 use Rattle.spa_format.specs.Tree.{Tree}
 use Rattle.spa_format.specs.Front.{HasFront, Begins, rest_of}
 
@@ -11,6 +11,7 @@ pub record Opens (input : List ℕ) (kind : ℕ) (body rest : List ℕ) : Type 0
   pub its_body : body ≡ body_of input
   pub its_rest : rest ≡ rest_of input
   pub shorter : length body + header_size ≤ length input
+  pub fits : length body < size_limit
 
 -- the input begins with a pod of this value, and this is what follows it
 pub record BeginsWith (input : List ℕ) (v : Tree) (rest : List ℕ) : Type 0 where

@@ -13,7 +13,7 @@ mod value;
 pub use deserializer::{DeserializeSuccess, PodDeserialize, PodDeserializer};
 pub use front::{Front, open};
 pub use plain::{read_fixed, read_plain, text_of};
-pub use refused::{Refused, error_at};
+pub use refused::error_at;
 
 #[cfg(test)]
 mod tests;

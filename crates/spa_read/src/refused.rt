@@ -8,10 +8,9 @@ use std::alloc::AllocFailed;
 
 /// A refusal, and what was left of the input where its fault stands.
 #[derive(Clone, Copy)]
-pub struct Refused<'de> {
-    /// Want of memory stands nowhere: its place says nothing.
-    pub place: &'de [u8],
-    pub why: Refusal,
+pub(crate) struct Refused<'de> {
+    pub(crate) place: &'de [u8],
+    pub(crate) why: Refusal,
 }
 
 impl<'de, T: Drop> From<AllocFailed<T>> for Refused<'de> {

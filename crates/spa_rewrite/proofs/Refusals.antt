@@ -1,17 +1,16 @@
 -- What the refusal of a part says of the whole, and what the public refusal says.
-use Rattle.std.proofs.Common.{◌≡◌, ℕ, ◌≤◌, List, length, drop}
-use Rattle.std.specs.Prelude.{⊤}
+use Rattle.std.proofs.Common.{◌≡◌, ℕ, ◌≤◌, List, length, drop, refl, subst}
 use Rattle.std.specs.Borrow.{Bor}
-use Rattle.spa_format.specs.Words.{header_size}
+use Rattle.spa_format.specs.Words.{header_size, word_at}
 use Rattle.spa_format.specs.Tree.{object_type, struct_type}
-use Rattle.spa_format.specs.Faults.{Fault, Stands}
+use Rattle.spa_format.specs.Faults.{Fault, Stands, at_front}
 use Rattle.spa_fixed.specs.declared.fault.Refusal.{Refusal}
 use Rattle.spa_fixed.specs.declared.fault.Refusal.TheVariants as refusal
 use Rattle.spa_read.specs.Opening.{Opens}
 use Rattle.spa_read.specs.Reading.{MayLackMemory}
-use Rattle.spa_read.specs.Refusing.{RefusesBody, RefusesPod, Says, StandsInMembers, error_of}
-use Rattle.spa_read.proofs.Refusals.{body_refused, members_refused, properties_refused, refused_as, says_through}
-use Rattle.spa_rewrite.specs.Rewriting.{LeavesFront, LeavesMembers, LeavesProperties, RefusesAt, RefusesFront}
+use Rattle.spa_read.specs.Refusing.{RefusesPod, StandsInBody, error_of}
+use Rattle.spa_read.proofs.Refusals.{at_front_of, members_refused, properties_refused, refused_as, says_through}
+use Rattle.spa_rewrite.specs.Rewriting.{LeavesBody, LeavesFront, LeavesMembers, LeavesProperties, RefusesAt, RefusesFront}
 use Rattle.spa_rewrite.specs.Tails.{KeepsStart, keeps_both}
 use Rattle.spa_rewrite.specs.declared.tail.Tail.{Tail}
 use Rattle.spa_rewrite.proofs.Steps.{keeps}
@@ -27,24 +26,26 @@ pub unread : (input place : List ℕ) (why : Refusal) (a : Tail) →
 unread input place why a h = record { says = as_read input place why h; kept = keeps a }
 
 -- where a body is refused
-pub body_unread : (input body rest : List ℕ) (kind : ℕ) (why : Refusal) (a : Tail) →
-    Opens input kind body rest → RefusesBody kind body why → LeavesFront input input why a a
-body_unread input body rest kind why a o h =
-    unread input input why a (body_refused input body rest kind why o h)
+pub body_left : (input body rest : List ℕ) (kind : ℕ) (why : Refusal) (a c : Tail) →
+    Opens input kind body rest → LeavesBody kind body why a c → LeavesFront input input why a c
+body_left input body rest kind why a c o h =
+    let stands : (k : Fault) → StandsInBody kind body k → Stands k input input = λ k i.
+    at_front input refl
+    (at_front_of input k o.there
+    (subst (λ b. StandsInBody (word_at input 4) b k) o.its_body (subst (λ t. StandsInBody t body k) o.its_kind i))) in
+    record {
+      says = says_through (StandsInBody kind body) _ _ _ stands (λ _. o.there) why h.says;
+      kept = h.kept;
+    }
 
 -- where a member is refused
-pub member_left : (input body rest left place : List ℕ) (kind : ℕ) (why : Refusal) (a head c : Tail) →
+pub member_left : (input body rest place : List ℕ) (kind : ℕ) (why : Refusal) (a head c : Tail) →
     Opens input kind body rest → kind ≡ struct_type → KeepsStart a head →
-    LeavesMembers body left place why head c → LeavesFront input place why a c
-member_left input body rest left place kind why a head c o t p r =
-    let b = r.behind in
-    let stands : (k : Fault) → Stands k place left → StandsInMembers body place k = λ k s.
-    (b.0, b.1, left, b.2, b.3, b.4, s) in
-    let inside : Says (StandsInMembers body place) ⊤ why = says_through (λ k. Stands k place left) _ _ _ stands (λ _. tt) why r.says in
-    record {
-      says = as_read input place why (members_refused input place body rest kind why o t inside);
-      kept = keeps_both a head c p r.kept;
-    }
+    LeavesMembers body place why head c → LeavesFront input place why a c
+member_left input body rest place kind why a head c o t p r = record {
+  says = as_read input place why (members_refused input place body rest kind why o t r.says);
+  kept = keeps_both a head c p r.kept;
+}
 
 -- where a property is refused
 pub property_left : (input body behind rest place : List ℕ) (kind : ℕ) (why : Refusal)

@@ -9,7 +9,7 @@ use Rattle.spa_format.specs.Typed.{IsBytes}
 use Rattle.spa_format.specs.Writable.{IsWritable, HasNul, IsTooLarge}
 use Rattle.spa_format.specs.Front.{Begins, IsRefused, front_of}
 use Rattle.spa_format.proofs.WordLemmas.{IsBytes-take}
-use Rattle.spa_format.proofs.Origin.{rewriting_is_pod, same_rewriting, writable}
+use Rattle.spa_format.proofs.Origin.{rewriting_is_pod, same_rewriting}
 use Rattle.spa_format.proofs.Short.{shortest}
 use Rattle.spa_format.proofs.Fronts.{front_and_rest}
 use Rattle.spa_format.proofs.Sequences.{members_push}
@@ -24,7 +24,7 @@ use Rattle.spa_rewrite.specs.Rewriting.{IsLeft, IsRewriting}
 use Rattle.spa_rewrite.specs.Tails.{KeepsStart, keeps_both, tail_bytes}
 use Rattle.spa_rewrite.specs.declared.tail.Tail.{Tail}
 
-pub IsBytes-front_of : (b : List ℕ) → IsBytes b → IsBytes (front_of b)
+IsBytes-front_of : (b : List ℕ) → IsBytes b → IsBytes (front_of b)
 IsBytes-front_of b h = IsBytes-take (extent (word_at b 0)) b h
 
 pub rewriting_of : (input out : List ℕ) (v : Tree) → IsBytes input → Begins input v → out ≡ text_of v → IsRewriting input out
@@ -38,10 +38,6 @@ rewriting_of input out v f b e =
       shortest = λ c k. subst (λ l. length l ≤ length c) (sym e) (shortest c v k);
       same = λ c w h k. (λ i. ap text_of i ∙ sym e, λ i. same_rewriting c (front_of input) w v h g k b.pod (i ∙ e));
     }
-
--- what was read can be written
-pub writable_reading : (input : List ℕ) (v : Tree) → IsBytes input → Begins input v → IsWritable v
-writable_reading input v f b = writable (front_of input) v (IsBytes-front_of input f) b.pod
 
 -- a value that can be written is refused by the output alone
 pub memory_alone : {lacks : GenError → Type 0} (v : Tree) (e : GenError) → ((d : GenError) → lacks d → d ≡ OutOfMemory) → IsWritable v → RefusesWrite (HasNul v) (IsTooLarge v) lacks e → e ≡ OutOfMemory

@@ -1,30 +1,33 @@
 -- Steps of the rewriting: what an output got, one more member, one more property, a struct, an object.
-use Rattle.std.proofs.Common.{◌≡◌, ℕ, ◌+◌, ◌<◌, ◌≤◌, ◌^◌, inr, List, [], ◌++◌, length, drop, take, refl, sym, ap, ◌∙◌, subst, arith, append_assoc, length-append, Result, Ok}
+use Rattle.std.proofs.Common.{◌≡◌, ℕ, ◌+◌, ◌<◌, ◌≤◌, inl, List, [], ◌++◌, length, drop, take, refl, sym, ap, ◌∙◌, subst, arith, append_assoc, length-append, Result, Ok}
 use Rattle.std.specs.Prelude.{IfErr, IfOk, OnOk}
 use Rattle.std.proofs.lemmas.List.{append-nil, drop_at, length-take-le, take-append-drop}
-use Rattle.std.proofs.lemmas.Result.{IfErr-weaker, IfOk-at_ok}
+use Rattle.std.proofs.lemmas.Result.{IfErr-weaker, IfOk-at_ok, IfOk-weaker}
 use Rattle.spa_format.specs.Words.{header_size, size_limit, word_at, word_bytes}
-use Rattle.spa_format.specs.Tree.{Tree, Trees, Properties, struct, object, struct_type, object_type, no_trees, member, no_properties, property, join_members, join_properties}
-use Rattle.spa_format.specs.Pod.{AreMembers, AreProperties}
-use Rattle.spa_format.specs.Text.{text_of, member_texts, property_texts}
-use Rattle.spa_format.specs.Typed.{IsBytes}
+use Rattle.spa_format.specs.Tree.{Tree, Trees, Properties, fixed, struct, object, struct_type, object_type, no_trees, member, no_properties, property, join_members, join_properties, type_of}
+use Rattle.spa_format.specs.Pod.{AreMembers, AreProperties, IsBody}
+use Rattle.spa_format.specs.Kind.{Fixed, IsFixedBody, Kind, fixed_body, kind_of, type_number}
+use Rattle.spa_format.specs.Text.{framed_text, text_body, text_of, member_texts, property_texts}
 use Rattle.spa_format.specs.Writable.{IsWritable}
 use Rattle.spa_format.specs.Front.{front_of}
 use Rattle.spa_format.proofs.Fronts.{front_and_rest}
-use Rattle.spa_format.proofs.Origin.{typed}
 use Rattle.spa_format.proofs.Sequences.{members_push, props_joined}
+use Rattle.spa_format.proofs.Short.{not_too_large, without_nul}
 use Rattle.spa_format.proofs.WordLemmas.{word_at-append}
+use Rattle.spa_fixed.specs.declared.fault.Refusal.{Refusal}
 use Rattle.spa_fixed.specs.declared.gen_error.GenError.{GenError}
 use Rattle.spa_fixed.specs.declared.gen_error.GenError.TheVariants.{OutOfMemory, TooLarge}
 use Rattle.spa_read.specs.Opening.{BeginsWith, Opens}
 use Rattle.spa_read.proofs.Steps.{pod_read}
-use Rattle.spa_write.specs.Written.{AreWritten, ArePropertiesWritten, IsClosed, IsExtended, IsPut, RefusesText, begun_length}
-use Rattle.spa_write.proofs.Structs.{struct_room, struct_size_refused, struct_written}
-use Rattle.spa_write.proofs.Objects.{object_room, object_size_refused, object_written}
-use Rattle.spa_rewrite.specs.Rewriting.{TakesFront, TakesMembers, TakesProperties}
+use Rattle.spa_write.specs.Written.{IsClosed, IsExtended, IsPut, RefusesText, begun_length}
+use Rattle.spa_write.proofs.Frames.{IsWholeSize, begun_size, closed_text, room_for_header}
+use Rattle.spa_write.proofs.Objects.{whole_properties}
+use Rattle.spa_write.proofs.Structs.{whole_members}
+use Rattle.spa_write.proofs.Texts.{two_words_length}
+use Rattle.spa_rewrite.specs.Rewriting.{TakesBody, TakesFront, TakesMembers, TakesProperties}
 use Rattle.spa_rewrite.specs.Tails.{KeepsStart, TailAppends, appends_both, keeps_both, tail_bytes, tail_refuses}
 use Rattle.spa_rewrite.specs.declared.tail.Tail.{Tail}
-use Rattle.spa_rewrite.proofs.Rewritten.{IsBytes-front_of, member_texts-push, memory_alone, writable_reading}
+use Rattle.spa_rewrite.proofs.Rewritten.{member_texts-push, memory_alone}
 
 pub keeps : (a : Tail) → KeepsStart a a
 keeps a = record { place = refl; bytes = refl }
@@ -46,18 +49,47 @@ extended a b xs p = record {
 pub appended : (a b : Tail) (xs : List ℕ) → IsExtended tail_bytes tail_refuses a xs b → TailAppends a xs b
 appended a b xs p = record { kept = (p.room b 0 OutOfMemory (refl, keeps b)).1; grown = p.bytes }
 
--- a pod at the front of the input, whose text was put
-pub put_taken : {T : Type 0} (r : Result T GenError) (x : T) (input rest : List ℕ) (v : Tree) (a b : Tail) →
-    r ≡ Ok x → BeginsWith input v rest → OnOk r (IsPut TailAppends a v b) → TakesFront input a rest b
-put_taken r x input rest v a b e h p =
-    record { value = v; begins = h; text = (IfOk-at_ok (λ _. IsPut TailAppends a v b) e p).text }
-
--- what was read is refused for want of memory alone
-pub put_refused : {T : Type 0} (r : Result T GenError) (input rest : List ℕ) (v : Tree) (a b : Tail) →
-    IsBytes input → BeginsWith input v rest → IfErr r (RefusesText tail_refuses a v b) →
+-- what a body says is refused for want of memory alone,
+pub put_refused : {T : Type 0} (r : Result T GenError) (v : Tree) (body : List ℕ) (a b : Tail) →
+    length body < size_limit → IsBody v body → IfErr r (RefusesText tail_refuses a v b) →
     IfErr r (λ e. e ≡ OutOfMemory)
-put_refused r input rest v a b f h q =
-    IfErr-weaker r _ _ (λ e x. memory_alone v e (λ d p. p.0) (writable_reading input v f h.begins) x) q
+put_refused r v body a b l h q =
+    let w : IsWritable v = record { no_nul = without_nul v body h; fits = not_too_large v body l h } in
+    IfErr-weaker r _ _ (λ e x. memory_alone v e (λ d p. p.0) w x) q
+
+-- and else put
+pub put_taken : {T : Type 0} (r : Result T GenError) (q : Result T Refusal) (kind : ℕ) (v : Tree)
+    (body : List ℕ) (a b : Tail) → IfOk q (λ it. r ≡ Ok it) → type_of v ≡ kind → IsBody v body →
+    OnOk r (IsPut TailAppends a v b) → OnOk q (TakesBody kind body a b)
+put_taken r q kind v body a b e t h p =
+    IfOk-weaker q (λ it. r ≡ Ok it) (λ _. TakesBody kind body a b)
+    (λ it i.
+    record { value = v; its_type = t; its_body = h; text = (IfOk-at_ok (λ _. IsPut TailAppends a v b) i p).text })
+    e
+
+-- the same of a body of fixed size
+pub fixed_taken : {T : Type 0} (r : Result T GenError) (q : Result T Refusal) (k : Kind) (number : ℕ) (x : Fixed)
+    (body : List ℕ) (a b : Tail) → IfOk q (λ it. r ≡ Ok it) → number ≡ type_number k → kind_of x ≡ k →
+    IsFixedBody k body x → OnOk r (TailAppends a (framed_text number (fixed_body x)) b) →
+    OnOk q (TakesBody (type_number k) body a b)
+fixed_taken r q k number x body a b e n t h p =
+    let same : number ≡ type_number (kind_of x) = n ∙ sym (ap type_number t) in
+    IfOk-weaker q (λ it. r ≡ Ok it) (λ _. TakesBody (type_number k) body a b)
+    (λ it i.
+    record {
+      value = fixed x;
+      its_type = ap type_number t;
+      its_body = subst (λ y. IsFixedBody y body x) (sym t) h;
+      text = subst (λ y. TailAppends a (framed_text y (fixed_body x)) b) same
+          (IfOk-at_ok (λ _. TailAppends a (framed_text number (fixed_body x)) b) i p);
+    })
+    e
+
+-- a body at the front of the input
+pub body_taken : (input body rest : List ℕ) (kind : ℕ) (a b : Tail) →
+    Opens input kind body rest → TakesBody kind body a b → TakesFront input a rest b
+body_taken input body rest kind a b o t =
+    record { value = t.value; begins = pod_read input body rest kind t.value o t.its_type t.its_body; text = t.text }
 
 -- some first members are rewritten, and this is left
 pub record MembersSoFar (body left : List ℕ) (old new : Tail) : Type 0 where
@@ -159,122 +191,77 @@ begun r type start a b e s h = record {
   header = IfOk-at_ok (λ _. TailAppends a (word_bytes 0 ++ word_bytes type) b) e h;
 }
 
--- a struct at the front was begun, and its members are rewritten
-pub record IsStructSoFar (input rest : List ℕ) (start : ℕ) (old head new : Tail) : Type 0 where
-  pub values : Trees
-  pub begins : BeginsWith input (struct values) rest
-  pub writable : IsWritable (struct values)
+-- a pod at the front was begun there, and the body of its text is written
+pub record IsBodyWritten (input rest : List ℕ) (start : ℕ) (old new : Tail) : Type 0 where
+  pub value : Tree
+  pub begins : BeginsWith input value rest
   pub place : start ≡ length (tail_bytes old)
-  pub header : IsExtended tail_bytes tail_refuses old (word_bytes 0 ++ word_bytes struct_type) head
-  pub written : AreWritten tail_bytes tail_refuses head values new
+  pub inside : TailAppends old ((word_bytes 0 ++ word_bytes (type_of value)) ++ text_body value) new
+  pub whole : IsWholeSize (length (text_body value))
+  pub fits : length (text_body value) < size_limit
 
-pub struct_so_far : (input body rest : List ℕ) (kind start : ℕ) (a head b : Tail) → IsBytes input →
+pub struct_written : (input body rest : List ℕ) (kind start : ℕ) (a head b : Tail) →
     Opens input kind body rest → kind ≡ struct_type → IsBegun struct_type start a head →
-    TakesMembers body head b → IsStructSoFar input rest start a head b
-struct_so_far input body rest kind start a head b f o k p t =
+    TakesMembers body head b → IsBodyWritten input rest start a b
+struct_written input body rest kind start a head b o k p t =
     let v = struct t.values in
-    let r = pod_read input body rest kind v o (sym k) t.members in
-    let w = writable_reading input v f r.begins in
+    let small : ¬ (size_limit ≤ length (text_body v)) = λ l. not_too_large v body o.fits t.members (inl l) in
     record {
-      values = t.values;
-      begins = r;
-      writable = w;
+      value = v;
+      begins = pod_read input body rest kind v o (sym k) t.members;
       place = p.place;
-      header = extended a head _ p.header;
-      written = record {
-        texts = extended head b _ t.texts;
-        typed = typed (front_of input) v (IsBytes-front_of input f) r.begins.pod;
-        no_nul = w.no_nul;
-        fits = λ l. w.fits (inr l);
-      };
+      inside = appends_both a head b (word_bytes 0 ++ word_bytes struct_type) (member_texts t.values) p.header t.texts;
+      whole = whole_members t.values;
+      fits = omega (arith, small);
     }
 
-pub room_for_struct : (input rest : List ℕ) (start : ℕ) (a head b : Tail) →
-    IsStructSoFar input rest start a head b → start + header_size ≤ length (tail_bytes b)
-room_for_struct input rest start a head b s =
-    struct_room a head b start s.values s.place s.header s.written
-
--- its size fits
-pub struct_fits : {T : Type 0} (r : Result T GenError) (input rest : List ℕ) (start : ℕ) (a head b : Tail) →
-    IsStructSoFar input rest start a head b →
-    IfErr r (λ e. (e ≡ TooLarge) × (size_limit ≤ begun_length (tail_bytes b) start)) →
-    IfErr r (λ e. e ≡ OutOfMemory)
-struct_fits r input rest start a head b s h =
-    let v = struct s.values in
-    IfErr-weaker r _ _
-    (λ e q. memory_alone {lacks = λ d. d ≡ OutOfMemory} v e (λ d p. p) s.writable
-    (struct_size_refused (λ d. d ≡ OutOfMemory) a head b start v s.values refl s.place s.header s.written e q))
-    h
-
-pub struct_taken : (input rest : List ℕ) (start : ℕ) (a head b c : Tail) →
-    IsStructSoFar input rest start a head b → IsClosed tail_bytes tail_refuses b start c → TakesFront input a rest c
-struct_taken input rest start a head b c s k =
-    let v = struct s.values in
-    let w = struct_written a head b c start v s.values refl s.place s.header s.written k in
-    record { value = v; begins = s.begins; text = appended a c _ w.text }
-
--- an object at the front was begun, and its properties are rewritten
-pub record IsObjectSoFar (input rest : List ℕ) (start t i : ℕ) (old head named new : Tail) : Type 0 where
-  pub values : Properties
-  pub begins : BeginsWith input (object t i values) rest
-  pub writable : IsWritable (object t i values)
-  pub words : (t < 2 ^ 32) × (i < 2 ^ 32)
-  pub place : start ≡ length (tail_bytes old)
-  pub header : IsExtended tail_bytes tail_refuses old (word_bytes 0 ++ word_bytes object_type) head
-  pub name : IsExtended tail_bytes tail_refuses head (key_words t i) named
-  pub written : ArePropertiesWritten tail_bytes tail_refuses named values new
-
-pub object_so_far : (input body behind rest : List ℕ) (kind start t i : ℕ) (a head named b : Tail) →
-    IsBytes input → Opens input kind body rest → kind ≡ object_type → header_size ≤ length body →
+pub object_written : (input body behind rest : List ℕ) (kind start t i : ℕ) (a head named b : Tail) →
+    Opens input kind body rest → kind ≡ object_type → header_size ≤ length body →
     behind ≡ drop header_size body → t ≡ word_at body 0 → i ≡ word_at body 4 →
     IsBegun object_type start a head → TailAppends head (key_words t i) named →
-    TakesProperties behind named b → IsObjectSoFar input rest start t i a head named b
-object_so_far input body behind rest kind start t i a head named b f o k l d e0 e4 p q h =
-    let v = object t i h.values in
-    let its_properties = subst (AreProperties h.values) d h.properties in
-    let r = pod_read input body rest kind v o (sym k) (l, e0, e4, its_properties) in
-    let w = writable_reading input v f r.begins in
-    let y = typed (front_of input) v (IsBytes-front_of input f) r.begins.pod in
+    TakesProperties behind named b → IsBodyWritten input rest start a b
+object_written input body behind rest kind start t i a head named b o k l d e0 e4 p q h =
+    let ps = h.values in
+    let v = object t i ps in
+    let its_properties = subst (AreProperties ps) d h.properties in
+    let its_body : IsBody v body = (l, e0, e4, its_properties) in
+    let small : ¬ (size_limit ≤ length (text_body v)) = λ y. not_too_large v body o.fits its_body (inl y) in
+    let same : key_words t i ++ property_texts ps ≡ text_body v =
+    append_assoc (word_bytes t) (word_bytes i) (property_texts ps) in
+    let size = length-append (key_words t i) (property_texts ps) in
+    let words = two_words_length t i in
+    let all = whole_properties ps in
+    let long = ap length same in
     record {
-      values = h.values;
-      begins = r;
-      writable = w;
-      words = (y.0, y.1);
+      value = v;
+      begins = pod_read input body rest kind v o (sym k) its_body;
       place = p.place;
-      header = extended a head _ p.header;
-      name = extended head named _ q;
-      written = record {
-        texts = extended named b _ h.texts;
-        typed = y.2;
-        no_nul = w.no_nul;
-        fits = λ n. w.fits (inr n);
-      };
+      inside = appends_both a head b (word_bytes 0 ++ word_bytes object_type) (text_body v) p.header
+          (appends_as head b _ _ same (appends_both head named b (key_words t i) (property_texts ps) q h.texts));
+      whole = omega arith;
+      fits = omega (arith, small);
     }
 
-pub room_for_object : (input rest : List ℕ) (start t i : ℕ) (a head named b : Tail) →
-    IsObjectSoFar input rest start t i a head named b → start + header_size ≤ length (tail_bytes b)
-room_for_object input rest start t i a head named b s =
-    object_room a head named b start t i s.values s.place s.header s.name s.written
+-- so there is room for its header,
+pub room_for_size : (input rest : List ℕ) (start : ℕ) (a b : Tail) →
+    IsBodyWritten input rest start a b → start + header_size ≤ length (tail_bytes b)
+room_for_size input rest start a b s =
+    room_for_header a b start (type_of s.value) (text_body s.value) s.place (extended a b _ s.inside)
 
--- its size fits
-pub object_fits : {T : Type 0} (r : Result T GenError) (input rest : List ℕ) (start t i : ℕ)
-    (a head named b : Tail) → IsObjectSoFar input rest start t i a head named b →
+-- its size isn't refused,
+pub size_taken : {T : Type 0} (r : Result T GenError) (input rest : List ℕ) (start : ℕ) (a b : Tail) →
+    IsBodyWritten input rest start a b →
     IfErr r (λ e. (e ≡ TooLarge) × (size_limit ≤ begun_length (tail_bytes b) start)) →
     IfErr r (λ e. e ≡ OutOfMemory)
-object_fits r input rest start t i a head named b s h =
-    let v = object t i s.values in
-    IfErr-weaker r _ _
-    (λ e q. memory_alone {lacks = λ d. d ≡ OutOfMemory} v e (λ d p. p) s.writable
-    (object_size_refused (λ d. d ≡ OutOfMemory) a head named b start t i v s.values refl s.place s.header s.name
-    s.written e q))
-    h
+size_taken r input rest start a b s h =
+    let size = begun_size a b start (type_of s.value) (text_body s.value) s.place (extended a b _ s.inside) in
+    let fits = s.fits in
+    IfErr-weaker r _ _ (λ e q. absurd (let large = q.1 in omega arith)) h
 
-pub object_taken : (input rest : List ℕ) (start t i : ℕ) (a head named b c : Tail) →
-    IsObjectSoFar input rest start t i a head named b → IsClosed tail_bytes tail_refuses b start c →
-    TakesFront input a rest c
-object_taken input rest start t i a head named b c s k =
-    let v = object t i s.values in
-    let w =
-    object_written a head named b c start t i v s.values s.words.0 s.words.1 refl s.place s.header s.name
-    s.written k in
-    record { value = v; begins = s.begins; text = appended a c _ w.text }
+-- and with it the pod is rewritten
+pub pod_taken : (input rest : List ℕ) (start : ℕ) (a b c : Tail) →
+    IsBodyWritten input rest start a b → IsClosed tail_bytes tail_refuses b start c → TakesFront input a rest c
+pod_taken input rest start a b c s k =
+    let v = s.value in
+    let z = closed_text a b c start (type_of v) (text_body v) s.whole s.place (extended a b _ s.inside) k in
+    record { value = v; begins = s.begins; text = appended a c _ z.0 }

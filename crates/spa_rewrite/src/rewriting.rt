@@ -5,9 +5,10 @@ ghost use Rattle.spa_format.specs.Front.{HasFront, IsRefused, rest_of};
 ghost use Rattle.spa_format.specs.Pod.{AreMembers};
 ghost use Rattle.spa_format.specs.Tree.{Trees};
 ghost use Rattle.spa_read.specs.Reading.{IsShortAt, Names, OnFault, OnMemory};
-ghost use Rattle.spa_rewrite.specs.Rewriting.{AreRewritten, IsLeft, IsRewriting};
+ghost use Rattle.spa_rewrite.specs.Rewriting.{AreRewritten, IsLeft, IsRewriting, RefusesFront, TakesMembers};
+ghost use Rattle.spa_rewrite.specs.Tails.{KeepsStart};
 
-use crate::pod::{rewrite_members, rewrite_pod};
+use crate::pod::rewrite_pod;
 use crate::tail::Tail;
 use spa_fixed::DeserializeError;
 use spa_read::error_at;
@@ -30,10 +31,11 @@ pub fn rewrite(alloc: Global, input: &[u8]) -> Result<(&[u8], Vec<u8>), Deserial
     ensures short_first { ¬ (HasFront input.now) → IsErrAnd result (IsShortAt input.now) }
     ensures memory { IfErr result (OnMemory (HasFront input.now)) }
 {
+    let mut left = input;
     let mut tail = Tail::behind(Vec::new(alloc));
-    match rewrite_pod(alloc, input, &mut tail) {
-        Ok(rest) => Ok((rest, tail.into_whole())),
-        Err(refused) => Err(error_at(refused.place, refused.why)),
+    match rewrite_pod(alloc, &mut left, &mut tail) {
+        Ok(()) => Ok((left, tail.into_whole())),
+        Err(why) => Err(error_at(left, why)),
     }
 }
 
@@ -62,14 +64,36 @@ pub fn rewrite_all<'a>(
     // No rewriting is longer than its pod. Where so much memory isn't there at once, each growth asks for its own.
     let _ = bytes.reserve(input.len());
     let mut tail = Tail::behind(bytes);
-    match rewrite_members(alloc, input, &mut tail) {
+    match rewrite_pods(alloc, input, &mut tail) {
         Ok(()) => {
             *out = tail.into_whole();
             Ok(())
         }
-        Err((left, refused)) => {
+        Err(refusal) => {
             *out = tail.into_start();
-            Err((left, error_at(refused.place, refused.why)))
+            Err(refusal)
         }
     }
+}
+
+/// Appends the rewritings of all pods that the input consists of, behind the bytes that stay.
+fn rewrite_pods<'a>(
+    alloc: Global,
+    input: &'a [u8],
+    tail: &mut Tail,
+) -> Result<(), (&'a [u8], DeserializeError<&'a [u8]>)>
+    ensures rewritten { OnOk result (TakesMembers input.now tail.old tail.new) }
+    ensures start { OnErr result (KeepsStart tail.old tail.new) }
+    ensures left { IfErr result (λ refusal. IsLeft input.now refusal.0.now) }
+    ensures refused { IfErr result (λ refusal. RefusesFront refusal.0.now refusal.1) }
+{
+    let mut left = input;
+    while !left.is_empty() {
+        let mut place = left;
+        match rewrite_pod(alloc, &mut place, tail) {
+            Ok(()) => left = place,
+            Err(why) => return Err((left, error_at(place, why))),
+        }
+    }
+    Ok(())
 }

@@ -49,7 +49,7 @@ property_texts_join (property k f v ps) qs =
     ∙ sym (append_assoc (key_words k f ++ text_of v) (property_texts ps) (property_texts qs))
     ∙ ap (λ l. l ++ property_texts qs) (sym (property_text k f v ps))
 
-whole_properties : (ps : Properties) → IsWholeSize (length (property_texts ps))
+pub whole_properties : (ps : Properties) → IsWholeSize (length (property_texts ps))
 whole_properties no_properties = refl
 whole_properties (property k f v ps) =
     let e = length-property_text k f v ps in

@@ -30,7 +30,7 @@ member_texts_join (member v vs) ws =
 pub whole_text : (type : ℕ) (body : List ℕ) → IsWholeSize (length (framed_text type body))
 whole_text type body = let e = length-framed_text type body in omega arith
 
-whole_members : (vs : Trees) → IsWholeSize (length (member_texts vs))
+pub whole_members : (vs : Trees) → IsWholeSize (length (member_texts vs))
 whole_members no_trees = refl
 whole_members (member v vs) =
     let e = length-append (text_of v) (member_texts vs) in

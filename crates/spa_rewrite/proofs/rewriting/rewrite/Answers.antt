@@ -19,6 +19,5 @@ returns-in-Ok-clause-rewriting c =
 
 pub returns-clause-refused : goal.returns-clause-refused
 returns-clause-refused c =
-    let refused = c.in-Err.refused in
     (subst (RefusesFront c.args.input.now) (sym c.error_at.ensures)
-    (front_refused _ refused.place refused.why c.in-Err.ensures.refused.says)).refused
+    (front_refused _ c.rewrite_pod.new.left c.in-Err.why c.in-Err.ensures.refused.says)).refused

@@ -9,8 +9,6 @@ mod getters;
 pub mod laws;
 mod pod;
 mod props;
-#[cfg(test)]
-mod tests;
 mod type_tests;
 
 pub use fields::{PodStruct, PodStructIter};

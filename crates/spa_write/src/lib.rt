@@ -5,8 +5,6 @@ mod frame;
 pub mod laws;
 mod leaf;
 mod serializer;
-#[cfg(test)]
-mod tests;
 mod text;
 mod value;
 

@@ -1,8 +1,11 @@
 //! Worked examples, and each call once.
-use crate::{DeserializeSuccess, PodDeserialize, PodDeserializer};
-use spa_fixed::DeserializeError;
+use crate::bytes::bytes_of;
+use crate::compare::assert_said;
+use spa_fixed::{DeserializeError, Fault};
+use spa_read::{DeserializeSuccess, PodDeserialize, PodDeserializer};
 use spa_value::Value;
 use std::alloc::{AllocError, Global};
+use std::process::Abort;
 use std::test::Fail;
 
 /// Inputs as words, and what a read answers: the value, as its `Debug` text, and how many bytes follow its pod; or the
@@ -91,6 +94,9 @@ const ROWS: &[(&[u32], &str)] = &[
 /// How deep structs are nested in the deepest example.
 const DEPTH: u32 = 300;
 
+/// What a read answers: what follows the pod and its value, or the refusal.
+type Answer<'a> = Result<(&'a [u8], Value), DeserializeError<&'a [u8]>>;
+
 /// A user's type, which is read by the deserializer's own calls.
 #[derive(Drop)]
 struct Any(Value);
@@ -110,64 +116,108 @@ impl<'de> PodDeserialize<'de> for Any {
     }
 }
 
+/// What the read of any value answers.
+fn any_read(alloc: Global, input: &[u8]) -> Answer<'_> {
+    PodDeserializer::deserialize_any_from(alloc, input)
+}
+
+/// What the read by the type `Value` answers.
+fn typed_read(alloc: Global, input: &[u8]) -> Answer<'_> {
+    PodDeserializer::deserialize_from(alloc, input)
+}
+
+/// What the read by the user's type answers.
+fn user_read(alloc: Global, input: &[u8]) -> Answer<'_> {
+    let (rest, Any(value)) = PodDeserializer::deserialize_from(alloc, input)?;
+    Ok((rest, value))
+}
+
+fn said(alloc: Global, answer: Answer) -> Result<String, AllocError> {
+    answer_said(alloc, &answer)
+}
+
 /// What a read answers, as a row has it.
-fn said(
-    alloc: Global,
-    answer: Result<(&[u8], Value), DeserializeError<&[u8]>>,
-) -> Result<String, AllocError> {
+fn answer_said(alloc: Global, answer: &Answer) -> Result<String, AllocError> {
     match answer {
-        Ok((rest, value)) => format!(in alloc; "{value:?}, {} left", rest.len()),
-        Err(DeserializeError::Nom(fault)) => {
-            format!(in alloc; "{:?} at {}", fault.kind, fault.input.len())
-        }
+        Ok((rest, value)) => value_said(alloc, rest.len(), value),
+        Err(DeserializeError::Nom(fault)) => fault_said(alloc, fault),
         Err(refusal) => format!(in alloc; "{}", refusal.kind()),
     }
 }
 
-fn bytes_of(alloc: Global, words: &[u32]) -> Result<Vec<u8>, AllocError> {
-    let mut bytes = Vec::new(alloc);
-    for word in words {
-        bytes.extend_from_slice(&word.to_le_bytes())?;
-    }
-    Ok(bytes)
+fn value_said(alloc: Global, left: usize, value: &Value) -> Result<String, AllocError> {
+    format!(in alloc; "{value:?}, {left} left")
 }
 
-#[test]
-fn worked_examples(rt: HostRuntime) -> Result<(), Fail> {
-    let alloc = rt.alloc();
-    for (words, wanted) in ROWS {
-        let input = bytes_of(alloc, words)?;
-        let input = input.as_slice();
-        let found = said(alloc, PodDeserializer::deserialize_any_from(alloc, input))?;
-        assert_eq!(rt; found.as_str(), *wanted, "at {words:?}");
-        let found = said(alloc, PodDeserializer::deserialize_from(alloc, input))?;
-        assert_eq!(rt; found.as_str(), *wanted, "by its type, at {words:?}");
-        let answer = match PodDeserializer::deserialize_from::<Any>(alloc, input) {
-            Ok((rest, Any(value))) => Ok((rest, value)),
-            Err(refusal) => Err(refusal),
-        };
-        let found = said(alloc, answer)?;
-        assert_eq!(rt; found.as_str(), *wanted, "by a user's type, at {words:?}");
-    }
+fn fault_said(alloc: Global, fault: &Fault<&[u8]>) -> Result<String, AllocError> {
+    format!(in alloc; "{:?} at {}", fault.kind, fault.input.len())
+}
+
+fn any_said(alloc: Global, input: &[u8]) -> Result<String, AllocError> {
+    said(alloc, any_read(alloc, input))
+}
+
+fn typed_said(alloc: Global, input: &[u8]) -> Result<String, AllocError> {
+    said(alloc, typed_read(alloc, input))
+}
+
+fn user_said(alloc: Global, input: &[u8]) -> Result<String, AllocError> {
+    said(alloc, user_read(alloc, input))
+}
+
+fn assert_at(rt: &impl Abort, found: &str, wanted: &str, way: &str, words: &[u32]) {
+    assert_eq!(rt; found, wanted, "{way}, at {words:?}");
+}
+
+/// Compares what each way of reading these words answers with what is wanted of all.
+fn assert_read(rt: &impl Abort, alloc: Global, words: &[u32], wanted: &str) -> Result<(), Fail> {
+    let input = bytes_of(alloc, words)?;
+    let any = any_said(alloc, input.as_slice())?;
+    assert_at(rt, any.as_str(), wanted, "as any", words);
+    let typed = typed_said(alloc, input.as_slice())?;
+    assert_at(rt, typed.as_str(), wanted, "by its type", words);
+    let user = user_said(alloc, input.as_slice())?;
+    assert_at(rt, user.as_str(), wanted, "by a user's type", words);
     Ok(())
 }
 
 #[test]
-fn nested_structs(rt: HostRuntime) -> Result<(), Fail> {
-    let alloc = rt.alloc();
+fn worked_examples(rt: HostRuntime) -> Result<(), Fail> {
+    for (words, wanted) in ROWS {
+        assert_read(&rt, rt.alloc(), words, wanted)?;
+    }
+    Ok(())
+}
+
+/// Structs, each the one member of the one around it.
+fn nested(alloc: Global) -> Result<Vec<u8>, AllocError> {
     let mut input = Vec::new(alloc);
-    let mut wanted = String::new(alloc);
     for level in 0..DEPTH {
         input.extend_from_slice(&((DEPTH - 1 - level) * 8).to_le_bytes())?;
         input.extend_from_slice(&14u32.to_le_bytes())?;
+    }
+    Ok(input)
+}
+
+/// What their read answers.
+fn nested_said(alloc: Global) -> Result<String, AllocError> {
+    let mut wanted = String::new(alloc);
+    for _ in 0..DEPTH {
         wanted.push_str("Struct([")?;
     }
     for _ in 0..DEPTH {
         wanted.push_str("])")?;
     }
     wanted.push_str(", 0 left")?;
-    let answer = PodDeserializer::deserialize_any_from(alloc, input.as_slice());
-    let found = said(alloc, answer)?;
-    assert_eq!(rt; found.as_str(), wanted.as_str());
+    Ok(wanted)
+}
+
+#[test]
+fn nested_structs(rt: HostRuntime) -> Result<(), Fail> {
+    let alloc = rt.alloc();
+    let input = nested(alloc)?;
+    let wanted = nested_said(alloc)?;
+    let found = any_said(alloc, input.as_slice())?;
+    assert_said(&rt, found.as_str(), wanted.as_str(), "nested structs");
     Ok(())
 }

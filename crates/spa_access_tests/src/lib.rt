@@ -1,0 +1,13 @@
+//! Tests of views, readers and writers, each by its own calls. There is nothing here but tests.
+#![tactic(auto)]
+
+#[cfg(test)]
+mod bytes;
+#[cfg(test)]
+mod compare;
+#[cfg(test)]
+mod reading;
+#[cfg(test)]
+mod viewing;
+#[cfg(test)]
+mod writing;

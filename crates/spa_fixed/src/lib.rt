@@ -22,6 +22,3 @@ pub use gen_error::GenError;
 pub use pod::put_fixed;
 pub use sink::{PodOutput, PodSink};
 pub use words::{HEADER_LEN, put_padding, put_two, put_wide, put_word, two_words, u32_at, u64_at};
-
-#[cfg(test)]
-mod tests;

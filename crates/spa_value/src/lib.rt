@@ -7,8 +7,6 @@ mod copies;
 mod equality;
 pub mod laws;
 mod object;
-#[cfg(test)]
-mod tests;
 mod value;
 
 pub use array::ValueArray;

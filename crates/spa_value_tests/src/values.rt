@@ -1,9 +1,8 @@
-//! Clones and comparisons of values from outside, and each call once. A table that takes memory is a function of its rows.
-use crate::{ChoiceValue, Object, Property, PropertyFlags, Value, ValueArray};
+//! Values, from outside. A table that takes memory is a function of its rows.
 use bitflags::Flags;
 use spa_utils::{Choice, ChoiceEnum, ChoiceFlags, Fd, Float32, Float64, Fraction, Id, Rectangle};
+use spa_value::{ChoiceValue, Object, Property, PropertyFlags, Value, ValueArray};
 use std::alloc::{AllocError, Global};
-use std::test::Fail;
 
 const NARROW: Rectangle = Rectangle {
     width: 1,
@@ -16,7 +15,32 @@ fn text(alloc: Global, text: &str) -> Result<Value, AllocError> {
     Ok(Value::String(String::from_str(alloc, text)?))
 }
 
-fn int_property(key: u32, flags: u32, value: i32) -> Property {
+/// The same elements.
+fn copied<T: Copy>(alloc: Global, elements: &[T]) -> Result<Vec<T>, AllocError> {
+    elements.to_vec(alloc)
+}
+
+/// One value alone.
+fn single<T: Drop>(alloc: Global, value: T) -> Result<Vec<T>, AllocError> {
+    let mut values = Vec::new(alloc);
+    values.push(value)?;
+    Ok(values)
+}
+
+/// Two values.
+fn pair<T: Drop>(alloc: Global, first: T, second: T) -> Result<Vec<T>, AllocError> {
+    let mut values = single(alloc, first)?;
+    values.push(second)?;
+    Ok(values)
+}
+
+/// Puts a value at the end of a list.
+fn add<T: Drop>(values: &mut Vec<T>, value: Result<T, AllocError>) -> Result<(), AllocError> {
+    values.push(value?)?;
+    Ok(())
+}
+
+pub(crate) fn int_property(key: u32, flags: u32, value: i32) -> Property {
     Property {
         key,
         flags: PropertyFlags::from_bits_retain(flags),
@@ -54,14 +78,14 @@ fn flagged_object(alloc: Global) -> Result<Value, AllocError> {
     let property = Property {
         key: 9,
         flags: PropertyFlags::from_bits_retain(2147483649),
-        value: Value::Struct(vec![in alloc; Value::Int(3)]?),
+        value: Value::Struct(single(alloc, Value::Int(3))?),
     };
-    Ok(object(5, 3, vec![in alloc; property]?))
+    Ok(object(5, 3, single(alloc, property)?))
 }
 
 /// Flags over Id: the default 1, the flags [2], and the choice flags 1.
 fn id_flags(alloc: Global) -> Result<Value, AllocError> {
-    let flags = vec![in alloc; Id(2)]?;
+    let flags = copied(alloc, &[Id(2)])?;
     let default = Id(1);
     Ok(Value::Choice(ChoiceValue::Id(Choice(
         ChoiceFlags::from_bits_retain(1),
@@ -76,10 +100,10 @@ fn worked_value(alloc: Global, row: usize) -> Result<Value, AllocError> {
     match row {
         0 => text(alloc, "1234567"),
         1 => text(alloc, ""),
-        2 => Ok(Value::Struct(vec![in alloc; Value::Int(3)]?)),
+        2 => Ok(Value::Struct(single(alloc, Value::Int(3))?)),
         3 => flagged_object(alloc),
-        4 => Ok(Value::Bytes(vec![in alloc; 1, 2, 3]?)),
-        5 => Ok(Value::ValueArray(ValueArray::Int(vec![in alloc; 10, 15, 19]?))),
+        4 => Ok(Value::Bytes(copied(alloc, &[1, 2, 3])?)),
+        5 => Ok(Value::ValueArray(ValueArray::Int(copied(alloc, &[10, 15, 19])?))),
         6 => Ok(int_choice(0, range(5, 2, 10))),
         _ => id_flags(alloc),
     }
@@ -129,19 +153,16 @@ fn list(alloc: Global, row: usize) -> Result<Value, AllocError> {
         1 => text(alloc, "a"),
         2 => text(alloc, "b"),
         3 => text(alloc, "ab"),
-        4 => Ok(Value::Bytes(vec![in alloc]?)),
-        5 => Ok(Value::Bytes(vec![in alloc; 97]?)),
-        6 => Ok(Value::Bytes(vec![in alloc; 98]?)),
-        7 => Ok(Value::Bytes(vec![in alloc; 97, 98]?)),
-        8 => Ok(Value::Struct(vec![in alloc]?)),
-        9 => Ok(Value::Struct(vec![in alloc; Value::None]?)),
-        10 => Ok(Value::Struct(vec![in alloc; Value::None, Value::None]?)),
-        11 => Ok(Value::Struct(vec![in alloc; Value::None, Value::Int(3)]?)),
-        12 => Ok(Value::Struct(vec![in alloc; Value::Int(3), Value::None]?)),
-        _ => {
-            let empty = Value::Struct(vec![in alloc]?);
-            Ok(Value::Struct(vec![in alloc; empty]?))
-        }
+        4 => Ok(Value::Bytes(Vec::new(alloc))),
+        5 => Ok(Value::Bytes(copied(alloc, &[97])?)),
+        6 => Ok(Value::Bytes(copied(alloc, &[98])?)),
+        7 => Ok(Value::Bytes(copied(alloc, &[97, 98])?)),
+        8 => Ok(Value::Struct(Vec::new(alloc))),
+        9 => Ok(Value::Struct(single(alloc, Value::None)?)),
+        10 => Ok(Value::Struct(pair(alloc, Value::None, Value::None)?)),
+        11 => Ok(Value::Struct(pair(alloc, Value::None, Value::Int(3))?)),
+        12 => Ok(Value::Struct(pair(alloc, Value::Int(3), Value::None)?)),
+        _ => nested_structs(alloc, 2),
     }
 }
 
@@ -150,23 +171,23 @@ const ARRAYS: usize = 17;
 /// Arrays, no two of them equal: of units where they differ in number, of other types also by an element.
 fn array(alloc: Global, row: usize) -> Result<ValueArray, AllocError> {
     match row {
-        0 => Ok(ValueArray::None(vec![in alloc]?)),
-        1 => Ok(ValueArray::None(vec![in alloc; (), ()]?)),
-        2 => Ok(ValueArray::Bool(vec![in alloc]?)),
-        3 => Ok(ValueArray::Bool(vec![in alloc; true]?)),
-        4 => Ok(ValueArray::Id(vec![in alloc; Id(1)]?)),
-        5 => Ok(ValueArray::Int(vec![in alloc]?)),
-        6 => Ok(ValueArray::Int(vec![in alloc; 1]?)),
-        7 => Ok(ValueArray::Int(vec![in alloc; 1, 2]?)),
-        8 => Ok(ValueArray::Int(vec![in alloc; 2, 1]?)),
-        9 => Ok(ValueArray::Long(vec![in alloc; 1]?)),
-        10 => Ok(ValueArray::Float(vec![in alloc; Float32(1)]?)),
-        11 => Ok(ValueArray::Double(vec![in alloc; Float64(1)]?)),
-        12 => Ok(ValueArray::Rectangle(vec![in alloc; NARROW]?)),
-        13 => Ok(ValueArray::Rectangle(vec![in alloc; NARROW, NARROW]?)),
-        14 => Ok(ValueArray::Fraction(vec![in alloc; HALF]?)),
-        15 => Ok(ValueArray::Fd(vec![in alloc; Fd(1)]?)),
-        _ => Ok(ValueArray::Fd(vec![in alloc; Fd(2)]?)),
+        0 => Ok(ValueArray::None(Vec::new(alloc))),
+        1 => Ok(ValueArray::None(copied(alloc, &[(), ()])?)),
+        2 => Ok(ValueArray::Bool(Vec::new(alloc))),
+        3 => Ok(ValueArray::Bool(copied(alloc, &[true])?)),
+        4 => Ok(ValueArray::Id(copied(alloc, &[Id(1)])?)),
+        5 => Ok(ValueArray::Int(Vec::new(alloc))),
+        6 => Ok(ValueArray::Int(copied(alloc, &[1])?)),
+        7 => Ok(ValueArray::Int(copied(alloc, &[1, 2])?)),
+        8 => Ok(ValueArray::Int(copied(alloc, &[2, 1])?)),
+        9 => Ok(ValueArray::Long(copied(alloc, &[1])?)),
+        10 => Ok(ValueArray::Float(copied(alloc, &[Float32(1)])?)),
+        11 => Ok(ValueArray::Double(copied(alloc, &[Float64(1)])?)),
+        12 => Ok(ValueArray::Rectangle(copied(alloc, &[NARROW])?)),
+        13 => Ok(ValueArray::Rectangle(copied(alloc, &[NARROW, NARROW])?)),
+        14 => Ok(ValueArray::Fraction(copied(alloc, &[HALF])?)),
+        15 => Ok(ValueArray::Fd(copied(alloc, &[Fd(1)])?)),
+        _ => Ok(ValueArray::Fd(copied(alloc, &[Fd(2)])?)),
     }
 }
 
@@ -184,28 +205,28 @@ fn choice_over_int(alloc: Global, row: usize) -> Result<Value, AllocError> {
         6 => step(default, 2, 10, 1),
         7 => step(default, 2, 10, 2),
         8 => {
-            let alternatives = vec![in alloc]?;
+            let alternatives = Vec::new(alloc);
             ChoiceEnum::Enum {
                 default,
                 alternatives,
             }
         }
         9 => {
-            let alternatives = vec![in alloc; 2, 10]?;
+            let alternatives = copied(alloc, &[2, 10])?;
             ChoiceEnum::Enum {
                 default,
                 alternatives,
             }
         }
         10 => {
-            let alternatives = vec![in alloc; 10, 2]?;
+            let alternatives = copied(alloc, &[10, 2])?;
             ChoiceEnum::Enum {
                 default,
                 alternatives,
             }
         }
         _ => {
-            let flags = vec![in alloc; 2, 10]?;
+            let flags = copied(alloc, &[2, 10])?;
             ChoiceEnum::Flags { default, flags }
         }
     };
@@ -247,144 +268,109 @@ const OBJECTS: usize = 9;
 /// Objects, no two of them equal.
 fn distinct_object(alloc: Global, row: usize) -> Result<Value, AllocError> {
     match row {
-        0 => Ok(object(5, 3, vec![in alloc]?)),
-        1 => Ok(object(6, 3, vec![in alloc]?)),
-        2 => Ok(object(5, 4, vec![in alloc]?)),
-        3 => Ok(object(5, 3, vec![in alloc; property(0), property(1)]?)),
-        4 => Ok(object(5, 3, vec![in alloc; property(1), property(0)]?)),
-        _ => Ok(object(5, 3, vec![in alloc; property(row % 5)]?)),
+        0 => Ok(object(5, 3, Vec::new(alloc))),
+        1 => Ok(object(6, 3, Vec::new(alloc))),
+        2 => Ok(object(5, 4, Vec::new(alloc))),
+        3 => Ok(object(5, 3, pair(alloc, property(0), property(1))?)),
+        4 => Ok(object(5, 3, pair(alloc, property(1), property(0))?)),
+        _ => Ok(object(5, 3, single(alloc, property(row % 5))?)),
     }
 }
 
-/// Values of each variant, no two of them equal.
-fn distinct_values(alloc: Global) -> Result<Vec<Value>, AllocError> {
-    let mut values = Vec::new(alloc);
+/// Values of each variant, no two of them equal, put at the end of a list.
+fn add_distinct(alloc: Global, values: &mut Vec<Value>) -> Result<(), AllocError> {
     for row in 0..FIXED_VALUES {
-        values.push(fixed_value(row))?;
+        add(values, Ok(fixed_value(row)))?;
     }
     for row in 0..LISTS {
-        values.push(list(alloc, row)?)?;
+        add(values, list(alloc, row))?;
     }
     for row in 0..ARRAYS {
-        values.push(Value::ValueArray(array(alloc, row)?))?;
+        add(values, array(alloc, row).map(Value::ValueArray))?;
     }
     for row in 0..INT_CHOICES {
-        values.push(choice_over_int(alloc, row)?)?;
+        add(values, choice_over_int(alloc, row))?;
     }
     for row in 0..CHOICES {
-        values.push(Value::Choice(choice(row)))?;
+        add(values, Ok(Value::Choice(choice(row))))?;
     }
     for row in 0..OBJECTS {
-        values.push(distinct_object(alloc, row)?)?;
-    }
-    Ok(values)
-}
-
-#[test]
-fn clones_equal_their_sources(rt: HostRuntime) -> Result<(), Fail> {
-    for row in 0..WORKED_VALUES {
-        let value = worked_value(rt.alloc(), row)?;
-        assert_eq!(rt; value.clone()?, value, "at {row}");
-    }
-    for value in distinct_values(rt.alloc())? {
-        assert_eq!(rt; value.clone()?, value, "at {value:?}");
+        add(values, distinct_object(alloc, row))?;
     }
     Ok(())
 }
 
-#[test]
-fn clones_of_parts_equal_their_sources(rt: HostRuntime) -> Result<(), Fail> {
-    let alloc = rt.alloc();
+/// Values of each variant, no two of them equal.
+pub(crate) fn distinct_values(alloc: Global) -> Result<Vec<Value>, AllocError> {
+    let mut values = Vec::new(alloc);
+    add_distinct(alloc, &mut values)?;
+    Ok(values)
+}
+
+/// The worked values.
+pub(crate) fn worked_values(alloc: Global) -> Result<Vec<Value>, AllocError> {
+    let mut values = Vec::new(alloc);
+    for row in 0..WORKED_VALUES {
+        add(&mut values, worked_value(alloc, row))?;
+    }
+    Ok(values)
+}
+
+/// Arrays, no two of them equal.
+pub(crate) fn arrays(alloc: Global) -> Result<Vec<ValueArray>, AllocError> {
+    let mut arrays = Vec::new(alloc);
     for row in 0..ARRAYS {
-        let array = array(alloc, row)?;
-        assert_eq!(rt; array.clone()?, array, "at {row}");
+        add(&mut arrays, array(alloc, row))?;
     }
+    Ok(arrays)
+}
+
+/// Choices, no two of them equal.
+pub(crate) fn choices(alloc: Global) -> Result<Vec<ChoiceValue>, AllocError> {
+    let mut choices = Vec::new(alloc);
     for row in 0..CHOICES {
-        let choice = choice(row);
-        assert_eq!(rt; choice.clone()?, choice, "at {row}");
+        add(&mut choices, Ok(choice(row)))?;
     }
+    Ok(choices)
+}
+
+/// Properties, no two of them equal.
+pub(crate) fn properties(alloc: Global) -> Result<Vec<Property>, AllocError> {
+    let mut properties = Vec::new(alloc);
     for row in 0..PROPERTIES {
-        let property = property(row);
-        assert_eq!(rt; property.clone()?, property, "at {row}");
+        add(&mut properties, Ok(property(row)))?;
     }
-    let properties = vec![in alloc; property(0), property(1)]?;
+    Ok(properties)
+}
+
+/// An object of two properties, alone.
+pub(crate) fn objects(alloc: Global) -> Result<Vec<Object>, AllocError> {
+    let properties = pair(alloc, property(0), property(1))?;
     let object = Object {
         type_: 5,
         id: 3,
         properties,
     };
-    assert_eq!(rt; object.clone()?, object);
-    Ok(())
+    single(alloc, object)
 }
 
-#[test]
-fn clones_of_deep_structs_equal_their_sources(rt: HostRuntime) -> Result<(), Fail> {
-    let alloc = rt.alloc();
-    let mut value = Value::Struct(vec![in alloc]?);
-    for _ in 0..300 {
-        value = Value::Struct(vec![in alloc; value]?);
+/// So many structs, each but the innermost holding one.
+fn nested_structs(alloc: Global, count: usize) -> Result<Value, AllocError> {
+    let mut value = Value::Struct(Vec::new(alloc));
+    for _ in 1..count {
+        value = Value::Struct(single(alloc, value)?);
     }
-    assert_eq!(rt; value.clone()?, value);
-    assert!(rt; value != Value::Struct(vec![in alloc]?));
-    Ok(())
+    Ok(value)
 }
 
-#[test]
-fn values_equal_themselves_alone(rt: HostRuntime) -> Result<(), Fail> {
-    let values = distinct_values(rt.alloc())?;
-    for (i, value) in values.iter().enumerate() {
-        for (j, other) in values.iter().enumerate() {
-            assert_eq!(rt; value == other, i == j, "at {i} and {j}");
-        }
-    }
-    Ok(())
-}
+/// How many structs stand in one another.
+const DEPTH: usize = 301;
 
-#[test]
-fn parts_equal_themselves_alone(rt: HostRuntime) -> Result<(), Fail> {
-    for i in 0..PROPERTIES {
-        for j in 0..PROPERTIES {
-            assert_eq!(rt; property(i) == property(j), i == j, "at {i} and {j}");
-        }
+/// Structs nested deep, and one struct.
+pub(crate) fn deep_values(alloc: Global) -> Result<Vec<Value>, AllocError> {
+    let mut values = Vec::new(alloc);
+    for depth in [DEPTH, 1] {
+        add(&mut values, nested_structs(alloc, depth))?;
     }
-    for i in 0..ARRAYS {
-        for j in 0..ARRAYS {
-            let equal = array(rt.alloc(), i)? == array(rt.alloc(), j)?;
-            assert_eq!(rt; equal, i == j, "at {i} and {j}");
-        }
-    }
-    for i in 0..CHOICES {
-        for j in 0..CHOICES {
-            assert_eq!(rt; choice(i) == choice(j), i == j, "at {i} and {j}");
-        }
-    }
-    Ok(())
-}
-
-#[test]
-fn new_properties_have_no_flags(rt: HostRuntime) {
-    let property = Property::new(1, Value::Int(3));
-    assert_eq!(rt; property.flags.bits(), 0);
-    assert_eq!(rt; property, int_property(1, 0, 3));
-}
-
-#[test]
-fn property_flags_keep_all_bits(rt: HostRuntime) {
-    let named = [
-        (PropertyFlags::READONLY, 1),
-        (PropertyFlags::HARDWARE, 2),
-        (PropertyFlags::HINT_DICT, 4),
-        (PropertyFlags::MANDATORY, 8),
-        (PropertyFlags::DONT_FIXATE, 16),
-    ];
-    assert_eq!(rt; PropertyFlags::empty().bits(), 0);
-    for bits in [0, 1, 2, 24, 31, 0x8000_0000, 0xffff_ffff] {
-        let flags = PropertyFlags::from_bits_retain(bits);
-        assert_eq!(rt; flags.bits(), bits, "at {bits}");
-        for (flag, bit) in named {
-            assert_eq!(rt; flag.bits(), bit);
-            assert_eq!(rt; flags.contains(flag), bits & bit == bit, "at {bits}");
-            assert_eq!(rt; flags.union(flag).bits(), bits | bit, "at {bits}");
-        }
-    }
+    Ok(values)
 }

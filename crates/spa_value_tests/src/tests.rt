@@ -1,0 +1,9 @@
+//! The tests, by subject.
+mod arrays;
+mod choices;
+mod clones;
+mod equality;
+mod fixed;
+mod outputs;
+mod properties;
+mod refusals;

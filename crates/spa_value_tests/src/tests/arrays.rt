@@ -1,0 +1,156 @@
+//! Bodies of arrays, read and written, with bytes from outside.
+use crate::bytes::{assert_words, bytes_of, cut_bytes};
+use spa_fixed::{
+    CanonicalFixedSizedPod, GenError, HEADER_LEN, Refusal, next_element, open_array, put_array,
+    read_array, u32_at,
+};
+use spa_utils::{Fraction, Id};
+use std::alloc::{AllocError, Global};
+use std::test::Fail;
+
+/// An array's body read as one of this type.
+fn array_of<T: CanonicalFixedSizedPod>(alloc: Global, body: &[u8]) -> Result<Vec<T>, Refusal> {
+    if body.len() < HEADER_LEN {
+        return Err(Refusal::Short);
+    }
+    if u32_at(body, 4) != T::TYPE {
+        return Err(Refusal::InvalidType);
+    }
+    read_array::<T>(alloc, body)
+}
+
+/// The array behind the header of a pod.
+fn array_in<T: CanonicalFixedSizedPod>(alloc: Global, pod: &[u8]) -> Result<Vec<T>, Refusal> {
+    if pod.len() < HEADER_LEN {
+        return Err(Refusal::Short);
+    }
+    array_of::<T>(alloc, &pod[HEADER_LEN..])
+}
+
+/// The pod of an array of these values.
+fn array_text<T: CanonicalFixedSizedPod>(alloc: Global, values: &[T]) -> Result<Vec<u8>, GenError> {
+    let mut out = Vec::new(alloc);
+    put_array(&mut out, values)?;
+    Ok(out)
+}
+
+/// The ints of the body that is the first bytes of these words.
+fn ints_of(alloc: Global, words: &[u32], size: usize) -> Result<Vec<i32>, Refusal> {
+    let body = cut_bytes(alloc, words, size)?;
+    array_of::<i32>(alloc, body.as_slice())
+}
+
+#[test]
+fn arrays_are_read(rt: HostRuntime) -> Result<(), Fail> {
+    let rows: [(&[u32], &[i32]); 2] = [(&[4, 4, 10, 15, 19], &[10, 15, 19]), (&[4, 4], &[])];
+    for (words, wanted) in rows {
+        let read = ints_of(rt.alloc(), words, 4 * words.len())?;
+        assert_eq!(rt; read.as_slice(), wanted, "at {words:?}");
+    }
+    Ok(())
+}
+
+#[test]
+fn arrays_are_refused(rt: HostRuntime) {
+    let rows: [(&[u32], usize, Refusal); 4] = [
+        (&[4, 4, 10, 0], 14, Refusal::WrongSize),
+        (&[8, 4, 10, 0], 16, Refusal::WrongSize),
+        (&[4, 3, 10], 12, Refusal::InvalidType),
+        (&[4, 4], 4, Refusal::Short),
+    ];
+    for (words, size, wanted) in rows {
+        let found = ints_of(rt.alloc(), words, size).err();
+        assert_eq!(rt; found, Some(wanted), "at {words:?}");
+    }
+}
+
+/// The numbers of 64 bits that these words say.
+fn longs_of(alloc: Global, words: &[u32]) -> Result<Vec<i64>, Refusal> {
+    let body = bytes_of(alloc, words)?;
+    array_of::<i64>(alloc, body.as_slice())
+}
+
+#[test]
+fn wide_arrays_are_read(rt: HostRuntime) -> Result<(), Fail> {
+    let longs = longs_of(rt.alloc(), &[8, 5, 1, 0, 0, 1])?;
+    assert_eq!(rt; longs.as_slice(), [1, 4294967296].as_slice());
+    Ok(())
+}
+
+/// How many units these words say.
+fn unit_count(alloc: Global, words: &[u32]) -> Result<usize, Refusal> {
+    let body = bytes_of(alloc, words)?;
+    Ok(array_of::<()>(alloc, body.as_slice())?.len())
+}
+
+#[test]
+fn arrays_of_units_have_no_bytes(rt: HostRuntime) -> Result<(), Fail> {
+    let rows: [(&[u32], Result<usize, Refusal>); 3] = [
+        (&[0, 1], Ok(0)),
+        (&[4, 1], Err(Refusal::WrongSize)),
+        (&[0, 1, 0], Err(Refusal::WrongSize)),
+    ];
+    for (words, wanted) in rows {
+        assert_eq!(rt; unit_count(rt.alloc(), words), wanted, "at {words:?}");
+    }
+    let text = array_text(rt.alloc(), &[(), (), (), (), ()])?;
+    assert_words(&rt, rt.alloc(), text.as_slice(), &[8, 13, 0, 1])
+}
+
+/// What opening an array of ints gives, and after that its first element: the elements, the int, and what follows it.
+fn opened(body: &[u8]) -> Option<(&[u8], i32, &[u8])> {
+    if body.len() < HEADER_LEN || u32_at(body, 4) != i32::TYPE {
+        return None;
+    }
+    let elements = open_array::<i32>(body)?;
+    if elements.len() < i32::SIZE {
+        return None;
+    }
+    let (rest, first) = next_element::<i32>(elements);
+    Some((elements, first, rest))
+}
+
+#[test]
+fn arrays_are_opened_and_read_on(rt: HostRuntime) -> Result<(), Fail> {
+    let body = bytes_of(rt.alloc(), &[4, 4, 10, 15])?;
+    let (elements, first, rest) = opened(body.as_slice()).ok_or("ints")?;
+    assert_words(&rt, rt.alloc(), elements, &[10, 15])?;
+    assert_eq!(rt; first, 10);
+    assert_words(&rt, rt.alloc(), rest, &[15])
+}
+
+/// Three arrays, one after another.
+fn three_arrays(alloc: Global) -> Result<Vec<u8>, GenError> {
+    let mut out = Vec::new(alloc);
+    put_array(&mut out, &[10, 15, 19])?;
+    put_array(&mut out, &[Id(1), Id(2)])?;
+    put_array::<i64, _>(&mut out, &[])?;
+    Ok(out)
+}
+
+#[test]
+fn arrays_are_written(rt: HostRuntime) -> Result<(), Fail> {
+    let text = three_arrays(rt.alloc())?;
+    let pods = [20, 13, 4, 4, 10, 15, 19, 0, 16, 13, 4, 3, 1, 2, 8, 13, 8, 5];
+    assert_words(&rt, rt.alloc(), text.as_slice(), &pods)
+}
+
+/// A hundred fractions, which are more than one block.
+fn fractions(alloc: Global) -> Result<Vec<Fraction>, AllocError> {
+    let mut values = Vec::new(alloc);
+    for num in 0..100 {
+        values.push(Fraction { num, denom: 7 })?;
+    }
+    Ok(values)
+}
+
+/// The bytes of an array of more than one block stand in order.
+#[test]
+fn long_arrays_read_back(rt: HostRuntime) -> Result<(), Fail> {
+    let values = fractions(rt.alloc())?;
+    let text = array_text(rt.alloc(), values.as_slice())?;
+    assert_eq!(rt; text.len(), 816);
+    let read = array_in::<Fraction>(rt.alloc(), text.as_slice())?;
+    assert!(rt; read.as_slice() == values.as_slice());
+    Ok(())
+}

@@ -1,0 +1,146 @@
+//! Bodies of choices, read and written, with bytes from outside.
+use crate::bytes::{assert_words, cut_bytes};
+use bitflags::Flags;
+use spa_fixed::{ChoiceElement, GenError, Refusal, put_choice, read_choice, u32_at};
+use spa_utils::{Choice, ChoiceEnum, ChoiceFlags, Id};
+use std::alloc::{AllocError, Global};
+use std::process::Abort;
+use std::test::Fail;
+
+/// The length in bytes of what stands before the values in a choice's body.
+const HEAD_LEN: usize = 16;
+
+/// A choice's body, which is the first bytes of these words, read as one over this type.
+fn choice_of<T: ChoiceElement>(
+    alloc: Global,
+    words: &[u32],
+    size: usize,
+) -> Result<Choice<T>, Refusal> {
+    let body = cut_bytes(alloc, words, size)?;
+    let body = body.as_slice();
+    if body.len() < HEAD_LEN {
+        return Err(Refusal::Short);
+    }
+    if u32_at(body, 12) != T::TYPE {
+        return Err(Refusal::InvalidType);
+    }
+    read_choice::<T>(alloc, body)
+}
+
+/// The pod of a choice.
+fn choice_text<T: ChoiceElement>(alloc: Global, choice: &Choice<T>) -> Result<Vec<u8>, GenError> {
+    let mut out = Vec::new(alloc);
+    put_choice(&mut out, choice)?;
+    Ok(out)
+}
+
+/// A choice with these flags.
+fn choice<T>(flags: u32, values: ChoiceEnum<T>) -> Choice<T> {
+    Choice(ChoiceFlags::from_bits_retain(flags), values)
+}
+
+/// The choice is read from this body, and written as this pod.
+fn is_choice<T: ChoiceElement + PartialEq>(
+    rt: &impl Abort,
+    alloc: Global,
+    body: &[u32],
+    wanted: &Choice<T>,
+    pod: &[u32],
+) -> Result<(), Fail> {
+    let found = choice_of::<T>(alloc, body, 4 * body.len())?;
+    assert!(rt; found == *wanted, "the choice of {body:?}");
+    let text = choice_text(alloc, &found)?;
+    assert_words(rt, alloc, text.as_slice(), pod)
+}
+
+#[test]
+fn ranges_and_steps(rt: HostRuntime) -> Result<(), Fail> {
+    let range = ChoiceEnum::Range {
+        default: 5,
+        min: 2,
+        max: 10,
+    };
+    let body = [1, 0, 4, 4, 5, 2, 10, 9];
+    let pod = [28, 19, 1, 0, 4, 4, 5, 2, 10, 0];
+    is_choice(&rt, rt.alloc(), &body, &choice(0, range), &pod)?;
+    let step = ChoiceEnum::Step {
+        default: Id(5),
+        min: Id(2),
+        max: Id(10),
+        step: Id(3),
+    };
+    let body = [2, 6, 4, 3, 5, 2, 10, 3];
+    let pod = [32, 19, 2, 6, 4, 3, 5, 2, 10, 3];
+    is_choice(&rt, rt.alloc(), &body, &choice(6, step), &pod)
+}
+
+#[test]
+fn choices_of_one_value(rt: HostRuntime) -> Result<(), Fail> {
+    let body = [0, 5, 4, 4, 7, 9, 11];
+    let pod = [20, 19, 0, 0, 4, 4, 7, 0];
+    is_choice(
+        &rt,
+        rt.alloc(),
+        &body,
+        &choice(0, ChoiceEnum::None(7)),
+        &pod,
+    )?;
+    let text = choice_text(rt.alloc(), &choice(5, ChoiceEnum::None(7)))?;
+    assert_words(
+        &rt,
+        rt.alloc(),
+        text.as_slice(),
+        &[20, 19, 0, 5, 4, 4, 7, 0],
+    )
+}
+
+/// Flags over Id.
+fn id_flags(alloc: Global) -> Result<Choice<Id>, AllocError> {
+    let default = Id(1);
+    let flags = [Id(2)].to_vec(alloc)?;
+    Ok(choice(1, ChoiceEnum::Flags { default, flags }))
+}
+
+/// An enumeration over Bool.
+fn bool_enumeration(alloc: Global) -> Result<Choice<bool>, AllocError> {
+    let default = true;
+    let alternatives = [false].to_vec(alloc)?;
+    let values = ChoiceEnum::Enum {
+        default,
+        alternatives,
+    };
+    Ok(choice(0, values))
+}
+
+#[test]
+fn choices_with_a_list(rt: HostRuntime) -> Result<(), Fail> {
+    let flags = id_flags(rt.alloc())?;
+    let pod = [24, 19, 4, 1, 4, 3, 1, 2];
+    is_choice(&rt, rt.alloc(), &[4, 1, 4, 3, 1, 2], &flags, &pod)?;
+    let enumeration = bool_enumeration(rt.alloc())?;
+    let pod = [24, 19, 3, 0, 4, 2, 1, 0];
+    is_choice(&rt, rt.alloc(), &[3, 0, 4, 2, 7, 0], &enumeration, &pod)
+}
+
+/// Why the first bytes of these words are no choice over Int.
+fn refusal_of(alloc: Global, words: &[u32], size: usize) -> Option<Refusal> {
+    choice_of::<i32>(alloc, words, size).err()
+}
+
+#[test]
+fn choices_are_refused(rt: HostRuntime) {
+    let rows: [(&[u32], usize, Refusal); 8] = [
+        (&[5, 0, 4, 4, 7, 0], 24, Refusal::InvalidChoiceType),
+        (&[0, 0, 8, 4, 7, 0], 24, Refusal::WrongSize),
+        (&[1, 0, 4, 4, 5, 2], 24, Refusal::MissingChoiceValues),
+        (&[2, 0, 4, 4, 5, 2, 10], 28, Refusal::MissingChoiceValues),
+        (&[0, 0, 4, 4], 16, Refusal::MissingChoiceValues),
+        (&[3, 0, 4, 4], 16, Refusal::MissingChoiceValues),
+        (&[4, 0, 4, 4], 16, Refusal::MissingChoiceValues),
+        (&[0, 0, 4, 4, 7], 18, Refusal::WrongSize),
+    ];
+    for (words, size, wanted) in rows {
+        let found = refusal_of(rt.alloc(), words, size);
+        assert_eq!(rt; found, Some(wanted), "at {words:?}");
+    }
+}

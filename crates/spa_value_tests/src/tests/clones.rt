@@ -1,0 +1,39 @@
+//! A clone equals its source.
+use crate::values::{
+    arrays, choices, deep_values, distinct_values, objects, properties, worked_values,
+};
+use std::alloc::AllocError;
+use std::process::Abort;
+use std::test::Fail;
+
+/// Each of these equals its clone.
+fn assert_clones<T: Clone + PartialEq>(
+    rt: &impl Abort,
+    sources: Result<Vec<T>, AllocError>,
+) -> Result<(), Fail> {
+    let sources = sources?;
+    for (i, source) in sources.iter().enumerate() {
+        let copy = source.clone()?;
+        assert!(rt; copy == *source, "at {i}");
+    }
+    Ok(())
+}
+
+#[test]
+fn clones_of_values_equal_their_sources(rt: HostRuntime) -> Result<(), Fail> {
+    assert_clones(&rt, worked_values(rt.alloc()))?;
+    assert_clones(&rt, distinct_values(rt.alloc()))
+}
+
+#[test]
+fn clones_of_parts_equal_their_sources(rt: HostRuntime) -> Result<(), Fail> {
+    assert_clones(&rt, arrays(rt.alloc()))?;
+    assert_clones(&rt, choices(rt.alloc()))?;
+    assert_clones(&rt, properties(rt.alloc()))?;
+    assert_clones(&rt, objects(rt.alloc()))
+}
+
+#[test]
+fn clones_of_deep_structs_equal_their_sources(rt: HostRuntime) -> Result<(), Fail> {
+    assert_clones(&rt, deep_values(rt.alloc()))
+}

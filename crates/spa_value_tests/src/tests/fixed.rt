@@ -1,0 +1,90 @@
+//! The ten types of fixed size, with bytes from outside.
+use crate::bytes::assert_words;
+use spa_fixed::{CanonicalFixedSizedPod, Fault, FaultKind, FixedSizedPod, GenError, put_fixed};
+use spa_utils::{Fd, Float32, Float64, Fraction, Id, Rectangle};
+use std::alloc::Global;
+use std::process::Abort;
+use std::test::Fail;
+
+/// The pod of a value.
+fn pod_of<T: FixedSizedPod>(alloc: Global, value: &T) -> Result<Vec<u8>, GenError> {
+    let mut out = Vec::new(alloc);
+    put_fixed(&mut out, &value.as_canonical_type())?;
+    Ok(out)
+}
+
+/// The body of a value.
+fn body_of<T: CanonicalFixedSizedPod>(alloc: Global, value: &T) -> Result<Vec<u8>, GenError> {
+    let mut body = Vec::new(alloc);
+    value.serialize_body(&mut body)?;
+    Ok(body)
+}
+
+/// What stands for this value is the value again.
+fn stands_for_itself<T>(value: &T) -> bool
+where
+    T: CanonicalFixedSizedPod + FixedSizedPod<CanonicalType = T> + PartialEq,
+{
+    T::from_canonical_type(&value.as_canonical_type()) == *value
+}
+
+/// Whether these bytes are read as this value, and what follows it.
+fn says<T: CanonicalFixedSizedPod + PartialEq>(bytes: &[u8], value: &T, rest: &[u8]) -> bool {
+    match T::deserialize_body(bytes) {
+        Ok((left, read)) => read == *value && left == rest,
+        Err(_) => false,
+    }
+}
+
+/// The value has this pod, its body reads back, and it stands for itself.
+fn is_fixed<T>(rt: &impl Abort, alloc: Global, value: T, pod: &[u32]) -> Result<(), Fail>
+where
+    T: CanonicalFixedSizedPod + FixedSizedPod<CanonicalType = T> + PartialEq,
+{
+    let text = pod_of(alloc, &value)?;
+    assert_words(rt, alloc, text.as_slice(), pod)?;
+    let mut body = body_of(alloc, &value)?;
+    assert_eq!(rt; body.len(), T::SIZE, "at {pod:?}");
+    body.push(9)?;
+    assert!(rt; says(body.as_slice(), &value, &[9]), "at {pod:?}");
+    assert!(rt; stands_for_itself(&value), "at {pod:?}");
+    Ok(())
+}
+
+#[test]
+fn each_type_has_its_pod(rt: HostRuntime) -> Result<(), Fail> {
+    let alloc = rt.alloc();
+    is_fixed(&rt, alloc, (), &[0, 1])?;
+    is_fixed(&rt, alloc, true, &[4, 2, 1, 0])?;
+    is_fixed(&rt, alloc, Id(7), &[4, 3, 7, 0])?;
+    is_fixed(&rt, alloc, -1i32, &[4, 4, 4294967295, 0])?;
+    is_fixed(&rt, alloc, -2i64, &[8, 5, 4294967294, 4294967295])?;
+    let one = Float32(0x3f80_0000);
+    is_fixed(&rt, alloc, one, &[4, 6, 0x3f80_0000, 0])?;
+    let above_one = Float64(0x3ff0_0000_0000_0001);
+    is_fixed(&rt, alloc, above_one, &[8, 7, 1, 0x3ff0_0000])?;
+    let rectangle = Rectangle {
+        width: 31,
+        height: 14,
+    };
+    is_fixed(&rt, alloc, rectangle, &[8, 10, 31, 14])?;
+    let fraction = Fraction { num: 30, denom: 1 };
+    is_fixed(&rt, alloc, fraction, &[8, 11, 30, 1])?;
+    is_fixed(&rt, alloc, Fd(-1), &[8, 18, 4294967295, 4294967295])
+}
+
+#[test]
+fn any_word_but_zero_is_true(rt: HostRuntime) {
+    for (word, wanted) in [(0u32, false), (1, true), (7, true), (256, true)] {
+        assert!(rt; says(&word.to_le_bytes(), &wanted, &[]), "at {word}");
+    }
+}
+
+#[test]
+fn short_bodies_are_refused(rt: HostRuntime) {
+    let short = Fault {
+        input: [1, 2, 3].as_slice(),
+        kind: FaultKind::Short,
+    };
+    assert_eq!(rt; i32::deserialize_body(&[1, 2, 3]), Err(short));
+}

@@ -1,0 +1,65 @@
+//! Properties and their flags.
+use crate::values::int_property;
+use bitflags::Flags;
+use spa_value::{Property, PropertyFlags, Value};
+
+/// The flags of a new property, and whether it is the one without flags.
+fn new_property() -> (u32, bool) {
+    let property = Property::new(1, Value::Int(3));
+    (property.flags.bits(), property == int_property(1, 0, 3))
+}
+
+#[test]
+fn new_properties_have_no_flags(rt: HostRuntime) {
+    let (flags, without_flags) = new_property();
+    assert_eq!(rt; flags, 0);
+    assert!(rt; without_flags);
+}
+
+/// The bits of the flags of these bits.
+fn kept(bits: u32) -> u32 {
+    PropertyFlags::from_bits_retain(bits).bits()
+}
+
+/// Whether the flags of these bits contain a flag.
+fn contains(bits: u32, flag: PropertyFlags) -> bool {
+    PropertyFlags::from_bits_retain(bits).contains(flag)
+}
+
+/// The bits of the flags of these bits, together with a flag.
+fn union(bits: u32, flag: PropertyFlags) -> u32 {
+    PropertyFlags::from_bits_retain(bits).union(flag).bits()
+}
+
+/// The named flags, and the bit of each.
+const NAMED: [(PropertyFlags, u32); 5] = [
+    (PropertyFlags::READONLY, 1),
+    (PropertyFlags::HARDWARE, 2),
+    (PropertyFlags::HINT_DICT, 4),
+    (PropertyFlags::MANDATORY, 8),
+    (PropertyFlags::DONT_FIXATE, 16),
+];
+
+/// Bits of flags: none, some of the named, all of these, one without a name, and all.
+const BITS: [u32; 7] = [0, 1, 2, 24, 31, 0x8000_0000, 0xffff_ffff];
+
+#[test]
+fn property_flags_have_their_bits(rt: HostRuntime) {
+    assert_eq!(rt; PropertyFlags::empty().bits(), 0);
+    for (flag, bit) in NAMED {
+        assert_eq!(rt; flag.bits(), bit);
+    }
+    for bits in BITS {
+        assert_eq!(rt; kept(bits), bits, "at {bits}");
+    }
+}
+
+#[test]
+fn property_flags_are_united(rt: HostRuntime) {
+    for bits in BITS {
+        for (flag, bit) in NAMED {
+            assert_eq!(rt; contains(bits, flag), bits & bit == bit, "at {bits}");
+            assert_eq!(rt; union(bits, flag), bits | bit, "at {bits}");
+        }
+    }
+}

@@ -1,7 +1,8 @@
 use crate::example_pods::EXAMPLES;
 use crate::run::run;
-use std::alloc::Global;
+use std::alloc::{AllocError, Global};
 use std::io::{self, Error, ErrorKind, Read, Write};
+use std::process::Abort;
 use std::test::Fail;
 
 /// A device that takes bytes in small pieces, up to a limit, and then refuses.
@@ -57,8 +58,26 @@ impl Read for Source<'_> {
     }
 }
 
+/// A source that gives all of these bytes.
+fn whole(bytes: &[u8]) -> Source<'_> {
+    Source {
+        left: bytes,
+        breaks: false,
+        interrupted: false,
+    }
+}
+
+/// A source that refuses behind these bytes.
+fn broken(bytes: &[u8]) -> Source<'_> {
+    Source {
+        left: bytes,
+        breaks: true,
+        interrupted: false,
+    }
+}
+
 /// The bytes of these words, least byte first.
-fn bytes_of(alloc: Global, words: &[u32]) -> Result<Vec<u8>, Fail> {
+fn bytes_of(alloc: Global, words: &[u32]) -> Result<Vec<u8>, AllocError> {
     let mut bytes = Vec::new(alloc);
     for word in words {
         bytes.extend_from_slice(&word.to_le_bytes())?;
@@ -66,36 +85,50 @@ fn bytes_of(alloc: Global, words: &[u32]) -> Result<Vec<u8>, Fail> {
     Ok(bytes)
 }
 
+/// Room for what is written, and for what is said.
+type Rooms = (usize, usize);
+
+/// Room for all that these tests write and say.
+const AMPLE: Rooms = (1_000_000, 1_000_000);
+
 /// What a run wrote, what it said, and its status.
 fn found(
     alloc: Global,
     words: &[&str],
-    input: &[u8],
-    breaks: bool,
-    room: usize,
-    room_for_faults: usize,
+    mut source: Source<'_>,
+    rooms: Rooms,
 ) -> (Vec<u8>, Vec<u8>, u8) {
-    let mut source = Source {
-        left: input,
-        breaks,
-        interrupted: false,
-    };
     let mut output = Device {
         taken: Vec::new(alloc),
-        limit: room,
+        limit: rooms.0,
     };
     let mut faults = Device {
         taken: Vec::new(alloc),
-        limit: room_for_faults,
+        limit: rooms.1,
     };
     let status = run(alloc, words, &mut source, &mut output, &mut faults);
-    let Device { taken: written, .. } = output;
-    let Device { taken: said, .. } = faults;
-    (written, said, status)
+    (output.taken, faults.taken, status)
 }
 
-/// Room for all that these tests write.
-const AMPLE: usize = 1_000_000;
+/// Compares what a run writes, what it says, and its status.
+fn assert_run(
+    rt: &impl Abort,
+    alloc: Global,
+    words: &[&str],
+    source: Source<'_>,
+    rooms: Rooms,
+    wanted: (&[u8], &str, u8),
+) {
+    let input = source.left;
+    let (written, said, status) = found(alloc, words, source, rooms);
+    assert_eq!(rt; written.as_slice(), wanted.0, "{words:?} at {input:?}");
+    assert_eq!(rt;
+        said.as_slice(),
+        wanted.1.as_bytes(),
+        "{words:?} at {input:?}"
+    );
+    assert_eq!(rt; status, wanted.2, "{words:?} at {input:?}");
+}
 
 /// A word, the words of an input, and those that are written.
 const DONE: [(&str, &[u32], &[u32]); 8] = [
@@ -125,27 +158,34 @@ const DONE: [(&str, &[u32], &[u32]); 8] = [
     ("show", &[], &[]),
 ];
 
+/// The words of the input give what is written, and nothing is said.
+fn assert_done(
+    rt: &impl Abort,
+    alloc: Global,
+    word: &str,
+    input: &[u32],
+    wanted: &[u32],
+) -> Result<(), Fail> {
+    let input = bytes_of(alloc, input)?;
+    let wanted = bytes_of(alloc, wanted)?;
+    let wanted = (wanted.as_slice(), "", 0);
+    assert_run(rt, alloc, &[word], whole(input.as_slice()), AMPLE, wanted);
+    Ok(())
+}
+
 #[test]
 fn words_are_done(rt: HostRuntime) -> Result<(), Fail> {
     for (word, input, wanted) in DONE {
-        let input = bytes_of(rt.alloc(), input)?;
-        let wanted = bytes_of(rt.alloc(), wanted)?;
-        let (written, said, status) = found(
-            rt.alloc(),
-            &[word],
-            input.as_slice(),
-            false,
-            AMPLE,
-            AMPLE,
-        );
-        assert_eq!(rt;
-            written.as_slice(),
-            wanted.as_slice(),
-            "{word} at {input:?}"
-        );
-        assert_eq!(rt; said.len(), 0, "{word} at {input:?}");
-        assert_eq!(rt; status, 0, "{word} at {input:?}");
+        assert_done(&rt, rt.alloc(), word, input, wanted)?;
     }
+    Ok(())
+}
+
+/// The words of the input are shown as these lines, and nothing is said.
+fn assert_shown(rt: &impl Abort, alloc: Global, input: &[u32], lines: &str) -> Result<(), Fail> {
+    let input = bytes_of(alloc, input)?;
+    let wanted = (lines.as_bytes(), "", 0);
+    assert_run(rt, alloc, &["show"], whole(input.as_slice()), AMPLE, wanted);
     Ok(())
 }
 
@@ -165,59 +205,67 @@ fn pods_are_shown(rt: HostRuntime) -> Result<(), Fail> {
             "0 1 0\n0 14 8\n1 1 0\n0 4 4\n",
         ),
     ];
-    for (input, wanted) in rows {
-        let input = bytes_of(rt.alloc(), input)?;
-        let (written, said, status) = found(
-            rt.alloc(),
-            &["show"],
-            input.as_slice(),
-            false,
-            AMPLE,
-            AMPLE,
-        );
-        assert_eq!(rt; written.as_slice(), wanted.as_bytes(), "at {input:?}");
-        assert_eq!(rt; said.len(), 0, "at {input:?}");
-        assert_eq!(rt; status, 0, "at {input:?}");
+    for (input, lines) in rows {
+        assert_shown(&rt, rt.alloc(), input, lines)?;
     }
     Ok(())
 }
 
 #[test]
 fn example_pods_are_shown(rt: HostRuntime) -> Result<(), Fail> {
-    for (name, input, wanted) in EXAMPLES {
-        let input = bytes_of(rt.alloc(), input)?;
-        let (written, said, status) = found(
-            rt.alloc(),
-            &["show"],
-            input.as_slice(),
-            false,
-            AMPLE,
-            AMPLE,
-        );
-        assert_eq!(rt; written.as_slice(), wanted.as_bytes(), "{name}");
-        assert_eq!(rt; said.len(), 0, "{name}");
-        assert_eq!(rt; status, 0, "{name}");
+    for (_, input, lines) in EXAMPLES {
+        assert_shown(&rt, rt.alloc(), input, lines)?;
     }
     Ok(())
 }
 
-/// The length in bytes of the rewriting of 300 structs, each but the innermost holding one.
-const NESTED_LEN: u32 = 2400;
+/// How many structs stand in one another.
+const DEPTH: u32 = 300;
+
+/// The words of the rewriting of nested structs, each but the innermost holding one.
+fn nested(alloc: Global) -> Result<Vec<u32>, AllocError> {
+    let mut words = Vec::new(alloc);
+    for depth in 0..DEPTH {
+        words.push((DEPTH - 1 - depth) * 8)?;
+        words.push(14)?;
+    }
+    Ok(words)
+}
+
+/// The lines of nested structs.
+fn nested_lines(alloc: Global) -> Result<String, Fail> {
+    let mut lines = String::new(alloc);
+    for depth in 0..DEPTH {
+        let size = (DEPTH - 1 - depth) * 8;
+        writeln!(lines, "{depth} 14 {size}")?;
+    }
+    Ok(lines)
+}
 
 #[test]
 fn nested_structs_are_shown(rt: HostRuntime) -> Result<(), Fail> {
-    let mut input = Vec::new(rt.alloc());
-    let mut wanted = String::new(rt.alloc());
-    let mut size = NESTED_LEN;
-    for depth in 0..NESTED_LEN / 8 {
-        size = size.saturating_sub(8);
-        input.extend_from_slice(&size.to_le_bytes())?;
-        input.extend_from_slice(&14u32.to_le_bytes())?;
-        writeln!(wanted, "{depth} 14 {size}")?;
-    }
-    let (written, _, status) = found(rt.alloc(), &["show"], input.as_slice(), false, AMPLE, AMPLE);
-    assert_eq!(rt; written.as_slice(), wanted.as_bytes());
-    assert_eq!(rt; status, 0);
+    let input = nested(rt.alloc())?;
+    let lines = nested_lines(rt.alloc())?;
+    assert_shown(&rt, rt.alloc(), input.as_slice(), lines.as_str())
+}
+
+/// The words of the input are refused with this line, and nothing is written.
+fn assert_refused(
+    rt: &impl Abort,
+    alloc: Global,
+    word: &str,
+    input: &[u32],
+    line: &str,
+) -> Result<(), Fail> {
+    let input = bytes_of(alloc, input)?;
+    assert_run(
+        rt,
+        alloc,
+        &[word],
+        whole(input.as_slice()),
+        AMPLE,
+        (&[], line, 1),
+    );
     Ok(())
 }
 
@@ -245,19 +293,8 @@ fn pods_are_refused(rt: HostRuntime) -> Result<(), Fail> {
         ),
         ("show", &[0, 14, 0], "podtool: byte 8: Short\n"),
     ];
-    for (word, input, wanted) in rows {
-        let input = bytes_of(rt.alloc(), input)?;
-        let (written, said, status) = found(
-            rt.alloc(),
-            &[word],
-            input.as_slice(),
-            false,
-            AMPLE,
-            AMPLE,
-        );
-        assert_eq!(rt; written.len(), 0, "{word} at {input:?}");
-        assert_eq!(rt; said.as_slice(), wanted.as_bytes(), "{word} at {input:?}");
-        assert_eq!(rt; status, 1, "{word} at {input:?}");
+    for (word, input, line) in rows {
+        assert_refused(&rt, rt.alloc(), word, input, line)?;
     }
     Ok(())
 }
@@ -266,7 +303,7 @@ fn pods_are_refused(rt: HostRuntime) -> Result<(), Fail> {
 const USAGE: &str = "usage: podtool rewrite|fixate|show\n";
 
 #[test]
-fn other_words_are_misuse(rt: HostRuntime) -> Result<(), Fail> {
+fn other_words_are_misuse(rt: HostRuntime) {
     let rows: [&[&str]; 5] = [
         &[],
         &[""],
@@ -276,12 +313,8 @@ fn other_words_are_misuse(rt: HostRuntime) -> Result<(), Fail> {
     ];
     for words in rows {
         // The words are settled before anything is read: this source would refuse.
-        let (written, said, status) = found(rt.alloc(), words, &[], true, AMPLE, AMPLE);
-        assert_eq!(rt; written.len(), 0, "at {words:?}");
-        assert_eq!(rt; said.as_slice(), USAGE.as_bytes(), "at {words:?}");
-        assert_eq!(rt; status, 2, "at {words:?}");
+        assert_run(&rt, rt.alloc(), words, broken(&[]), AMPLE, (&[], USAGE, 2));
     }
-    Ok(())
 }
 
 /// One Int pod.
@@ -293,24 +326,30 @@ const WORDS: [&str; 3] = ["rewrite", "fixate", "show"];
 #[test]
 fn sources_break_off(rt: HostRuntime) -> Result<(), Fail> {
     let input = bytes_of(rt.alloc(), &INT)?;
+    let wanted: (&[u8], &str, u8) = (&[], "podtool: read failed\n", 1);
     for word in WORDS {
-        let (written, said, status) = found(
+        assert_run(
+            &rt,
             rt.alloc(),
             &[word],
-            input.as_slice(),
-            true,
+            broken(input.as_slice()),
             AMPLE,
-            AMPLE,
+            wanted,
         );
-        assert_eq!(rt; written.len(), 0, "{word}");
-        assert_eq!(rt;
-            said.as_slice(),
-            "podtool: read failed\n".as_bytes(),
-            "{word}"
-        );
-        assert_eq!(rt; status, 1, "{word}");
     }
     Ok(())
+}
+
+/// With this room for what is written, the room is filled and then the write is refused.
+fn assert_full(rt: &impl Abort, alloc: Global, words: &[&str], source: Source<'_>, room: usize) {
+    let (written, said, status) = found(alloc, words, source, (room, AMPLE.1));
+    assert_eq!(rt; written.len(), room, "{words:?}");
+    assert_eq!(rt;
+        said.as_slice(),
+        "podtool: write failed\n".as_bytes(),
+        "{words:?} with room for {room}"
+    );
+    assert_eq!(rt; status, 1, "{words:?} with room for {room}");
 }
 
 #[test]
@@ -318,21 +357,7 @@ fn outputs_are_full(rt: HostRuntime) -> Result<(), Fail> {
     let input = bytes_of(rt.alloc(), &INT)?;
     for word in WORDS {
         for room in 0..6 {
-            let (written, said, status) = found(
-                rt.alloc(),
-                &[word],
-                input.as_slice(),
-                false,
-                room,
-                AMPLE,
-            );
-            assert_eq!(rt; written.len(), room, "{word} with room for {room}");
-            assert_eq!(rt;
-                said.as_slice(),
-                "podtool: write failed\n".as_bytes(),
-                "{word} with room for {room}"
-            );
-            assert_eq!(rt; status, 1, "{word} with room for {room}");
+            assert_full(&rt, rt.alloc(), &[word], whole(input.as_slice()), room);
         }
     }
     Ok(())
@@ -340,13 +365,23 @@ fn outputs_are_full(rt: HostRuntime) -> Result<(), Fail> {
 
 #[test]
 fn refusals_that_cannot_be_said_change_nothing(rt: HostRuntime) {
+    let rooms = (AMPLE.0, 3);
     for word in WORDS {
-        let (written, said, status) = found(rt.alloc(), &[word], &[1], false, AMPLE, 3);
-        assert_eq!(rt; written.len(), 0, "{word}");
-        assert_eq!(rt; said.as_slice(), "pod".as_bytes(), "{word}");
-        assert_eq!(rt; status, 1, "{word}");
+        assert_run(
+            &rt,
+            rt.alloc(),
+            &[word],
+            whole(&[1]),
+            rooms,
+            (&[], "pod", 1),
+        );
     }
-    let (_, said, status) = found(rt.alloc(), &["other"], &[], false, AMPLE, 3);
-    assert_eq!(rt; said.as_slice(), "usa".as_bytes());
-    assert_eq!(rt; status, 2);
+    assert_run(
+        &rt,
+        rt.alloc(),
+        &["other"],
+        whole(&[]),
+        rooms,
+        (&[], "usa", 2),
+    );
 }

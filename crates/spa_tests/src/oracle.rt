@@ -3,6 +3,7 @@ ghost use Rattle.std.specs.Prelude.{◌+◌, ◌≤◌, length, IfOk, IfSome};
 
 use crate::said::{say_bytes, say_comma, say_text};
 use std::alloc::{AllocError, Global};
+use std::test::Fail;
 
 /// The length in bytes of a header, of an array's child header, and of a property's key and flags.
 const HEADER_LEN: usize = 8;
@@ -50,6 +51,30 @@ impl<'a> From<AllocError> for Refusal<'a> {
     }
 }
 
+/// What the front of an input is.
+#[derive(Drop)]
+pub enum Answer<'a> {
+    /// What the pod there says, and how many bytes follow it.
+    Accepted(String, usize),
+    /// The place of the faults that stand, and which ones.
+    Refused(&'a [u8], Vec<Fault>),
+}
+
+/// The answer at the front of an input.
+pub(crate) fn answer_of<'a>(alloc: Global, input: &'a [u8]) -> Result<Answer<'a>, Fail> {
+    let mut said = String::new(alloc);
+    match read(alloc, &mut said, input) {
+        Ok(rest) => Ok(Answer::Accepted(said, rest.len())),
+        Err(Refusal::Faults(place, faults)) => Ok(Answer::Refused(place, faults)),
+        Err(Refusal::OutOfMemory) => Err(Fail::from("out of memory")),
+    }
+}
+
+/// Is a fault of that name among them?
+pub(crate) fn stands(faults: &[Fault], name: &str) -> bool {
+    faults.iter().any(|fault| fault.name() == name)
+}
+
 /// What follows the pod at the front of the input, after what it says was appended, as `said::say_value` says it.
 #[cycle(oracle)]
 pub(crate) fn read<'a>(
@@ -62,17 +87,10 @@ pub(crate) fn read<'a>(
     let Some((body, rest)) = split_front(input) else {
         return Err(refused(alloc, input, Fault::Short));
     };
-    let kind = word(input, 1);
-    match kind {
-        8 => say_string(alloc, out, input, body)?,
-        9 => say_bytes(out, body)?,
-        13 => say_array(alloc, out, input, body)?,
+    match word(input, 1) {
         14 => say_struct(alloc, out, body)?,
-        15 if body.len() < HEADER_LEN => return Err(refused(alloc, input, Fault::WrongSize)),
-        15 => say_object(alloc, out, body)?,
-        17 => say_pointer(alloc, out, input, body)?,
-        19 => say_choice(alloc, out, input, body)?,
-        _ => say_fixed(alloc, out, input, kind, body)?,
+        15 => say_object(alloc, out, input, body)?,
+        kind => say_leaf(alloc, out, input, kind, body)?,
     }
     Ok(rest)
 }
@@ -90,12 +108,16 @@ fn say_struct<'a>(alloc: Global, out: &mut String, body: &'a [u8]) -> Result<(),
 }
 
 #[cycle(oracle)]
-fn say_object<'a>(alloc: Global, out: &mut String, body: &'a [u8]) -> Result<(), Refusal<'a>> {
-    let (type_, id) = (word(body, 0), word(body, 1));
-    write!(
-        out,
-        "{{\"t\":\"Object\",\"type\":{type_},\"id\":{id},\"v\":["
-    )?;
+fn say_object<'a>(
+    alloc: Global,
+    out: &mut String,
+    place: &'a [u8],
+    body: &'a [u8],
+) -> Result<(), Refusal<'a>> {
+    if body.len() < HEADER_LEN {
+        return Err(refused(alloc, place, Fault::WrongSize));
+    }
+    say_object_head(out, body)?;
     let mut left = behind_header(body);
     let whole = left.len();
     while !left.is_empty() {
@@ -103,13 +125,45 @@ fn say_object<'a>(alloc: Global, out: &mut String, body: &'a [u8]) -> Result<(),
             return Err(refused(alloc, left, Fault::Short));
         }
         say_comma(out, whole - left.len())?;
-        let (key, flags) = (word(left, 0), word(left, 1));
-        write!(out, "{{\"key\":{key},\"flags\":{flags},\"v\":")?;
+        say_property_head(out, left)?;
         left = read(alloc, out, behind_header(left))?;
         out.push_str("}")?;
     }
     out.push_str("]}")?;
     Ok(())
+}
+
+/// An object's type and id, which its body begins with.
+fn say_object_head(out: &mut String, body: &[u8]) -> Result<(), AllocError> {
+    let (type_, id) = (word(body, 0), word(body, 1));
+    write!(
+        out,
+        "{{\"t\":\"Object\",\"type\":{type_},\"id\":{id},\"v\":["
+    )
+}
+
+/// A property's key and flags, which it begins with.
+fn say_property_head(out: &mut String, property: &[u8]) -> Result<(), AllocError> {
+    let (key, flags) = (word(property, 0), word(property, 1));
+    write!(out, "{{\"key\":{key},\"flags\":{flags},\"v\":")
+}
+
+/// What a pod says that holds no other pods.
+fn say_leaf<'a>(
+    alloc: Global,
+    out: &mut String,
+    place: &'a [u8],
+    kind: u32,
+    body: &[u8],
+) -> Result<(), Refusal<'a>> {
+    match kind {
+        8 => say_string(alloc, out, place, body),
+        9 => Ok(say_bytes(out, body)?),
+        13 => say_array(alloc, out, place, body),
+        17 => say_pointer(alloc, out, place, body),
+        19 => say_choice(alloc, out, place, body),
+        _ => say_fixed(alloc, out, place, kind, body),
+    }
 }
 
 fn say_string<'a>(
@@ -202,9 +256,15 @@ fn say_choice<'a>(
         return Err(refused(alloc, place, Fault::WrongSize));
     }
     let faults = choice_faults(alloc, body)?;
-    if !faults.is_empty() {
-        return Err(Refusal::Faults(place, faults));
+    if faults.is_empty() {
+        Ok(say_choice_values(out, body)?)
+    } else {
+        Err(Refusal::Faults(place, faults))
     }
+}
+
+/// What the body of a choice without faults says.
+fn say_choice_values(out: &mut String, body: &[u8]) -> Result<(), AllocError> {
     let kind = word(body, 3);
     let values = behind_header(behind_header(body));
     if let Some((shape, _, taken)) = shape_of(word(body, 0))

@@ -82,6 +82,15 @@ impl Element for Fd {
 #[cycle(said)]
 pub(crate) fn say_value(out: &mut String, value: &Value) -> Result<(), AllocError> {
     match value {
+        Value::Struct(members) => say_struct(out, members.as_slice()),
+        Value::Object(object) => say_object(out, object),
+        leaf => say_leaf(out, leaf),
+    }
+}
+
+/// A value that holds no other values; a struct or an object says nothing here.
+fn say_leaf(out: &mut String, value: &Value) -> Result<(), AllocError> {
+    match value {
         Value::None => say_fixed(out, "None", ()),
         Value::Bool(x) => say_fixed(out, "Bool", *x),
         Value::Id(x) => say_fixed(out, "Id", *x),
@@ -96,14 +105,8 @@ pub(crate) fn say_value(out: &mut String, value: &Value) -> Result<(), AllocErro
         Value::Bytes(bytes) => say_bytes(out, bytes.as_slice()),
         Value::ValueArray(array) => say_array(out, array),
         Value::Choice(choice) => say_choice_value(out, choice),
-        Value::Pointer(type_, address) => {
-            write!(
-                out,
-                "{{\"t\":\"Pointer\",\"type\":{type_},\"v\":{address}}}"
-            )
-        }
-        Value::Struct(members) => say_struct(out, members.as_slice()),
-        Value::Object(object) => say_object(out, object),
+        Value::Pointer(type_, address) => say_pointer(out, *type_, *address),
+        Value::Struct(_) | Value::Object(_) => Ok(()),
     }
 }
 
@@ -119,19 +122,32 @@ fn say_struct(out: &mut String, members: &[Value]) -> Result<(), AllocError> {
 
 #[cycle(said)]
 fn say_object(out: &mut String, object: &Object) -> Result<(), AllocError> {
-    let (type_, id) = (object.type_, object.id);
-    write!(
-        out,
-        "{{\"t\":\"Object\",\"type\":{type_},\"id\":{id},\"v\":["
-    )?;
+    say_object_head(out, object.type_, object.id)?;
     for (place, property) in object.properties.as_slice().iter().enumerate() {
         say_comma(out, place)?;
-        let (key, flags) = (property.key, property.flags.bits());
-        write!(out, "{{\"key\":{key},\"flags\":{flags},\"v\":")?;
+        say_property_head(out, property.key, property.flags.bits())?;
         say_value(out, &property.value)?;
         out.push_str("}")?;
     }
     out.push_str("]}")
+}
+
+fn say_object_head(out: &mut String, type_: u32, id: u32) -> Result<(), AllocError> {
+    write!(
+        out,
+        "{{\"t\":\"Object\",\"type\":{type_},\"id\":{id},\"v\":["
+    )
+}
+
+fn say_property_head(out: &mut String, key: u32, flags: u32) -> Result<(), AllocError> {
+    write!(out, "{{\"key\":{key},\"flags\":{flags},\"v\":")
+}
+
+fn say_pointer(out: &mut String, type_: u32, address: u64) -> Result<(), AllocError> {
+    write!(
+        out,
+        "{{\"t\":\"Pointer\",\"type\":{type_},\"v\":{address}}}"
+    )
 }
 
 /// A comma between things, and none before the first one.

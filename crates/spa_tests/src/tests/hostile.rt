@@ -1,14 +1,14 @@
 //! Hostile bytes: good pods that were cut or changed, on which the library must agree with the second reader.
 ghost use Rattle.std.specs.Prelude.{◌<◌, length};
 
-use crate::bytes::bytes_of;
-use crate::oracle::{Fault, Refusal, read};
-use crate::said::say_value;
+use crate::answers::{
+    Reading, assert_own_rewriting, assert_said, reading_of, rewriting_of, verdict_of,
+};
+use crate::bytes::{assert_holds_at, assert_number_at, assert_text, bytes_of};
+use crate::oracle::{Answer, Fault, answer_of, stands};
 use crate::tables::built::BUILT;
 use crate::tables::lines_of;
 use crate::tables::read_rows::READ_ROWS;
-use libspa::pod::deserialize::{DeserializeError, PodDeserializer};
-use libspa::pod::rewrite;
 use std::alloc::Global;
 use std::process::Abort;
 use std::test::Fail;
@@ -18,38 +18,61 @@ const REPLACEMENTS: [u8; 6] = [0, 1, 7, 127, 128, 255];
 
 /// Compares the library's reading of an input with that of the second reader.
 fn compare(rt: &impl Abort, alloc: Global, input: &[u8]) -> Result<(), Fail> {
-    let mut wanted = String::new(alloc);
-    let second = read(alloc, &mut wanted, input);
-    match PodDeserializer::deserialize_any_from(alloc, input) {
-        Err(DeserializeError::OutOfMemory) => return Err(Fail::from("out of memory")),
-        Ok((rest, value)) => {
-            let mut said = String::new(alloc);
-            say_value(&mut said, &value)?;
-            assert_eq!(rt; said, wanted, "at {input:?}");
-            let after = second.map_or(usize::MAX, |left| left.len());
-            assert_eq!(rt; rest.len(), after, "what follows, at {input:?}");
-            compare_rewriting(rt, alloc, input, said.as_str())?;
-        }
-        Err(error) => match second {
-            Ok(_) => assert!(rt; false, "refused, at {input:?}"),
-            Err(Refusal::OutOfMemory) => return Err(Fail::from("out of memory")),
-            Err(Refusal::Faults(place, faults)) => {
-                let name = error.kind();
-                assert!(rt;
-                    stands(faults.as_slice(), name),
-                    "{name} and not {faults:?} at {input:?}"
-                );
-                if let DeserializeError::Nom(fault) = &error {
-                    assert!(rt; fault.input == place, "the place of {name} at {input:?}");
-                }
-            }
-        },
-    }
-    Ok(())
+    let reading = reading_of(alloc, input)?;
+    compare_with_answer(rt, alloc, input, &reading)
 }
 
-fn stands(faults: &[Fault], name: &str) -> bool {
-    faults.iter().any(|fault| fault.name() == name)
+fn compare_with_answer(
+    rt: &impl Abort,
+    alloc: Global,
+    input: &[u8],
+    reading: &Reading<'_>,
+) -> Result<(), Fail> {
+    let answer = answer_of(alloc, input)?;
+    compare_answers(rt, alloc, input, reading, &answer)
+}
+
+fn compare_answers(
+    rt: &impl Abort,
+    alloc: Global,
+    input: &[u8],
+    reading: &Reading<'_>,
+    answer: &Answer<'_>,
+) -> Result<(), Fail> {
+    match (reading, answer) {
+        (Reading::Accepted(said, after), Answer::Accepted(wanted, left)) => {
+            assert_text(rt, said.as_str(), wanted.as_str(), input);
+            assert_number_at(rt, *after, *left, input);
+            compare_rewriting(rt, alloc, input, said.as_str())
+        }
+        (Reading::Refused(name, place), Answer::Refused(wanted, faults)) => {
+            assert_stands(rt, input, name, faults.as_slice());
+            compare_places(rt, input, *place, wanted)
+        }
+        _ => {
+            assert_holds_at(rt, false, "accepted by one reader alone", input);
+            Ok(())
+        }
+    }
+}
+
+/// The fault that the library names stands there.
+fn assert_stands(rt: &impl Abort, input: &[u8], name: &str, faults: &[Fault]) {
+    let stands = stands(faults, name);
+    assert_holds_at(rt, stands, name, input);
+}
+
+/// The place of a refusal that has one is that of the faults.
+fn compare_places(
+    rt: &impl Abort,
+    input: &[u8],
+    place: Option<&[u8]>,
+    wanted: &[u8],
+) -> Result<(), Fail> {
+    if let Some(place) = place {
+        assert_holds_at(rt, place == wanted, "the place of the fault", input);
+    }
+    Ok(())
 }
 
 /// The rewriting of an accepted input says the same, and is its own rewriting.
@@ -59,28 +82,25 @@ fn compare_rewriting(
     input: &[u8],
     wanted: &str,
 ) -> Result<(), Fail> {
-    let Ok((_, rewriting)) = rewrite(alloc, input) else {
-        return Err(Fail::from("no rewriting"));
-    };
-    let Ok((_, value)) = PodDeserializer::deserialize_any_from(alloc, rewriting.as_slice()) else {
-        return Err(Fail::from("the rewriting is not read"));
-    };
-    let mut said = String::new(alloc);
-    say_value(&mut said, &value)?;
-    assert_eq!(rt; said.as_str(), wanted, "the rewriting, at {input:?}");
-    let Ok((_, again)) = rewrite(alloc, rewriting.as_slice()) else {
-        return Err(Fail::from("the rewriting has no rewriting"));
-    };
-    assert_eq!(rt; again, rewriting, "at {input:?}");
-    Ok(())
+    let rewriting = rewriting_of(alloc, input)?;
+    compare_rewritten(rt, alloc, rewriting.as_slice(), wanted)
+}
+
+fn compare_rewritten(
+    rt: &impl Abort,
+    alloc: Global,
+    rewriting: &[u8],
+    wanted: &str,
+) -> Result<(), Fail> {
+    assert_said(rt, alloc, rewriting, wanted)?;
+    assert_own_rewriting(rt, alloc, rewriting, wanted)
 }
 
 /// Each proper front of a pod is short.
 fn cut_everywhere(rt: &impl Abort, alloc: Global, input: &[u8]) -> Result<(), Fail> {
     for end in 0..input.len() {
-        let read = PodDeserializer::deserialize_any_from(alloc, &input[..end]);
-        let kind = read.map_or_else(|error| error.kind(), |_| "accepted");
-        assert_eq!(rt; kind, "Short", "the first {end} bytes of {input:?}");
+        let verdict = verdict_of(alloc, &input[..end])?;
+        assert_text(rt, verdict, "Short", &input[..end]);
     }
     Ok(())
 }
@@ -112,20 +132,50 @@ fn change_one(
     Ok(())
 }
 
+/// A row of the worked examples: cut everywhere where nothing follows its front, and changed everywhere where it is accepted.
+fn agree_on_row(rt: &impl Abort, alloc: Global, row: &[&str; 4]) -> Result<(), Fail> {
+    let [words, wanted, after, _] = *row;
+    let mut input = bytes_of(alloc, words)?;
+    agree_on_input(rt, alloc, input.as_mut_slice(), wanted, after)
+}
+
+fn agree_on_input(
+    rt: &impl Abort,
+    alloc: Global,
+    input: &mut [u8],
+    wanted: &str,
+    after: &str,
+) -> Result<(), Fail> {
+    if after == "0" {
+        cut_everywhere(rt, alloc, input)?;
+    }
+    if !wanted.starts_with("refused") {
+        change_everywhere(rt, alloc, input)?;
+    }
+    Ok(())
+}
+
 #[test]
 fn agrees_on_changed_worked_rows(rt: HostRuntime) -> Result<(), Fail> {
     let lines = lines_of(rt.alloc(), READ_ROWS)?;
     for row in lines.as_slice().as_chunks::<4>().0 {
-        let [words, wanted, after, _] = *row;
-        let mut input = bytes_of(rt.alloc(), words)?;
-        if after == "0" {
-            cut_everywhere(&rt, rt.alloc(), input.as_slice())?;
-        }
-        if !wanted.starts_with("refused") {
-            change_everywhere(&rt, rt.alloc(), input.as_mut_slice())?;
-        }
+        agree_on_row(&rt, rt.alloc(), row)?;
     }
     Ok(())
+}
+
+/// One replacement a byte, another one at the next: the builder's pods are longer.
+fn change_in_turn(rt: &impl Abort, alloc: Global, input: &mut [u8]) -> Result<(), Fail> {
+    for place in 0..input.len() {
+        let byte = REPLACEMENTS[place % REPLACEMENTS.len()];
+        change_one(rt, alloc, input, place, byte)?;
+    }
+    Ok(())
+}
+
+fn agree_on_pod(rt: &impl Abort, alloc: Global, digits: &str) -> Result<(), Fail> {
+    let mut input = bytes_of(alloc, digits)?;
+    change_in_turn(rt, alloc, input.as_mut_slice())
 }
 
 #[test]
@@ -133,13 +183,7 @@ fn agrees_on_changed_pods_of_the_builder(rt: HostRuntime) -> Result<(), Fail> {
     let lines = lines_of(rt.alloc(), BUILT)?;
     for row in lines.as_slice().as_chunks::<4>().0 {
         let [_, digits, _, _] = *row;
-        let mut input = bytes_of(rt.alloc(), digits)?;
-        let bytes = input.as_mut_slice();
-        // One replacement a byte, another one at the next: these pods are longer.
-        for place in 0..bytes.len() {
-            let byte = REPLACEMENTS[place % REPLACEMENTS.len()];
-            change_one(&rt, rt.alloc(), bytes, place, byte)?;
-        }
+        agree_on_pod(&rt, rt.alloc(), digits)?;
     }
     Ok(())
 }

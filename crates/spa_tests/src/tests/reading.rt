@@ -1,14 +1,20 @@
 //! Reading and rewriting, on tables that other programs and hands made.
-use crate::bytes::bytes_of;
-use crate::said::say_value;
+use crate::answers::{
+    Reading, after_of, assert_own_rewriting, assert_rewriting, assert_said, reading_of, said_of,
+    value_of,
+};
+use crate::bytes::{
+    assert_holds, assert_holds_at, assert_number, assert_number_at, assert_spelt, assert_text,
+    bytes_of,
+};
 use crate::tables::built::BUILT;
 use crate::tables::c_bytes::C_BYTES;
 use crate::tables::lines_of;
 use crate::tables::lists::LISTS;
 use crate::tables::read_rows::READ_ROWS;
 use libspa::pod::deserialize::{DeserializeError, PodDeserializer};
-use libspa::pod::{Value, rewrite, rewrite_all};
-use std::alloc::Global;
+use libspa::pod::{Value, rewrite_all};
+use std::alloc::{AllocError, Global};
 use std::process::Abort;
 use std::test::Fail;
 
@@ -17,36 +23,52 @@ const DEPTH: u32 = 300;
 
 /// Compares what is read with what a row says, a tree or a refusal; and the clone of a value with the value.
 fn compare(rt: &impl Abort, alloc: Global, input: &[u8], wanted: &str) -> Result<(), Fail> {
-    match PodDeserializer::deserialize_any_from(alloc, input) {
-        Ok((_, value)) => {
-            let mut said = String::new(alloc);
-            say_value(&mut said, &value)?;
-            assert_eq!(rt; said.as_str(), wanted, "at {input:?}");
-            assert!(rt; value.clone()? == value, "the clone at {input:?}");
+    let reading = reading_of(alloc, input)?;
+    compare_reading(rt, alloc, input, &reading, wanted)
+}
+
+fn compare_reading(
+    rt: &impl Abort,
+    alloc: Global,
+    input: &[u8],
+    reading: &Reading<'_>,
+    wanted: &str,
+) -> Result<(), Fail> {
+    match reading {
+        Reading::Accepted(said, _) => {
+            assert_text(rt, said.as_str(), wanted, input);
+            let is_alike = is_like_its_clone(value_of(alloc, input)?)?;
+            assert_holds_at(rt, is_alike, "the clone is equal", input);
         }
-        Err(DeserializeError::OutOfMemory) => return Err(Fail::from("out of memory")),
-        Err(error) => {
+        Reading::Refused(found, _) => {
             let name = wanted.strip_prefix("refused ").unwrap_or("");
-            assert_eq!(rt; error.kind(), name, "at {input:?}");
+            assert_text(rt, found, name, input);
         }
     }
     Ok(())
 }
 
-/// The rewriting of the front of an input that is accepted.
-fn rewriting_of(alloc: Global, input: &[u8]) -> Result<Vec<u8>, Fail> {
-    match rewrite(alloc, input) {
-        Ok((_, rewriting)) => Ok(rewriting),
-        Err(error) => Err(Fail::from(error.kind())),
+/// Is the clone of a value equal to it?
+fn is_like_its_clone(value: Value) -> Result<bool, AllocError> {
+    match clone_of(&value) {
+        Ok(clone) => Ok(are_equal(&clone, &value)),
+        Err(error) => Err(error),
     }
+}
+
+fn clone_of(value: &Value) -> Result<Value, AllocError> {
+    value.clone()
+}
+
+fn are_equal(first: &Value, second: &Value) -> bool {
+    *first == *second
 }
 
 /// Compares how many bytes follow the front of an input with what a row says of it.
 fn compare_rest(rt: &impl Abort, alloc: Global, input: &[u8], after: &str) -> Result<(), Fail> {
     if let Ok(count) = after.parse::<usize>() {
-        let read = PodDeserializer::deserialize_any_from(alloc, input);
-        let rest = read.map_or(usize::MAX, |(rest, _)| rest.len());
-        assert_eq!(rt; rest, count, "what follows in {input:?}");
+        let found = after_of(alloc, input)?;
+        assert_number_at(rt, found, count, input);
     }
     Ok(())
 }
@@ -58,23 +80,31 @@ fn compare_rewriting(
     input: &[u8],
     rewriting: &str,
 ) -> Result<(), Fail> {
-    if rewriting != "-" {
-        let found = rewriting_of(alloc, input)?;
-        let wanted = bytes_of(alloc, rewriting)?;
-        assert_eq!(rt; found, wanted, "the rewriting of {input:?}");
+    if rewriting == "-" {
+        return Ok(());
     }
-    Ok(())
+    assert_rewriting(rt, alloc, input, rewriting)
+}
+
+/// Compares all that is read of the input that the words spell with what a row says of it.
+fn compare_row(rt: &impl Abort, alloc: Global, row: &[&str; 4]) -> Result<(), Fail> {
+    let [words, wanted, after, rewriting] = *row;
+    let input = bytes_of(alloc, words)?;
+    compare_input(rt, alloc, input.as_slice(), [wanted, after, rewriting])
+}
+
+fn compare_input(rt: &impl Abort, alloc: Global, input: &[u8], row: [&str; 3]) -> Result<(), Fail> {
+    let [wanted, after, rewriting] = row;
+    compare(rt, alloc, input, wanted)?;
+    compare_rest(rt, alloc, input, after)?;
+    compare_rewriting(rt, alloc, input, rewriting)
 }
 
 #[test]
 fn reads_the_worked_rows(rt: HostRuntime) -> Result<(), Fail> {
     let lines = lines_of(rt.alloc(), READ_ROWS)?;
     for row in lines.as_slice().as_chunks::<4>().0 {
-        let [words, wanted, after, rewriting] = *row;
-        let input = bytes_of(rt.alloc(), words)?;
-        compare(&rt, rt.alloc(), input.as_slice(), wanted)?;
-        compare_rest(&rt, rt.alloc(), input.as_slice(), after)?;
-        compare_rewriting(&rt, rt.alloc(), input.as_slice(), rewriting)?;
+        compare_row(&rt, rt.alloc(), row)?;
     }
     Ok(())
 }
@@ -85,96 +115,152 @@ fn reads_the_builders_pods(rt: HostRuntime) -> Result<(), Fail> {
     for row in lines.as_slice().as_chunks::<4>().0 {
         let [_, digits, wanted, written] = *row;
         let rewriting = if written == "=" { digits } else { written };
-        let input = bytes_of(rt.alloc(), digits)?;
-        compare(&rt, rt.alloc(), input.as_slice(), wanted)?;
-        compare_rewriting(&rt, rt.alloc(), input.as_slice(), rewriting)?;
+        compare_row(&rt, rt.alloc(), &[digits, wanted, "-", rewriting])?;
     }
+    Ok(())
+}
+
+/// What follows the front of an input, and the value that is read there by its type.
+fn read_by_type(alloc: Global, input: &[u8]) -> Result<(&[u8], Value), Fail> {
+    Ok(PodDeserializer::deserialize_from::<Value>(alloc, input)?)
+}
+
+/// Compares the value that is read by its type, and how many bytes follow it.
+fn compare_by_type(
+    rt: &impl Abort,
+    alloc: Global,
+    input: &[u8],
+    wanted: &str,
+    after: usize,
+) -> Result<(), Fail> {
+    let (rest, value) = read_by_type(alloc, input)?;
+    let said = said_of(alloc, value)?;
+    assert_text(rt, said.as_str(), wanted, input);
+    assert_number_at(rt, rest.len(), after, input);
     Ok(())
 }
 
 #[test]
 fn reads_a_value_by_its_type(rt: HostRuntime) -> Result<(), Fail> {
     let input = bytes_of(rt.alloc(), "16 14 4 4 3 0 4 4")?;
-    let (rest, value) = PodDeserializer::deserialize_from::<Value>(rt.alloc(), input.as_slice())?;
-    let mut said = String::new(rt.alloc());
-    say_value(&mut said, &value)?;
-    assert_eq!(rt;
-        said.as_str(),
-        "{\"t\":\"Struct\",\"v\":[{\"t\":\"Int\",\"v\":3}]}"
-    );
-    assert_eq!(rt; rest.len(), 8);
-    Ok(())
+    let wanted = "{\"t\":\"Struct\",\"v\":[{\"t\":\"Int\",\"v\":3}]}";
+    compare_by_type(&rt, rt.alloc(), input.as_slice(), wanted, 8)
+}
+
+/// A row of the bytes of C is its own rewriting.
+fn compare_bytes_of_c(rt: &impl Abort, alloc: Global, row: &[&str; 2]) -> Result<(), Fail> {
+    let [name, digits] = *row;
+    let bytes = bytes_of(alloc, digits)?;
+    assert_own_rewriting(rt, alloc, bytes.as_slice(), name)
 }
 
 #[test]
 fn writes_back_the_bytes_of_c(rt: HostRuntime) -> Result<(), Fail> {
     let lines = lines_of(rt.alloc(), C_BYTES)?;
     for row in lines.as_slice().as_chunks::<2>().0 {
-        let [name, digits] = *row;
-        let bytes = bytes_of(rt.alloc(), digits)?;
-        let found = rewriting_of(rt.alloc(), bytes.as_slice())?;
-        assert_eq!(rt; found, bytes, "the rewriting of {name}");
+        compare_bytes_of_c(&rt, rt.alloc(), row)?;
     }
     Ok(())
 }
 
+/// The answer of a rewriting of a list: nothing, or the fault for which it is refused, and how many bytes are left there.
+type Rewritten = Result<(), (&'static str, usize)>;
+
+/// Appends the rewriting of a list of pods.
+fn rewrite_list(alloc: Global, input: &[u8], out: &mut Vec<u8>) -> Result<Rewritten, Fail> {
+    match rewrite_all(alloc, input, out) {
+        Ok(()) => Ok(Ok(())),
+        Err((_, DeserializeError::OutOfMemory)) => Err(Fail::from("out of memory")),
+        Err((left, error)) => Ok(Err((error.kind(), left.len()))),
+    }
+}
+
 /// Compares the rewriting of a list of pods, behind bytes that were there, with what a row says.
-fn compare_list(
+fn compare_list(rt: &impl Abort, alloc: Global, row: &[&str; 3]) -> Result<(), Fail> {
+    let input = bytes_of(alloc, row[0])?;
+    compare_list_at(rt, alloc, input.as_slice(), row)
+}
+
+fn compare_list_at(
     rt: &impl Abort,
     alloc: Global,
-    words: &str,
-    wanted: &str,
-    place: &str,
+    input: &[u8],
+    row: &[&str; 3],
 ) -> Result<(), Fail> {
-    let input = bytes_of(alloc, words)?;
     let mut out = bytes_of(alloc, "x0102")?;
-    match rewrite_all(alloc, input.as_slice(), &mut out) {
-        Ok(()) => {
-            let mut all = bytes_of(alloc, "x0102")?;
-            all.extend_from_slice(bytes_of(alloc, wanted)?.as_slice())?;
-            assert_eq!(rt; out, all, "at {words}");
-        }
-        Err((_, DeserializeError::OutOfMemory)) => return Err(Fail::from("out of memory")),
-        Err((left, error)) => {
+    match rewrite_list(alloc, input, &mut out) {
+        Ok(rewritten) => compare_output(rt, alloc, out.as_slice(), rewritten, input.len(), row),
+        Err(fail) => Err(fail),
+    }
+}
+
+/// Compares an output, and the answer of the rewriting of an input of that length, with what a row says.
+fn compare_output(
+    rt: &impl Abort,
+    alloc: Global,
+    out: &[u8],
+    rewritten: Rewritten,
+    len: usize,
+    row: &[&str; 3],
+) -> Result<(), Fail> {
+    let [words, wanted, place] = *row;
+    match rewritten {
+        Ok(()) => compare_behind(rt, alloc, out, wanted),
+        Err((name, left)) => {
+            let wanted = wanted.strip_prefix("refused ").unwrap_or("");
+            assert_holds(rt, name == wanted, words);
             let at: usize = place.parse()?;
-            let name = wanted.strip_prefix("refused ").unwrap_or("");
-            assert_eq!(rt; input.len().saturating_sub(left.len()), at, "at {words}");
-            assert_eq!(rt; error.kind(), name, "at {words}");
-            assert_eq!(rt;
-                out,
-                bytes_of(alloc, "x0102")?,
-                "what was there, at {words}"
-            );
+            assert_number(rt, len.saturating_sub(left), at, words);
+            compare_behind(rt, alloc, out, "")
         }
     }
-    Ok(())
+}
+
+/// Compares an output with what was there and what the words spell behind it.
+fn compare_behind(rt: &impl Abort, alloc: Global, out: &[u8], words: &str) -> Result<(), Fail> {
+    let (before, behind) = out.split_at(2.min(out.len()));
+    assert_spelt(rt, alloc, before, "x0102")?;
+    assert_spelt(rt, alloc, behind, words)
 }
 
 #[test]
 fn rewrites_lists(rt: HostRuntime) -> Result<(), Fail> {
     let lines = lines_of(rt.alloc(), LISTS)?;
     for row in lines.as_slice().as_chunks::<3>().0 {
-        let [words, wanted, place] = *row;
-        compare_list(&rt, rt.alloc(), words, wanted, place)?;
+        compare_list(&rt, rt.alloc(), row)?;
     }
     Ok(())
 }
 
-#[test]
-fn reads_three_hundred_levels(rt: HostRuntime) -> Result<(), Fail> {
-    let mut input = Vec::new(rt.alloc());
+/// Structs that nest, so many, with nothing in the innermost one.
+fn nested(alloc: Global) -> Result<Vec<u8>, AllocError> {
+    let mut input = Vec::new(alloc);
     for level in 0..DEPTH {
         let size = 8 * (DEPTH - 1 - level);
         input.extend_from_slice(&size.to_le_bytes())?;
         input.extend_from_slice(&14u32.to_le_bytes())?;
     }
-    let (rest, value) = PodDeserializer::deserialize_any_from(rt.alloc(), input.as_slice())?;
-    assert_eq!(rt; rest.len(), 0);
-    let mut said = String::new(rt.alloc());
-    say_value(&mut said, &value)?;
-    let mut wanted = "{\"t\":\"Struct\",\"v\":[".repeat(rt.alloc(), DEPTH as usize)?;
-    wanted.push_str("]}".repeat(rt.alloc(), DEPTH as usize)?.as_str())?;
-    assert_eq!(rt; said, wanted);
-    assert_eq!(rt; rewriting_of(rt.alloc(), input.as_slice())?, input);
-    Ok(())
+    Ok(input)
+}
+
+/// What structs that nest say.
+fn nested_said(alloc: Global) -> Result<String, AllocError> {
+    let mut said = "{\"t\":\"Struct\",\"v\":[".repeat(alloc, DEPTH as usize)?;
+    let closing = "]}".repeat(alloc, DEPTH as usize)?;
+    said.push_str(closing.as_str())?;
+    Ok(said)
+}
+
+fn compare_nested(rt: &impl Abort, alloc: Global, input: &[u8]) -> Result<(), Fail> {
+    let after = after_of(alloc, input)?;
+    assert_number(rt, after, 0, "300 levels");
+    assert_own_rewriting(rt, alloc, input, "300 levels")?;
+    let wanted = nested_said(alloc)?;
+    assert_said(rt, alloc, input, wanted.as_str())
+}
+
+#[test]
+fn reads_three_hundred_levels(rt: HostRuntime) -> Result<(), Fail> {
+    let input = nested(rt.alloc())?;
+    compare_nested(&rt, rt.alloc(), input.as_slice())
 }

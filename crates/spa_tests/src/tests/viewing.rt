@@ -1,11 +1,11 @@
 //! Views: on accepted pods they show what the reader reads; on any bytes they end.
-use crate::bytes::bytes_of;
+use crate::answers::{after_of, object_of, value_of, verdict_of, view_of};
+use crate::bytes::{assert_holds, assert_holds_at, bytes_of};
 use crate::tables::built::BUILT;
 use crate::tables::lines_of;
 use crate::tables::read_rows::READ_ROWS;
 use bitflags::Flags;
-use libspa::pod::deserialize::{DeserializeError, PodDeserializer};
-use libspa::pod::{Object, Pod, PodObject, PodStruct, Value};
+use libspa::pod::{Object, Pod, PodObject, PodProp, PodStruct, Property, Value};
 use libspa::utils::{Errno, Id};
 use std::alloc::Global;
 use std::process::Abort;
@@ -14,6 +14,34 @@ use std::test::Fail;
 /// Does the view show the value?
 #[cycle(shows)]
 fn shows(pod: Pod<'_>, value: &Value) -> bool {
+    match value {
+        Value::Struct(members) => match pod.as_struct() {
+            Ok(view) => shows_members(view, members.as_slice()),
+            Err(_) => false,
+        },
+        Value::Object(object) => match pod.as_object() {
+            Ok(view) => shows_object(view, object),
+            Err(_) => false,
+        },
+        leaf => shows_leaf(pod, leaf),
+    }
+}
+
+/// Does the view show a value that holds no other values?
+fn shows_leaf(pod: Pod<'_>, value: &Value) -> bool {
+    match value {
+        Value::String(text) => pod.get_string_raw() == Ok(text.as_bytes()),
+        Value::Bytes(bytes) => pod.get_bytes() == Ok(bytes.as_slice()),
+        Value::Pointer(type_, address) => pod.get_pointer() == Ok((*address, Id(*type_))),
+        Value::ValueArray(_) => pod.is_array(),
+        Value::Choice(_) => pod.is_choice(),
+        Value::Struct(_) | Value::Object(_) => false,
+        fixed => shows_fixed(pod, fixed),
+    }
+}
+
+/// Does the view show a value of fixed size?
+fn shows_fixed(pod: Pod<'_>, value: &Value) -> bool {
     match value {
         Value::None => pod.is_none(),
         Value::Bool(x) => pod.get_bool() == Ok(*x),
@@ -25,19 +53,7 @@ fn shows(pod: Pod<'_>, value: &Value) -> bool {
         Value::Rectangle(x) => pod.get_rectangle() == Ok(*x),
         Value::Fraction(x) => pod.get_fraction() == Ok(*x),
         Value::Fd(x) => pod.get_fd() == Ok(x.0),
-        Value::String(text) => pod.get_string_raw() == Ok(text.as_bytes()),
-        Value::Bytes(bytes) => pod.get_bytes() == Ok(bytes.as_slice()),
-        Value::Pointer(type_, address) => pod.get_pointer() == Ok((*address, Id(*type_))),
-        Value::ValueArray(_) => pod.is_array(),
-        Value::Choice(_) => pod.is_choice(),
-        Value::Struct(members) => match pod.as_struct() {
-            Ok(view) => shows_members(view, members.as_slice()),
-            Err(_) => false,
-        },
-        Value::Object(object) => match pod.as_object() {
-            Ok(view) => shows_object(view, object),
-            Err(_) => false,
-        },
+        _ => false,
     }
 }
 
@@ -55,7 +71,7 @@ fn shows_members(view: PodStruct<'_>, members: &[Value]) -> bool {
 
 #[cycle(shows)]
 fn shows_object(view: PodObject<'_>, object: &Object) -> bool {
-    if view.type_().as_raw() != object.type_ || view.id().as_raw() != object.id {
+    if !is_typed_alike(view, object) {
         return false;
     }
     let mut props = view.props();
@@ -63,90 +79,150 @@ fn shows_object(view: PodObject<'_>, object: &Object) -> bool {
         let Some(prop) = props.next() else {
             return false;
         };
-        if prop.key().as_raw() != property.key || prop.flags().bits() != property.flags.bits() {
-            return false;
-        }
-        if !shows(prop.value(), &property.value) {
+        if !is_headed_alike(prop, property) || !shows(prop.value(), &property.value) {
             return false;
         }
     }
     props.next().is_none()
 }
 
+/// Has the object that is viewed this one's type and id?
+fn is_typed_alike(view: PodObject<'_>, object: &Object) -> bool {
+    view.type_().as_raw() == object.type_ && view.id().as_raw() == object.id
+}
+
+/// Has the property that is viewed this one's key and flags?
+fn is_headed_alike(prop: PodProp<'_>, property: &Property) -> bool {
+    prop.key().as_raw() == property.key && prop.flags().bits() == property.flags.bits()
+}
+
+/// Does the view of an accepted input show the value that is read of it?
+fn shows_what_is_read_of(alloc: Global, input: &[u8]) -> Result<bool, Fail> {
+    Ok(shows_owned(view_of(input)?, value_of(alloc, input)?))
+}
+
+fn shows_owned(pod: Pod<'_>, value: Value) -> bool {
+    shows(pod, &value)
+}
+
 /// Compares the view of an accepted input with its value, and its cut with none.
-fn compare(rt: &impl Abort, alloc: Global, input: &[u8]) -> Result<(), Fail> {
-    let pod = Pod::from_bytes(input);
-    let (rest, value) = match PodDeserializer::deserialize_any_from(alloc, input) {
-        Ok(read) => read,
-        Err(DeserializeError::OutOfMemory) => return Err(Fail::from("out of memory")),
-        Err(_) => return Ok(()),
-    };
-    let Some(pod) = pod else {
-        return Err(Fail::from("accepted, and no view"));
-    };
-    assert!(rt; shows(pod, &value), "the view of {input:?}");
-    for end in 0..input.len().saturating_sub(rest.len()) {
-        assert!(rt;
-            Pod::from_bytes(&input[..end]).is_none(),
-            "{end} bytes of {input:?}"
-        );
+fn compare(rt: &impl Abort, alloc: Global, words: &str) -> Result<(), Fail> {
+    let input = bytes_of(alloc, words)?;
+    compare_input(rt, alloc, input.as_slice())
+}
+
+fn compare_input(rt: &impl Abort, alloc: Global, input: &[u8]) -> Result<(), Fail> {
+    if verdict_of(alloc, input)? != "accepted" {
+        return Ok(());
+    }
+    let shows = shows_what_is_read_of(alloc, input)?;
+    assert_holds_at(rt, shows, "the view shows what is read", input);
+    compare_cuts(rt, input, after_of(alloc, input)?)
+}
+
+/// No proper front of a pod that so many bytes follow has a view.
+fn compare_cuts(rt: &impl Abort, input: &[u8], after: usize) -> Result<(), Fail> {
+    for end in 0..input.len().saturating_sub(after) {
+        let has_view = has_view(&input[..end]);
+        assert_holds_at(rt, !has_view, "a cut pod has no view", &input[..end]);
+    }
+    Ok(())
+}
+
+fn has_view(bytes: &[u8]) -> bool {
+    Pod::from_bytes(bytes).is_some()
+}
+
+#[test]
+fn shows_what_is_read_of_worked_rows(rt: HostRuntime) -> Result<(), Fail> {
+    let lines = lines_of(rt.alloc(), READ_ROWS)?;
+    for row in lines.as_slice().as_chunks::<4>().0 {
+        let [words, _, _, _] = *row;
+        compare(&rt, rt.alloc(), words)?;
     }
     Ok(())
 }
 
 #[test]
-fn shows_what_is_read(rt: HostRuntime) -> Result<(), Fail> {
-    let lines = lines_of(rt.alloc(), READ_ROWS)?;
-    for row in lines.as_slice().as_chunks::<4>().0 {
-        let [words, _, _, _] = *row;
-        let input = bytes_of(rt.alloc(), words)?;
-        compare(&rt, rt.alloc(), input.as_slice())?;
-    }
+fn shows_what_is_read_of_the_builders_pods(rt: HostRuntime) -> Result<(), Fail> {
     let lines = lines_of(rt.alloc(), BUILT)?;
     for row in lines.as_slice().as_chunks::<4>().0 {
         let [_, digits, _, _] = *row;
-        let input = bytes_of(rt.alloc(), digits)?;
-        compare(&rt, rt.alloc(), input.as_slice())?;
+        compare(&rt, rt.alloc(), digits)?;
     }
     Ok(())
 }
 
-/// The view of the pod at the front of the bytes that the words spell.
-fn view(bytes: &[u8]) -> Result<Pod<'_>, Fail> {
-    match Pod::from_bytes(bytes) {
-        Some(pod) => Ok(pod),
-        None => Err(Fail::from("no pod is at the front")),
+/// The number of the first property with the key, in the object at the front of the bytes.
+fn first_int(bytes: &[u8], key: u32) -> Result<Option<i32>, Fail> {
+    match object_of(bytes)?.find_prop(Id(key)) {
+        Some(prop) => Ok(Some(prop.value().get_int()?)),
+        None => Ok(None),
     }
+}
+
+fn compare_firsts(rt: &impl Abort, bytes: &[u8]) -> Result<(), Fail> {
+    let first = first_int(bytes, 1)?;
+    assert_holds(rt, first == Some(3), "the first of two");
+    let second = first_int(bytes, 2)?;
+    assert_holds(rt, second.is_none(), "no property has the key");
+    Ok(())
 }
 
 #[test]
 fn finds_the_first_with_a_key(rt: HostRuntime) -> Result<(), Fail> {
     let bytes = bytes_of(rt.alloc(), "56 15 5 3 1 0 4 4 3 0 1 0 4 4 9 0")?;
-    let object = view(bytes.as_slice())?.as_object()?;
-    let first = object.find_prop(Id(1)).map(|prop| prop.value().get_int());
-    assert_eq!(rt; first, Some(Ok(3)));
-    assert!(rt; object.find_prop(Id(2)).is_none());
+    compare_firsts(&rt, bytes.as_slice())
+}
+
+/// Have the first two members of the struct at the front of the bytes a view?
+fn first_two_fields(bytes: &[u8]) -> Result<[bool; 2], Fail> {
+    let mut fields = view_of(bytes)?.as_struct()?.fields();
+    let first = fields.next().is_some();
+    Ok([first, fields.next().is_some()])
+}
+
+fn compare_fields(rt: &impl Abort, bytes: &[u8]) -> Result<(), Fail> {
+    let size = view_of(bytes)?.size();
+    assert_holds(rt, size == 8, "the size of the body");
+    let [first, second] = first_two_fields(bytes)?;
+    assert_holds(rt, !first && !second, "no member is whole");
     Ok(())
 }
 
 #[test]
 fn ends_at_a_member_that_crosses(rt: HostRuntime) -> Result<(), Fail> {
     let bytes = bytes_of(rt.alloc(), "8 14 4 4 3 0")?;
-    let pod = view(bytes.as_slice())?;
-    assert_eq!(rt; pod.size(), 8);
-    let mut fields = pod.as_struct()?.fields();
-    assert!(rt; fields.next().is_none());
-    assert!(rt; fields.next().is_none());
+    compare_fields(&rt, bytes.as_slice())
+}
+
+/// The text that the view of a string shows.
+fn raw_text_of(bytes: &[u8]) -> Result<Result<&[u8], Errno>, Fail> {
+    Ok(view_of(bytes)?.get_string_raw())
+}
+
+fn compare_cut_text(rt: &impl Abort, bytes: &[u8]) -> Result<(), Fail> {
+    let text = raw_text_of(bytes)?;
+    assert_holds(rt, text == Ok([0x61].as_slice()), "the text before a NUL");
     Ok(())
 }
 
 #[test]
-fn shows_texts_that_are_not_read(rt: HostRuntime) -> Result<(), Fail> {
-    let two = bytes_of(rt.alloc(), "4 8 x6100620000000000")?;
-    assert!(rt; view(two.as_slice())?.get_string_raw() == Ok([0x61].as_slice()));
-    let open = bytes_of(rt.alloc(), "4 8 x6162636400000000")?;
-    let pod = view(open.as_slice())?;
-    assert!(rt; pod.is_string());
-    assert!(rt; pod.get_string_raw() == Err(Errno::INVAL));
+fn shows_a_text_before_its_first_nul(rt: HostRuntime) -> Result<(), Fail> {
+    let bytes = bytes_of(rt.alloc(), "4 8 x6100620000000000")?;
+    compare_cut_text(&rt, bytes.as_slice())
+}
+
+fn compare_open_text(rt: &impl Abort, bytes: &[u8]) -> Result<(), Fail> {
+    let is_string = view_of(bytes)?.is_string();
+    assert_holds(rt, is_string, "a string");
+    let text = raw_text_of(bytes)?;
+    assert_holds(rt, text == Err(Errno::INVAL), "no text without a NUL");
     Ok(())
+}
+
+#[test]
+fn shows_no_text_without_a_nul(rt: HostRuntime) -> Result<(), Fail> {
+    let bytes = bytes_of(rt.alloc(), "4 8 x6162636400000000")?;
+    compare_open_text(&rt, bytes.as_slice())
 }

@@ -1,0 +1,160 @@
+//! The library's answers, as plain as the tests compare them: a test calls these, and needs no clause of the library's.
+use crate::bytes::{assert_bytes, assert_spelt, assert_text};
+use crate::said::say_value;
+use libspa::pod::deserialize::{DeserializeError, PodDeserializer};
+use libspa::pod::serialize::{GenError, PodSerializer};
+use libspa::pod::{Pod, PodObject, Value, rewrite};
+use libspa::utils::Errno;
+use std::alloc::{AllocError, Global};
+use std::process::Abort;
+use std::test::Fail;
+
+/// What the library answers at the front of an input.
+#[derive(Drop)]
+pub enum Reading<'a> {
+    /// What its value says, and how many bytes follow it.
+    Accepted(String, usize),
+    /// The fault for which it is refused, and what is left from its place on, where the refusal gives that.
+    Refused(&'static str, Option<&'a [u8]>),
+}
+
+impl<'a> Reading<'a> {
+    /// The fault for which the input is refused, or `accepted`.
+    pub(crate) fn verdict(&self) -> &'static str {
+        match self {
+            Reading::Accepted(_, _) => "accepted",
+            Reading::Refused(name, _) => name,
+        }
+    }
+
+    /// How many bytes follow the front of an accepted input.
+    pub(crate) fn after(&self) -> usize {
+        match self {
+            Reading::Accepted(_, after) => *after,
+            Reading::Refused(_, _) => usize::MAX,
+        }
+    }
+}
+
+/// The reading of the front of an input.
+pub(crate) fn reading_of<'a>(alloc: Global, input: &'a [u8]) -> Result<Reading<'a>, Fail> {
+    match read(alloc, input) {
+        Ok((rest, value)) => accepted(alloc, value, rest.len()),
+        Err(error) => refused(&error),
+    }
+}
+
+/// What follows the front of an input, and its value.
+fn read(alloc: Global, input: &[u8]) -> Result<(&[u8], Value), DeserializeError<&[u8]>> {
+    PodDeserializer::deserialize_any_from(alloc, input)
+}
+
+fn accepted<'a>(alloc: Global, value: Value, after: usize) -> Result<Reading<'a>, Fail> {
+    Ok(Reading::Accepted(said_of(alloc, value)?, after))
+}
+
+fn refused<'a>(error: &DeserializeError<&'a [u8]>) -> Result<Reading<'a>, Fail> {
+    match error {
+        DeserializeError::OutOfMemory => Err(Fail::from("out of memory")),
+        DeserializeError::Nom(fault) => Ok(Reading::Refused(error.kind(), Some(fault.input))),
+        _ => Ok(Reading::Refused(error.kind(), None)),
+    }
+}
+
+/// What a value says.
+pub(crate) fn said_of(alloc: Global, value: Value) -> Result<String, AllocError> {
+    let mut said = String::new(alloc);
+    match say_value(&mut said, &value) {
+        Ok(()) => Ok(said),
+        Err(error) => Err(error),
+    }
+}
+
+/// The value at the front of an input that is accepted.
+pub(crate) fn value_of(alloc: Global, input: &[u8]) -> Result<Value, Fail> {
+    match read(alloc, input) {
+        Ok((_, value)) => Ok(value),
+        Err(error) => Err(Fail::from(error.kind())),
+    }
+}
+
+/// What the value at the front of an accepted input says.
+pub(crate) fn said_at(alloc: Global, input: &[u8]) -> Result<String, Fail> {
+    Ok(said_of(alloc, value_of(alloc, input)?)?)
+}
+
+/// How many bytes follow the front of an input.
+pub(crate) fn after_of(alloc: Global, input: &[u8]) -> Result<usize, Fail> {
+    Ok(reading_of(alloc, input)?.after())
+}
+
+/// The fault for which an input is refused, or `accepted`.
+pub(crate) fn verdict_of(alloc: Global, input: &[u8]) -> Result<&'static str, Fail> {
+    Ok(reading_of(alloc, input)?.verdict())
+}
+
+/// The rewriting of the front of an input that is accepted.
+pub(crate) fn rewriting_of(alloc: Global, input: &[u8]) -> Result<Vec<u8>, Fail> {
+    match rewrite(alloc, input) {
+        Ok((_, rewriting)) => Ok(rewriting),
+        Err(error) => Err(Fail::from(error.kind())),
+    }
+}
+
+/// Compares the rewriting of the front of an input with the bytes that the words spell.
+pub(crate) fn assert_rewriting(
+    rt: &impl Abort,
+    alloc: Global,
+    input: &[u8],
+    words: &str,
+) -> Result<(), Fail> {
+    let found = rewriting_of(alloc, input)?;
+    assert_spelt(rt, alloc, found.as_slice(), words)
+}
+
+/// Compares what the value at the front of an input says with a text.
+pub(crate) fn assert_said(
+    rt: &impl Abort,
+    alloc: Global,
+    input: &[u8],
+    wanted: &str,
+) -> Result<(), Fail> {
+    let said = said_at(alloc, input)?;
+    assert_text(rt, said.as_str(), wanted, input);
+    Ok(())
+}
+
+/// Compares an input with the rewriting of its front. The text says which input it is.
+pub(crate) fn assert_own_rewriting(
+    rt: &impl Abort,
+    alloc: Global,
+    input: &[u8],
+    at: &str,
+) -> Result<(), Fail> {
+    let found = rewriting_of(alloc, input)?;
+    assert_bytes(rt, found.as_slice(), input, at);
+    Ok(())
+}
+
+/// The text of a value at the end of an output, and how long it is.
+pub(crate) fn write(out: Vec<u8>, value: &Value) -> Result<(Vec<u8>, u64), GenError> {
+    PodSerializer::serialize(out, value)
+}
+
+/// Fixates the object at the front of the bytes.
+pub(crate) fn fixate(bytes: &mut [u8]) -> Result<(), Errno> {
+    PodObject::fixate(bytes)
+}
+
+/// The view of the pod at the front of the bytes.
+pub(crate) fn view_of(bytes: &[u8]) -> Result<Pod<'_>, Fail> {
+    match Pod::from_bytes(bytes) {
+        Some(pod) => Ok(pod),
+        None => Err(Fail::from("no pod is at the front")),
+    }
+}
+
+/// The view of the object at the front of the bytes.
+pub(crate) fn object_of(bytes: &[u8]) -> Result<PodObject<'_>, Fail> {
+    Ok(view_of(bytes)?.as_object()?)
+}

@@ -17,7 +17,9 @@ fn text(alloc: Global, text: &str) -> Result<Value, AllocError> {
 
 /// The same elements.
 fn copied<T: Copy>(alloc: Global, elements: &[T]) -> Result<Vec<T>, AllocError> {
-    elements.to_vec(alloc)
+    let mut copy = Vec::new(alloc);
+    copy.extend_from_slice(elements)?;
+    Ok(copy)
 }
 
 /// One value alone.

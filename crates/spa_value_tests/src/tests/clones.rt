@@ -6,6 +6,12 @@ use std::alloc::AllocError;
 use std::process::Abort;
 use std::test::Fail;
 
+/// Whether a value, or a part of one, equals its clone.
+fn equals_its_clone<T: Clone + PartialEq>(source: &T) -> Result<bool, AllocError> {
+    let copy = source.clone()?;
+    Ok(copy == *source)
+}
+
 /// Each of these equals its clone.
 fn assert_clones<T: Clone + PartialEq>(
     rt: &impl Abort,
@@ -13,8 +19,8 @@ fn assert_clones<T: Clone + PartialEq>(
 ) -> Result<(), Fail> {
     let sources = sources?;
     for (i, source) in sources.iter().enumerate() {
-        let copy = source.clone()?;
-        assert!(rt; copy == *source, "at {i}");
+        let equal = equals_its_clone(source)?;
+        assert!(rt; equal, "at {i}");
     }
     Ok(())
 }

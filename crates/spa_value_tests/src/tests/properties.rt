@@ -3,17 +3,25 @@ use crate::values::int_property;
 use bitflags::Flags;
 use spa_value::{Property, PropertyFlags, Value};
 
-/// The flags of a new property, and whether it is the one without flags.
-fn new_property() -> (u32, bool) {
-    let property = Property::new(1, Value::Int(3));
-    (property.flags.bits(), property == int_property(1, 0, 3))
+/// A new property.
+fn new_property() -> Property {
+    Property::new(1, Value::Int(3))
+}
+
+/// The flags of a new property.
+fn new_flags() -> u32 {
+    new_property().flags.bits()
+}
+
+/// Whether two are equal.
+fn are_equal<T: PartialEq + Drop>(found: T, wanted: T) -> bool {
+    found == wanted
 }
 
 #[test]
 fn new_properties_have_no_flags(rt: HostRuntime) {
-    let (flags, without_flags) = new_property();
-    assert_eq!(rt; flags, 0);
-    assert!(rt; without_flags);
+    assert_eq!(rt; new_flags(), 0);
+    assert!(rt; are_equal(new_property(), int_property(1, 0, 3)));
 }
 
 /// The bits of the flags of these bits.

@@ -61,13 +61,17 @@ fn refused<'a>(error: &DeserializeError<&'a [u8]>) -> Result<Reading<'a>, Fail> 
     }
 }
 
-/// What a value says.
+/// What a value says. The value ends here.
 pub(crate) fn said_of(alloc: Global, value: Value) -> Result<String, AllocError> {
+    let said = say(alloc, &value);
+    drop(value);
+    said
+}
+
+fn say(alloc: Global, value: &Value) -> Result<String, AllocError> {
     let mut said = String::new(alloc);
-    match say_value(&mut said, &value) {
-        Ok(()) => Ok(said),
-        Err(error) => Err(error),
-    }
+    say_value(&mut said, value)?;
+    Ok(said)
 }
 
 /// The value at the front of an input that is accepted.

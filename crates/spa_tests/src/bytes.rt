@@ -1,4 +1,4 @@
-//! Bytes from the text of a table.
+//! Bytes from the text of a table, and what the tests assert of bytes, texts and numbers: each assertion is proved here, once.
 use std::alloc::{AllocError, Global};
 use std::process::Abort;
 use std::test::Fail;

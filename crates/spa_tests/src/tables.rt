@@ -1,4 +1,6 @@
 //! Tables of inputs with what must come of them. Each is a text of rows, so that it is data and no code.
+use crate::tables::built::BUILT;
+use crate::tables::read_rows::READ_ROWS;
 use std::alloc::{AllocError, Global};
 
 pub mod built;
@@ -10,4 +12,14 @@ pub mod read_rows;
 /// The lines of a table.
 pub(crate) fn lines_of<'a>(alloc: Global, table: &'a str) -> Result<Vec<&'a str>, AllocError> {
     table.lines().collect(alloc)
+}
+
+/// The lines of the pods of the builder. A function that names a long table takes long to prove, so that this is the only one.
+pub(crate) fn lines_of_built(alloc: Global) -> Result<Vec<&'static str>, AllocError> {
+    lines_of(alloc, BUILT)
+}
+
+/// The lines of the worked examples of reading.
+pub(crate) fn lines_of_read_rows(alloc: Global) -> Result<Vec<&'static str>, AllocError> {
+    lines_of(alloc, READ_ROWS)
 }

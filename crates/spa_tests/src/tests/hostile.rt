@@ -6,9 +6,7 @@ use crate::answers::{
 };
 use crate::bytes::{assert_holds_at, assert_number_at, assert_text, bytes_of};
 use crate::oracle::{Answer, Fault, answer_of, stands};
-use crate::tables::built::BUILT;
-use crate::tables::lines_of;
-use crate::tables::read_rows::READ_ROWS;
+use crate::tables::{lines_of_built, lines_of_read_rows};
 use std::alloc::Global;
 use std::process::Abort;
 use std::test::Fail;
@@ -157,7 +155,7 @@ fn agree_on_input(
 
 #[test]
 fn agrees_on_changed_worked_rows(rt: HostRuntime) -> Result<(), Fail> {
-    let lines = lines_of(rt.alloc(), READ_ROWS)?;
+    let lines = lines_of_read_rows(rt.alloc())?;
     for row in lines.as_slice().as_chunks::<4>().0 {
         agree_on_row(&rt, rt.alloc(), row)?;
     }
@@ -180,7 +178,7 @@ fn agree_on_pod(rt: &impl Abort, alloc: Global, digits: &str) -> Result<(), Fail
 
 #[test]
 fn agrees_on_changed_pods_of_the_builder(rt: HostRuntime) -> Result<(), Fail> {
-    let lines = lines_of(rt.alloc(), BUILT)?;
+    let lines = lines_of_built(rt.alloc())?;
     for row in lines.as_slice().as_chunks::<4>().0 {
         let [_, digits, _, _] = *row;
         agree_on_pod(&rt, rt.alloc(), digits)?;

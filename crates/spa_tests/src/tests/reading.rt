@@ -7,11 +7,9 @@ use crate::bytes::{
     assert_holds, assert_holds_at, assert_number, assert_number_at, assert_spelt, assert_text,
     bytes_of,
 };
-use crate::tables::built::BUILT;
 use crate::tables::c_bytes::C_BYTES;
-use crate::tables::lines_of;
 use crate::tables::lists::LISTS;
-use crate::tables::read_rows::READ_ROWS;
+use crate::tables::{lines_of, lines_of_built, lines_of_read_rows};
 use libspa::pod::deserialize::{DeserializeError, PodDeserializer};
 use libspa::pod::{Value, rewrite_all};
 use std::alloc::{AllocError, Global};
@@ -37,7 +35,7 @@ fn compare_reading(
     match reading {
         Reading::Accepted(said, _) => {
             assert_text(rt, said.as_str(), wanted, input);
-            let is_alike = is_like_its_clone(value_of(alloc, input)?)?;
+            let is_alike = clones_alike(value_of(alloc, input)?)?;
             assert_holds_at(rt, is_alike, "the clone is equal", input);
         }
         Reading::Refused(found, _) => {
@@ -48,12 +46,16 @@ fn compare_reading(
     Ok(())
 }
 
-/// Is the clone of a value equal to it?
-fn is_like_its_clone(value: Value) -> Result<bool, AllocError> {
-    match clone_of(&value) {
-        Ok(clone) => Ok(are_equal(&clone, &value)),
-        Err(error) => Err(error),
-    }
+/// Is the clone of a value equal to it? The value ends here.
+fn clones_alike(value: Value) -> Result<bool, AllocError> {
+    let is_alike = is_like_its_clone(&value);
+    drop(value);
+    is_alike
+}
+
+fn is_like_its_clone(value: &Value) -> Result<bool, AllocError> {
+    let clone = clone_of(value)?;
+    Ok(are_equal(&clone, value))
 }
 
 fn clone_of(value: &Value) -> Result<Value, AllocError> {
@@ -102,7 +104,7 @@ fn compare_input(rt: &impl Abort, alloc: Global, input: &[u8], row: [&str; 3]) -
 
 #[test]
 fn reads_the_worked_rows(rt: HostRuntime) -> Result<(), Fail> {
-    let lines = lines_of(rt.alloc(), READ_ROWS)?;
+    let lines = lines_of_read_rows(rt.alloc())?;
     for row in lines.as_slice().as_chunks::<4>().0 {
         compare_row(&rt, rt.alloc(), row)?;
     }
@@ -111,7 +113,7 @@ fn reads_the_worked_rows(rt: HostRuntime) -> Result<(), Fail> {
 
 #[test]
 fn reads_the_builders_pods(rt: HostRuntime) -> Result<(), Fail> {
-    let lines = lines_of(rt.alloc(), BUILT)?;
+    let lines = lines_of_built(rt.alloc())?;
     for row in lines.as_slice().as_chunks::<4>().0 {
         let [_, digits, wanted, written] = *row;
         let rewriting = if written == "=" { digits } else { written };

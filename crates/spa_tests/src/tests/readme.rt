@@ -1,9 +1,8 @@
 //! What the README shows, as it stands there.
-use crate::answers::{assert_own_rewriting, value_of};
+use crate::answers::{after_of, assert_own_rewriting, value_of, write};
 use crate::bytes::{assert_bytes, assert_holds, bytes_of};
 use bitflags::Flags;
-use libspa::pod::deserialize::PodDeserializer;
-use libspa::pod::serialize::PodSerializer;
+use libspa::pod::serialize::GenError;
 use libspa::pod::{Pod, PodObject, Value, rewrite_all};
 use libspa::utils::Id;
 use libspa::utils::dict::{DictRef, Flags as DictFlags};
@@ -19,17 +18,13 @@ fn written_value(alloc: Global) -> Result<Value, AllocError> {
 
 /// Its bytes, and how many they are.
 fn write_value(alloc: Global) -> Result<(Vec<u8>, u64), Fail> {
-    write_owned(alloc, written_value(alloc)?)
+    Ok(write_owned(alloc, written_value(alloc)?)?)
 }
 
-fn write_owned(alloc: Global, value: Value) -> Result<(Vec<u8>, u64), Fail> {
-    Ok(PodSerializer::serialize(Vec::new(alloc), &value)?)
-}
-
-/// What follows the value there.
-fn read_rest(alloc: Global, bytes: &[u8]) -> Result<usize, Fail> {
-    let (rest, _) = PodDeserializer::deserialize_any_from(alloc, bytes)?;
-    Ok(rest.len())
+fn write_owned(alloc: Global, value: Value) -> Result<(Vec<u8>, u64), GenError> {
+    let written = write(Vec::new(alloc), &value);
+    drop(value);
+    written
 }
 
 /// Is what is read there the value?
@@ -44,7 +39,7 @@ fn is_the_value(alloc: Global, read: &Value) -> Result<bool, AllocError> {
 }
 
 fn compare_written(rt: &impl Abort, alloc: Global, bytes: &[u8]) -> Result<(), Fail> {
-    let rest = read_rest(alloc, bytes)?;
+    let rest = after_of(alloc, bytes)?;
     assert_holds(rt, rest == 0, "nothing follows");
     let is_read = reads_the_value(alloc, bytes)?;
     assert_holds(rt, is_read, "the value is read back");

@@ -1,9 +1,7 @@
 //! The second reader itself, on tables that other programs and hands made.
 use crate::bytes::{assert_holds_at, assert_text, bytes_of};
 use crate::oracle::{Answer, answer_of, stands};
-use crate::tables::built::BUILT;
-use crate::tables::lines_of;
-use crate::tables::read_rows::READ_ROWS;
+use crate::tables::{lines_of_built, lines_of_read_rows};
 use std::alloc::Global;
 use std::process::Abort;
 use std::test::Fail;
@@ -46,13 +44,13 @@ fn compare_worked_rows(rt: &impl Abort, alloc: Global, lines: &[&str]) -> Result
 
 #[test]
 fn agrees_with_the_worked_rows(rt: HostRuntime) -> Result<(), Fail> {
-    let lines = lines_of(rt.alloc(), READ_ROWS)?;
+    let lines = lines_of_read_rows(rt.alloc())?;
     compare_worked_rows(&rt, rt.alloc(), lines.as_slice())
 }
 
 #[test]
 fn agrees_with_the_builder(rt: HostRuntime) -> Result<(), Fail> {
-    let lines = lines_of(rt.alloc(), BUILT)?;
+    let lines = lines_of_built(rt.alloc())?;
     for row in lines.as_slice().as_chunks::<4>().0 {
         let [_, digits, wanted, _] = *row;
         compare(&rt, rt.alloc(), digits, wanted)?;

@@ -1,9 +1,7 @@
 //! Views: on accepted pods they show what the reader reads; on any bytes they end.
 use crate::answers::{after_of, object_of, value_of, verdict_of, view_of};
 use crate::bytes::{assert_holds, assert_holds_at, bytes_of};
-use crate::tables::built::BUILT;
-use crate::tables::lines_of;
-use crate::tables::read_rows::READ_ROWS;
+use crate::tables::{lines_of_built, lines_of_read_rows};
 use bitflags::Flags;
 use libspa::pod::{Object, Pod, PodObject, PodProp, PodStruct, Property, Value};
 use libspa::utils::{Errno, Id};
@@ -102,7 +100,9 @@ fn shows_what_is_read_of(alloc: Global, input: &[u8]) -> Result<bool, Fail> {
 }
 
 fn shows_owned(pod: Pod<'_>, value: Value) -> bool {
-    shows(pod, &value)
+    let is_shown = shows(pod, &value);
+    drop(value);
+    is_shown
 }
 
 /// Compares the view of an accepted input with its value, and its cut with none.
@@ -135,7 +135,7 @@ fn has_view(bytes: &[u8]) -> bool {
 
 #[test]
 fn shows_what_is_read_of_worked_rows(rt: HostRuntime) -> Result<(), Fail> {
-    let lines = lines_of(rt.alloc(), READ_ROWS)?;
+    let lines = lines_of_read_rows(rt.alloc())?;
     for row in lines.as_slice().as_chunks::<4>().0 {
         let [words, _, _, _] = *row;
         compare(&rt, rt.alloc(), words)?;
@@ -145,7 +145,7 @@ fn shows_what_is_read_of_worked_rows(rt: HostRuntime) -> Result<(), Fail> {
 
 #[test]
 fn shows_what_is_read_of_the_builders_pods(rt: HostRuntime) -> Result<(), Fail> {
-    let lines = lines_of(rt.alloc(), BUILT)?;
+    let lines = lines_of_built(rt.alloc())?;
     for row in lines.as_slice().as_chunks::<4>().0 {
         let [_, digits, _, _] = *row;
         compare(&rt, rt.alloc(), digits)?;

@@ -39,7 +39,9 @@ fn written(alloc: Global, value: Value) -> Result<(Vec<u8>, u64), Fail> {
 }
 
 fn write_owned(out: Vec<u8>, value: Value) -> Result<(Vec<u8>, u64), GenError> {
-    write(out, &value)
+    let written = write(out, &value);
+    drop(value);
+    written
 }
 
 fn text(alloc: Global, text: &str) -> Result<Value, AllocError> {

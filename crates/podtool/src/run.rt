@@ -1,11 +1,9 @@
 //! The program's work, over a reader and two writers.
-ghost use Rattle.std.specs.Prelude.{◌≡◌, ◌<◌, ◌≤◌, IfErr, IfOk, IfSome, length};
-ghost use Rattle.libspa.specs.Front.{IsRefused, rest_of};
+ghost use Rattle.std.specs.Prelude.{◌≡◌, ◌≤◌, IfSome, length};
 ghost use Rattle.libspa.specs.Words.{extent, word_at};
-ghost use Rattle.libspa.specs.Reading.{OnFault};
 
 use crate::listing::Listing;
-use libspa::pod::deserialize::{DeserializeError, PodDeserializer};
+use libspa::pod::deserialize::DeserializeError;
 use libspa::pod::{Pod, PodObject, rewrite_all};
 use std::alloc::{AllocError, Global};
 use std::fmt;
@@ -85,17 +83,15 @@ pub fn run<R: Read, W: Write, E: Write>(
 /// Writes the rewritings of the pods that the input consists of.
 fn rewrite<R: Read, W: Write>(alloc: Global, input: &mut R, output: &mut W) -> Result<(), Failure> {
     let bytes = read_whole(alloc, input)?;
-    let mut rewritten = Vec::new(alloc);
-    match rewrite_all(alloc, bytes.as_slice(), &mut rewritten) {
-        Ok(()) => write_whole(output, rewritten.as_slice()),
-        Err((left, error)) => Err(refused(bytes.len() - left.len(), &error)),
-    }
+    let rewritten = rewritten_of(alloc, bytes.as_slice())?;
+    write_whole(output, rewritten.as_slice())
 }
 
-/// Writes the input with each top-level object fixated in place, and the other pods as they came.
+/// Writes the input with each top-level object fixated in place, and the other pods as they came. It is accepted exactly
+/// where it could be rewritten.
 fn fixate<R: Read, W: Write>(alloc: Global, input: &mut R, output: &mut W) -> Result<(), Failure> {
     let mut bytes = read_whole(alloc, input)?;
-    accept(alloc, bytes.as_slice())?;
+    rewritten_of(alloc, bytes.as_slice())?;
     let mut left = bytes.as_mut_slice();
     while let Some((_, extent)) = first_of(left) {
         // A pod that isn't an object stays as it came.
@@ -135,26 +131,13 @@ fn first_short(bytes: &[u8]) -> Option<usize> {
     Some(bytes.len() - left.len())
 }
 
-/// Refuses the input where it isn't pods one after another that are read.
-fn accept(alloc: Global, bytes: &[u8]) -> Result<(), Failure> {
-    let mut left = bytes;
-    while !left.is_empty() {
-        match behind_first(alloc, left) {
-            Ok(behind) => left = behind,
-            Err(error) => return Err(refused(bytes.len() - left.len(), &error)),
-        }
+/// The rewritings of the pods that the input consists of. It is refused where it isn't pods one after another.
+fn rewritten_of(alloc: Global, bytes: &[u8]) -> Result<Vec<u8>, Failure> {
+    let mut rewritten = Vec::new(alloc);
+    match rewrite_all(alloc, bytes, &mut rewritten) {
+        Ok(()) => Ok(rewritten),
+        Err((left, error)) => Err(refused(bytes.len() - left.len(), &error)),
     }
-    Ok(())
-}
-
-/// What follows the first pod, which is read.
-fn behind_first(alloc: Global, bytes: &[u8]) -> Result<&[u8], DeserializeError<&[u8]>>
-    ensures rest { IfOk result (λ behind. behind.now ≡ rest_of bytes.now) }
-    ensures less { IfOk result (λ behind. length behind.now < length bytes.now) }
-    ensures refused { IfErr result (OnFault (IsRefused bytes.now)) }
-{
-    let (behind, _) = PodDeserializer::deserialize_any_from(alloc, bytes)?;
-    Ok(behind)
 }
 
 /// The refusal of the top-level pod at this byte.

@@ -10,7 +10,12 @@ pub use Rattle.spa_format.specs.Typed
 pub use Rattle.spa_format.specs.Faults
 pub use Rattle.spa_format.specs.Walk
 pub use Rattle.spa_format.specs.Fixation
+pub use Rattle.spa_fixed.specs.Writing
 pub use Rattle.spa_value.specs.View
+pub use Rattle.spa_value.specs.Equality
 pub use Rattle.spa_read.specs.Reading
 pub use Rattle.spa_write.specs.Written
 pub use Rattle.spa_rewrite.specs.Rewriting
+pub use Rattle.spa_view.specs.View as Seen
+pub use Rattle.spa_view.specs.Tests
+pub use Rattle.spa_view.specs.Found

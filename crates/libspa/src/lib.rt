@@ -30,18 +30,22 @@ pub mod utils {
 
 /// Pods: values and their rewriting, and borrowed views.
 pub mod pod {
-    pub use spa_fixed::{CanonicalFixedSizedPod, ChoiceElement};
-    pub use spa_format::laws;
-    pub use spa_rewrite::{rewrite, rewrite_all};
-    pub use spa_value::{ChoiceValue, Object, Property, PropertyFlags, Value, ValueArray};
+    pub use spa_fixed::{CanonicalFixedSizedPod, ChoiceElement, FixedSizedPod};
+    pub use spa_format::{laws, view_laws};
+    pub use spa_rewrite::{accept_all, rewrite, rewrite_all, rewrite_in_parts};
+    pub use spa_value::{
+        ChoiceValue, Object, Property, PropertyFlags, Value, ValueArray, discard,
+        laws as value_laws,
+    };
     pub use spa_view::{
         Pod, PodObject, PodObjectIter, PodProp, PodPropFlags, PodStruct, PodStructIter,
+        laws as getter_laws,
     };
 
     /// Writing values.
     pub mod serialize {
         pub use spa_fixed::{GenError, PodOutput, PodSink};
-        pub use spa_write::{PodSerialize, PodSerializer, SerializeSuccess};
+        pub use spa_write::{PodSerialize, PodSerializer, SerializeSuccess, laws};
     }
 
     /// Reading values.

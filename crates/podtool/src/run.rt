@@ -4,7 +4,7 @@ ghost use Rattle.libspa.specs.Words.{extent, word_at};
 
 use crate::listing::Listing;
 use libspa::pod::deserialize::DeserializeError;
-use libspa::pod::{Pod, PodObject, rewrite_all};
+use libspa::pod::{Pod, PodObject, accept_all, rewrite_in_parts};
 use std::alloc::{AllocError, Global};
 use std::fmt;
 use std::io::{ErrorKind, Read, Write};
@@ -80,25 +80,30 @@ pub fn run<R: Read, W: Write, E: Write>(
     }
 }
 
-/// Writes the rewritings of the pods that the input consists of.
+/// Writes the rewritings of the pods that the input consists of. Its first pods are written from the input itself, as far as
+/// they are their own rewritings.
 fn rewrite<R: Read, W: Write>(alloc: Global, input: &mut R, output: &mut W) -> Result<(), Failure> {
     let bytes = read_whole(alloc, input)?;
-    let rewritten = rewritten_of(alloc, bytes.as_slice())?;
-    write_whole(output, rewritten.as_slice())
+    match rewrite_in_parts(alloc, bytes.as_slice()) {
+        Ok((first, rewritten)) => write_whole(output, first, rewritten.as_slice()),
+        Err((left, error)) => Err(refused(bytes.len() - left.len(), &error)),
+    }
 }
 
 /// Writes the input with each top-level object fixated in place, and the other pods as they came. It is accepted exactly
 /// where it could be rewritten.
 fn fixate<R: Read, W: Write>(alloc: Global, input: &mut R, output: &mut W) -> Result<(), Failure> {
     let mut bytes = read_whole(alloc, input)?;
-    rewritten_of(alloc, bytes.as_slice())?;
+    if let Err((left, error)) = accept_all(alloc, bytes.as_slice()) {
+        return Err(refused(bytes.len() - left.len(), &error));
+    }
     let mut left = bytes.as_mut_slice();
     while let Some((_, extent)) = first_of(left) {
         // A pod that isn't an object stays as it came.
         let _ = PodObject::fixate(left);
         left = &mut left[extent..];
     }
-    write_whole(output, bytes.as_slice())
+    write_whole(output, bytes.as_slice(), &[])
 }
 
 /// Lists the pods that the input consists of, and the pods inside them.
@@ -129,15 +134,6 @@ fn first_short(bytes: &[u8]) -> Option<usize> {
         return None;
     }
     Some(bytes.len() - left.len())
-}
-
-/// The rewritings of the pods that the input consists of. It is refused where it isn't pods one after another.
-fn rewritten_of(alloc: Global, bytes: &[u8]) -> Result<Vec<u8>, Failure> {
-    let mut rewritten = Vec::new(alloc);
-    match rewrite_all(alloc, bytes, &mut rewritten) {
-        Ok(()) => Ok(rewritten),
-        Err((left, error)) => Err(refused(bytes.len() - left.len(), &error)),
-    }
 }
 
 /// The refusal of the top-level pod at this byte.
@@ -171,9 +167,13 @@ fn read_whole<R: Read>(alloc: Global, input: &mut R) -> Result<Vec<u8>, Failure>
     }
 }
 
-/// Writes all bytes.
-fn write_whole<W: Write>(output: &mut W, bytes: &[u8]) -> Result<(), Failure> {
-    match output.write_all(bytes).and_then(|()| output.flush()) {
+/// Writes all bytes, in two parts.
+fn write_whole<W: Write>(output: &mut W, first: &[u8], rest: &[u8]) -> Result<(), Failure> {
+    let written = output
+        .write_all(first)
+        .and_then(|()| output.write_all(rest))
+        .and_then(|()| output.flush());
+    match written {
         Ok(()) => Ok(()),
         Err(_) => Err(Failure::WriteFailed),
     }

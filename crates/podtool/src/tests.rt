@@ -5,7 +5,8 @@ use std::io::{self, Error, ErrorKind, Read, Write};
 use std::process::Abort;
 use std::test::Fail;
 
-/// A device that takes bytes in small pieces, up to a limit, and then refuses.
+/// A device that takes bytes in small pieces, up to a limit, and then refuses. With a limit of `usize::MAX` it refuses to be
+/// flushed.
 #[derive(Drop)]
 struct Device {
     taken: Vec<u8>,
@@ -29,15 +30,18 @@ impl Write for Device {
     }
 
     fn flush(&mut self) -> io::Result<()> {
+        if self.limit == usize::MAX {
+            return Err(Error::from(ErrorKind::Other));
+        }
         Ok(())
     }
 }
 
-/// A source that gives its bytes in small pieces, interrupted now and then, and refuses where its bytes end early.
+/// A source that gives its bytes in small pieces, interrupted now and then, and may refuse where its bytes end.
 #[derive(Drop)]
 struct Source<'a> {
     left: &'a [u8],
-    breaks: bool,
+    refusal: Option<ErrorKind>,
     interrupted: bool,
 }
 
@@ -47,8 +51,10 @@ impl Read for Source<'_> {
         if self.interrupted {
             return Err(Error::from(ErrorKind::Interrupted));
         }
-        if self.left.is_empty() && self.breaks {
-            return Err(Error::from(ErrorKind::UnexpectedEof));
+        if let Some(refusal) = self.refusal
+            && self.left.is_empty()
+        {
+            return Err(Error::from(refusal));
         }
         let count = self.left.len().min(buffer.len()).min(PIECE);
         let (first, rest) = self.left.split_at(count);
@@ -62,16 +68,16 @@ impl Read for Source<'_> {
 fn whole(bytes: &[u8]) -> Source<'_> {
     Source {
         left: bytes,
-        breaks: false,
+        refusal: None,
         interrupted: false,
     }
 }
 
 /// A source that refuses behind these bytes.
-fn broken(bytes: &[u8]) -> Source<'_> {
+fn broken(bytes: &[u8], refusal: ErrorKind) -> Source<'_> {
     Source {
         left: bytes,
-        breaks: true,
+        refusal: Some(refusal),
         interrupted: false,
     }
 }
@@ -131,7 +137,7 @@ fn assert_run(
 }
 
 /// A word, the words of an input, and those that are written.
-const DONE: [(&str, &[u32], &[u32]); 8] = [
+const DONE: [(&str, &[u32], &[u32]); 11] = [
     ("rewrite", &[], &[]),
     ("rewrite", &[4, 2, 7, 9], &[4, 2, 1, 0]),
     ("rewrite", &[0, 1, 4, 4, 3, 0], &[0, 1, 4, 4, 3, 0]),
@@ -140,7 +146,32 @@ const DONE: [(&str, &[u32], &[u32]); 8] = [
         &[28, 19, 0, 5, 4, 4, 7, 9, 11, 0],
         &[20, 19, 0, 0, 4, 4, 7, 0],
     ),
+    (
+        "rewrite",
+        &[4, 4, 3, 0, 4, 2, 7, 9, 4, 4, 5, 0],
+        &[4, 4, 3, 0, 4, 2, 1, 0, 4, 4, 5, 0],
+    ),
     ("fixate", &[], &[]),
+    (
+        "fixate",
+        &[
+            48, 15, 5, 3, 1, 0, 20, 19, 3, 0, 4, 4, 7, 0, 48, 15, 5, 3, 1, 0, 20, 19, 4, 0, 4, 4,
+            7, 0,
+        ],
+        &[
+            48, 15, 5, 3, 1, 0, 20, 19, 0, 0, 4, 4, 7, 0, 48, 15, 5, 3, 1, 0, 20, 19, 0, 0, 4, 4,
+            7, 0,
+        ],
+    ),
+    (
+        "fixate",
+        &[
+            4, 2, 7, 9, 0, 14, 48, 15, 5, 3, 1, 0, 20, 19, 3, 0, 4, 4, 7, 0,
+        ],
+        &[
+            4, 2, 7, 9, 0, 14, 48, 15, 5, 3, 1, 0, 20, 19, 0, 0, 4, 4, 7, 0,
+        ],
+    ),
     (
         "fixate",
         &[
@@ -219,17 +250,43 @@ fn example_pods_are_shown(rt: HostRuntime) -> Result<(), Fail> {
     Ok(())
 }
 
-/// How many structs stand in one another.
+/// How many structs that are shown stand in one another.
 const DEPTH: u32 = 300;
 
-/// The words of the rewriting of nested structs, each but the innermost holding one.
-fn nested(alloc: Global) -> Result<Vec<u32>, AllocError> {
+/// How many structs and objects that are rewritten stand in one another: more than a stack holds that grows with each level.
+const DEEP: u32 = 20_000;
+
+/// The words of structs, each holding the next one, and the last one these words.
+fn nested(alloc: Global, depth: u32, inner: &[u32]) -> Result<Vec<u32>, AllocError> {
     let mut words = Vec::new(alloc);
-    for depth in 0..DEPTH {
-        words.push((DEPTH - 1 - depth) * 8)?;
+    let mut size = depth.saturating_mul(8).saturating_add(inner_len(inner));
+    for _ in 0..depth {
+        size = size.saturating_sub(8);
+        words.push(size)?;
         words.push(14)?;
     }
+    words.extend_from_slice(inner)?;
     Ok(words)
+}
+
+/// The words of objects, each with one property that holds the next one, and the last one with these words.
+fn nested_objects(alloc: Global, depth: u32, inner: &[u32]) -> Result<Vec<u32>, AllocError> {
+    let mut words = Vec::new(alloc);
+    let mut size = depth.saturating_mul(24).saturating_add(inner_len(inner));
+    for _ in 0..depth {
+        words.extend_from_slice(&[size.saturating_sub(8), 15, 5, 3, 1, 0])?;
+        size = size.saturating_sub(24);
+    }
+    words.extend_from_slice(inner)?;
+    Ok(words)
+}
+
+/// How many bytes these words take.
+fn inner_len(words: &[u32]) -> u32 {
+    match u32::try_from(words.len()) {
+        Ok(count) => count.saturating_mul(4),
+        Err(_) => u32::MAX,
+    }
 }
 
 /// The lines of nested structs.
@@ -244,9 +301,46 @@ fn nested_lines(alloc: Global) -> Result<String, Fail> {
 
 #[test]
 fn nested_structs_are_shown(rt: HostRuntime) -> Result<(), Fail> {
-    let input = nested(rt.alloc())?;
+    let input = nested(rt.alloc(), DEPTH, &[])?;
     let lines = nested_lines(rt.alloc())?;
     assert_shown(&rt, rt.alloc(), input.as_slice(), lines.as_str())
+}
+
+/// A truth value of 1, which is its own rewriting.
+const ONE: [u32; 4] = [4, 2, 1, 0];
+
+/// A truth value of 7, which isn't.
+const SEVEN: [u32; 4] = [4, 2, 7, 0];
+/// A pod of no known type.
+const UNKNOWN: [u32; 4] = [4, 21, 7, 0];
+
+#[test]
+fn deep_structs_are_rewritten(rt: HostRuntime) -> Result<(), Fail> {
+    let wanted = nested(rt.alloc(), DEEP, &ONE)?;
+    let other = nested(rt.alloc(), DEEP, &SEVEN)?;
+    let unknown = nested(rt.alloc(), DEEP, &UNKNOWN)?;
+    let rows = [wanted.as_slice(), other.as_slice(), unknown.as_slice()];
+    assert_deep(&rt, rt.alloc(), rows)
+}
+
+#[test]
+fn deep_objects_are_rewritten(rt: HostRuntime) -> Result<(), Fail> {
+    let wanted = nested_objects(rt.alloc(), DEEP, &ONE)?;
+    let other = nested_objects(rt.alloc(), DEEP, &SEVEN)?;
+    let unknown = nested_objects(rt.alloc(), DEEP, &UNKNOWN)?;
+    let rows = [wanted.as_slice(), other.as_slice(), unknown.as_slice()];
+    assert_deep(&rt, rt.alloc(), rows)
+}
+
+/// The first is the rewriting of itself and of the second, and the third is refused.
+fn assert_deep(rt: &impl Abort, alloc: Global, rows: [&[u32]; 3]) -> Result<(), Fail> {
+    let [wanted, other, unknown] = rows;
+    assert_done(rt, alloc, "rewrite", wanted, wanted)?;
+    assert_done(rt, alloc, "rewrite", other, wanted)?;
+    assert_done(rt, alloc, "fixate", other, other)?;
+    let line = "podtool: byte 0: InvalidType\n";
+    assert_refused(rt, alloc, "rewrite", unknown, line)?;
+    assert_refused(rt, alloc, "fixate", unknown, line)
 }
 
 /// The words of the input are refused with this line, and nothing is written.
@@ -271,7 +365,19 @@ fn assert_refused(
 
 #[test]
 fn pods_are_refused(rt: HostRuntime) -> Result<(), Fail> {
-    let rows: [(&str, &[u32], &str); 8] = [
+    let rows: [(&str, &[u32], &str); 10] = [
+        (
+            "rewrite",
+            &[4, 4, 3, 0, 4, 2, 7, 9, 4, 4, 5, 0, 8, 4, 3, 0],
+            "podtool: byte 48: WrongSize\n",
+        ),
+        (
+            "fixate",
+            &[
+                48, 15, 5, 3, 1, 0, 20, 19, 3, 0, 4, 4, 7, 0, 8, 4, 3, 0, 8, 15, 5, 3,
+            ],
+            "podtool: byte 56: WrongSize\n",
+        ),
         ("rewrite", &[0, 1, 8, 14, 4, 4], "podtool: byte 8: Short\n"),
         ("rewrite", &[0, 1, 8, 5], "podtool: byte 8: Short\n"),
         ("rewrite", &[8, 4, 3, 0], "podtool: byte 0: WrongSize\n"),
@@ -313,7 +419,14 @@ fn other_words_are_misuse(rt: HostRuntime) {
     ];
     for words in rows {
         // The words are settled before anything is read: this source would refuse.
-        assert_run(&rt, rt.alloc(), words, broken(&[]), AMPLE, (&[], USAGE, 2));
+        assert_run(
+            &rt,
+            rt.alloc(),
+            words,
+            broken(&[], ErrorKind::UnexpectedEof),
+            AMPLE,
+            (&[], USAGE, 2),
+        );
     }
 }
 
@@ -326,16 +439,15 @@ const WORDS: [&str; 3] = ["rewrite", "fixate", "show"];
 #[test]
 fn sources_break_off(rt: HostRuntime) -> Result<(), Fail> {
     let input = bytes_of(rt.alloc(), &INT)?;
-    let wanted: (&[u8], &str, u8) = (&[], "podtool: read failed\n", 1);
+    let rows = [
+        (ErrorKind::UnexpectedEof, "podtool: read failed\n"),
+        (ErrorKind::OutOfMemory, "podtool: out of memory\n"),
+    ];
     for word in WORDS {
-        assert_run(
-            &rt,
-            rt.alloc(),
-            &[word],
-            broken(input.as_slice()),
-            AMPLE,
-            wanted,
-        );
+        for (refusal, line) in rows {
+            let source = broken(input.as_slice(), refusal);
+            assert_run(&rt, rt.alloc(), &[word], source, AMPLE, (&[], line, 1));
+        }
     }
     Ok(())
 }
@@ -350,6 +462,16 @@ fn assert_full(rt: &impl Abort, alloc: Global, words: &[&str], source: Source<'_
         "{words:?} with room for {room}"
     );
     assert_eq!(rt; status, 1, "{words:?} with room for {room}");
+}
+
+#[test]
+fn outputs_are_not_flushed(rt: HostRuntime) -> Result<(), Fail> {
+    let rooms = (usize::MAX, AMPLE.1);
+    for word in WORDS {
+        let wanted: (&[u8], &str, u8) = (&[], "podtool: write failed\n", 1);
+        assert_run(&rt, rt.alloc(), &[word], whole(&[]), rooms, wanted);
+    }
+    Ok(())
 }
 
 #[test]

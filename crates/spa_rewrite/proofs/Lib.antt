@@ -2,3 +2,5 @@ pub mod TailLemmas
 pub mod Steps
 pub mod Refusals
 pub mod Rewritten
+pub mod Nesting
+pub mod Stretches

@@ -1,17 +1,18 @@
 //! The rewriting of a pod is the text of its value.
-ghost use Rattle.std.specs.Prelude.{◌≡◌, IfErr, IfOk, IsErrAnd, OnErr, OnOk};
+ghost use Rattle.std.specs.Prelude.{◌≡◌, ◌++◌, [], IfErr, IfNone, IfOk, IfSome, IsErrAnd, OnErr, OnOk};
 ghost use Rattle.spa_format.specs.Faults.{Stands};
 ghost use Rattle.spa_format.specs.Front.{HasFront, IsRefused, rest_of};
 ghost use Rattle.spa_format.specs.Pod.{AreMembers};
 ghost use Rattle.spa_format.specs.Tree.{Trees};
 ghost use Rattle.spa_read.specs.Reading.{IsShortAt, Names, OnFault, OnMemory};
-ghost use Rattle.spa_rewrite.specs.Rewriting.{AreRewritten, IsLeft, IsRewriting, RefusesFront, TakesMembers};
+ghost use Rattle.spa_rewrite.specs.Rewriting.{AreRewritten, AreRewrittenInParts, IsLeft, IsRewriting, RefusesFront, RefusesList, TakesMembers, TakesStretch};
 ghost use Rattle.spa_rewrite.specs.Tails.{KeepsStart};
 
 use crate::pod::rewrite_pod;
 use crate::tail::Tail;
-use spa_fixed::DeserializeError;
+use spa_fixed::{DeserializeError, PodSink, Refusal};
 use spa_read::error_at;
+use spa_scan::canonical_stretch;
 use std::alloc::Global;
 use std::mem;
 
@@ -33,7 +34,7 @@ pub fn rewrite(alloc: Global, input: &[u8]) -> Result<(&[u8], Vec<u8>), Deserial
 {
     let mut left = input;
     let mut tail = Tail::behind(Vec::new(alloc));
-    match rewrite_pod(alloc, &mut left, &mut tail) {
+    match rewrite_pod(alloc, &mut Vec::new(alloc), &mut left, &mut tail) {
         Ok(()) => Ok((left, tail.into_whole())),
         Err(why) => Err(error_at(left, why)),
     }
@@ -59,6 +60,9 @@ pub fn rewrite_all<'a>(
     ensures front { IfErr result (λ refusal. OnFault (IsRefused refusal.0.now) refusal.1) }
     // and names a fault that stands there.
     ensures named { IfErr result (λ refusal. Names (λ fault place. Stands fault place refusal.0.now) refusal.1) }
+    // Where the front of what is left isn't there, it is short; so memory runs out only where that front is there.
+    ensures short_first { IfErr result (λ refusal. ¬ (HasFront refusal.0.now) → IsShortAt refusal.0.now refusal.1) }
+    ensures memory { IfErr result (λ refusal. OnMemory (HasFront refusal.0.now) refusal.1) }
 {
     let mut bytes = mem::replace(out, Vec::new(alloc));
     // No rewriting is longer than its pod. Where so much memory isn't there at once, each growth asks for its own.
@@ -76,6 +80,51 @@ pub fn rewrite_all<'a>(
     }
 }
 
+/// The rewritings of all pods that the input consists of, in two parts: the first bytes of the input, as far as they are their
+/// own rewriting, and the rewritings of the pods behind them.
+///
+/// One after the other they are what `rewrite_all` appends, and the call is refused exactly as that one. It asks for memory
+/// for the second part alone: a program that writes the first one from the input itself needs no room for it.
+pub fn rewrite_in_parts(
+    alloc: Global,
+    input: &[u8],
+) -> Result<(&[u8], Vec<u8>), (&[u8], DeserializeError<&[u8]>)>
+    ensures parts { IfOk result (λ parts. AreRewrittenInParts input.now parts.0.now parts.1.items) }
+    ensures rewritten { IfOk result (λ parts. AreRewritten input.now [] (parts.0.now ++ parts.1.items)) }
+    ensures refused { IfErr result (λ refusal. RefusesList input.now refusal.0.now refusal.1) }
+{
+    let (first, rest) = canonical_stretch(input);
+    let mut tail = Tail::behind(Vec::new(alloc));
+    match rewrite_others(alloc, rest, &mut tail) {
+        Ok(()) => Ok((first, tail.into_whole())),
+        Err(refusal) => Err(refusal),
+    }
+}
+
+/// Tells whether `rewrite_all` would accept the input, and else refuses it as that call does.
+///
+/// It makes no rewriting of the whole: memory is asked for a pod that isn't its own rewriting, of one such pod at a time.
+pub fn accept_all(alloc: Global, input: &[u8]) -> Result<(), (&[u8], DeserializeError<&[u8]>)>
+    ensures accepted { OnOk result ((vs : Trees) × AreMembers vs input.now) }
+    ensures refused { IfErr result (λ refusal. RefusesList input.now refusal.0.now refusal.1) }
+{
+    let mut left = input;
+    let mut outer = Vec::new(alloc);
+    let mut tail = Tail::behind(Vec::new(alloc));
+    loop {
+        let (_, behind) = canonical_stretch(left);
+        if behind.is_empty() {
+            return Ok(());
+        }
+        let mut place = behind;
+        if let Err(why) = rewrite_pod(alloc, &mut outer, &mut place, &mut tail) {
+            return Err((behind, error_at(place, why)));
+        }
+        tail.clear();
+        left = place;
+    }
+}
+
 /// Appends the rewritings of all pods that the input consists of, behind the bytes that stay.
 fn rewrite_pods<'a>(
     alloc: Global,
@@ -87,13 +136,50 @@ fn rewrite_pods<'a>(
     ensures left { IfErr result (λ refusal. IsLeft input.now refusal.0.now) }
     ensures refused { IfErr result (λ refusal. RefusesFront refusal.0.now refusal.1) }
 {
+    let Some(rest) = put_stretch(input, tail) else {
+        return Err((input, error_at(input, Refusal::OutOfMemory)));
+    };
+    rewrite_others(alloc, rest, tail)
+}
+
+/// The same, of pods the first of which isn't its own rewriting: it isn't looked at for that again.
+fn rewrite_others<'a>(
+    alloc: Global,
+    input: &'a [u8],
+    tail: &mut Tail,
+) -> Result<(), (&'a [u8], DeserializeError<&'a [u8]>)>
+    ensures rewritten { OnOk result (TakesMembers input.now tail.old tail.new) }
+    ensures start { OnErr result (KeepsStart tail.old tail.new) }
+    ensures left { IfErr result (λ refusal. IsLeft input.now refusal.0.now) }
+    ensures refused { IfErr result (λ refusal. RefusesFront refusal.0.now refusal.1) }
+{
     let mut left = input;
+    let mut outer = Vec::new(alloc);
     while !left.is_empty() {
-        let mut place = left;
-        match rewrite_pod(alloc, &mut place, tail) {
-            Ok(()) => left = place,
-            Err(why) => return Err((left, error_at(place, why))),
+        let mut behind = left;
+        if let Err(why) = rewrite_pod(alloc, &mut outer, &mut behind, tail) {
+            return Err((left, error_at(behind, why)));
         }
+        let Some(rest) = put_stretch(behind, tail) else {
+            return Err((behind, error_at(behind, Refusal::OutOfMemory)));
+        };
+        left = rest;
     }
     Ok(())
+}
+
+/// Appends the first pods, as many as are their own rewritings, and gives what follows them. `None` says that memory ran out.
+fn put_stretch<'a>(left: &'a [u8], tail: &mut Tail) -> Option<&'a [u8]>
+    ensures taken { IfSome result (λ rest. TakesStretch left.now tail.old rest.now tail.new) }
+    ensures front { IfNone result (HasFront left.now) }
+    ensures kept { IfNone result (KeepsStart tail.old tail.new) }
+{
+    let (stretch, rest) = canonical_stretch(left);
+    if stretch.is_empty() {
+        return Some(left);
+    }
+    match tail.append(stretch) {
+        Ok(()) => Some(rest),
+        Err(_) => None,
+    }
 }

@@ -3,7 +3,7 @@ use crate::bytes::{assert_bytes, assert_spelt, assert_text};
 use crate::said::say_value;
 use libspa::pod::deserialize::{DeserializeError, PodDeserializer};
 use libspa::pod::serialize::{GenError, PodSerializer};
-use libspa::pod::{Pod, PodObject, Value, rewrite};
+use libspa::pod::{Pod, PodObject, Value, rewrite, rewrite_in_parts};
 use libspa::utils::Errno;
 use std::alloc::{AllocError, Global};
 use std::process::Abort;
@@ -97,12 +97,37 @@ pub(crate) fn verdict_of(alloc: Global, input: &[u8]) -> Result<&'static str, Fa
     Ok(reading_of(alloc, input)?.verdict())
 }
 
-/// The rewriting of the front of an input that is accepted.
+/// The rewriting of the front of an input that is accepted, found the same in both ways: from pod to pod, and by copying the
+/// pods that are their own rewriting.
 pub(crate) fn rewriting_of(alloc: Global, input: &[u8]) -> Result<Vec<u8>, Fail> {
+    let (after, rewriting) = rewriting_and_after(alloc, input)?;
+    let (front, _) = input.split_at(input.len().saturating_sub(after));
+    if are_joined(alloc, front, rewriting.as_slice())? {
+        return Ok(rewriting);
+    }
+    Err(Fail::from("the two ways of rewriting differ"))
+}
+
+/// How many bytes follow the front of an input, and its rewriting from pod to pod.
+fn rewriting_and_after(alloc: Global, input: &[u8]) -> Result<(usize, Vec<u8>), Fail> {
     match rewrite(alloc, input) {
-        Ok((_, rewriting)) => Ok(rewriting),
+        Ok((rest, rewriting)) => Ok((rest.len(), rewriting)),
         Err(error) => Err(Fail::from(error.kind())),
     }
+}
+
+/// Whether the rewriting of a list in two parts is these bytes.
+pub(crate) fn are_joined(alloc: Global, input: &[u8], wanted: &[u8]) -> Result<bool, Fail> {
+    match rewrite_in_parts(alloc, input) {
+        Ok((first, behind)) => Ok(follow(first, behind.as_slice(), wanted)),
+        Err((_, error)) => Err(Fail::from(error.kind())),
+    }
+}
+
+/// Whether these are two pieces, one after the other.
+fn follow(first: &[u8], second: &[u8], both: &[u8]) -> bool {
+    let (start, end) = both.split_at(first.len().min(both.len()));
+    start == first && end == second
 }
 
 /// Compares the rewriting of the front of an input with the bytes that the words spell.

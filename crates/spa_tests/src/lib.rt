@@ -8,6 +8,8 @@ mod bytes;
 #[cfg(test)]
 mod oracle;
 #[cfg(test)]
+mod readme;
+#[cfg(test)]
 mod said;
 #[cfg(test)]
 mod tables;

@@ -1,8 +1,9 @@
 //! The tests, by subject.
+mod calls_together;
 mod fixation;
 mod hostile;
 mod reading;
-mod readme;
+mod rewriting;
 mod second_reader;
 mod viewing;
 mod writing;

@@ -3,15 +3,11 @@ use crate::answers::{
     Reading, after_of, assert_own_rewriting, assert_rewriting, assert_said, reading_of, said_of,
     value_of,
 };
-use crate::bytes::{
-    assert_holds, assert_holds_at, assert_number, assert_number_at, assert_spelt, assert_text,
-    bytes_of,
-};
+use crate::bytes::{assert_holds_at, assert_number, assert_number_at, assert_text, bytes_of};
 use crate::tables::c_bytes::C_BYTES;
-use crate::tables::lists::LISTS;
 use crate::tables::{lines_of, lines_of_built, lines_of_read_rows};
-use libspa::pod::deserialize::{DeserializeError, PodDeserializer};
-use libspa::pod::{Value, rewrite_all};
+use libspa::pod::Value;
+use libspa::pod::deserialize::PodDeserializer;
 use std::alloc::{AllocError, Global};
 use std::process::Abort;
 use std::test::Fail;
@@ -161,75 +157,6 @@ fn writes_back_the_bytes_of_c(rt: HostRuntime) -> Result<(), Fail> {
     let lines = lines_of(rt.alloc(), C_BYTES)?;
     for row in lines.as_slice().as_chunks::<2>().0 {
         compare_bytes_of_c(&rt, rt.alloc(), row)?;
-    }
-    Ok(())
-}
-
-/// The answer of a rewriting of a list: nothing, or the fault for which it is refused, and how many bytes are left there.
-type Rewritten = Result<(), (&'static str, usize)>;
-
-/// Appends the rewriting of a list of pods.
-fn rewrite_list(alloc: Global, input: &[u8], out: &mut Vec<u8>) -> Result<Rewritten, Fail> {
-    match rewrite_all(alloc, input, out) {
-        Ok(()) => Ok(Ok(())),
-        Err((_, DeserializeError::OutOfMemory)) => Err(Fail::from("out of memory")),
-        Err((left, error)) => Ok(Err((error.kind(), left.len()))),
-    }
-}
-
-/// Compares the rewriting of a list of pods, behind bytes that were there, with what a row says.
-fn compare_list(rt: &impl Abort, alloc: Global, row: &[&str; 3]) -> Result<(), Fail> {
-    let input = bytes_of(alloc, row[0])?;
-    compare_list_at(rt, alloc, input.as_slice(), row)
-}
-
-fn compare_list_at(
-    rt: &impl Abort,
-    alloc: Global,
-    input: &[u8],
-    row: &[&str; 3],
-) -> Result<(), Fail> {
-    let mut out = bytes_of(alloc, "x0102")?;
-    match rewrite_list(alloc, input, &mut out) {
-        Ok(rewritten) => compare_output(rt, alloc, out.as_slice(), rewritten, input.len(), row),
-        Err(fail) => Err(fail),
-    }
-}
-
-/// Compares an output, and the answer of the rewriting of an input of that length, with what a row says.
-fn compare_output(
-    rt: &impl Abort,
-    alloc: Global,
-    out: &[u8],
-    rewritten: Rewritten,
-    len: usize,
-    row: &[&str; 3],
-) -> Result<(), Fail> {
-    let [words, wanted, place] = *row;
-    match rewritten {
-        Ok(()) => compare_behind(rt, alloc, out, wanted),
-        Err((name, left)) => {
-            let wanted = wanted.strip_prefix("refused ").unwrap_or("");
-            assert_holds(rt, name == wanted, words);
-            let at: usize = place.parse()?;
-            assert_number(rt, len.saturating_sub(left), at, words);
-            compare_behind(rt, alloc, out, "")
-        }
-    }
-}
-
-/// Compares an output with what was there and what the words spell behind it.
-fn compare_behind(rt: &impl Abort, alloc: Global, out: &[u8], words: &str) -> Result<(), Fail> {
-    let (before, behind) = out.split_at(2.min(out.len()));
-    assert_spelt(rt, alloc, before, "x0102")?;
-    assert_spelt(rt, alloc, behind, words)
-}
-
-#[test]
-fn rewrites_lists(rt: HostRuntime) -> Result<(), Fail> {
-    let lines = lines_of(rt.alloc(), LISTS)?;
-    for row in lines.as_slice().as_chunks::<3>().0 {
-        compare_list(&rt, rt.alloc(), row)?;
     }
     Ok(())
 }

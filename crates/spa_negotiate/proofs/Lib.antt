@@ -1,0 +1,10 @@
+pub mod Plain
+pub mod Order
+pub mod Completeness
+pub mod Agreeing
+pub mod KeyLists
+pub mod Settling
+pub mod Sharing
+pub mod Refusing
+pub mod Steps
+pub mod Objects

@@ -1,0 +1,13 @@
+use Rattle.std.proofs.Common.{sym, ◌∙◌, subst}
+use Rattle.spa_negotiate.specs.Admits.{IsPlain}
+use Rattle.spa_negotiate.proofs.Plain.{IsPlain-view, default_of-plain}
+use Rattle.spa_negotiate.proofs.offer.settled.Goals as goal
+
+pub returns-in_ok-clone-in_default : goal.returns-in_ok-clone-in_default
+returns-in_ok-clone-in_default c =
+    let plain = IsPlain-view c.args.value.now c.in_default.not-Choice in
+    let same = c.in_ok-clone-in_default.ensures.cases in
+    record {
+      plain = subst IsPlain (sym same) plain;
+      settled = same ∙ default_of-plain _ plain;
+    }

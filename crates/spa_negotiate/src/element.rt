@@ -1,0 +1,111 @@
+//! The nine types over which there are choices, and the values of their elements.
+ghost use Rattle.std.specs.Prelude.{◌≡◌};
+ghost use Rattle.spa_format.specs.Tree.{fixed};
+ghost use Rattle.spa_value.specs.View.{view};
+ghost use Rattle.spa_negotiate.specs.Offers.{range_rule};
+
+use crate::offer::Rule;
+use spa_fixed::CanonicalFixedSizedPod;
+use spa_utils::{Fd, Float32, Float64, Fraction, Id, Rectangle};
+use spa_value::Value;
+
+/// One of the nine types over which there are choices.
+pub(crate) trait Element: CanonicalFixedSizedPod {
+    /// The rule of a range over this type.
+    fn range_rule() -> Rule
+        ensures { result ≡ range_rule Self.kind };
+
+    /// This element as a value.
+    fn value(&self) -> Value
+        ensures { view result ≡ fixed (Self.fixed self.now) };
+}
+
+impl Element for bool {
+    fn range_rule() -> Rule {
+        Rule::Unsupported
+    }
+
+    fn value(&self) -> Value {
+        Value::Bool(*self)
+    }
+}
+
+impl Element for Id {
+    fn range_rule() -> Rule {
+        Rule::Between
+    }
+
+    fn value(&self) -> Value {
+        Value::Id(*self)
+    }
+}
+
+impl Element for i32 {
+    fn range_rule() -> Rule {
+        Rule::Between
+    }
+
+    fn value(&self) -> Value {
+        Value::Int(*self)
+    }
+}
+
+impl Element for i64 {
+    fn range_rule() -> Rule {
+        Rule::Between
+    }
+
+    fn value(&self) -> Value {
+        Value::Long(*self)
+    }
+}
+
+impl Element for Float32 {
+    fn range_rule() -> Rule {
+        Rule::Unsupported
+    }
+
+    fn value(&self) -> Value {
+        Value::Float(*self)
+    }
+}
+
+impl Element for Float64 {
+    fn range_rule() -> Rule {
+        Rule::Unsupported
+    }
+
+    fn value(&self) -> Value {
+        Value::Double(*self)
+    }
+}
+
+impl Element for Rectangle {
+    fn range_rule() -> Rule {
+        Rule::Unsupported
+    }
+
+    fn value(&self) -> Value {
+        Value::Rectangle(*self)
+    }
+}
+
+impl Element for Fraction {
+    fn range_rule() -> Rule {
+        Rule::Unsupported
+    }
+
+    fn value(&self) -> Value {
+        Value::Fraction(*self)
+    }
+}
+
+impl Element for Fd {
+    fn range_rule() -> Rule {
+        Rule::Unsupported
+    }
+
+    fn value(&self) -> Value {
+        Value::Fd(*self)
+    }
+}

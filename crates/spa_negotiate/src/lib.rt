@@ -1,0 +1,11 @@
+//! Negotiation: two objects meet in a third one, under each of whose keys stands a value that both admit.
+#![tactic(auto)]
+
+mod common;
+mod element;
+mod error;
+mod negotiation;
+mod offer;
+
+pub use error::NegotiateError;
+pub use negotiation::negotiate;

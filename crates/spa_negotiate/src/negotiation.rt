@@ -1,0 +1,155 @@
+//! Two objects meet.
+ghost use Rattle.std.specs.Prelude.{◌≡◌, IfErr, IfOk, MatchOption, None, OnOk, Some};
+ghost use Rattle.spa_format.specs.Tree.{join_properties};
+ghost use Rattle.spa_value.specs.View.{object_view, view};
+ghost use Rattle.spa_value.specs.Views.{property_views};
+ghost use Rattle.spa_negotiate.specs.Admits.{IsCommon, IsPlain};
+ghost use Rattle.spa_negotiate.specs.Meeting.{CanMeet, Meet, Settles};
+ghost use Rattle.spa_negotiate.specs.Offers.{BothAdmit, IsOfferRefusal};
+ghost use Rattle.spa_negotiate.specs.PropertyLists.{IsPushed, SettlesListed, found_at};
+ghost use Rattle.spa_negotiate.specs.Refusals.{AreRefused, IsKeyRefusal, IsRefusal, OnDisagreement};
+
+use crate::common::first_common;
+use crate::error::NegotiateError;
+use crate::offer::{Offer, offer_of, settled};
+use spa_value::{Object, Property, Value};
+use std::alloc::{AllocError, Global};
+
+/// The object in which two objects meet.
+///
+/// It has their type, the id of `a`, and each key of either once, with empty flags and a plain value: first the keys of
+/// `a` in the order of their first places, then those that `b` alone has, in the same way. On each side the first
+/// property with a key counts, and flags of properties don't.
+///
+/// A key of one side keeps its plain value, or gets the default of its choice, of whatever shape. A key of both gets the
+/// first of these that both values admit: a's default, b's default, a's alternatives, b's alternatives, a's minimum,
+/// b's minimum. A plain value is its own default.
+///
+/// The refusals: `TypeMismatch`, before any other; then, at the first of a's keys under which the two don't agree,
+/// `Unsupported`, before `Disjoint`. `OutOfMemory` is answered only for two objects of one type.
+///
+/// The time grows with the square of the number of properties, since a key is looked for along a list.
+pub fn negotiate(alloc: Global, a: &Object, b: &Object) -> Result<Object, NegotiateError>
+    // Want of memory aside, this succeeds exactly where the two can meet,
+    ensures accepted { OnOk result (CanMeet (object_view a.now) (object_view b.now)) }
+    ensures refused { IfErr result (OnDisagreement (¬ (CanMeet (object_view a.now) (object_view b.now)))) }
+    // in an object that settles each key of either,
+    ensures value { IfOk result (λ met. Meet (object_view a.now) (object_view b.now) (object_view met)) }
+    // and a refusal is one that stands.
+    ensures cause { IfErr result (AreRefused (object_view a.now) (object_view b.now)) }
+{
+    if a.type_ != b.type_ {
+        return Err(NegotiateError::TypeMismatch);
+    }
+    let ours = a.properties.as_slice();
+    let theirs = b.properties.as_slice();
+    let first = settle_first(alloc, ours, theirs)?;
+    let properties = settle_others(first, ours, theirs)?;
+    Ok(Object {
+        type_: a.type_,
+        id: a.id,
+        properties,
+    })
+}
+
+/// The settled properties of the first side.
+fn settle_first(
+    alloc: Global,
+    a: &[Property],
+    b: &[Property],
+) -> Result<Vec<Property>, NegotiateError>
+    ensures settled { IfOk result (λ met. SettlesListed a.now b.now (property_views a.now) met.items) }
+    ensures cause { IfErr result (IsRefusal (property_views a.now) (property_views b.now)) }
+{
+    let mut met = Vec::new(alloc);
+    for property in a {
+        match find(met.as_slice(), property.key) {
+            Some(_) => {}
+            None => {
+                let value = settle(alloc, property, b)?;
+                push(&mut met, property.key, value)?;
+            }
+        }
+    }
+    Ok(met)
+}
+
+/// The settled properties of the first side, and behind them those that the second side alone has. `a` stands in the
+/// contract alone.
+fn settle_others(
+    first: Vec<Property>,
+    a: &[Property],
+    b: &[Property],
+) -> Result<Vec<Property>, AllocError>
+    requires { SettlesListed a.now b.now (property_views a.now) first.items }
+    ensures { IfOk result (λ met. SettlesListed a.now b.now (join_properties (property_views a.now) (property_views b.now)) met.items) }
+{
+    let mut met = first;
+    for property in b {
+        match find(met.as_slice(), property.key) {
+            Some(_) => {}
+            None => {
+                let value = settled(&property.value)?;
+                push(&mut met, property.key, value)?;
+            }
+        }
+    }
+    Ok(met)
+}
+
+/// A plain value that settles the key of a property of the first side, where the second side has these.
+fn settle(alloc: Global, property: &Property, others: &[Property]) -> Result<Value, NegotiateError>
+    ensures plain { IfOk result (λ x. IsPlain (view x)) }
+    ensures settles { IfOk result (λ x. Settles (Some (view property.now.value)) (found_at property.now.key others.now) (view x)) }
+    ensures cause { IfErr result (IsKeyRefusal property.now.key (Some (view property.now.value)) (found_at property.now.key others.now)) }
+{
+    match find(others, property.key) {
+        Some(other) => common(alloc, property.key, &property.value, other),
+        None => Ok(settled(&property.value)?),
+    }
+}
+
+/// A plain value that both admit.
+fn common(alloc: Global, key: u32, a: &Value, b: &Value) -> Result<Value, NegotiateError>
+    ensures plain { IfOk result (λ x. IsPlain (view x)) }
+    ensures common { IfOk result (λ x. IsCommon (view a.now) (view b.now) (view x)) }
+    ensures cause { IfErr result (IsKeyRefusal key (Some (view a.now)) (Some (view b.now))) }
+{
+    let first = offer_of(alloc, a)?;
+    let second = offer_of(alloc, b)?;
+    common_of(key, &first, &second)
+}
+
+/// A value that both offers admit.
+fn common_of(key: u32, first: &Offer, second: &Offer) -> Result<Value, NegotiateError>
+    ensures common { IfOk result (λ x. BothAdmit first.now second.now (view x)) }
+    ensures cause { IfErr result (IsOfferRefusal key first.now second.now) }
+{
+    if !first.rule.is_supported() || !second.rule.is_supported() {
+        return Err(NegotiateError::Unsupported(key));
+    }
+    match first_common(first, second)? {
+        Some(value) => Ok(value),
+        None => Err(NegotiateError::Disjoint(key)),
+    }
+}
+
+/// The value of the first property with this key.
+fn find(properties: &[Property], key: u32) -> Option<&Value>
+    ensures { MatchOption result (found_at key properties.now ≡ None) (λ value. found_at key properties.now ≡ Some (view value.now)) }
+{
+    for property in properties {
+        if property.key == key {
+            return Some(&property.value);
+        }
+    }
+    None
+}
+
+/// Appends a property with empty flags.
+fn push(properties: &mut Vec<Property>, key: u32, value: Value) -> Result<(), AllocError>
+    ensures { OnOk result (IsPushed properties.old.items key (view value) properties.new.items) }
+{
+    properties.push(Property::new(key, value))?;
+    Ok(())
+}

@@ -1,0 +1,178 @@
+//! What a value offers: a default, further values, and a rule by which they admit a value.
+ghost use Rattle.std.specs.Prelude.{◌≡◌, ◌↔◌, IfOk, IsTrue, [], ◌∷◌, map};
+ghost use Rattle.spa_format.specs.Tree.{fixed};
+ghost use Rattle.spa_value.specs.View.{choice_view, view};
+ghost use Rattle.spa_fixed.specs.Choices.{choice_enum_tree};
+ghost use Rattle.spa_negotiate.specs.Admits.{IsPlain, default_of};
+ghost use Rattle.spa_negotiate.specs.Offers.{IsOfferOf, rule_of, values_of};
+
+use crate::element::Element;
+use spa_utils::ChoiceEnum;
+use spa_value::{ChoiceValue, Value};
+use std::alloc::{AllocError, Global};
+
+/// Which values an offer admits.
+#[derive(Clone, Copy)]
+pub(crate) enum Rule {
+    /// The default alone.
+    Only,
+    /// The default and the further values.
+    Among,
+    /// From the first of the further values to the second.
+    Between,
+    /// None: no common value is sought.
+    Unsupported,
+}
+
+impl Rule {
+    ghost use Rattle.spa_negotiate.specs.Offers.{IsSupportedRule};
+
+    /// Whether a common value is sought.
+    pub(crate) fn is_supported(self) -> bool
+        ensures { IsTrue result ↔ IsSupportedRule self }
+    {
+        !matches!(self, Rule::Unsupported)
+    }
+}
+
+/// What a value offers.
+pub(crate) struct Offer {
+    /// Which values are admitted.
+    pub(crate) rule: Rule,
+    /// The value itself where it is plain, and the default of a choice.
+    pub(crate) default: Value,
+    /// The alternatives of an Enum, the minimum and the maximum of a Range, and nothing elsewhere.
+    pub(crate) values: Vec<Value>,
+}
+
+// By hand, so that a function that holds two offers calls this and isn't proved along each path of a drop.
+impl Drop for Offer {
+    fn drop(self) {
+        let Offer {
+            rule: _,
+            default: _,
+            values: _,
+        } = self;
+    }
+}
+
+/// The rule of a choice.
+fn rule_of<T: Element>(choice: &ChoiceEnum<T>) -> Rule
+    ensures { result ≡ rule_of (choice_enum_tree T.kind T.fixed 0 choice.now) }
+{
+    match choice {
+        ChoiceEnum::None(_) => Rule::Only,
+        ChoiceEnum::Range { .. } => T::range_rule(),
+        ChoiceEnum::Step { .. } => Rule::Unsupported,
+        ChoiceEnum::Enum { .. } => Rule::Among,
+        ChoiceEnum::Flags { .. } => Rule::Unsupported,
+    }
+}
+
+/// The default of a choice, as a value.
+fn default_of<T: Element>(choice: &ChoiceEnum<T>) -> Value
+    ensures { view result ≡ default_of (choice_enum_tree T.kind T.fixed 0 choice.now) }
+{
+    match choice {
+        ChoiceEnum::None(default) => default.value(),
+        ChoiceEnum::Range { default, .. } => default.value(),
+        ChoiceEnum::Step { default, .. } => default.value(),
+        ChoiceEnum::Enum { default, .. } => default.value(),
+        ChoiceEnum::Flags { default, .. } => default.value(),
+    }
+}
+
+/// The alternatives of an Enum, the minimum and the maximum of a Range, and nothing elsewhere.
+fn values_of<T: Element>(alloc: Global, choice: &ChoiceEnum<T>) -> Result<Vec<Value>, AllocError>
+    ensures { IfOk result (λ values. map view values.items ≡ values_of (choice_enum_tree T.kind T.fixed 0 choice.now)) }
+{
+    match choice {
+        ChoiceEnum::Range { min, max, .. } => pair_of(alloc, min, max),
+        ChoiceEnum::Enum { alternatives, .. } => list_of(alloc, alternatives.as_slice()),
+        _ => Ok(Vec::new(alloc)),
+    }
+}
+
+/// Two elements as values.
+fn pair_of<T: Element>(alloc: Global, first: &T, second: &T) -> Result<Vec<Value>, AllocError>
+    ensures { IfOk result (λ values. map view values.items ≡ fixed (T.fixed first.now) ∷ fixed (T.fixed second.now) ∷ []) }
+{
+    let mut values = Vec::new(alloc);
+    values.push(first.value())?;
+    values.push(second.value())?;
+    Ok(values)
+}
+
+/// Elements as values.
+fn list_of<T: Element>(alloc: Global, elements: &[T]) -> Result<Vec<Value>, AllocError>
+    ensures { IfOk result (λ values. map view values.items ≡ map (λ x. fixed x) (map T.fixed elements.now)) }
+{
+    let mut values = Vec::new(alloc);
+    for element in elements {
+        values.push(element.value())?;
+    }
+    Ok(values)
+}
+
+/// What a choice offers, whatever its flags are.
+fn offer_of_choice<T: Element>(alloc: Global, choice: &ChoiceEnum<T>) -> Result<Offer, AllocError>
+    ensures { IfOk result (λ offer. IsOfferOf (choice_enum_tree T.kind T.fixed 0 choice.now) offer) }
+{
+    Ok(Offer {
+        rule: rule_of(choice),
+        default: default_of(choice),
+        values: values_of(alloc, choice)?,
+    })
+}
+
+/// What a value offers.
+pub(crate) fn offer_of(alloc: Global, value: &Value) -> Result<Offer, AllocError>
+    ensures { IfOk result (λ offer. IsOfferOf (view value.now) offer) }
+{
+    match value {
+        Value::Choice(choice) => match choice {
+            ChoiceValue::Bool(choice) => offer_of_choice(alloc, &choice.1),
+            ChoiceValue::Id(choice) => offer_of_choice(alloc, &choice.1),
+            ChoiceValue::Int(choice) => offer_of_choice(alloc, &choice.1),
+            ChoiceValue::Long(choice) => offer_of_choice(alloc, &choice.1),
+            ChoiceValue::Float(choice) => offer_of_choice(alloc, &choice.1),
+            ChoiceValue::Double(choice) => offer_of_choice(alloc, &choice.1),
+            ChoiceValue::Rectangle(choice) => offer_of_choice(alloc, &choice.1),
+            ChoiceValue::Fraction(choice) => offer_of_choice(alloc, &choice.1),
+            ChoiceValue::Fd(choice) => offer_of_choice(alloc, &choice.1),
+        },
+        _ => Ok(Offer {
+            rule: Rule::Only,
+            default: value.clone()?,
+            values: Vec::new(alloc),
+        }),
+    }
+}
+
+/// The default of a choice over any type, as a value.
+fn settled_choice(choice: &ChoiceValue) -> Value
+    ensures { view result ≡ default_of (choice_view choice.now) }
+{
+    match choice {
+        ChoiceValue::Bool(choice) => default_of(&choice.1),
+        ChoiceValue::Id(choice) => default_of(&choice.1),
+        ChoiceValue::Int(choice) => default_of(&choice.1),
+        ChoiceValue::Long(choice) => default_of(&choice.1),
+        ChoiceValue::Float(choice) => default_of(&choice.1),
+        ChoiceValue::Double(choice) => default_of(&choice.1),
+        ChoiceValue::Rectangle(choice) => default_of(&choice.1),
+        ChoiceValue::Fraction(choice) => default_of(&choice.1),
+        ChoiceValue::Fd(choice) => default_of(&choice.1),
+    }
+}
+
+/// The value itself where it is plain, and the default where it is a choice.
+pub(crate) fn settled(value: &Value) -> Result<Value, AllocError>
+    ensures plain { IfOk result (λ settled. IsPlain (view settled)) }
+    ensures settled { IfOk result (λ settled. view settled ≡ default_of (view value.now)) }
+{
+    match value {
+        Value::Choice(choice) => Ok(settled_choice(choice)),
+        _ => Ok(value.clone()?),
+    }
+}

@@ -1,0 +1,5 @@
+//! The tests, by subject.
+mod keys;
+mod refusals;
+mod shared;
+mod values;

@@ -1,0 +1,139 @@
+-- Pods that are their own rewritings, among those of a list.
+use Rattle.std.proofs.Common.{◌≡◌, ◌≢◌, ℕ, List, [], ◌++◌, length, refl, sym, ap, ◌∙◌, subst, append_assoc}
+use Rattle.std.proofs.lemmas.List.{append-nil, nil_from_length}
+use Rattle.std.specs.Borrow.{Bor}
+use Rattle.spa_format.specs.Tree.{Tree, Trees, no_trees, member, join_members}
+use Rattle.spa_format.specs.Pod.{AreMembers}
+use Rattle.spa_format.specs.Text.{text_of, member_texts}
+use Rattle.spa_format.specs.Front.{front_of}
+use Rattle.spa_format.proofs.Sequences.{members_joined, members_push}
+use Rattle.spa_fixed.specs.declared.fault.DeserializeError.{DeserializeError}
+use Rattle.spa_read.specs.Opening.{BeginsWith}
+use Rattle.spa_scan.specs.Canonical.{AreCanonical}
+use Rattle.spa_rewrite.specs.Rewriting.{AreRewritten, AreRewrittenInParts, IsLeft, RefusesFront, RefusesList, TakesFront, TakesMembers, TakesStretch}
+use Rattle.spa_rewrite.specs.Tails.{TailAppends, appends_both, start_bytes, tail_bytes}
+use Rattle.spa_rewrite.specs.declared.tail.Tail.{Tail}
+use Rattle.spa_rewrite.proofs.Rewritten.{no_members}
+use Rattle.spa_rewrite.proofs.Steps.{MembersSoFar, parted}
+
+member_texts-join : (vs ws : Trees) →
+    member_texts (join_members vs ws) ≡ member_texts vs ++ member_texts ws
+member_texts-join no_trees ws = refl
+member_texts-join (member v vs) ws =
+    ap (λ l. text_of v ++ l) (member_texts-join vs ws)
+    ∙ sym (append_assoc (text_of v) (member_texts vs) (member_texts ws))
+
+-- some first pods, and those behind them that are their own rewritings
+pub next_stretch : (body left rest : List ℕ) (a b c : Tail) → MembersSoFar body left a b →
+    TakesStretch left b rest c → MembersSoFar body rest a c
+next_stretch body left rest a b c h t =
+    let k = t.canonical in
+    let both = appends_both a b c (member_texts h.values) t.stretch h.texts t.text in
+    let same : member_texts h.values ++ t.stretch ≡ member_texts (join_members h.values k.values) =
+    ap (λ l. member_texts h.values ++ l) k.same ∙ sym (member_texts-join h.values k.values) in
+    record {
+      values = join_members h.values k.values;
+      first = h.first ++ t.stretch;
+      parts = h.parts ∙ ap (λ l. h.first ++ l) t.parts ∙ sym (append_assoc h.first t.stretch rest);
+      members = members_joined h.values k.values h.first t.stretch h.members k.members;
+      texts = subst (λ l. TailAppends a l c) same both;
+    }
+
+pub left_of : (body left : List ℕ) (a b : Tail) → MembersSoFar body left a b → left ≢ [] →
+    IsLeft body left
+left_of body left a b h n = (h.values, h.first, h.parts, h.members, n)
+
+-- pods that are their own rewritings, and those behind them
+pub both_taken : (input rest : List ℕ) (a b c : Tail) → TakesStretch input a rest b →
+    TakesMembers rest b c → TakesMembers input a c
+both_taken input rest a b c t m =
+    let k = t.canonical in
+    let both = appends_both a b c t.stretch (member_texts m.values) t.text m.texts in
+    let same : t.stretch ++ member_texts m.values ≡ member_texts (join_members k.values m.values) =
+    ap (λ l. l ++ member_texts m.values) k.same ∙ sym (member_texts-join k.values m.values) in
+    record {
+      values = join_members k.values m.values;
+      members = subst (AreMembers (join_members k.values m.values)) (sym t.parts)
+          (members_joined k.values m.values t.stretch rest k.members m.members);
+      texts = subst (λ l. TailAppends a l c) same both;
+    }
+
+pub both_rewritten : (input first rest out : List ℕ) → input ≡ first ++ rest → AreCanonical first →
+    AreRewritten rest [] out → AreRewritten input [] (first ++ out)
+both_rewritten input first rest out e k r =
+    let vs = join_members k.values r.0 in
+    let members = members_joined k.values r.0 first rest k.members r.1 in
+    let same : first ++ out ≡ member_texts vs =
+    ap (λ l. l ++ out) k.same ∙ ap (λ l. member_texts k.values ++ l) r.2
+    ∙ sym (member_texts-join k.values r.0) in
+    (vs, subst (AreMembers vs) (sym e) members, same)
+
+pub in_parts : (input first rest out : List ℕ) → input ≡ first ++ rest → AreCanonical first →
+    AreRewritten rest [] out → AreRewrittenInParts input first out
+in_parts input first rest out e k r = (rest, e, (k.values, k.members, k.same), r)
+
+-- what is left behind pods that are their own rewritings, and others
+pub left_behind : (input first rest left : List ℕ) → input ≡ first ++ rest → AreCanonical first →
+    IsLeft rest left → IsLeft input left
+left_behind input first rest left e k l =
+    let parts : input ≡ (first ++ l.1) ++ left =
+    e ∙ ap (λ x. first ++ x) l.2 ∙ sym (append_assoc first l.1 left) in (
+      join_members k.values l.0,
+      first ++ l.1,
+      parts,
+      members_joined k.values l.0 first l.1 k.members l.3,
+      l.4,
+    )
+
+pub list_refused : (input left : List ℕ) (e : DeserializeError (Bor (List ℕ))) →
+    IsLeft input left → RefusesFront left e → RefusesList input left e
+list_refused input left e l r =
+    record { behind = l; refused = no_members input left l e r.refused; front = r }
+
+-- some first pods, and this is left
+pub record FirstMembers (input left : List ℕ) : Type 0 where
+  pub values : Trees
+  pub first : List ℕ
+  pub parts : input ≡ first ++ left
+  pub members : AreMembers values first
+
+pub no_first_member : (input : List ℕ) → FirstMembers input input
+no_first_member input = record { values = no_trees; first = []; parts = refl; members = refl }
+
+pub first_stretch : (input left first rest : List ℕ) → FirstMembers input left →
+    left ≡ first ++ rest → AreCanonical first → FirstMembers input rest
+first_stretch input left first rest h e k = record {
+  values = join_members h.values k.values;
+  first = h.first ++ first;
+  parts = h.parts ∙ ap (λ l. h.first ++ l) e ∙ sym (append_assoc h.first first rest);
+  members = members_joined h.values k.values h.first first h.members k.members;
+}
+
+pub first_pod : (input left rest : List ℕ) (a b : Tail) → FirstMembers input left →
+    TakesFront left a rest b → FirstMembers input rest
+first_pod input left rest a b h t = record {
+  values = join_members h.values (member t.value no_trees);
+  first = h.first ++ front_of left;
+  parts = h.parts ∙ ap (λ l. h.first ++ l) (parted left t.value rest t.begins)
+      ∙ sym (append_assoc h.first (front_of left) rest);
+  members = members_push h.values t.value h.first (front_of left) h.members t.begins.begins.pod;
+}
+
+pub first_left : (input left : List ℕ) → FirstMembers input left → left ≢ [] → IsLeft input left
+first_left input left h n = (h.values, h.first, h.parts, h.members, n)
+
+pub all_first : (input left : List ℕ) → FirstMembers input left → length left ≡ 0 →
+    (vs : Trees) × AreMembers vs input
+all_first input left h e =
+    let same : input ≡ h.first =
+    h.parts ∙ ap (λ l. h.first ++ l) (nil_from_length left e) ∙ append-nil h.first in
+    (h.values, subst (AreMembers h.values) (sym same) h.members)
+
+-- the rewritings that are all that a vector holds
+pub rewritten_apart : (input out : List ℕ) (a b : Tail) → start_bytes a ≡ [] → tail_bytes a ≡ [] →
+    out ≡ start_bytes b ++ tail_bytes b → TakesMembers input a b → AreRewritten input [] out
+rewritten_apart input out a b s t e m =
+    let bytes : out ≡ member_texts m.values =
+    e ∙ ap (λ l. l ++ tail_bytes b) (m.texts.kept.bytes ∙ s)
+    ∙ m.texts.grown ∙ ap (λ l. l ++ member_texts m.values) t in
+    (m.values, m.members, bytes)

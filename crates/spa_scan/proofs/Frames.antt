@@ -1,0 +1,223 @@
+-- The front with zeros as its padding is a framed text.
+use Rattle.std.proofs.Common.{◌≡◌, ℕ, ◌+◌, ◌<◌, ◌≤◌, ◌-◌, List, [], ◌++◌, length, take, drop, refl, sym, ap, ◌∙◌, subst, arith, length-append, length-drop, append_assoc}
+use Rattle.std.proofs.Math.Seq.{take-add}
+use Rattle.std.proofs.lemmas.List.{length-take-le, take_at, nil_from_length, take-append-drop}
+use Rattle.spa_format.specs.Words.{word_at, word_bytes, padded_size, extent, padding, body_of, header_size}
+use Rattle.spa_format.specs.Tree.{struct_type, Tree, type_of, struct, no_trees, member, Trees, Properties, property, no_properties}
+use Rattle.spa_format.specs.Pod.{IsBody}
+use Rattle.spa_format.specs.Text.{framed_text, text_body, property_texts}
+use Rattle.spa_format.specs.Typed.{IsBytes}
+use Rattle.spa_format.specs.Front.{HasFront, front_of, rest_of}
+use Rattle.spa_format.proofs.Fronts.{front_of_whole, length-body_of, front_and_rest}
+use Rattle.spa_format.proofs.Short.{padded_above}
+use Rattle.spa_read.specs.Opening.{BeginsWith, Opens}
+use Rattle.spa_read.proofs.Steps.{pod_read}
+use Rattle.spa_scan.specs.Canonical.{AreCanonical, AreCanonicalProperties, BeginsCanonical, HasZeros, IsCanonicalBody, IsStretch, OpensPadded}
+use Rattle.std.proofs.Common.{inr}
+use Rattle.spa_format.specs.Words.{wide_at, wide_bytes}
+use Rattle.spa_format.specs.Tree.{object, object_type, pointer, pointer_type}
+use Rattle.spa_format.specs.Pod.{AreMembers, AreProperties}
+use Rattle.spa_format.proofs.WordLemmas.{wide_at-drop}
+use Rattle.spa_format.specs.Kind.{none, Kind, bool_kind, Fixed, IsFixedBody, type_number, body_size, content}
+use Rattle.spa_format.specs.Tree.{fixed}
+use Rattle.spa_format.proofs.WordLemmas.{IsBytes-drop, IsBytes-take, word_at-drop, word_at-take}
+use Rattle.spa_format.proofs.FixedKinds.{kind_of_content}
+use Rattle.spa_scan.proofs.Words.{content_kept, two_words_back, wide_back, word_there}
+
+pub framed_front : (b : List ℕ) → IsBytes b → HasFront b → HasZeros (drop 8 b) (word_at b 0) → front_of b ≡ framed_text (word_at b 4) (body_of b)
+framed_front b h f z =
+    let n = word_at b 0 in
+    let t = word_at b 4 in
+    let p = padded_size n in
+    let behind = drop 8 b in
+    let body = take n behind in
+    let long = f.header in
+    let parts : take (8 + p) b ≡ take 8 b ++ take p behind = take-add 8 p b in
+    let head : take 8 b ≡ word_bytes n ++ word_bytes t =
+    take-add 4 4 b ∙ ap (λ x. x ++ take 4 (drop 4 b)) (sym (word_there b 0 h (omega arith))) ∙ ap (λ x. word_bytes n ++ x) (sym (word_there b 4 h (omega arith))) in
+    let more : n + (p - n) ≡ p = let g = padded_above n in omega arith in
+    let tail : take p behind ≡ body ++ padding n = ap (λ m. take m behind) (sym more) ∙ take-add n (p - n) behind ∙ ap (λ x. body ++ x) z in
+    let size : length body ≡ n = length-body_of b f in
+    parts ∙ ap (λ x. x ++ take p behind) head ∙ ap (λ x. (word_bytes n ++ word_bytes t) ++ x) tail
+    ∙ append_assoc (word_bytes n) (word_bytes t) (body ++ padding n)
+    ∙ ap (λ m. word_bytes m ++ (word_bytes t ++ (body ++ padding m))) (sym size)
+
+-- a canonical body in a padded front
+pub canonical_front : (input body rest : List ℕ) (kind : ℕ) → OpensPadded input kind body rest → IsCanonicalBody kind body → BeginsCanonical input rest
+canonical_front input body rest kind o c =
+    let v = c.value in
+    record {
+      value = v;
+      begins = pod_read input body rest kind v o.opens c.its_type c.its_body;
+      same = o.padded ∙ ap (λ t. framed_text t body) (sym c.its_type) ∙ ap (framed_text (type_of v)) c.same;
+    }
+
+pub no_members : AreCanonical []
+no_members = record { values = no_trees; members = refl; same = refl }
+
+pub no_properties_left : AreCanonicalProperties []
+no_properties_left = record { values = no_properties; properties = refl; same = refl }
+
+parted : (input : List ℕ) (v : Tree) (rest : List ℕ) → BeginsWith input v rest → input ≡ front_of input ++ rest
+parted input v rest r = front_and_rest input ∙ ap (λ l. front_of input ++ l) (sym r.follows)
+
+pub one_more : (input rest : List ℕ) → BeginsCanonical input rest → AreCanonical rest → AreCanonical input
+one_more input rest c r =
+    let v = c.value in
+    let p = parted input v rest c.begins in
+    record {
+      values = member v r.values;
+      members = (front_of input, rest, p, c.begins.begins.pod, r.members);
+      same = p ∙ ap (λ x. x ++ rest) c.same ∙ ap (λ x. framed_text (type_of v) (text_body v) ++ x) r.same;
+    }
+
+pub one_more_property : (input behind rest : List ℕ) → IsBytes input → header_size ≤ length input → behind ≡ drop header_size input → BeginsCanonical behind rest → AreCanonicalProperties rest → AreCanonicalProperties input
+one_more_property input behind rest h l d c r =
+    let v = c.value in
+    let p = parted behind v rest c.begins in
+    let head : take 8 input ≡ word_bytes (word_at input 0) ++ word_bytes (word_at input 4) =
+    take-add 4 4 input ∙ ap (λ x. x ++ take 4 (drop 4 input)) (sym (word_there input 0 h (omega arith))) ∙ ap (λ x. word_bytes (word_at input 0) ++ x) (sym (word_there input 4 h (omega arith))) in
+    let text = framed_text (type_of v) (text_body v) in
+    let all : behind ≡ text ++ property_texts r.values = p ∙ ap (λ x. x ++ rest) c.same ∙ ap (λ x. text ++ x) r.same in
+    record {
+      values = property (word_at input 0) (word_at input 4) v r.values;
+      properties = (l, refl, refl, front_of behind, rest, sym d ∙ p, c.begins.begins.pod, r.properties);
+      same = sym (take-append-drop 8 input) ∙ ap (λ x. take 8 input ++ x) (sym d ∙ all) ∙ ap (λ x. x ++ (text ++ property_texts r.values)) head
+          ∙ append_assoc (word_bytes (word_at input 0)) (word_bytes (word_at input 4)) (text ++ property_texts r.values);
+    }
+
+-- a struct at the end of its struct
+pub struct_last : (input body rest : List ℕ) (kind : ℕ) → OpensPadded input kind body rest → kind ≡ struct_type → length rest ≡ 0 → AreCanonical body → AreCanonical input
+struct_last input body rest kind o k e c =
+    let b : IsCanonicalBody kind body = record { value = struct c.values; its_type = sym k; its_body = c.members; same = c.same } in
+    let z : rest ≡ [] = nil_from_length rest e in
+    one_more input rest (canonical_front input body rest kind o b) (subst AreCanonical (sym z) no_members)
+
+pub padded_of : (input body rest : List ℕ) (kind : ℕ) → IsBytes input → Opens input kind body rest → HasZeros (drop 8 input) (length body) → OpensPadded input kind body rest
+padded_of input body rest kind h o z =
+    let size : length body ≡ word_at input 0 = ap length o.its_body ∙ length-body_of input o.there in
+    record {
+      opens = o;
+      padded = framed_front input h o.there (subst (HasZeros (drop 8 input)) size z) ∙ ap (λ t. framed_text t (body_of input)) (sym o.its_kind) ∙ ap (framed_text kind) (sym o.its_body);
+    }
+
+pub rest_shorter : (input body rest : List ℕ) (kind : ℕ) → Opens input kind body rest → length rest + 8 ≤ length input
+rest_shorter input body rest kind o =
+    let e = ap length o.its_rest in
+    let d = length-drop (extent (word_at input 0)) input in
+    let w = o.there.whole in
+    omega arith
+
+-- a pod of fixed size
+pub fixed_begins : (input rest : List ℕ) (k : Kind) (s : ℕ) → IsBytes input → 16 ≤ length input → word_at input 4 ≡ type_number k → word_at input 0 ≡ s → s ≡ body_size k → s < 9 → 0 < s → HasZeros (drop 8 input) s → (k ≡ bool_kind → word_at input 8 < 2) → rest ≡ drop 16 input → BeginsCanonical input rest
+fixed_begins input rest k s h l e4 e0 e m p z t d =
+    let body = body_of input in
+    let whole : extent (word_at input 0) ≡ 16 = omega arith in
+    let there : HasFront input = record { header = omega arith; whole = omega arith } in
+    let size : length body ≡ s = length-body_of input there ∙ e0 in
+    let bytes : IsBytes body = IsBytes-take (word_at input 0) (drop 8 input) (IsBytes-drop 8 input h) in
+    let word : k ≡ bool_kind → word_at body 0 < 2 = λ i.
+    let four : s ≡ 4 = e ∙ ap body_size i in
+    subst (λ x. x < 2) (sym (word_at-take (word_at input 0) 0 (drop 8 input) (omega arith) ∙ word_at-drop 8 0 input)) (t i) in
+    let x = content k body in
+    let o : Opens input (word_at input 4) body rest = record {
+      there = there;
+      its_kind = refl;
+      its_body = refl;
+      its_rest = d ∙ ap (λ n. drop n input) (sym whole);
+      shorter = omega arith;
+      fits = omega arith;
+    } in
+    let its_body : IsFixedBody k body x = record { whole = size ∙ e; says = refl } in
+    canonical_front input body rest (word_at input 4)
+    (padded_of input body rest (word_at input 4) h o (subst (HasZeros (drop 8 input)) (sym size) z))
+    (record {
+      value = fixed x;
+      its_type = ap type_number (kind_of_content k body) ∙ sym e4;
+      its_body = subst (λ y. IsFixedBody y body x) (sym (kind_of_content k body)) its_body;
+      same = content_kept k body bytes (size ∙ e) word;
+    })
+
+pub none_left : (b : List ℕ) → length b ≡ 0 → AreCanonical b
+none_left b e = subst AreCanonical (sym (nil_from_length b e)) no_members
+
+pub none_left_either : (b : List ℕ) → length b ≡ 0 → AreCanonicalProperties b
+none_left_either b e = subst AreCanonicalProperties (sym (nil_from_length b e)) no_properties_left
+
+pub rest_bytes : (behind rest : List ℕ) → IsBytes behind → BeginsCanonical behind rest → IsBytes rest
+rest_bytes behind rest h c = subst IsBytes (sym c.begins.follows) (IsBytes-drop (extent (word_at behind 0)) behind h)
+
+pub object_of : (body behind : List ℕ) (kind : ℕ) → IsBytes body → 8 ≤ length body → behind ≡ drop 8 body → kind ≡ object_type → AreCanonicalProperties behind → IsCanonicalBody kind body
+object_of body behind kind h l d k c =
+    let t = word_at body 0 in
+    let i = word_at body 4 in
+    let long : length (take 8 body) ≡ 8 = length-take-le 8 body l in
+    let head = two_words_back (take 8 body) (IsBytes-take 8 body h) long in
+    let w0 : word_at (take 8 body) 0 ≡ t = word_at-take 8 0 body (omega arith) in
+    let w4 : word_at (take 8 body) 4 ≡ i = word_at-take 8 4 body (omega arith) in
+    record {
+      value = object t i c.values;
+      its_type = sym k;
+      its_body = (l, refl, refl, subst (AreProperties c.values) d c.properties);
+      same = sym (take-append-drop 8 body) ∙ ap (λ y. y ++ drop 8 body) (head ∙ ap (λ y. word_bytes y ++ word_bytes (word_at (take 8 body) 4)) w0 ∙ ap (λ y. word_bytes t ++ word_bytes y) w4)
+          ∙ append_assoc (word_bytes t) (word_bytes i) (drop 8 body)
+          ∙ ap (λ y. word_bytes t ++ (word_bytes i ++ y)) (sym d ∙ c.same);
+    }
+
+pub pointer_of : (body : List ℕ) (kind : ℕ) → IsBytes body → length body ≡ 16 → kind ≡ pointer_type → word_at body 4 ≡ 0 → IsCanonicalBody kind body
+pointer_of body kind h l k z =
+    let t = word_at body 0 in
+    let long : length (take 8 body) ≡ 8 = length-take-le 8 body (omega arith) in
+    let rest : length (drop 8 body) ≡ 8 = let d = length-drop 8 body in omega arith in
+    let head = two_words_back (take 8 body) (IsBytes-take 8 body h) long in
+    let w0 : word_at (take 8 body) 0 ≡ t = word_at-take 8 0 body (omega arith) in
+    let w4 : word_at (take 8 body) 4 ≡ 0 = word_at-take 8 4 body (omega arith) ∙ z in
+    let wide : drop 8 body ≡ wide_bytes (wide_at body 8) = sym (wide_back (drop 8 body) (IsBytes-drop 8 body h) rest) ∙ ap wide_bytes (wide_at-drop 8 0 body) in
+    record {
+      value = pointer t (wide_at body 8);
+      its_type = sym k;
+      its_body = (refl, inr (l, refl));
+      same = sym (take-append-drop 8 body) ∙ ap (λ y. y ++ drop 8 body) (head ∙ ap (λ y. word_bytes y ++ word_bytes (word_at (take 8 body) 4)) w0 ∙ ap (λ y. word_bytes t ++ word_bytes y) w4)
+          ∙ append_assoc (word_bytes t) (word_bytes 0) (drop 8 body)
+          ∙ ap (λ y. word_bytes t ++ (word_bytes 0 ++ y)) wide;
+    }
+
+pub none_of : (body : List ℕ) (kind : ℕ) → kind ≡ 1 → length body ≡ 0 → IsCanonicalBody kind body
+none_of body kind k e = record {
+  value = fixed none;
+  its_type = sym k;
+  its_body = record { whole = e; says = refl };
+  same = nil_from_length body e;
+}
+
+pub no_stretch : (b : List ℕ) → IsStretch b b
+no_stretch b = ([], refl, no_members)
+
+pub more_stretch : (input rest left : List ℕ) → BeginsCanonical input rest → IsStretch rest left → IsStretch input left
+more_stretch input rest left c s =
+    let front = front_of input in
+    let r = s.2 in (
+      front ++ s.0,
+      parted input c.value rest c.begins ∙ ap (λ x. front ++ x) s.1 ∙ sym (append_assoc front s.0 left),
+      record {
+        values = member c.value r.values;
+        members = (front, s.0, refl, c.begins.begins.pod, r.members);
+        same = ap (λ x. x ++ s.0) c.same ∙ ap (λ x. framed_text (type_of c.value) (text_body c.value) ++ x) r.same;
+      },
+    )
+
+pub stretch_parts : (input left : List ℕ) (n : ℕ) → IsStretch input left → n ≡ length input - length left → (take n input ++ drop n input ≡ input) × AreCanonical (take n input)
+stretch_parts input left n s e =
+    let size : n ≡ length s.0 = let l = ap length s.1 in let m = length-append s.0 left in omega arith in
+    let same : take n input ≡ s.0 = ap (take n) s.1 ∙ take_at s.0 left n (sym size) in
+    (take-append-drop n input, subst AreCanonical (sym same) s.2)
+
+-- some pods are there, so the front is
+pub stretch_front : (input first rest : List ℕ) → input ≡ first ++ rest → AreCanonical first → 0 < length first → HasFront input
+stretch_front input first rest e c l = of_values input first rest c.values c.members e l
+  where
+    of_values : (input first rest : List ℕ) (vs : Trees) → AreMembers vs first → input ≡ first ++ rest → 0 < length first → HasFront input
+    of_values input first rest no_trees m e l = absurd (let z = ap length m in omega arith)
+    of_values input first rest (member v vs) m e l =
+        let all : input ≡ m.0 ++ (m.1 ++ rest) = e ∙ ap (λ x. x ++ rest) m.2 ∙ append_assoc m.0 m.1 rest in
+        (front_of_whole input m.0 (m.1 ++ rest) (type_of v) (IsBody v) all m.3).0

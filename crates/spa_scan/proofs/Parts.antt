@@ -1,0 +1,164 @@
+-- Bodies: texts, elements, arrays, choices.
+use Rattle.std.proofs.Common.{◌≡◌, ◌≢◌, ℕ, ◌+◌, ◌*◌, ◌<◌, ◌≤◌, ◌-◌, ◌/◌, inl, inr, List, [], ◌∷◌, ◌++◌, length, take, drop, get_or, zero, suc, refl, sym, ap, ◌∙◌, subst, arith, length-append, length-drop, append_assoc}
+use Rattle.std.specs.Prelude.{Contains, slice_index}
+use Rattle.std.proofs.lemmas.List.{get_or-drop, get_or_past, length-take-le, nil_from_length, take-append-drop, take_all}
+use Rattle.std.proofs.lemmas.Bool.{cases_lt}
+use Rattle.std.proofs.Math.Nat.{mul-div_cancel}
+use Rattle.std.proofs.lemmas.Str.{IsUtf8-from_ascii}
+use Rattle.std.specs.Str.{IsAscii}
+use Rattle.spa_format.specs.Words.{word_at, word_bytes, header_size}
+use Rattle.spa_format.specs.Kind.{Kind, bool_kind, Fixed, body_size, type_number, content, fixed_body}
+use Rattle.spa_format.specs.Tree.{Tree, array, choice, choice_type, array_type, Shape, none_choice, range_choice, step_choice, enum_choice, flags_choice, shape_number}
+use Rattle.spa_format.specs.Pod.{AreElements, IsArray, IsText, IsBody, IsChoice, least_count, values_taken}
+use Rattle.spa_format.specs.Normal.{kept_flags}
+use Rattle.spa_format.specs.Text.{array_body, fixed_bodies}
+use Rattle.spa_format.specs.Typed.{IsBytes}
+use Rattle.spa_format.proofs.WordLemmas.{IsBytes-drop, IsBytes-take, word_at-take}
+use Rattle.spa_format.proofs.FixedKinds.{same_kind, kind_of_content}
+use Rattle.spa_format.proofs.Elements.{length_of_elements}
+use Rattle.spa_scan.specs.Canonical.{AreCanonicalElements, IsCanonicalArray, IsCanonicalBody, IsCanonicalText, IsFixedLen, IsPlain, IsPlainFor}
+use Rattle.spa_scan.proofs.Words.{content_kept, two_words_back}
+
+-- plain bytes, and more of them
+pub plain_more : (n : ℕ) (b : List ℕ) → n ≤ length b → IsPlainFor n b → IsPlainFor (length (drop n b)) (drop n b) → IsPlainFor (length b) b
+plain_more n b le first rest i h =
+    elim (cases_lt i n) [
+      | inl lt ↦ first i lt
+      | inr ge ↦
+          let d = length-drop n b in
+          let here : i - n < length (drop n b) = omega arith in
+          let at : n + (i - n) ≡ i = omega arith in
+          let same : get_or (drop n b) (i - n) 0 ≡ get_or b i 0 = get_or-drop n b (i - n) 0 ∙ ap (λ m. get_or b m 0) at in
+          subst IsPlain same (rest (i - n) here)
+    ]
+
+pub plain_text : (b text : List ℕ) → b ≡ text ++ 0 ∷ [] → IsPlainFor (length text) text → IsCanonicalText b
+plain_text b text e h =
+    let ascii : IsAscii text = λ i. elim (cases_lt i (length text)) [
+      | inl lt ↦ (h i lt).1
+      | inr ge ↦ rw (get_or_past text i 0 ge) (omega arith)
+    ] in
+    let none : ¬ (Contains text 0) = λ c. let p = (h c.0 c.1).0 in let q = c.2 in omega arith in
+    (text, record { utf8 = IsUtf8-from_ascii text ascii; no_nul = none }, e)
+
+-- one more element
+pub one_element : (k : Kind) (b : List ℕ) → IsBytes b → 0 < body_size k → body_size k ≤ length b → (k ≡ bool_kind → word_at b 0 < 2) → AreCanonicalElements k (drop (body_size k) b) → AreCanonicalElements k b
+one_element k b h p l t c =
+    let s = body_size k in
+    let first = take s b in
+    let long : length first ≡ s = length-take-le s b l in
+    let small : k ≡ bool_kind → word_at first 0 < 2 = λ e.
+    let four : s ≡ 4 = ap body_size e in
+    subst (λ x. x < 2) (sym (word_at-take s 0 b (omega arith))) (t e) in
+    let same = content_kept k first (IsBytes-take s b h) long small in
+    record {
+      values = content k first ∷ c.values;
+      elements = (p, record { whole = long; says = refl }, c.elements);
+      same = sym (take-append-drop s b) ∙ ap (λ x. x ++ drop s b) same ∙ ap (λ x. fixed_body (content k first) ++ x) c.same;
+    }
+
+pub no_elements : (k : Kind) (b : List ℕ) → length b ≡ 0 → AreCanonicalElements k b
+no_elements k b e = let z = nil_from_length b e in record { values = []; elements = z; same = z }
+
+-- whole elements of a kind other than Bool
+pub whole_elements : (k : Kind) (n : ℕ) (b : List ℕ) → IsBytes b → k ≢ bool_kind → 0 < body_size k → length b ≡ n * body_size k → AreCanonicalElements k b
+whole_elements k zero b h f p l = no_elements k b (omega arith)
+whole_elements k (suc n) b h f p l =
+    let s = body_size k in
+    let m : suc n * s ≡ s + n * s = omega arith in
+    let d = length-drop s b in
+    one_element k b h p (omega arith) (λ e. absurd (f e)) (whole_elements k n (drop s b) (IsBytes-drop s b h) f p (omega arith))
+
+pub array_of : (k : Kind) (b : List ℕ) → IsBytes b → 8 ≤ length b → word_at b 0 ≡ body_size k → word_at b 4 ≡ type_number k → AreCanonicalElements k (drop 8 b) → IsCanonicalArray b
+array_of k b h l e0 e4 c =
+    let long : length (take 8 b) ≡ 8 = length-take-le 8 b l in
+    let head = two_words_back (take 8 b) (IsBytes-take 8 b h) long in
+    let w0 : word_at (take 8 b) 0 ≡ body_size k = word_at-take 8 0 b (omega arith) ∙ e0 in
+    let w4 : word_at (take 8 b) 4 ≡ type_number k = word_at-take 8 4 b (omega arith) ∙ e4 in
+    record {
+      kind = k;
+      values = c.values;
+      its_array = record { header = l; child_size = e0; child_type = e4; elements = c.elements };
+      same = sym (take-append-drop 8 b) ∙ ap (λ x. x ++ drop 8 b) (head ∙ ap (λ x. word_bytes x ++ word_bytes (word_at (take 8 b) 4)) w0 ∙ ap (λ x. word_bytes (body_size k) ++ word_bytes x) w4)
+          ∙ append_assoc (word_bytes (body_size k)) (word_bytes (type_number k)) (drop 8 b)
+          ∙ ap (λ x. word_bytes (body_size k) ++ (word_bytes (type_number k) ++ x)) c.same;
+    }
+
+pub array_body_of : (b : List ℕ) → IsCanonicalArray b → IsCanonicalBody array_type b
+array_body_of b a = record { value = array a.kind a.values; its_type = refl; its_body = a.its_array; same = a.same }
+
+-- an array whose sizes are right
+pub array_found : (body elements : List ℕ) (number size : ℕ) → IsBytes body → 8 ≤ length body → number ≡ word_at body 4 → size ≡ word_at body 0 → IsFixedLen number size → elements ≡ drop 8 body → ((k : Kind) → number ≡ type_number k → size ≡ body_size k → AreCanonicalElements k elements) → IsCanonicalArray body
+array_found body elements number size h l n s f d c =
+    let k = f.0 in
+    array_of k body h l (sym s ∙ f.2) (sym n ∙ f.1) (subst (AreCanonicalElements k) d (c k f.1 f.2))
+
+pub elements_found : (k : Kind) (number size : ℕ) (b : List ℕ) → IsBytes b → number ≡ type_number k → size ≡ body_size k → number ≢ 2 → 0 < size → length b ≡ length b / size * size → AreCanonicalElements k b
+elements_found k number size b h n s f p l =
+    whole_elements k (length b / size) b h (λ e. f (n ∙ ap type_number e)) (omega arith) (l ∙ ap (λ x. length b / size * x) s)
+
+pub bools_found : (k : Kind) (number : ℕ) (b : List ℕ) → number ≡ type_number k → number ≡ 2 → AreCanonicalElements bool_kind b → AreCanonicalElements k b
+bools_found k number b n e c = subst (λ y. AreCanonicalElements y b) (same_kind bool_kind k (sym e ∙ n)) c
+
+same_count : (n m s : ℕ) → 0 < s → n * s ≡ m * s → n ≡ m
+same_count n m s p e = sym (mul-div_cancel n p) ∙ ap (λ x. x / s) e ∙ mul-div_cancel m p
+
+-- what the values of a choice have to be
+abbrev pub IsRightCount : Shape → ℕ → Type 0
+IsRightCount s n = (least_count s ≤ suc n) × ((xs : List Fixed) → length xs ≡ n → values_taken s xs ≡ xs)
+
+choice_with : (s : Shape) (b : List ℕ) → IsBytes b → 16 ≤ length b → (k : Kind) (x : Fixed) (xs : List Fixed) → IsArray k (x ∷ xs) (drop 8 b) → drop 8 b ≡ array_body k (x ∷ xs) → word_at b 0 ≡ shape_number s → kept_flags s (word_at b 4) ≡ word_at b 4 → IsRightCount s (length xs) → IsCanonicalBody choice_type b
+choice_with s b h l k x xs a e w f c =
+    let long : length (take 8 b) ≡ 8 = length-take-le 8 b (omega arith) in
+    let head = two_words_back (take 8 b) (IsBytes-take 8 b h) long in
+    let w0 : word_at (take 8 b) 0 ≡ shape_number s = word_at-take 8 0 b (omega arith) ∙ w in
+    let w4 : word_at (take 8 b) 4 ≡ word_at b 4 = word_at-take 8 4 b (omega arith) in
+    let tail = array_body k (x ∷ xs) in
+    record {
+      value = choice s (word_at b 4) k x xs;
+      its_type = refl;
+      its_body = record { header = omega arith; shape = w; flags = sym f; all = xs; values = a; enough = c.0; first = sym (c.1 xs refl) };
+      same = sym (take-append-drop 8 b) ∙ ap (λ y. y ++ drop 8 b) (head ∙ ap (λ y. word_bytes y ++ word_bytes (word_at (take 8 b) 4)) w0 ∙ ap (λ y. word_bytes (shape_number s) ++ word_bytes y) w4)
+          ∙ append_assoc (word_bytes (shape_number s)) (word_bytes (word_at b 4)) (drop 8 b)
+          ∙ ap (λ y. word_bytes (shape_number s) ++ (word_bytes (word_at b 4) ++ y)) e;
+    }
+
+choice_values : (s : Shape) (b : List ℕ) → IsBytes b → 16 < length b → (k : Kind) (ys : List Fixed) → IsArray k ys (drop 8 b) → drop 8 b ≡ array_body k ys → word_at b 0 ≡ shape_number s → kept_flags s (word_at b 4) ≡ word_at b 4 → ((n : ℕ) → length b - 16 ≡ suc n * body_size k → 0 < body_size k → IsRightCount s n) → IsCanonicalBody choice_type b
+choice_values s b h l k [] a e w f c =
+    let z = ap length a.elements in
+    let d = length-drop 8 (drop 8 b) in
+    let d' = length-drop 8 b in
+    absurd (omega arith)
+choice_values s b h l k (x ∷ xs) a e w f c =
+    let n = length_of_elements k (x ∷ xs) (drop 8 (drop 8 b)) a.elements in
+    let d = length-drop 8 (drop 8 b) in
+    let d' = length-drop 8 b in
+    let size : length b - 16 ≡ suc (length xs) * body_size k = omega arith in
+    choice_with s b h (omega arith) k x xs a e w f (c (length xs) size a.elements.0)
+
+pub choice_found : (s : Shape) (b arr : List ℕ) → IsBytes b → 16 < length b → arr ≡ drop 8 b → (a : IsCanonicalArray arr) → word_at b 0 ≡ shape_number s → kept_flags s (word_at b 4) ≡ word_at b 4 → ((n k : ℕ) → k ≡ word_at arr 0 → 0 < k → length b - 16 ≡ suc n * k → IsRightCount s n) → IsCanonicalBody choice_type b
+choice_found s b arr h l d a w f c =
+    let size : body_size a.kind ≡ word_at arr 0 = sym a.its_array.child_size in
+    choice_values s b h l a.kind a.values (subst (IsArray a.kind a.values) d a.its_array) (sym d ∙ a.same) w f
+    (λ n e p. c n (body_size a.kind) size p e)
+
+pub none_count : (n k L : ℕ) → 0 < k → L ≡ suc n * k → L ≡ k → IsRightCount none_choice n
+none_count n k m p e i =
+    let one : suc n ≡ 1 = same_count (suc n) 1 k p (sym e ∙ i ∙ (let y : k ≡ 1 * k = omega arith in y)) in
+    (omega arith, λ xs h. sym (nil_from_length xs (omega arith)))
+
+pub range_count : (n k L : ℕ) → 0 < k → L ≡ suc n * k → L ≡ 3 * k → IsRightCount range_choice n
+range_count n k m p e i =
+    let three : suc n ≡ 3 = same_count (suc n) 3 k p (sym e ∙ i) in
+    (omega arith, λ xs h. take_all 2 xs (omega arith))
+
+pub step_count : (n k L : ℕ) → 0 < k → L ≡ suc n * k → L ≡ 4 * k → IsRightCount step_choice n
+step_count n k m p e i =
+    let four : suc n ≡ 4 = same_count (suc n) 4 k p (sym e ∙ i) in
+    (omega arith, λ xs h. take_all 3 xs (omega arith))
+
+pub enum_count : (n : ℕ) → IsRightCount enum_choice n
+enum_count n = (omega arith, λ xs h. refl)
+
+pub flags_count : (n : ℕ) → IsRightCount flags_choice n
+flags_count n = (omega arith, λ xs h. refl)

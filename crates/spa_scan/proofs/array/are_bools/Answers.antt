@@ -1,0 +1,28 @@
+use Rattle.std.proofs.Common.{◌≡◌, ◌<◌, ap, sym, ◌∙◌, subst, arith}
+use Rattle.std.proofs.lemmas.Bool.{eqb-true}
+use Rattle.spa_format.specs.Kind.{bool_kind}
+use Rattle.spa_format.specs.Typed.{IsBytes}
+use Rattle.spa_format.specs.Words.{word_at}
+use Rattle.spa_format.proofs.WordLemmas.{IsBytes-drop}
+use Rattle.spa_scan.specs.Canonical.{AreCanonicalElements}
+use Rattle.spa_scan.proofs.Parts.{one_element, no_elements}
+use Rattle.spa_scan.proofs.array.are_bools.Goals as goal
+
+pub loop-left-init : goal.loop-left-init
+loop-left-init c = (λ i. omega (arith, c.type_inv.elements i), λ r. r)
+
+pub loop-left-preserved : goal.loop-left-preserved
+loop-left-preserved c =
+    let back = c.split_at.ensures.back in
+    let bytes = c.loop-left.invariant.0 in
+    let small : word_at c.loop-left.left.now 0 < 2 = let e = c.u32_at.ensures in let l = c.if-u32_at-gt1.false in omega arith in (
+      subst IsBytes (sym back) (IsBytes-drop 4 _ bytes),
+      λ r.
+          c.loop-left.invariant.1
+          (one_element bool_kind _ bytes (omega arith) c.if-left-lt-WORD_LEN.false (λ _. small)
+          (subst (AreCanonicalElements bool_kind) back r)),
+    )
+
+pub returns : goal.returns
+returns c = λ _.
+    c.loop-left.invariant.1 (no_elements bool_kind _ (eqb-true _ _ (sym c.is_empty.ensures ∙ c.loop-left-test.false)))

@@ -1,0 +1,28 @@
+use Rattle.std.proofs.Common.{◌≡◌, ◌∙◌, ◌<◌, sym, subst, arith, refl, length}
+use Rattle.spa_format.specs.Front.{HasFront}
+use Rattle.spa_scan.specs.Canonical.{AreCanonical}
+use Rattle.spa_scan.proofs.Frames.{more_stretch, no_stretch, stretch_front, stretch_parts}
+use Rattle.spa_scan.proofs.scan.canonical_stretch.Goals as goal
+
+pub loop-rest-init : goal.loop-rest-init
+loop-rest-init c = (omega arith, λ r s. s)
+
+pub loop-rest-preserved : goal.loop-rest-preserved
+loop-rest-preserved c =
+    let shorter = c.in-Some.ensures.shorter in
+    let before = c.loop-rest.invariant.0 in
+    (omega arith, λ r s. c.loop-rest.invariant.1 r (more_stretch _ _ r c.in-Some.ensures.taken s))
+
+pub returns-clause-canonical : goal.returns-clause-canonical
+returns-clause-canonical c =
+    let left = c.loop-rest.left.now in
+    subst AreCanonical (sym c.split_at.ensures.front)
+    (stretch_parts c.args.input.now left _ (c.loop-rest.invariant.1 left (no_stretch left)) refl).1
+
+pub returns-clause-front : goal.returns-clause-front
+returns-clause-front c =
+    let left = c.loop-rest.left.now in
+    let parts =
+    stretch_parts c.args.input.now left _ (c.loop-rest.invariant.1 left (no_stretch left)) refl in
+    subst (λ l. 0 < length l → HasFront c.args.input.now) (sym c.split_at.ensures.front)
+    (stretch_front _ _ _ (sym parts.0) parts.1)

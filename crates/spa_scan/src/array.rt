@@ -1,0 +1,88 @@
+//! Arrays and choices.
+ghost use Rattle.std.specs.Prelude.{◌≡◌, ◌*◌, length, true, ℕ};
+ghost use Rattle.spa_format.specs.Kind.{bool_kind};
+ghost use Rattle.spa_format.specs.Tree.{choice_type};
+ghost use Rattle.spa_scan.specs.Canonical.{AreCanonicalElements, IsCanonicalArray, IsCanonicalBody};
+
+use crate::front::{ONE_WORD, TWO_WORDS, fixed_len};
+use spa_fixed::{HEADER_LEN, u32_at};
+use spa_read::types::*;
+
+/// The length in bytes of the four words before the values of a choice.
+const CHOICE_HEADER: usize = 16;
+
+/// The length in bytes of a word.
+const WORD_LEN: usize = 4;
+
+/// Whether the body of an array is as its elements are written.
+pub(crate) fn is_array(body: &[u8]) -> bool
+    ensures { result ≡ true → IsCanonicalArray body.now }
+{
+    if body.len() < HEADER_LEN {
+        return false;
+    }
+    let kind = u32_at(body, SECOND_WORD);
+    let size = u32_at(body, 0);
+    if size != fixed_len(kind) {
+        return false;
+    }
+    let (_, elements) = body.split_at(HEADER_LEN);
+    match size {
+        0 => elements.is_empty(),
+        ONE_WORD => {
+            if kind == BOOL {
+                return are_bools(elements);
+            }
+            elements.len() % WORD_LEN == 0
+        }
+        TWO_WORDS => elements.len() % HEADER_LEN == 0,
+        _ => false,
+    }
+}
+
+/// Whether the body of a choice is as its values are written: their count is that of its shape, and a choice without
+/// alternatives has no flags.
+pub(crate) fn is_choice(body: &[u8]) -> bool
+    ensures { result ≡ true → IsCanonicalBody choice_type body.now }
+{
+    if body.len() < CHOICE_HEADER {
+        return false;
+    }
+    let (_, array) = body.split_at(HEADER_LEN);
+    if !is_array(array) {
+        return false;
+    }
+    let size = u32_at(array, 0) as usize;
+    let values = body.len() - CHOICE_HEADER;
+    if values == 0 {
+        return false;
+    }
+    match u32_at(body, 0) {
+        0 => {
+            if u32_at(body, SECOND_WORD) != 0 {
+                return false;
+            }
+            values == size
+        }
+        1 => values == 3 * size,
+        2 => values == 4 * size,
+        3 => true,
+        4 => true,
+        _ => false,
+    }
+}
+
+/// Whether the bodies of truth values are each 0 or 1.
+fn are_bools(elements: &[u8]) -> bool
+    ensures { result ≡ true → AreCanonicalElements bool_kind elements.now }
+{
+    let mut left = elements;
+    while !left.is_empty() {
+        if left.len() < WORD_LEN || u32_at(left, 0) > 1 {
+            return false;
+        }
+        let (_, rest) = left.split_at(WORD_LEN);
+        left = rest;
+    }
+    true
+}

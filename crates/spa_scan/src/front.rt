@@ -1,0 +1,107 @@
+//! Pods at the front of an input: those of fixed size, and any with zeros as padding.
+ghost use Rattle.std.specs.Prelude.{◌≡◌, ◌+◌, ◌<◌, ◌≤◌, IfSome, length, true};
+ghost use Rattle.spa_format.specs.Words.{padded_size};
+ghost use Rattle.spa_scan.specs.Canonical.{BeginsCanonical, HasZeros, IsFixedLen, OpensPadded};
+
+use spa_fixed::{HEADER_LEN, u32_at, u64_at};
+use spa_read::types::*;
+use spa_read::{Front, open};
+
+/// The length in bytes of a body of one word.
+pub(crate) const ONE_WORD: u32 = 4;
+
+/// The length in bytes of a body of two words.
+pub(crate) const TWO_WORDS: u32 = 8;
+
+/// A length that no body of a kind of fixed size has.
+const NO_LENGTH: u32 = 255;
+
+/// The length in bytes of a whole pod whose body is one or two words.
+const SHORT_POD: usize = 16;
+
+/// Where the first word of a body stands in its pod.
+const FIRST_OF_BODY: usize = 8;
+
+/// Where the second word of a body stands in its pod, or the padding behind a body of one word.
+const SECOND_OF_BODY: usize = 12;
+
+/// Opens the pod at the front, where all of it is there and its padding is zeros.
+#[inline(always)]
+pub(crate) fn padded_front(input: &[u8]) -> Option<Front<'_>>
+    ensures padded { IfSome result (λ front. OpensPadded input.now front.kind front.body.now front.rest.now) }
+    ensures shorter { IfSome result (λ front. length front.rest.now + 8 ≤ length input.now) }
+{
+    let Some(front) = open(input) else {
+        return None;
+    };
+    let (_, behind) = input.split_at(HEADER_LEN);
+    if has_zeros(behind, front.body.len()) {
+        Some(front)
+    } else {
+        None
+    }
+}
+
+/// The bytes behind a body of this size are zeros, up to a multiple of 8.
+#[inline(always)]
+fn has_zeros(behind: &[u8], size: usize) -> bool
+    requires room { padded_size size ≤ length behind.now }
+    ensures { result ≡ true → HasZeros behind.now size }
+{
+    let over = size % HEADER_LEN;
+    if over == 0 {
+        return true;
+    }
+    let last = u64_at(behind, size - over);
+    last >> (8 * over as u32) == 0
+}
+
+/// What follows the pod at the front, where that is its own rewriting and of a kind of fixed size, None aside.
+#[inline(always)]
+pub(crate) fn fixed_front(input: &[u8]) -> Option<&[u8]>
+    ensures taken { IfSome result (λ rest. BeginsCanonical input.now rest.now) }
+    ensures shorter { IfSome result (λ rest. length rest.now + 16 ≤ length input.now) }
+{
+    if input.len() < SHORT_POD {
+        return None;
+    }
+    let kind = u32_at(input, SECOND_WORD);
+    let size = u32_at(input, 0);
+    if size != fixed_len(kind) {
+        return None;
+    }
+    let (_, rest) = input.split_at(SHORT_POD);
+    if size == TWO_WORDS {
+        return Some(rest);
+    }
+    if size != ONE_WORD || u32_at(input, SECOND_OF_BODY) != 0 {
+        return None;
+    }
+    if kind == BOOL {
+        if u32_at(input, FIRST_OF_BODY) > 1 {
+            return None;
+        }
+        return Some(rest);
+    }
+    Some(rest)
+}
+
+/// How long the bodies of this type are, in bytes, where it is a kind of fixed size, and else a number past all of these.
+#[inline(always)]
+pub(crate) fn fixed_len(kind: u32) -> u32
+    ensures { result < 9 → IsFixedLen kind result }
+{
+    match kind {
+        NONE => 0,
+        BOOL => ONE_WORD,
+        ID => ONE_WORD,
+        INT => ONE_WORD,
+        LONG => TWO_WORDS,
+        FLOAT => ONE_WORD,
+        DOUBLE => TWO_WORDS,
+        RECTANGLE => TWO_WORDS,
+        FRACTION => TWO_WORDS,
+        FD => TWO_WORDS,
+        _ => NO_LENGTH,
+    }
+}

@@ -1,0 +1,9 @@
+//! Pods that are their own rewriting: found by one look at their bytes, so that they can be copied at once.
+#![tactic(auto)]
+
+mod array;
+mod front;
+mod scan;
+mod text;
+
+pub use scan::{canonical_front, canonical_stretch};

@@ -1,0 +1,128 @@
+//! Pods that are their own rewriting, found by one look that writes nothing and takes no memory.
+ghost use Rattle.std.specs.Prelude.{◌≡◌, ◌+◌, ◌<◌, ◌≤◌, ◌++◌, IfSome, length, true};
+ghost use Rattle.spa_format.specs.Front.{HasFront};
+ghost use Rattle.spa_scan.specs.Canonical.{AreCanonical, AreCanonicalProperties, BeginsCanonical, IsCanonicalBody};
+
+use crate::array::{is_array, is_choice};
+use crate::front::{fixed_front, padded_front};
+use crate::text::is_text;
+use spa_fixed::{HEADER_LEN, u32_at};
+use spa_read::types::*;
+
+/// How deep structs and objects may stand in one another to be looked into, structs at the end of a struct aside. The look
+/// calls itself at each level: this bounds the stack that it takes.
+const LEVELS: u32 = 1000;
+
+/// The length in bytes of the body of a pointer that is written: its type, a free word and eight bytes.
+const POINTER_LEN: usize = 16;
+
+/// What follows the pod at the front, where a look over its bytes finds that it is its own rewriting: its padding is zeros,
+/// its truth values are 0 or 1, its choices hold no surplus values, its pointers take 16 bytes, and the same holds of its
+/// members. It takes no memory.
+///
+/// `None` says nothing: structs and objects that stand too deep in one another are not looked into.
+pub fn canonical_front(input: &[u8]) -> Option<&[u8]>
+    ensures taken { IfSome result (λ rest. BeginsCanonical input.now rest.now) }
+    ensures shorter { IfSome result (λ rest. length rest.now + 8 ≤ length input.now) }
+{
+    if let Some(rest) = fixed_front(input) {
+        return Some(rest);
+    }
+    let Some(front) = padded_front(input) else {
+        return None;
+    };
+    if is_body(front.kind, front.body, LEVELS) {
+        Some(front.rest)
+    } else {
+        None
+    }
+}
+
+/// The first pods, as many as `canonical_front` finds to be their own rewritings, and what follows them.
+pub fn canonical_stretch(input: &[u8]) -> (&[u8], &[u8])
+    ensures parts { input.now ≡ result.0.now ++ result.1.now }
+    ensures canonical { AreCanonical result.0.now }
+    ensures front { 0 < length result.0.now → HasFront input.now }
+{
+    let mut left = input;
+    while let Some(rest) = canonical_front(left) {
+        left = rest;
+    }
+    input.split_at(input.len() - left.len())
+}
+
+/// Whether the bytes are pods one after another that are their own rewritings.
+#[cycle(scan)]
+fn are_members(body: &[u8], levels: u32) -> bool
+    ensures { result ≡ true → AreCanonical body.now }
+{
+    let mut left = body;
+    while !left.is_empty() {
+        if let Some(rest) = fixed_front(left) {
+            left = rest;
+        } else {
+            let Some(front) = padded_front(left) else {
+                return false;
+            };
+            if front.kind == STRUCT && front.rest.is_empty() {
+                left = front.body;
+            } else {
+                if !is_body(front.kind, front.body, levels) {
+                    return false;
+                }
+                left = front.rest;
+            }
+        }
+    }
+    true
+}
+
+/// The same of properties.
+#[cycle(scan)]
+fn are_properties(body: &[u8], levels: u32) -> bool
+    ensures { result ≡ true → AreCanonicalProperties body.now }
+{
+    let mut left = body;
+    while !left.is_empty() {
+        if left.len() < HEADER_LEN {
+            return false;
+        }
+        let (_, behind) = left.split_at(HEADER_LEN);
+        if let Some(rest) = fixed_front(behind) {
+            left = rest;
+        } else {
+            let Some(front) = padded_front(behind) else {
+                return false;
+            };
+            if !is_body(front.kind, front.body, levels) {
+                return false;
+            }
+            left = front.rest;
+        }
+    }
+    true
+}
+
+/// Whether a body of this type is as the value that it says is written.
+#[cycle(scan)]
+fn is_body(kind: u32, body: &[u8], levels: u32) -> bool
+    ensures { result ≡ true → IsCanonicalBody kind body.now }
+{
+    match kind {
+        STRING => is_text(body),
+        BYTES => true,
+        CHOICE => is_choice(body),
+        ARRAY => is_array(body),
+        STRUCT => levels > 0 && are_members(body, levels - 1),
+        OBJECT => {
+            if levels == 0 || body.len() < HEADER_LEN {
+                return false;
+            }
+            let (_, properties) = body.split_at(HEADER_LEN);
+            are_properties(properties, levels - 1)
+        }
+        POINTER => body.len() == POINTER_LEN && u32_at(body, SECOND_WORD) == 0,
+        NONE => body.is_empty(),
+        _ => false,
+    }
+}

@@ -1,0 +1,75 @@
+//! Strings: UTF-8 texts without NUL, with one NUL behind them.
+ghost use Rattle.std.specs.Prelude.{◌≡◌, ◌≤◌, ◌<◌, length, true};
+ghost use Rattle.spa_scan.specs.Canonical.{IsCanonicalText, IsPlain, IsPlainFor};
+
+use spa_read::text_of;
+
+/// Whether the body of a string is a text without NUL, and one NUL behind it.
+pub(crate) fn is_text(body: &[u8]) -> bool
+    ensures { result ≡ true → IsCanonicalText body.now }
+{
+    let Some((last, text)) = body.split_last() else {
+        return false;
+    };
+    if *last != 0 {
+        return false;
+    }
+    if is_plain_text(text) {
+        return true;
+    }
+    match text_of(body) {
+        Some(_) => true,
+        None => false,
+    }
+}
+
+/// The length in bytes of the pieces that are looked at at once.
+const PIECE: usize = 8;
+
+/// Whether each byte is an ASCII character other than NUL.
+fn is_plain_text(text: &[u8]) -> bool
+    ensures { result ≡ true → IsPlainFor (length text.now) text.now }
+{
+    let mut left = text;
+    while left.len() >= PIECE {
+        if !are_plain(left) {
+            return false;
+        }
+        let (_, rest) = left.split_at(PIECE);
+        left = rest;
+    }
+    while let Some((byte, rest)) = left.split_first() {
+        if !is_plain(*byte) {
+            return false;
+        }
+        left = rest;
+    }
+    true
+}
+
+/// The same of the first eight bytes.
+#[inline(always)]
+fn are_plain(word: &[u8]) -> bool
+    requires { 8 ≤ length word.now }
+    ensures { result ≡ true → IsPlainFor 8 word.now }
+{
+    is_plain(word[0])
+        & is_plain(word[1])
+        & is_plain(word[2])
+        & is_plain(word[3])
+        & is_plain(word[4])
+        & is_plain(word[5])
+        & is_plain(word[6])
+        & is_plain(word[7])
+}
+
+/// The last ASCII character.
+const LAST_ASCII: u8 = 127;
+
+/// Whether a byte is an ASCII character other than NUL, and so no part of a longer one.
+#[inline(always)]
+fn is_plain(byte: u8) -> bool
+    ensures { result ≡ true → IsPlain byte }
+{
+    byte.wrapping_sub(1) < LAST_ASCII
+}

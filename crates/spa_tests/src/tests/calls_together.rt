@@ -1,0 +1,103 @@
+//! Calls that a user makes one after the other: a value written, read back and rewritten; an object fixated and looked at.
+use crate::answers::{after_of, assert_own_rewriting, value_of, write};
+use crate::bytes::{assert_bytes, assert_holds, bytes_of};
+use bitflags::Flags;
+use libspa::pod::serialize::GenError;
+use libspa::pod::{Pod, PodObject, Value, rewrite_all};
+use libspa::utils::Id;
+use libspa::utils::dict::{DictRef, Flags as DictFlags};
+use libspa::utils::result::{SpaResult, SpaSuccess};
+use std::alloc::{AllocError, Global};
+use std::process::Abort;
+use std::test::Fail;
+
+/// The value that is written there.
+fn written_value(alloc: Global) -> Result<Value, AllocError> {
+    Ok(Value::Struct(vec![in alloc; Value::Int(313), Value::Bool(true)]?))
+}
+
+/// Its bytes, and how many they are.
+fn write_value(alloc: Global) -> Result<(Vec<u8>, u64), Fail> {
+    Ok(write_owned(alloc, written_value(alloc)?)?)
+}
+
+fn write_owned(alloc: Global, value: Value) -> Result<(Vec<u8>, u64), GenError> {
+    let written = write(Vec::new(alloc), &value);
+    drop(value);
+    written
+}
+
+/// Is what is read there the value?
+fn reads_the_value(alloc: Global, bytes: &[u8]) -> Result<bool, Fail> {
+    let read = value_of(alloc, bytes)?;
+    Ok(is_the_value(alloc, &read)?)
+}
+
+fn is_the_value(alloc: Global, read: &Value) -> Result<bool, AllocError> {
+    let value = written_value(alloc)?;
+    Ok(*read == value)
+}
+
+fn compare_written(rt: &impl Abort, alloc: Global, bytes: &[u8]) -> Result<(), Fail> {
+    let rest = after_of(alloc, bytes)?;
+    assert_holds(rt, rest == 0, "nothing follows");
+    let is_read = reads_the_value(alloc, bytes)?;
+    assert_holds(rt, is_read, "the value is read back");
+    assert_own_rewriting(rt, alloc, bytes, "the value that is written")?;
+    compare_list(rt, alloc, bytes)
+}
+
+fn compare_list(rt: &impl Abort, alloc: Global, bytes: &[u8]) -> Result<(), Fail> {
+    let mut out = Vec::new(alloc);
+    let is_rewritten = rewrites(alloc, bytes, &mut out);
+    assert_holds(rt, is_rewritten, "the list is rewritten");
+    assert_bytes(rt, out.as_slice(), bytes, "the list");
+    Ok(())
+}
+
+fn rewrites(alloc: Global, bytes: &[u8], out: &mut Vec<u8>) -> bool {
+    rewrite_all(alloc, bytes, out).is_ok()
+}
+
+#[test]
+fn reads_writes_and_rewrites(rt: HostRuntime) -> Result<(), Fail> {
+    let (bytes, count) = write_value(rt.alloc())?;
+    assert_holds(&rt, count == 40, "the count");
+    compare_written(&rt, rt.alloc(), bytes.as_slice())
+}
+
+/// The number of the property with the key 1.
+fn first_number(bytes: &[u8]) -> Result<i32, Fail> {
+    let Some(pod) = Pod::from_bytes(bytes) else {
+        return Err(Fail::from("no pod is at the front"));
+    };
+    match pod.as_object()?.find_prop(Id(1)) {
+        Some(prop) => Ok(prop.value().get_int()?),
+        None => Ok(0),
+    }
+}
+
+fn fixate_and_look(bytes: &mut [u8]) -> Result<i32, Fail> {
+    PodObject::fixate(bytes)?;
+    first_number(bytes)
+}
+
+#[test]
+fn looks_and_fixates(rt: HostRuntime) -> Result<(), Fail> {
+    let words = "56 15 5 3 1 0 4 4 3 0 1 0 4 4 9 0";
+    let mut bytes = bytes_of(rt.alloc(), words)?;
+    let number = fixate_and_look(bytes.as_mut_slice())?;
+    assert_holds(&rt, number == 3, "the number");
+    Ok(())
+}
+
+#[test]
+fn looks_up_and_tells(rt: HostRuntime) -> Result<(), Fail> {
+    let items: [(&[u8], &[u8]); 1] = [(b"audio.channels", b"2")];
+    let dict = DictRef::new(&items, DictFlags::empty());
+    let channels = dict.parse::<u32>("audio.channels");
+    assert!(rt; matches!(channels, Some(Ok(2))));
+    let done = SpaResult::from_c(7).into_result();
+    assert!(rt; matches!(done, Ok(SpaSuccess::Sync(7))));
+    Ok(())
+}

@@ -1,0 +1,122 @@
+//! Rewriting lists of pods, by the three calls that take a list.
+use crate::answers::are_joined;
+use crate::bytes::{assert_holds, assert_number, assert_spelt, bytes_of};
+use crate::tables::lines_of;
+use crate::tables::lists::LISTS;
+use libspa::pod::deserialize::DeserializeError;
+use libspa::pod::{accept_all, rewrite_all, rewrite_in_parts};
+use std::alloc::Global;
+use std::process::Abort;
+use std::test::Fail;
+
+/// The answer of a rewriting of a list: nothing, or the fault for which it is refused, and how many bytes are left there.
+type Rewritten = Result<(), (&'static str, usize)>;
+
+/// The answer to a list, without what is given beside it.
+fn answer_of(answer: Result<(), (&[u8], DeserializeError<&[u8]>)>) -> Result<Rewritten, Fail> {
+    match answer {
+        Ok(()) => Ok(Ok(())),
+        Err((_, DeserializeError::OutOfMemory)) => Err(Fail::from("out of memory")),
+        Err((left, error)) => Ok(Err((error.kind(), left.len()))),
+    }
+}
+
+/// Appends the rewriting of a list of pods.
+fn rewrite_list(alloc: Global, input: &[u8], out: &mut Vec<u8>) -> Result<Rewritten, Fail> {
+    answer_of(rewrite_all(alloc, input, out))
+}
+
+/// Whether a list of pods can be rewritten.
+fn accept_list(alloc: Global, input: &[u8]) -> Result<Rewritten, Fail> {
+    answer_of(accept_all(alloc, input))
+}
+
+/// Rewrites a list of pods in two parts.
+fn rewrite_list_in_parts(alloc: Global, input: &[u8]) -> Result<Rewritten, Fail> {
+    match rewrite_in_parts(alloc, input) {
+        Ok(_) => Ok(Ok(())),
+        Err(refusal) => answer_of(Err(refusal)),
+    }
+}
+
+/// Compares what the two other calls answer to a list with the answer of its rewriting.
+fn compare_calls(
+    rt: &impl Abort,
+    alloc: Global,
+    input: &[u8],
+    rewritten: Rewritten,
+    at: &str,
+) -> Result<(), Fail> {
+    let accepted = accept_list(alloc, input)?;
+    let in_parts = rewrite_list_in_parts(alloc, input)?;
+    assert_holds(rt, accepted == rewritten, at);
+    assert_holds(rt, in_parts == rewritten, at);
+    Ok(())
+}
+
+/// Compares the rewriting of a list of pods, behind bytes that were there, with what a row says.
+fn compare_list(rt: &impl Abort, alloc: Global, row: &[&str; 3]) -> Result<(), Fail> {
+    let input = bytes_of(alloc, row[0])?;
+    compare_list_at(rt, alloc, input.as_slice(), row)
+}
+
+fn compare_list_at(
+    rt: &impl Abort,
+    alloc: Global,
+    input: &[u8],
+    row: &[&str; 3],
+) -> Result<(), Fail> {
+    let mut out = bytes_of(alloc, "x0102")?;
+    let rewritten = rewrite_list(alloc, input, &mut out)?;
+    compare_calls(rt, alloc, input, rewritten, row[0])?;
+    compare_output(rt, alloc, out.as_slice(), rewritten, input, row)
+}
+
+/// Compares an output, and the answer of the rewriting of an input, with what a row says.
+fn compare_output(
+    rt: &impl Abort,
+    alloc: Global,
+    out: &[u8],
+    rewritten: Rewritten,
+    input: &[u8],
+    row: &[&str; 3],
+) -> Result<(), Fail> {
+    let [words, wanted, place] = *row;
+    match rewritten {
+        Ok(()) => {
+            assert_in_parts(rt, alloc, input, wanted)?;
+            compare_behind(rt, alloc, out, wanted)
+        }
+        Err((name, left)) => {
+            let wanted = wanted.strip_prefix("refused ").unwrap_or("");
+            assert_holds(rt, name == wanted, words);
+            let at: usize = place.parse()?;
+            assert_number(rt, input.len().saturating_sub(left), at, words);
+            compare_behind(rt, alloc, out, "")
+        }
+    }
+}
+
+/// The two parts of a rewriting, one after the other, are the bytes that the words spell.
+fn assert_in_parts(rt: &impl Abort, alloc: Global, input: &[u8], words: &str) -> Result<(), Fail> {
+    let wanted = bytes_of(alloc, words)?;
+    let are_joined = are_joined(alloc, input, wanted.as_slice())?;
+    assert_holds(rt, are_joined, words);
+    Ok(())
+}
+
+/// Compares an output with what was there and what the words spell behind it.
+fn compare_behind(rt: &impl Abort, alloc: Global, out: &[u8], words: &str) -> Result<(), Fail> {
+    let (before, behind) = out.split_at(2.min(out.len()));
+    assert_spelt(rt, alloc, before, "x0102")?;
+    assert_spelt(rt, alloc, behind, words)
+}
+
+#[test]
+fn rewrites_lists(rt: HostRuntime) -> Result<(), Fail> {
+    let lines = lines_of(rt.alloc(), LISTS)?;
+    for row in lines.as_slice().as_chunks::<3>().0 {
+        compare_list(&rt, rt.alloc(), row)?;
+    }
+    Ok(())
+}

@@ -21,9 +21,9 @@ def little_endian(numbers):
     return numbers.tobytes()
 
 
-def pod(kind, body):
+def pod(type_, body):
     """A whole pod: size, type, body and zeros up to a multiple of 8."""
-    return words(len(body), kind) + body + bytes(-len(body) % 8)
+    return words(len(body), type_) + body + bytes(-len(body) % 8)
 
 
 def ints(count):

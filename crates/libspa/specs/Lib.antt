@@ -3,7 +3,7 @@ pub use Rattle.spa_format.specs.Kind
 pub use Rattle.spa_format.specs.Tree
 pub use Rattle.spa_format.specs.Normal
 pub use Rattle.spa_format.specs.Pod
-pub use Rattle.spa_format.specs.Text
+pub use Rattle.spa_format.specs.Encoding
 pub use Rattle.spa_format.specs.Writable
 pub use Rattle.spa_format.specs.Front
 pub use Rattle.spa_format.specs.Typed

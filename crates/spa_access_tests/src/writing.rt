@@ -1,4 +1,4 @@
-//! Values with their texts, from outside, and each call once.
+//! Values with their encodings, from outside, and each call once.
 use crate::bytes::bytes_spelled;
 use crate::compare::{assert_bytes, assert_holds};
 use arrayvec::ArrayVec;
@@ -42,7 +42,7 @@ enum Example {
     Object,
 }
 
-/// Values, and the words of their texts.
+/// Values, and the words of their encodings.
 const ROWS: &[(Example, &str)] = &[
     (Example::None, "0 1"),
     (Example::Bool, "4 2 1 0"),
@@ -160,7 +160,7 @@ fn longs(alloc: Global) -> Result<Value, AllocError> {
     Ok(Value::ValueArray(ValueArray::Long(longs)))
 }
 
-/// A choice of no kind, with flags 5.
+/// A None choice, with flags 5.
 fn plain_choice() -> Value {
     let flags = ChoiceFlags::from_bits_retain(5);
     Value::Choice(ChoiceValue::Int(Choice(flags, ChoiceEnum::None(7))))
@@ -235,7 +235,7 @@ fn object(alloc: Global) -> Result<Value, AllocError> {
     }))
 }
 
-/// The text of a value, and its length.
+/// The encoding of a value, and its length.
 fn written(alloc: Global, value: &Value) -> Result<(Vec<u8>, u64), GenError> {
     PodSerializer::serialize(Vec::new(alloc), value)
 }
@@ -251,7 +251,7 @@ fn length_behind(out: Vec<u8>, value: &Value) -> Result<usize, GenError> {
     Ok(out.len())
 }
 
-/// Compares the text of a value with these words.
+/// Compares the encoding of a value with these words.
 fn assert_written(rt: &impl Abort, alloc: Global, value: &Value, words: &str) -> Result<(), Fail> {
     let wanted = bytes_spelled(alloc, words)?;
     let (out, count) = written(alloc, value)?;
@@ -274,7 +274,7 @@ fn assert_example(
 }
 
 #[test]
-fn values_have_these_texts(rt: HostRuntime) -> Result<(), Fail> {
+fn values_have_these_encodings(rt: HostRuntime) -> Result<(), Fail> {
     for (example, words) in ROWS {
         assert_example(&rt, rt.alloc(), *example, words)?;
     }
@@ -298,7 +298,7 @@ fn texts_have_these_pods(rt: HostRuntime) -> Result<(), Fail> {
     Ok(())
 }
 
-/// A number's text in an output of this many bytes.
+/// A number's encoding in an output of this many bytes.
 fn three_written<const N: usize>() -> Result<(ArrayVec<u8, N>, u64), GenError> {
     PodSerializer::serialize(ArrayVec::new(), &Value::Int(3))
 }

@@ -2,7 +2,7 @@
 use Rattle.std.proofs.Common.{◌≡◌, ℕ, ◌+◌, ◌*◌, ◌<◌, ◌≤◌, List, [], ◌∷◌, ◌++◌, length, take, drop, map, get_or, refl, sym, ap, ◌∙◌, subst, arith, append_assoc, length-append, take-append-drop}
 use Rattle.std.proofs.lemmas.List.{append-nil, map-append, take_more}
 use Rattle.spa_format.specs.Kind.{Kind, body_size, Fixed, none, bool, id, int, long, float, double, rectangle, fraction, fd, kind_of, fixed_body}
-use Rattle.spa_format.specs.Text.{fixed_bodies}
+use Rattle.spa_format.specs.Encoding.{fixed_bodies}
 use Rattle.spa_format.specs.Typed.{IsTypedFixed, AreOf}
 use Rattle.spa_format.proofs.FixedKinds.{length-fixed_body}
 use Rattle.spa_format.proofs.Elements.{fixed_bodies-append}

@@ -1,10 +1,10 @@
--- The text of a pod of fixed size.
+-- The encoding of a pod of fixed size.
 use Rattle.std.proofs.Common.{◌≡◌, ℕ, suc, zero, ◌-◌, ◌≤◌, List, [], ◌∷◌, ◌++◌, length, take, drop, refl, sym, ap, ◌∙◌, arith, append_assoc, length-append, take-append-drop}
 use Rattle.std.proofs.lemmas.List.{append-nil, take_all, take_at, length-replicate}
 use Rattle.std.specs.Prelude.{replicate}
 use Rattle.spa_format.specs.Words.{word_bytes, padding, padded_size, extent}
 use Rattle.spa_format.specs.Kind.{Kind, body_size, Fixed, kind_of, fixed_body}
-use Rattle.spa_format.specs.Text.{framed_text}
+use Rattle.spa_format.specs.Encoding.{framed}
 use Rattle.spa_format.proofs.WordLemmas.{length-word_bytes}
 use Rattle.spa_format.proofs.FixedKinds.{length-fixed_body}
 
@@ -20,13 +20,13 @@ nothing [] e = refl
 nothing (x ∷ b) e = absurd (omega arith)
 
 -- header, body and zeros, as far as the pod goes
-pub text_of_fixed : (size type : ℕ) (b header padded : List ℕ) → length b ≡ size → size ≤ 8 → take size padded ≡ b → drop size padded ≡ replicate (8 - size) 0 → header ≡ word_bytes size ++ word_bytes type → take (extent size) (header ++ padded) ≡ framed_text type b
-text_of_fixed zero type b header padded l w t d e =
+pub encoding_of_fixed : (size type : ℕ) (b header padded : List ℕ) → length b ≡ size → size ≤ 8 → take size padded ≡ b → drop size padded ≡ replicate (8 - size) 0 → header ≡ word_bytes size ++ word_bytes type → take (extent size) (header ++ padded) ≡ framed type b
+encoding_of_fixed zero type b header padded l w t d e =
     let n = nothing b l in
     ap (take 8) (ap (λ x. x ++ padded) e) ∙ take_at (word_bytes 0 ++ word_bytes type) padded 8 (length-two_words 0 type)
     ∙ ap (λ x. word_bytes 0 ++ x) (sym (append-nil (word_bytes type)))
-    ∙ ap (framed_text type) (sym n)
-text_of_fixed (suc m) type b header padded l w t d e =
+    ∙ ap (framed type) (sym n)
+encoding_of_fixed (suc m) type b header padded l w t d e =
     let size : ℕ = suc m in
     let p : padded_size size ≡ 8 = omega arith in
     let zeros : drop size padded ≡ padding size = d ∙ ap (λ n. replicate (n - size) 0) (sym p) in

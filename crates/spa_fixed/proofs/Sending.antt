@@ -62,6 +62,6 @@ last_refused law after longer a b c d h xs zs x p q r =
     let l = length-append h xs in
     longer a d (length (h ++ xs) + length zs) (length (h ++ (xs ++ zs))) x (omega arith) (after a c d (h ++ xs) (length zs) x (sent_behind law a b c h xs p q) r)
 
--- a refusal of one text is one of the same text
-pub refused_text : {S : Type 0} (refuses : S → ℕ → S → GenError → Type 0) (a b : S) (xs ys : List ℕ) (e : GenError) → xs ≡ ys → refuses a (length xs) b e → refuses a (length ys) b e
-refused_text refuses a b xs ys e p r = subst (λ l. refuses a (length l) b e) p r
+-- a refusal of one encoding is one of the same encoding
+pub refused_encoding : {S : Type 0} (refuses : S → ℕ → S → GenError → Type 0) (a b : S) (xs ys : List ℕ) (e : GenError) → xs ≡ ys → refuses a (length xs) b e → refuses a (length ys) b e
+refused_encoding refuses a b xs ys e p r = subst (λ l. refuses a (length l) b e) p r

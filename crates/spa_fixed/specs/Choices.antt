@@ -3,7 +3,7 @@ use Rattle.std.specs.Prelude.{ℕ, List, [], ◌∷◌, ◌++◌, map}
 use Rattle.spa_format.specs.Words.{word_bytes}
 use Rattle.spa_format.specs.Kind.{Kind, Fixed}
 use Rattle.spa_format.specs.Tree.{none_choice, range_choice, step_choice, enum_choice, flags_choice, Tree, choice}
-use Rattle.spa_format.specs.Text.{array_body}
+use Rattle.spa_format.specs.Encoding.{array_body}
 use Rattle.spa_utils.specs.declared.choice.ChoiceEnum.{ChoiceEnum}
 use Rattle.spa_utils.specs.declared.choice.ChoiceEnum.TheVariants as E
 use Rattle.spa_utils.specs.declared.choice.Choice.{Choice}
@@ -20,6 +20,6 @@ choice_enum_tree k f n (E.Flags x xs) = choice flags_choice n k (f x) (map f xs.
 abbrev pub choice_tree : {T : Type 0} → Kind → (T → Fixed) → Choice T → Tree
 choice_tree k f c = choice_enum_tree k f c.0.0 c.1
 
--- the body of a choice with this kind word, these flags, and values of this kind, its default first
+-- the body of a choice with this shape word, these flags, and values of this kind, its default first
 abbrev pub choice_body : ℕ → ℕ → Kind → List Fixed → List ℕ
 choice_body n f k xs = word_bytes n ++ (word_bytes f ++ array_body k xs)

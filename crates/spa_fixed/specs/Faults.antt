@@ -1,14 +1,14 @@
 -- The names of refusals: docs/FORMAT.md, "Faults".
 use Rattle.std.specs.Prelude.{ℕ, List, codes}
 use Rattle.spa_fixed.specs.declared.fault.FaultKind.{FaultKind}
-use Rattle.spa_fixed.specs.declared.fault.FaultKind.TheVariants as kind
+use Rattle.spa_fixed.specs.declared.fault.FaultKind.TheVariants as fault_kind
 use Rattle.spa_fixed.specs.declared.fault.DeserializeError.{DeserializeError}
 use Rattle.spa_fixed.specs.declared.fault.DeserializeError.TheVariants as error
 
 abbrev pub fault_kind_text : FaultKind → List ℕ
-fault_kind_text kind.Short = codes "Short"
-fault_kind_text kind.Tag = codes "Tag"
-fault_kind_text kind.Text = codes "Text"
+fault_kind_text fault_kind.Short = codes "Short"
+fault_kind_text fault_kind.Tag = codes "Tag"
+fault_kind_text fault_kind.Text = codes "Text"
 
 -- the name of a refusal, or of what is wrong with the bytes
 abbrev pub kind_text : {I : Type 0} → DeserializeError I → List ℕ

@@ -16,7 +16,7 @@ pub record AreWhole (size : ℕ) (bodies : List ℕ) : Type 0 where
   pub many : ℕ
   pub count : length bodies ≡ many * size
 
--- an array is refused for its sizes, where this fact holds, or for want of memory
+-- an array is refused for its sizes, where this fact holds, or for lack of memory
 abbrev pub RefusesArray : Type 0 → Refusal → Type 0
 RefusesArray wrong Short = ⊥
 RefusesArray wrong Text = ⊥
@@ -37,7 +37,7 @@ pub record IsOpened (k : Kind) (elements b : List ℕ) : Type 0 where
 pub record ReadsAs {T : Type 0} (h : Shape) (k : Kind) (f : T → Fixed) (elements : List ℕ) (values : ChoiceEnum T) : Type 0 where
   pub says : (b : List ℕ) (flags : ℕ) → IsOpened k elements b → word_at b 0 ≡ shape_number h → flags ≡ kept_flags h (word_at b 4) → IsBody (choice_enum_tree k f flags values) b
 
--- elements of this size are refused where fewer are there than such a choice needs, or for want of memory
+-- elements of this size are refused where fewer are there than such a choice needs, or for lack of memory
 abbrev pub RefusesValues : Shape → ℕ → List ℕ → Refusal → Type 0
 RefusesValues h size elements Short = ⊥
 RefusesValues h size elements Text = ⊥
@@ -47,11 +47,11 @@ RefusesValues h size elements MissingChoiceValues = length elements < least_coun
 RefusesValues h size elements WrongSize = ⊥
 RefusesValues h size elements OutOfMemory = ⊤
 
--- the number of the first kind word that no shape has
+-- the number of the first shape word that no shape has
 abbrev pub shape_limit : ℕ
 shape_limit = 5
 
--- The body of a choice over this kind is refused for its kind word, for too few values, for its sizes, or for want of
+-- The body of a choice over this kind is refused for its shape word, for too few values, for its sizes, or for lack of
 -- memory.
 abbrev pub RefusesChoice : Kind → List ℕ → Refusal → Type 0
 RefusesChoice k b Short = ⊥

@@ -5,7 +5,7 @@ ghost use Rattle.spa_format.specs.Faults.{IsWrongArray};
 ghost use Rattle.spa_format.specs.Kind.{IsFixedBody, body_size, content};
 ghost use Rattle.spa_format.specs.Pod.{AreElements, IsArray};
 ghost use Rattle.spa_fixed.specs.Writing.{RefusesWrite};
-ghost use Rattle.spa_format.specs.Text.{array_body, framed_text};
+ghost use Rattle.spa_format.specs.Encoding.{array_body, framed};
 ghost use Rattle.spa_format.specs.Tree.{array_type};
 ghost use Rattle.spa_format.specs.Typed.{AreOf};
 ghost use Rattle.spa_format.specs.Words.{header_size, size_limit, word_at};
@@ -55,7 +55,7 @@ pub fn next_element<T: CanonicalFixedSizedPod>(elements: &[u8]) -> (&[u8], T)
     (rest, T::of_body(first))
 }
 
-/// Reads whole elements of this size to the end. It is refused only for want of memory.
+/// Reads whole elements of this size to the end. It is refused only for lack of memory.
 fn read_chunks<T: CanonicalFixedSizedPod, const N: usize>(
     alloc: Global,
     elements: &[u8],
@@ -77,7 +77,7 @@ fn read_chunks<T: CanonicalFixedSizedPod, const N: usize>(
         .collect(alloc)
 }
 
-/// Reads whole elements to the end. It is refused only for want of memory.
+/// Reads whole elements to the end. It is refused only for lack of memory.
 pub(crate) fn read_elements<T: CanonicalFixedSizedPod>(
     alloc: Global,
     elements: &[u8],
@@ -93,7 +93,7 @@ pub(crate) fn read_elements<T: CanonicalFixedSizedPod>(
 }
 
 /// Reads the body of an array of this type. It is refused with `WrongSize` where the child size isn't the type's or the
-/// elements aren't whole, before any memory is asked for, and else only for want of memory.
+/// elements aren't whole, before any memory is asked for, and else only for lack of memory.
 pub fn read_array<T: CanonicalFixedSizedPod>(alloc: Global, body: &[u8]) -> Result<Vec<T>, Refusal>
     requires header { header_size ≤ length body.now }
     requires child_type { word_at body.now 4 ≡ T.TYPE }
@@ -112,10 +112,10 @@ pub fn put_array<T: CanonicalFixedSizedPod, S: PodSink>(
     sink: &mut S,
     values: &[T],
 ) -> Result<(), GenError>
-    ensures ok { OnOk result (S.appends sink.old (framed_text array_type (array_body T.kind (map T.fixed values.now))) sink.new) }
+    ensures ok { OnOk result (S.appends sink.old (framed array_type (array_body T.kind (map T.fixed values.now))) sink.new) }
     ensures typed { OnOk result (AreOf T.kind (map T.fixed values.now)) }
     ensures fits { OnOk result (length (array_body T.kind (map T.fixed values.now)) < size_limit) }
-    ensures refused { IfErr result (RefusesWrite ⊥ (size_limit ≤ length (array_body T.kind (map T.fixed values.now))) (λ e. S.refuses sink.old (length (framed_text array_type (array_body T.kind (map T.fixed values.now)))) sink.new e)) }
+    ensures refused { IfErr result (RefusesWrite ⊥ (size_limit ≤ length (array_body T.kind (map T.fixed values.now))) (λ e. S.refuses sink.old (length (framed array_type (array_body T.kind (map T.fixed values.now)))) sink.new e)) }
 {
     let Some(size) = body_len::<T>(HEADER_LEN, values.len()) else {
         return Err(GenError::TooLarge);

@@ -6,7 +6,7 @@ ghost use Rattle.spa_format.specs.Faults.{choice_header_size};
 ghost use Rattle.spa_format.specs.Kind.{IsFixedBody};
 ghost use Rattle.spa_format.specs.Pod.{AreElements, IsBody};
 ghost use Rattle.spa_fixed.specs.Writing.{RefusesWrite};
-ghost use Rattle.spa_format.specs.Text.{fixed_bodies, framed_text, text_body, text_of};
+ghost use Rattle.spa_format.specs.Encoding.{encoded_body, encoding_of, fixed_bodies, framed};
 ghost use Rattle.spa_format.specs.Tree.{choice_type, enum_choice, none_choice, range_choice, step_choice};
 ghost use Rattle.spa_format.specs.Typed.{AreOf, IsTyped};
 ghost use Rattle.spa_format.specs.Words.{size_limit, word_at};
@@ -22,25 +22,25 @@ use bitflags::Flags;
 use spa_utils::{Choice, ChoiceEnum, ChoiceFlags, SpaTypes};
 use std::alloc::Global;
 
-/// The kind word of a choice with no alternative.
-const NONE_KIND: u32 = 0;
+/// The shape word of a choice with no alternative.
+const NONE_SHAPE: u32 = 0;
 
-/// The kind word of a choice with a minimum and a maximum.
-const RANGE_KIND: u32 = 1;
+/// The shape word of a choice with a minimum and a maximum.
+const RANGE_SHAPE: u32 = 1;
 
-/// The kind word of a choice with a minimum, a maximum and a step.
-const STEP_KIND: u32 = 2;
+/// The shape word of a choice with a minimum, a maximum and a step.
+const STEP_SHAPE: u32 = 2;
 
-/// The kind word of a choice with alternatives.
-const ENUM_KIND: u32 = 3;
+/// The shape word of a choice with alternatives.
+const ENUM_SHAPE: u32 = 3;
 
-/// The kind word of a choice with flags.
-const FLAGS_KIND: u32 = 4;
+/// The shape word of a choice with flags.
+const FLAGS_SHAPE: u32 = 4;
 
 /// How many values a choice has beside a list of any length, at most: default, minimum, maximum and step.
 const MOST_FIRST: usize = 4;
 
-/// The length in bytes of a choice's pod before its values: its header, its kind and flags, and the child header.
+/// The length in bytes of a choice's pod before its values: its header, its shape and flags, and the child header.
 const HEADERS_LEN: usize = 24;
 
 /// The length in bytes of so many bodies, at most.
@@ -118,8 +118,8 @@ fn read_list<T: ChoiceElement>(alloc: Global, elements: &[u8]) -> Result<(T, Vec
 }
 
 /// Reads the body of a choice over this type. It is refused with `WrongSize` where the child size isn't the type's or the
-/// values aren't whole, with `InvalidChoiceType` where the kind word is above 4, with `MissingChoiceValues` where fewer
-/// values are there than the kind needs, and else only for want of memory, which alternatives and flags alone take.
+/// values aren't whole, with `InvalidChoiceType` where the shape word is above 4, with `MissingChoiceValues` where fewer
+/// values are there than the shape needs, and else only for lack of memory, which alternatives and flags alone take.
 pub fn read_choice<T: ChoiceElement>(alloc: Global, body: &[u8]) -> Result<Choice<T>, Refusal>
     requires header { choice_header_size ≤ length body.now }
     requires child_type { word_at body.now 12 ≡ T.TYPE }
@@ -132,13 +132,13 @@ pub fn read_choice<T: ChoiceElement>(alloc: Global, body: &[u8]) -> Result<Choic
     };
     let flags = ChoiceFlags::from_bits_retain(u32_at(body, 4));
     match u32_at(body, 0) {
-        NONE_KIND => Ok(Choice(
+        NONE_SHAPE => Ok(Choice(
             ChoiceFlags::from_bits_retain(0),
             ChoiceEnum::None(read_default(elements)?.1),
         )),
-        RANGE_KIND => Ok(Choice(flags, read_range(elements)?)),
-        STEP_KIND => Ok(Choice(flags, read_step(elements)?)),
-        ENUM_KIND => {
+        RANGE_SHAPE => Ok(Choice(flags, read_range(elements)?)),
+        STEP_SHAPE => Ok(Choice(flags, read_step(elements)?)),
+        ENUM_SHAPE => {
             let (default, alternatives) = read_list(alloc, elements)?;
             let values = ChoiceEnum::Enum {
                 default,
@@ -146,7 +146,7 @@ pub fn read_choice<T: ChoiceElement>(alloc: Global, body: &[u8]) -> Result<Choic
             };
             Ok(Choice(flags, values))
         }
-        FLAGS_KIND => {
+        FLAGS_SHAPE => {
             let (default, flags_listed) = read_list(alloc, elements)?;
             let values = ChoiceEnum::Flags {
                 default,
@@ -173,7 +173,8 @@ fn first_bodies<T: CanonicalFixedSizedPod>(values: &[&T]) -> [u8; FIRST_LEN]
     bodies
 }
 
-/// The first words of a choice's pod, which are its header, its kind and flags, and the child header, and its first values.
+/// The first words of a choice's pod, which are its header, its shape and flags, and the child header, and its first
+/// values.
 fn start_of(
     pod: [u8; 8],
     choice: [u8; 8],
@@ -191,19 +192,19 @@ fn start_of(
     start
 }
 
-/// Appends the pod of a choice with this kind word, these flags and these values: the first ones, and some more.
+/// Appends the pod of a choice with this shape word, these flags and these values: the first ones, and some more.
 fn put_values<T: CanonicalFixedSizedPod, S: PodSink>(
     sink: &mut S,
-    kind: u32,
+    shape: u32,
     flags: u32,
     first: &[&T],
     more: &[T],
 ) -> Result<(), GenError>
     requires { length first.now ≤ MOST_FIRST }
-    ensures ok { OnOk result (S.appends sink.old (framed_text choice_type (choice_body kind flags T.kind (map (λ x. T.fixed x.now) first.now ++ map T.fixed more.now))) sink.new) }
+    ensures ok { OnOk result (S.appends sink.old (framed choice_type (choice_body shape flags T.kind (map (λ x. T.fixed x.now) first.now ++ map T.fixed more.now))) sink.new) }
     ensures typed { OnOk result ((flags < size_limit) × AreOf T.kind (map (λ x. T.fixed x.now) first.now ++ map T.fixed more.now)) }
-    ensures fits { OnOk result (length (choice_body kind flags T.kind (map (λ x. T.fixed x.now) first.now ++ map T.fixed more.now)) < size_limit) }
-    ensures refused { IfErr result (RefusesWrite ⊥ (size_limit ≤ length (choice_body kind flags T.kind (map (λ x. T.fixed x.now) first.now ++ map T.fixed more.now))) (λ e. S.refuses sink.old (length (framed_text choice_type (choice_body kind flags T.kind (map (λ x. T.fixed x.now) first.now ++ map T.fixed more.now)))) sink.new e)) }
+    ensures fits { OnOk result (length (choice_body shape flags T.kind (map (λ x. T.fixed x.now) first.now ++ map T.fixed more.now)) < size_limit) }
+    ensures refused { IfErr result (RefusesWrite ⊥ (size_limit ≤ length (choice_body shape flags T.kind (map (λ x. T.fixed x.now) first.now ++ map T.fixed more.now))) (λ e. S.refuses sink.old (length (framed choice_type (choice_body shape flags T.kind (map (λ x. T.fixed x.now) first.now ++ map T.fixed more.now)))) sink.new e)) }
 {
     let first_len = first.len() * T::SIZE;
     let Some(size) = body_len::<T>(2 * HEADER_LEN + first_len, more.len()) else {
@@ -211,7 +212,7 @@ fn put_values<T: CanonicalFixedSizedPod, S: PodSink>(
     };
     let start = start_of(
         two_words(size, SpaTypes::Choice.0),
-        two_words(kind, flags),
+        two_words(shape, flags),
         two_words(T::SIZE as u32, T::TYPE),
         first_bodies(first),
     );
@@ -224,30 +225,30 @@ pub fn put_choice<T: ChoiceElement, S: PodSink>(
     sink: &mut S,
     choice: &Choice<T>,
 ) -> Result<(), GenError>
-    ensures ok { OnOk result (S.appends sink.old (text_of (choice_tree T.kind T.fixed choice.now)) sink.new) }
+    ensures ok { OnOk result (S.appends sink.old (encoding_of (choice_tree T.kind T.fixed choice.now)) sink.new) }
     ensures typed { OnOk result (IsTyped (choice_tree T.kind T.fixed choice.now)) }
-    ensures fits { OnOk result (length (text_body (choice_tree T.kind T.fixed choice.now)) < size_limit) }
-    ensures refused { IfErr result (RefusesWrite ⊥ (size_limit ≤ length (text_body (choice_tree T.kind T.fixed choice.now))) (λ e. S.refuses sink.old (length (text_of (choice_tree T.kind T.fixed choice.now))) sink.new e)) }
+    ensures fits { OnOk result (length (encoded_body (choice_tree T.kind T.fixed choice.now)) < size_limit) }
+    ensures refused { IfErr result (RefusesWrite ⊥ (size_limit ≤ length (encoded_body (choice_tree T.kind T.fixed choice.now))) (λ e. S.refuses sink.old (length (encoding_of (choice_tree T.kind T.fixed choice.now))) sink.new e)) }
 {
     let flags = choice.0.bits();
     match &choice.1 {
-        ChoiceEnum::None(value) => put_values(sink, NONE_KIND, flags, &[value], &[]),
+        ChoiceEnum::None(value) => put_values(sink, NONE_SHAPE, flags, &[value], &[]),
         ChoiceEnum::Range { default, min, max } => {
-            put_values(sink, RANGE_KIND, flags, &[default, min, max], &[])
+            put_values(sink, RANGE_SHAPE, flags, &[default, min, max], &[])
         }
         ChoiceEnum::Step {
             default,
             min,
             max,
             step,
-        } => put_values(sink, STEP_KIND, flags, &[default, min, max, step], &[]),
+        } => put_values(sink, STEP_SHAPE, flags, &[default, min, max, step], &[]),
         ChoiceEnum::Enum {
             default,
             alternatives,
-        } => put_values(sink, ENUM_KIND, flags, &[default], alternatives.as_slice()),
+        } => put_values(sink, ENUM_SHAPE, flags, &[default], alternatives.as_slice()),
         ChoiceEnum::Flags {
             default,
             flags: listed,
-        } => { put_values(sink, FLAGS_KIND, flags, &[default], listed.as_slice()) }
+        } => { put_values(sink, FLAGS_SHAPE, flags, &[default], listed.as_slice()) }
     }
 }

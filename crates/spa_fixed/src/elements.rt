@@ -1,7 +1,7 @@
 //! Elements on their way to a sink.
 ghost use Rattle.std.specs.Prelude.{◌≡◌, ◌+◌, ◌*◌, ◌<◌, ◌≤◌, ◌++◌, IfErr, IfNone, IfSome, OnOk, length, map, take};
 ghost use Rattle.spa_fixed.specs.Writing.{Sent};
-ghost use Rattle.spa_format.specs.Text.{fixed_bodies};
+ghost use Rattle.spa_format.specs.Encoding.{fixed_bodies};
 ghost use Rattle.spa_format.specs.Typed.{AreOf};
 ghost use Rattle.spa_format.specs.Words.{padding, size_limit};
 

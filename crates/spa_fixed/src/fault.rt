@@ -38,9 +38,9 @@ pub enum DeserializeError<I> {
     PropertyMissing,
     /// The next property has this key, and not the one asked for.
     PropertyWrongKey(u32),
-    /// A choice's kind word is above 4.
+    /// A choice's shape word is above 4.
     InvalidChoiceType,
-    /// A choice has fewer values than its kind needs.
+    /// A choice has fewer values than its shape needs.
     MissingChoiceValues,
     /// A body isn't as long as its type's bodies are, or isn't made of whole elements.
     WrongSize,

@@ -1,7 +1,7 @@
 //! Whole pods of the types of fixed size.
 ghost use Rattle.std.specs.Prelude.{◌≡◌, ◌++◌, ℕ, IfErr, OnErr, OnOk, length, take};
 ghost use Rattle.spa_format.specs.Kind.{fixed_body};
-ghost use Rattle.spa_format.specs.Text.{framed_text};
+ghost use Rattle.spa_format.specs.Encoding.{framed};
 ghost use Rattle.spa_format.specs.Typed.{IsTypedFixed};
 ghost use Rattle.spa_format.specs.Words.{extent};
 
@@ -19,10 +19,10 @@ pub fn put_fixed<T: CanonicalFixedSizedPod, S: PodSink>(
     sink: &mut S,
     value: &T,
 ) -> Result<(), GenError>
-    ensures ok { OnOk result (S.appends sink.old (framed_text T.TYPE (fixed_body (T.fixed value.now))) sink.new) }
+    ensures ok { OnOk result (S.appends sink.old (framed T.TYPE (fixed_body (T.fixed value.now))) sink.new) }
     ensures typed { IsTypedFixed (T.fixed value.now) }
-    ensures begun { OnErr result ((count : ℕ) × S.appends sink.old (take count (framed_text T.TYPE (fixed_body (T.fixed value.now)))) sink.new) }
-    ensures cause { IfErr result (λ e. S.refuses sink.old (length (framed_text T.TYPE (fixed_body (T.fixed value.now)))) sink.new e) }
+    ensures begun { OnErr result ((count : ℕ) × S.appends sink.old (take count (framed T.TYPE (fixed_body (T.fixed value.now)))) sink.new) }
+    ensures cause { IfErr result (λ e. S.refuses sink.old (length (framed T.TYPE (fixed_body (T.fixed value.now)))) sink.new e) }
 {
     sink.append(&pod_bytes(value)[..pod_len::<T>()])
 }
@@ -40,7 +40,7 @@ fn pod_len<T: CanonicalFixedSizedPod>() -> usize
 
 /// A pod, and zeros behind it up to sixteen bytes.
 fn pod_bytes<T: CanonicalFixedSizedPod>(value: &T) -> [u8; LONGEST_POD_LEN]
-    ensures text { take (extent T.SIZE) result ≡ framed_text T.TYPE (fixed_body (T.fixed value.now)) }
+    ensures encoding { take (extent T.SIZE) result ≡ framed T.TYPE (fixed_body (T.fixed value.now)) }
     ensures typed { IsTypedFixed (T.fixed value.now) }
 {
     let mut pod = [0; LONGEST_POD_LEN];

@@ -1,33 +1,33 @@
--- The text of a value reads back as the value's normal form.
+-- The encoding of a value reads back as the value's normal form.
 use Rattle.std.proofs.Common.{◌≡◌, ℕ, ◌<◌, ◌≤◌, ◌^◌, inl, inr, List, [], ◌++◌, length, drop, take, refl, sym, ap, ◌∙◌, subst, arith, length-append, append_assoc}
 use Rattle.std.proofs.lemmas.List.{take_at, drop_at}
 use Rattle.spa_format.specs.Words.{word_at, word_bytes, extent, padding, body_of}
 use Rattle.spa_format.specs.Tree.{Tree, fixed, string, bytes, array, choice, pointer, struct, object, Trees, no_trees, member, Properties, no_properties, property, type_of}
 use Rattle.spa_format.specs.Kind.{kind_of}
 use Rattle.spa_format.specs.Pod.{IsWhole, IsBody, AreMembers, AreProperties, IsPod}
-use Rattle.spa_format.specs.Text.{framed_text, text_body, member_texts, property_texts, text_of}
+use Rattle.spa_format.specs.Encoding.{framed, encoded_body, member_encodings, property_encodings, encoding_of}
 use Rattle.spa_format.specs.Normal.{normal_of, normal_members, normal_properties}
 use Rattle.spa_format.specs.Typed.{IsTyped, AllTyped, AllPropertiesTyped}
 use Rattle.spa_format.specs.Writable.{HasNul, SomeHasNul, SomeValueHasNul, IsTooLarge, SomeTooLarge, SomeValueTooLarge, IsWritable}
 use Rattle.spa_format.specs.Front.{front_of, Begins}
 use Rattle.spa_format.proofs.WordLemmas.{length-word_bytes, word_inside}
-use Rattle.spa_format.proofs.Short.{length-framed_text}
+use Rattle.spa_format.proofs.Short.{length-framed}
 use Rattle.spa_format.proofs.Fronts.{front_of_whole}
 use Rattle.spa_format.proofs.FixedKinds.{number_is, size_fits, fixed_back, length-fixed_body}
 use Rattle.spa_format.proofs.Elements.{array_back}
 use Rattle.spa_format.proofs.Choices.{choice_back, pointer_back, pointer_length}
 
 -- what is framed is whole
-pub whole_frame : (t : ℕ) (b : List ℕ) (P : List ℕ → Type 0) → t < 2 ^ 32 → length b < 2 ^ 32 → P b → IsWhole (framed_text t b) t P
+pub whole_frame : (t : ℕ) (b : List ℕ) (P : List ℕ → Type 0) → t < 2 ^ 32 → length b < 2 ^ 32 → P b → IsWhole (framed t b) t P
 whole_frame t b P lt lb p =
     let n = length b in
-    let body_size : word_at (framed_text t b) 0 ≡ n = word_inside [] (word_bytes t ++ (b ++ padding n)) n 0 refl lb in
-    let kind : word_at (framed_text t b) 4 ≡ t = word_inside (word_bytes n) (b ++ padding n) t 4 (length-word_bytes n) lt in
+    let body_size : word_at (framed t b) 0 ≡ n = word_inside [] (word_bytes t ++ (b ++ padding n)) n 0 refl lb in
+    let its_type : word_at (framed t b) 4 ≡ t = word_inside (word_bytes n) (b ++ padding n) t 4 (length-word_bytes n) lt in
     let head = sym (append_assoc (word_bytes n) (word_bytes t) (b ++ padding n)) in
-    let behind : drop 8 (framed_text t b) ≡ b ++ padding n =
+    let behind : drop 8 (framed t b) ≡ b ++ padding n =
     ap (drop 8) head ∙ drop_at (word_bytes n ++ word_bytes t) (b ++ padding n) 8 (length-append (word_bytes n) (word_bytes t) ∙ (let e = length-word_bytes n in let f = length-word_bytes t in omega arith)) in
-    let inside : body_of (framed_text t b) ≡ b = ap (λ s. take s (drop 8 (framed_text t b))) body_size ∙ ap (take n) behind ∙ take_at b (padding n) n refl in
-    record { whole = length-framed_text t b ∙ ap extent (sym body_size); kind = kind; content = subst P (sym inside) p }
+    let inside : body_of (framed t b) ≡ b = ap (λ s. take s (drop 8 (framed t b))) body_size ∙ ap (take n) behind ∙ take_at b (padding n) n refl in
+    record { whole = length-framed t b ∙ ap extent (sym body_size); its_type = its_type; content = subst P (sym inside) p }
 
 pub same_type : (v : Tree) → type_of (normal_of v) ≡ type_of v
 same_type (fixed x) = refl
@@ -50,18 +50,18 @@ type_fits (struct vs) = omega arith
 type_fits (object t i ps) = omega arith
 
 -- a body whose size word fits
-pub body_fits : (v : Tree) → ¬ (IsTooLarge v) → length (text_body v) < 2 ^ 32
+pub body_fits : (v : Tree) → ¬ (IsTooLarge v) → length (encoded_body v) < 2 ^ 32
 body_fits (fixed x) h = let e = length-fixed_body x in let l = size_fits (kind_of x) in omega arith
 body_fits (string s) h = omega arith
 body_fits (bytes s) h = omega arith
 body_fits (array k xs) h = omega arith
 body_fits (choice s f k x xs) h = omega arith
 body_fits (pointer t a) h = let e = pointer_length t a in omega arith
-body_fits (struct vs) h = let k : ¬ (2 ^ 32 ≤ length (member_texts vs)) = λ l. h (inl l) in omega arith
-body_fits (object t i ps) h = let k : ¬ (2 ^ 32 ≤ length (text_body (object t i ps))) = λ l. h (inl l) in omega arith
+body_fits (struct vs) h = let k : ¬ (2 ^ 32 ≤ length (member_encodings vs)) = λ l. h (inl l) in omega arith
+body_fits (object t i ps) h = let k : ¬ (2 ^ 32 ≤ length (encoded_body (object t i ps))) = λ l. h (inl l) in omega arith
 
 mutual
-  pub back_body : (v : Tree) → IsTyped v → ¬ (HasNul v) → ¬ (IsTooLarge v) → IsBody (normal_of v) (text_body v)
+  pub back_body : (v : Tree) → IsTyped v → ¬ (HasNul v) → ¬ (IsTooLarge v) → IsBody (normal_of v) (encoded_body v)
   back_body (fixed x) h n l = fixed_back x h
   back_body (string s) h n l = (record { utf8 = h; no_nul = n }, refl)
   back_body (bytes s) h n l = refl
@@ -70,37 +70,37 @@ mutual
   back_body (pointer t a) h n l = pointer_back t a h.0 h.1
   back_body (struct vs) h n l = back_members vs h n (λ t. l (inr t))
   back_body (object t i ps) h n l =
-      let b = text_body (object t i ps) in
-      let e0 = length-append (word_bytes t) (word_bytes i ++ property_texts ps) in
-      let e1 = length-append (word_bytes i) (property_texts ps) in
+      let b = encoded_body (object t i ps) in
+      let e0 = length-append (word_bytes t) (word_bytes i ++ property_encodings ps) in
+      let e1 = length-append (word_bytes i) (property_encodings ps) in
       let e2 = length-word_bytes t in
       let e3 = length-word_bytes i in
-      let w0 : word_at b 0 ≡ t = word_inside [] (word_bytes i ++ property_texts ps) t 0 refl h.0 in
-      let w1 : word_at b 4 ≡ i = word_inside (word_bytes t) (property_texts ps) i 4 e2 h.1 in
-      let d : drop 8 b ≡ property_texts ps =
-      ap (drop 8) (sym (append_assoc (word_bytes t) (word_bytes i) (property_texts ps))) ∙ drop_at (word_bytes t ++ word_bytes i) (property_texts ps) 8 (length-append (word_bytes t) (word_bytes i) ∙ omega arith) in
+      let w0 : word_at b 0 ≡ t = word_inside [] (word_bytes i ++ property_encodings ps) t 0 refl h.0 in
+      let w1 : word_at b 4 ≡ i = word_inside (word_bytes t) (property_encodings ps) i 4 e2 h.1 in
+      let d : drop 8 b ≡ property_encodings ps =
+      ap (drop 8) (sym (append_assoc (word_bytes t) (word_bytes i) (property_encodings ps))) ∙ drop_at (word_bytes t ++ word_bytes i) (property_encodings ps) 8 (length-append (word_bytes t) (word_bytes i) ∙ omega arith) in
       ((let le : 8 ≤ length b = omega arith in le), sym w0, sym w1, subst (AreProperties (normal_properties ps)) (sym d) (back_props ps h.2 n (λ x. l (inr x))))
 
-  pub back_members : (vs : Trees) → AllTyped vs → ¬ (SomeHasNul vs) → ¬ (SomeTooLarge vs) → AreMembers (normal_members vs) (member_texts vs)
+  pub back_members : (vs : Trees) → AllTyped vs → ¬ (SomeHasNul vs) → ¬ (SomeTooLarge vs) → AreMembers (normal_members vs) (member_encodings vs)
   back_members no_trees h n l = refl
   back_members (member v vs) h n l =
       let here = back_body v h.0 (λ x. n (inl x)) (λ x. l (inl x)) in
-      let whole = whole_frame (type_of v) (text_body v) (IsBody (normal_of v)) (type_fits v) (body_fits v (λ x. l (inl x))) here in (
-        framed_text (type_of v) (text_body v),
-        member_texts vs,
+      let whole = whole_frame (type_of v) (encoded_body v) (IsBody (normal_of v)) (type_fits v) (body_fits v (λ x. l (inl x))) here in (
+        framed (type_of v) (encoded_body v),
+        member_encodings vs,
         refl,
-        subst (λ t. IsWhole (framed_text (type_of v) (text_body v)) t (IsBody (normal_of v))) (sym (same_type v)) whole,
+        subst (λ t. IsWhole (framed (type_of v) (encoded_body v)) t (IsBody (normal_of v))) (sym (same_type v)) whole,
         back_members vs h.1 (λ x. n (inr x)) (λ x. l (inr x)),
       )
 
-  pub back_props : (ps : Properties) → AllPropertiesTyped ps → ¬ (SomeValueHasNul ps) → ¬ (SomeValueTooLarge ps) → AreProperties (normal_properties ps) (property_texts ps)
+  pub back_props : (ps : Properties) → AllPropertiesTyped ps → ¬ (SomeValueHasNul ps) → ¬ (SomeValueTooLarge ps) → AreProperties (normal_properties ps) (property_encodings ps)
   back_props no_properties h n l = refl
   back_props (property k f v ps) h n l =
       let here = back_body v h.2 (λ x. n (inl x)) (λ x. l (inl x)) in
-      let whole = whole_frame (type_of v) (text_body v) (IsBody (normal_of v)) (type_fits v) (body_fits v (λ x. l (inl x))) here in
-      let t = framed_text (type_of v) (text_body v) in
-      let more = t ++ property_texts ps in
-      let b = property_texts (property k f v ps) in
+      let whole = whole_frame (type_of v) (encoded_body v) (IsBody (normal_of v)) (type_fits v) (body_fits v (λ x. l (inl x))) here in
+      let t = framed (type_of v) (encoded_body v) in
+      let more = t ++ property_encodings ps in
+      let b = property_encodings (property k f v ps) in
       let e0 = length-append (word_bytes k) (word_bytes f ++ more) in
       let e1 = length-append (word_bytes f) more in
       let e2 = length-word_bytes k in
@@ -112,20 +112,20 @@ mutual
         sym w0,
         sym w1,
         t,
-        property_texts ps,
+        property_encodings ps,
         d,
         subst (λ u. IsWhole t u (IsBody (normal_of v))) (sym (same_type v)) whole,
         back_props ps h.3 (λ x. n (inr x)) (λ x. l (inr x)),
       )
 
-pub text_is_pod : (v : Tree) → IsTyped v → IsWritable v → IsPod (text_of v) (normal_of v)
-text_is_pod v h w =
-    subst (λ t. IsWhole (text_of v) t (IsBody (normal_of v))) (sym (same_type v))
-    (whole_frame (type_of v) (text_body v) (IsBody (normal_of v)) (type_fits v) (body_fits v w.fits) (back_body v h w.no_nul w.fits))
+pub encoding_is_pod : (v : Tree) → IsTyped v → IsWritable v → IsPod (encoding_of v) (normal_of v)
+encoding_is_pod v h w =
+    subst (λ t. IsWhole (encoding_of v) t (IsBody (normal_of v))) (sym (same_type v))
+    (whole_frame (type_of v) (encoded_body v) (IsBody (normal_of v)) (type_fits v) (body_fits v w.fits) (back_body v h w.no_nul w.fits))
 
 -- whatever follows it
-pub text_begins : (v : Tree) (r : List ℕ) → IsTyped v → IsWritable v → (front_of (text_of v ++ r) ≡ text_of v) × Begins (text_of v ++ r) (normal_of v)
-text_begins v r h w =
-    let p = text_is_pod v h w in
-    let f = front_of_whole (text_of v ++ r) (text_of v) r _ _ refl p in
+pub encoding_begins : (v : Tree) (r : List ℕ) → IsTyped v → IsWritable v → (front_of (encoding_of v ++ r) ≡ encoding_of v) × Begins (encoding_of v ++ r) (normal_of v)
+encoding_begins v r h w =
+    let p = encoding_is_pod v h w in
+    let f = front_of_whole (encoding_of v ++ r) (encoding_of v) r _ _ refl p in
     (sym f.1, record { there = f.0; pod = subst (λ b. IsPod b (normal_of v)) f.1 p })

@@ -6,7 +6,7 @@ use Rattle.spa_format.specs.Kind.{Kind, body_size, Fixed, fixed_body}
 use Rattle.spa_format.specs.Tree.{Shape, none_choice, range_choice, step_choice, enum_choice, flags_choice, shape_number, choice, pointer}
 use Rattle.spa_format.specs.Normal.{kept_flags}
 use Rattle.spa_format.specs.Pod.{IsArray, least_count, values_taken, IsChoice, IsPointer}
-use Rattle.spa_format.specs.Text.{fixed_bodies, array_body, text_body}
+use Rattle.spa_format.specs.Encoding.{fixed_bodies, array_body, encoded_body}
 use Rattle.spa_format.specs.Typed.{IsBytes, AreOf, IsCount}
 use Rattle.spa_format.proofs.WordLemmas.{length-word_bytes, length-wide_bytes, word_inside, wide_last, word_fits, wide_fits, IsBytes-drop}
 use Rattle.spa_format.proofs.Elements.{same_array, same_array_length, array_length, array_back, typed_array, kept_of_sized, fewer_bodies, AreOf-take}
@@ -102,7 +102,7 @@ choice_length s f c =
     let e3 = length-word_bytes f in
     omega arith
 
-pub short_choice : (s : Shape) (f : ℕ) (k : Kind) (x : Fixed) (xs : List Fixed) (b : List ℕ) → IsChoice s f k x xs b → length (text_body (choice s f k x xs)) ≤ length b
+pub short_choice : (s : Shape) (f : ℕ) (k : Kind) (x : Fixed) (xs : List Fixed) (b : List ℕ) → IsChoice s f k x xs b → length (encoded_body (choice s f k x xs)) ≤ length b
 short_choice s f k x xs b h =
     let e0 = choice_length s f (array_body k (x ∷ xs)) in
     let e1 = array_length k (x ∷ xs) in
@@ -115,7 +115,7 @@ short_choice s f k x xs b h =
     let l = h.header in
     omega arith
 
-pub choice_back : (s : Shape) (f : ℕ) (k : Kind) (x : Fixed) (xs : List Fixed) → f < 2 ^ 32 → 0 < body_size k → AreOf k (x ∷ xs) → IsCount s (length xs) → IsChoice s (kept_flags s f) k x xs (text_body (choice s f k x xs))
+pub choice_back : (s : Shape) (f : ℕ) (k : Kind) (x : Fixed) (xs : List Fixed) → f < 2 ^ 32 → 0 < body_size k → AreOf k (x ∷ xs) → IsCount s (length xs) → IsChoice s (kept_flags s f) k x xs (encoded_body (choice s f k x xs))
 choice_back s f k x xs lf lk h n =
     let a = array_body k (x ∷ xs) in
     let m = word_bytes (shape_number s) in
@@ -159,7 +159,7 @@ same_pointer t u a c b h i =
     h.1 in
     cc
 
-pub pointer_length : (t a : ℕ) → length (text_body (pointer t a)) ≡ 16
+pub pointer_length : (t a : ℕ) → length (encoded_body (pointer t a)) ≡ 16
 pointer_length t a =
     let e0 = length-append (word_bytes t) (word_bytes 0 ++ wide_bytes a) in
     let e1 = length-append (word_bytes 0) (wide_bytes a) in
@@ -172,13 +172,13 @@ pointer_length t a =
 pub pointer_size : (t a : ℕ) (b : List ℕ) → IsPointer t a b → (12 ≤ length b) × (length b ≤ 16)
 pointer_size t a b h = ⊎_elim (λ m. let p = m.0 in (omega arith, omega arith)) (λ m. let p = m.0 in (omega arith, omega arith)) h.1
 
-pub pointer_back : (t a : ℕ) → t < 2 ^ 32 → a < 2 ^ 64 → IsPointer t a (text_body (pointer t a))
+pub pointer_back : (t a : ℕ) → t < 2 ^ 32 → a < 2 ^ 64 → IsPointer t a (encoded_body (pointer t a))
 pointer_back t a lt la =
     let m = word_bytes t ++ word_bytes 0 in
     let e2 = length-word_bytes t in
     let e3 = length-word_bytes 0 in
-    let e : text_body (pointer t a) ≡ m ++ wide_bytes a = sym (append_assoc (word_bytes t) (word_bytes 0) (wide_bytes a)) in
-    let w : wide_at (text_body (pointer t a)) 8 ≡ a = ap (λ l. wide_at l 8) e ∙ wide_last m a 8 (length-append (word_bytes t) (word_bytes 0) ∙ omega arith) la in
+    let e : encoded_body (pointer t a) ≡ m ++ wide_bytes a = sym (append_assoc (word_bytes t) (word_bytes 0) (wide_bytes a)) in
+    let w : wide_at (encoded_body (pointer t a)) 8 ≡ a = ap (λ l. wide_at l 8) e ∙ wide_last m a 8 (length-append (word_bytes t) (word_bytes 0) ∙ omega arith) la in
     (sym (word_inside [] (word_bytes 0 ++ wide_bytes a) t 0 refl lt), inr (pointer_length t a, sym w))
 
 pub typed_pointer : (t a : ℕ) (b : List ℕ) → IsBytes b → IsPointer t a b → (t < 2 ^ 32) × (a < 2 ^ 64)

@@ -6,7 +6,7 @@ use Rattle.spa_format.specs.Words.{word_bytes}
 use Rattle.spa_format.specs.Kind.{Kind, none_kind, bool_kind, id_kind, int_kind, long_kind, float_kind, double_kind, rectangle_kind, fraction_kind, fd_kind, type_number, body_size, Fixed, IsFixedBody, fixed_body}
 use Rattle.spa_format.specs.Normal.{kept_elements}
 use Rattle.spa_format.specs.Pod.{AreElements, IsArray}
-use Rattle.spa_format.specs.Text.{fixed_bodies, array_body}
+use Rattle.spa_format.specs.Encoding.{fixed_bodies, array_body}
 use Rattle.spa_format.specs.Typed.{IsBytes, AreOf}
 use Rattle.spa_format.proofs.WordLemmas.{length-word_bytes, word_inside, IsBytes-take, IsBytes-drop}
 use Rattle.spa_format.proofs.FixedKinds.{same_kind, number_is, size_fits, kind_of_body, same_fixed, fixed_back, typed_fixed, fixed_length, length-fixed_body}

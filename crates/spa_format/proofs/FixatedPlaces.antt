@@ -7,16 +7,16 @@ use Rattle.std.proofs.lemmas.List.{take-append-drop, drop-drop, drop_at, take_at
 use Rattle.spa_format.specs.Words.{word_at, word_bytes}
 use Rattle.spa_format.specs.Tree.{choice_type}
 use Rattle.spa_format.specs.Walk.{extent_behind, property_walk, properties_of, HasObject}
-use Rattle.spa_format.specs.Fixation.{may_fixate, is_fixable, none_choice_pod, fixated_property, fixated_properties, fixated_bytes, IsKindPlace, IsFixatedPlace}
+use Rattle.spa_format.specs.Fixation.{may_fixate, is_fixable, none_choice_pod, fixated_property, fixated_properties, fixated_bytes, IsShapePlace, IsFixatedPlace}
 use Rattle.spa_format.proofs.WordLemmas.{word_inside, word_at-append, word_at-drop, length-word_bytes}
 use Rattle.spa_format.proofs.WalkLemmas.{walk_behind-there, walk_behind-end, length-take_extent}
 use Rattle.spa_format.proofs.FixationLemmas.{never, walk_induction, fixated_properties-there, fixated_properties-end, length-first_fixated, length-fixated_properties}
 use Rattle.spa_format.proofs.FixatedObjects.{object_parts}
 
--- a property with its kind word set, by places
-pub kind_word-set : (p : List ℕ) → 16 ≤ length p →
+-- a property with its shape word set, by places
+pub shape_word-set : (p : List ℕ) → 16 ≤ length p →
     take 8 p ++ none_choice_pod (drop 8 p) ≡ take 16 p ++ (word_bytes 0 ++ drop 20 p)
-kind_word-set p l =
+shape_word-set p l =
     let h = take 8 p in
     let q = drop 8 p in
     let a = take 8 q in
@@ -35,9 +35,9 @@ kind_word-set p l =
 
 pub when_fixable : (p : List ℕ) → is_fixable p ≡ true → 16 ≤ length p →
     fixated_property p ≡ take 16 p ++ (word_bytes 0 ++ drop 20 p)
-when_fixable p h l = ap (λ t. if t then take 8 p ++ none_choice_pod (drop 8 p) else p) h ∙ kind_word-set p l
+when_fixable p h l = ap (λ t. if t then take 8 p ++ none_choice_pod (drop 8 p) else p) h ∙ shape_word-set p l
 
--- a property that fixation changes has room for a kind word
+-- a property that fixation changes has room for a shape word
 pub fixable_size : (p : List ℕ) → is_fixable p ≡ true → length p ≡ extent_behind 8 p → 24 ≤ length p
 fixable_size p h l =
     elim (leb_tells 16 (word_at (drop 8 p) 0)) [
@@ -50,8 +50,8 @@ fixable_size p h l =
           absurd (cc)
     ]
 
-kind_word : (p : List ℕ) → is_fixable p ≡ true → 24 ≤ length p → word_at (fixated_property p) 16 ≡ 0
-kind_word p h l =
+shape_word : (p : List ℕ) → is_fixable p ≡ true → 24 ≤ length p → word_at (fixated_property p) 16 ≡ 0
+shape_word p h l =
     ap (λ b. word_at b 16) (when_fixable p h (omega arith))
     ∙ word_inside (take 16 p) (drop 20 p) 0 16 (length-take-le 16 p (omega arith)) (omega arith)
 
@@ -69,7 +69,7 @@ other_byte p i l h = same_index (is_fixable p) (take 8 p ++ none_choice_pod (dro
     let n16 : length a ≡ 16 = length-take-le 16 p (omega arith) in
     let n4 = length-word_bytes 0 in
     let n20 : length (a ++ word_bytes 0) ≡ 20 = length-append a (word_bytes 0) ∙ omega arith in
-    ap (λ z. slice_index z i) (kind_word-set p (omega arith)) ∙ elim (h f) [
+    ap (λ z. slice_index z i) (shape_word-set p (omega arith)) ∙ elim (h f) [
       | inl q ↦ get_or_append_left a (word_bytes 0 ++ drop 20 p) 0 i (omega arith) ∙ get_or-take 16 p i 0 q
       | inr q ↦
           let e : 20 + (i - 20) ≡ i = omega arith in
@@ -79,7 +79,7 @@ other_byte p i l h = same_index (is_fixable p) (take 8 p ++ none_choice_pod (dro
           ∙ ap (slice_index p) e
     ])
 
-not_past : (at : ℕ) (ps : List (List ℕ)) (i : ℕ) → IsKindPlace at ps i → at ≤ i
+not_past : (at : ℕ) (ps : List (List ℕ)) (i : ℕ) → IsShapePlace at ps i → at ≤ i
 not_past at [] i h = absurd h
 not_past at (p ∷ ps) i h =
     elim h [
@@ -87,13 +87,13 @@ not_past at (p ∷ ps) i h =
       | inr q ↦ let l = not_past (at + length p) ps i q in omega arith
     ]
 
--- the kind words that are set, where the first property is at `at` and t follows the last one
+-- the shape words that are set, where the first property is at `at` and t follows the last one
 abbrev AreSet : List ℕ → Type 0
-AreSet b = (at i : ℕ) (t : List ℕ) → IsKindPlace at (property_walk b) (at + i) → word_at (fixated_properties b ++ t) i ≡ 0
+AreSet b = (at i : ℕ) (t : List ℕ) → IsShapePlace at (property_walk b) (at + i) → word_at (fixated_properties b ++ t) i ≡ 0
 
 are_set : (b : List ℕ) → AreSet b
 are_set = walk_induction AreSet
-    (λ b l at i t h. absurd (subst (λ q. IsKindPlace at q (at + i)) (walk_behind-end 8 b l) h))
+    (λ b l at i t h. absurd (subst (λ q. IsShapePlace at q (at + i)) (walk_behind-end 8 b l) h))
     (λ b l ih at i t h.
     let n = extent_behind 8 b in
     let p = take n b in
@@ -101,8 +101,8 @@ are_set = walk_induction AreSet
     let np : length p ≡ n = length-take-le n b l in
     let nf = length-first_fixated n b refl l in
     let w = length-take_extent 8 n b refl l in
-    let h' : (IsTrue (is_fixable p) × (at + i ≡ at + 16)) ⊎ IsKindPlace (at + length p) (property_walk (drop n b)) (at + i) =
-    subst (λ q. IsKindPlace at q (at + i)) (walk_behind-there 8 b l) h in
+    let h' : (IsTrue (is_fixable p) × (at + i ≡ at + 16)) ⊎ IsShapePlace (at + length p) (property_walk (drop n b)) (at + i) =
+    subst (λ q. IsShapePlace at q (at + i)) (walk_behind-there 8 b l) h in
     ap (λ z. word_at (z ++ t) i) (fixated_properties-there b l)
     ∙ ap (λ z. word_at z i) (append_assoc (fixated_property p) r t)
     ∙ elim h' [
@@ -112,7 +112,7 @@ are_set = walk_induction AreSet
           let big = fixable_size p q.0 w in
           ap (word_at (fixated_property p ++ (r ++ t))) i16
           ∙ word_at-append (fixated_property p) (r ++ t) 16 (omega arith)
-          ∙ kind_word p q.0 big
+          ∙ shape_word p q.0 big
       | inr q ↦
           let le = not_past (at + length p) (property_walk (drop n b)) (at + i) q in
           let j = i - n in
@@ -121,12 +121,12 @@ are_set = walk_induction AreSet
           ap (word_at (fixated_property p ++ (r ++ t))) ei
           ∙ sym (word_at-drop n j (fixated_property p ++ (r ++ t)))
           ∙ ap (λ z. word_at z j) (drop_at (fixated_property p) (r ++ t) n nf)
-          ∙ ih (at + length p) j t (subst (IsKindPlace (at + length p) (property_walk (drop n b))) ea q)
+          ∙ ih (at + length p) j t (subst (IsShapePlace (at + length p) (property_walk (drop n b))) ea q)
     ])
 
--- no kind word that fixation sets covers this place
+-- no shape word that fixation sets covers this place
 abbrev IsOther : ℕ → List (List ℕ) → ℕ → Type 0
-IsOther at ps i = (k : ℕ) → IsKindPlace at ps k → (i < k) ⊎ (k + 4 ≤ i)
+IsOther at ps i = (k : ℕ) → IsShapePlace at ps k → (i < k) ⊎ (k + 4 ≤ i)
 
 abbrev OthersStay : List ℕ → Type 0
 OthersStay b = (at i : ℕ) → IsOther at (property_walk b) (at + i) → slice_index (fixated_properties b) i ≡ slice_index b i
@@ -165,8 +165,8 @@ others = walk_induction OthersStay
     ])
 
 -- the same in an object at the front of an input
-pub kind_words_set : (b : List ℕ) (i : ℕ) → HasObject b → IsFixatedPlace b i → word_at (fixated_bytes b) i ≡ 0
-kind_words_set b i o h =
+pub shape_words_set : (b : List ℕ) (i : ℕ) → HasObject b → IsFixatedPlace b i → word_at (fixated_bytes b) i ≡ 0
+shape_words_set b i o h =
     let k = object_parts b o.front o.parts in
     let a = take 16 b in
     let ps = properties_of b in
@@ -178,7 +178,7 @@ kind_words_set b i o h =
     ap (word_at (a ++ (f ++ d))) ei
     ∙ sym (word_at-drop 16 j (a ++ (f ++ d)))
     ∙ ap (λ z. word_at z j) (drop_at a (f ++ d) 16 k.beginning)
-    ∙ are_set ps 16 j d (subst (IsKindPlace 16 (property_walk ps)) ei h)
+    ∙ are_set ps 16 j d (subst (IsShapePlace 16 (property_walk ps)) ei h)
 
 pub others_stay : (b : List ℕ) (i : ℕ) → HasObject b →
     ((k : ℕ) → IsFixatedPlace b k → (i < k) ⊎ (k + 4 ≤ i)) → slice_index (fixated_bytes b) i ≡ slice_index b i

@@ -61,11 +61,11 @@ choice_size s f k x xs b w =
 is_choice_pod-of : (s : Shape) (f : ℕ) (k : Kind) (x : Fixed) (xs : List Fixed) (b : List ℕ) →
     IsWhole b 19 (IsChoice s f k x xs) → is_choice_pod b ≡ true
 is_choice_pod-of s f k x xs b w =
-    ap (λ n. nat_eq n 19 && nat_le 16 (word_at b 0)) w.kind
+    ap (λ n. nat_eq n 19 && nat_le 16 (word_at b 0)) w.its_type
     ∙ ap (λ t. true && t) (le-leb 16 (word_at b 0) (choice_size s f k x xs b w))
 
 is_choice_pod-other : (t : ℕ) (P : List ℕ → Type 0) (b : List ℕ) → IsWhole b t P → t ≢ 19 → is_choice_pod b ≡ false
-is_choice_pod-other t P b w ne = ap (λ z. z && nat_le 16 (word_at b 0)) (ne_eqb (word_at b 4) 19 (λ q. ne (sym w.kind ∙ q)))
+is_choice_pod-other t P b w ne = ap (λ z. z && nat_le 16 (word_at b 0)) (ne_eqb (word_at b 4) 19 (λ q. ne (sym w.its_type ∙ q)))
 
 choice_fixated : (s : Shape) (f : ℕ) (k : Kind) (x : Fixed) (xs : List Fixed) (b : List ℕ) →
     IsWhole b 19 (IsChoice s f k x xs) → IsWhole (none_choice_pod b) 19 (IsChoice none_choice 0 k x [])
@@ -91,7 +91,7 @@ choice_fixated s f k x xs b w =
     ∙ z.none in
     record {
       whole = whole;
-      kind = z.same_type ∙ w.kind;
+      its_type = z.same_type ∙ w.its_type;
       content = record {
         header = omega arith;
         shape = shape;

@@ -38,12 +38,12 @@ body_of_front b =
 pub whole_front : (b : List ℕ) (t : ℕ) (P : List ℕ → Type 0) → HasFront b → word_at b 4 ≡ t → P (body_of b) → IsWhole (front_of b) t P
 whole_front b t P h e p = record {
   whole = length-take-le (extent (word_at b 0)) b h.whole ∙ ap extent (sym (size_of_front b));
-  kind = type_of_front b ∙ e;
+  its_type = type_of_front b ∙ e;
   content = subst P (sym (body_of_front b)) p;
 }
 
 pub of_whole_front : (b : List ℕ) (t : ℕ) (P : List ℕ → Type 0) → IsWhole (front_of b) t P → (word_at b 4 ≡ t) × P (body_of b)
-of_whole_front b t P h = (sym (type_of_front b) ∙ h.kind, subst P (body_of_front b) h.content)
+of_whole_front b t P h = (sym (type_of_front b) ∙ h.its_type, subst P (body_of_front b) h.content)
 
 pub front_and_rest : (b : List ℕ) → b ≡ front_of b ++ rest_of b
 front_and_rest b = sym (take-append-drop (extent (word_at b 0)) b)

@@ -7,9 +7,9 @@ use Rattle.spa_format.specs.Pod.{IsBody, AreMembers, AreProperties, IsPod}
 use Rattle.spa_format.specs.Normal.{normal_of, normal_members, normal_properties}
 use Rattle.spa_format.specs.Typed.{IsBytes, IsTyped, AllTyped, AllPropertiesTyped}
 use Rattle.spa_format.specs.Writable.{IsWritable}
-use Rattle.spa_format.specs.Text.{text_of}
+use Rattle.spa_format.specs.Encoding.{encoding_of}
 use Rattle.spa_format.proofs.Short.{length_of_body, without_nul, not_too_large}
-use Rattle.spa_format.proofs.Back.{text_is_pod}
+use Rattle.spa_format.proofs.Back.{encoding_is_pod}
 use Rattle.spa_format.proofs.Unique.{one_value}
 use Rattle.spa_format.proofs.WordLemmas.{word_at-append, word_fits, IsBytes-drop, IsBytes-take}
 use Rattle.spa_format.proofs.FixedKinds.{typed_fixed}
@@ -53,13 +53,13 @@ IsBytes-first b first others e h = subst IsBytes (ap (take (length first)) e ∙
 IsBytes-others : (b first others : List ℕ) → b ≡ first ++ others → IsBytes b → IsBytes others
 IsBytes-others b first others e h = subst IsBytes (ap (drop (length first)) e ∙ drop_at first others (length first) refl) (IsBytes-drop (length first) b h)
 
-IsUtf8-text_of : (s : List ℕ) → IsText s → IsUtf8 s
-IsUtf8-text_of s h = h.utf8
+IsUtf8-from_text : (s : List ℕ) → IsText s → IsUtf8 s
+IsUtf8-from_text s h = h.utf8
 
 mutual
   pub typed_body : (v : Tree) (b : List ℕ) → IsBytes b → IsBody v b → IsTyped v
   typed_body (fixed x) b f h = typed_fixed (kind_of x) b x f h
-  typed_body (string s) b f h = IsUtf8-text_of s h.0
+  typed_body (string s) b f h = IsUtf8-from_text s h.0
   typed_body (bytes s) b f h = tt
   typed_body (array k xs) b f h = typed_array k xs b f h
   typed_body (choice s g k x xs) b f h = typed_choice s g k x xs b f h
@@ -95,12 +95,12 @@ writable b v f h =
     record { no_nul = without_nul v (body_of b) h.content; fits = not_too_large v (body_of b) l h.content }
 
 -- a rewriting is a pod of the same value
-pub rewriting_is_pod : (b : List ℕ) (v : Tree) → IsBytes b → IsPod b v → IsPod (text_of v) v
-rewriting_is_pod b v f h = subst (IsPod (text_of v)) (normal b v h) (text_is_pod v (typed b v f h) (writable b v f h))
+pub rewriting_is_pod : (b : List ℕ) (v : Tree) → IsBytes b → IsPod b v → IsPod (encoding_of v) v
+rewriting_is_pod b v f h = subst (IsPod (encoding_of v)) (normal b v h) (encoding_is_pod v (typed b v f h) (writable b v f h))
 
 -- two pods have one rewriting just where they are of one value
-pub same_rewriting : (b c : List ℕ) (v w : Tree) → IsBytes b → IsBytes c → IsPod b v → IsPod c w → text_of v ≡ text_of w → v ≡ w
-same_rewriting b c v w f g h k e = one_value (text_of w) v w (subst (λ l. IsPod l v) e (rewriting_is_pod b v f h)) (rewriting_is_pod c w g k)
+pub same_rewriting : (b c : List ℕ) (v w : Tree) → IsBytes b → IsBytes c → IsPod b v → IsPod c w → encoding_of v ≡ encoding_of w → v ≡ w
+same_rewriting b c v w f g h k e = one_value (encoding_of w) v w (subst (λ l. IsPod l v) e (rewriting_is_pod b v f h)) (rewriting_is_pod c w g k)
 
 -- no pod is a proper front of another
 pub no_longer : (b r : List ℕ) (v w : Tree) → IsPod b v → IsPod (b ++ r) w → r ≡ []
@@ -116,5 +116,5 @@ no_longer b r v w h k =
     nothing (x ∷ r) e = absurd (omega arith)
 
 -- and one rewriting says one value
-pub same_value : (v w : Tree) → v ≡ w → text_of v ≡ text_of w
-same_value v w e = ap text_of e
+pub same_value : (v w : Tree) → v ≡ w → encoding_of v ≡ encoding_of w
+same_value v w e = ap encoding_of e

@@ -30,7 +30,7 @@ members_left (member v vs) (member w ws) b c h k =
     let g = front_of_whole d k.0 k.1 _ _ k.2 k.3 in
     let here : IsWhole h.0 (type_of w) (IsBody w) = subst (λ l. IsWhole l (type_of w) (IsBody w)) (g.1 ∙ sym f.1) k.3 in
     let there : AreMembers ws (h.1 ++ c) = subst (AreMembers ws) (g.2 ∙ sym f.2) k.4 in
-    let e0 = same_body v w (body_of h.0) (sym h.3.kind ∙ here.kind) h.3.content here.content in
+    let e0 = same_body v w (body_of h.0) (sym h.3.its_type ∙ here.its_type) h.3.content here.content in
     let r = members_left vs ws h.1 c h.4 there in
     let e1 = r.1 in
     (r.0, cc, r.2)
@@ -61,7 +61,7 @@ props_left (property p f v ps) (property q g w qs) b c h k =
     let z = front_of_whole (drop 8 (b ++ c)) k.3 k.4 _ _ k.5 k.6 in
     let here : IsWhole h.3 (type_of w) (IsBody w) = subst (λ y. IsWhole y (type_of w) (IsBody w)) (z.1 ∙ sym a.1) k.6 in
     let there : AreProperties qs (h.4 ++ c) = subst (AreProperties qs) (z.2 ∙ sym a.2) k.7 in
-    let e0 = same_body v w (body_of h.3) (sym h.6.kind ∙ here.kind) h.6.content here.content in
+    let e0 = same_body v w (body_of h.3) (sym h.6.its_type ∙ here.its_type) h.6.content here.content in
     let e2 = h.1 ∙ sym (word_at-append b c 0 (omega arith)) ∙ sym k.1 in
     let e3 = h.2 ∙ sym (word_at-append b c 4 (omega arith)) ∙ sym k.2 in
     let r = props_left ps qs h.4 c h.7 there in

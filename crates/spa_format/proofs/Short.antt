@@ -1,11 +1,11 @@
--- No pod of a value is shorter than the value's text, and a value that bytes spell can be written.
+-- No pod of a value is shorter than the value's encoding, and a value that bytes spell can be written.
 use Rattle.std.proofs.Common.{◌≡◌, ℕ, ◌-◌, ◌<◌, ◌≤◌, ◌^◌, ⊎_elim, List, [], ◌∷◌, ◌++◌, length, drop, sym, ap, ◌∙◌, subst, arith, length-append, length-drop, length-take}
 use Rattle.std.proofs.lemmas.List.{length-replicate}
 use Rattle.spa_format.specs.Words.{word_at, word_bytes, extent, padded_size, padding, body_of}
 use Rattle.spa_format.specs.Tree.{Tree, fixed, string, bytes, array, choice, pointer, struct, object, Trees, no_trees, member, Properties, no_properties, property, type_of}
 use Rattle.spa_format.specs.Kind.{kind_of, fixed_body}
 use Rattle.spa_format.specs.Pod.{IsWhole, IsBody, AreMembers, AreProperties, IsPod}
-use Rattle.spa_format.specs.Text.{framed_text, text_body, member_texts, property_texts, text_of}
+use Rattle.spa_format.specs.Encoding.{framed, encoded_body, member_encodings, property_encodings, encoding_of}
 use Rattle.spa_format.specs.Writable.{HasNul, SomeHasNul, SomeValueHasNul, IsTooLarge, SomeTooLarge, SomeValueTooLarge}
 use Rattle.spa_format.proofs.WordLemmas.{length-word_bytes}
 use Rattle.spa_format.proofs.FixedKinds.{fixed_length}
@@ -21,8 +21,8 @@ padded_above s = omega arith
 pub padded_mono : (s t : ℕ) → s ≤ t → padded_size s ≤ padded_size t
 padded_mono s t h = omega arith
 
-pub length-framed_text : (t : ℕ) (b : List ℕ) → length (framed_text t b) ≡ extent (length b)
-length-framed_text t b =
+pub length-framed : (t : ℕ) (b : List ℕ) → length (framed t b) ≡ extent (length b)
+length-framed t b =
     let n = length b in
     let e0 = length-append (word_bytes n) (word_bytes t ++ (b ++ padding n)) in
     let e1 = length-append (word_bytes t) (b ++ padding n) in
@@ -43,58 +43,58 @@ length_of_body b t P h =
     let e = length-take n (drop 8 b) in
     omega arith
 
-short_frame : (first : List ℕ) (t u : ℕ) (P : List ℕ → Type 0) (c : List ℕ) → IsWhole first t P → padded_size (length c) ≤ padded_size (length (body_of first)) → length (framed_text u c) ≤ length first
+short_frame : (first : List ℕ) (t u : ℕ) (P : List ℕ → Type 0) (c : List ℕ) → IsWhole first t P → padded_size (length c) ≤ padded_size (length (body_of first)) → length (framed u c) ≤ length first
 short_frame first t u P c h le =
-    let e = length-framed_text u c in
+    let e = length-framed u c in
     let l = length_of_body first t P h in
     let x = h.whole in
     let m = ap padded_size l in
     omega arith
 
-short_object : (t i : ℕ) (ps : Properties) (b : List ℕ) → 8 ≤ length b → length (property_texts ps) ≤ length (drop 8 b) → length (text_body (object t i ps)) ≤ length b
+short_object : (t i : ℕ) (ps : Properties) (b : List ℕ) → 8 ≤ length b → length (property_encodings ps) ≤ length (drop 8 b) → length (encoded_body (object t i ps)) ≤ length b
 short_object t i ps b l le =
-    let e0 = length-append (word_bytes t) (word_bytes i ++ property_texts ps) in
-    let e1 = length-append (word_bytes i) (property_texts ps) in
+    let e0 = length-append (word_bytes t) (word_bytes i ++ property_encodings ps) in
+    let e1 = length-append (word_bytes i) (property_encodings ps) in
     let e2 = length-word_bytes t in
     let e3 = length-word_bytes i in
     let e4 = length-drop 8 b in
     omega arith
 
--- a pointer's body may be shorter than its text's, but is padded to as much
+-- a pointer's body may be shorter than its encoding's, but is padded to as much
 mutual
-  pub short_body : (v : Tree) (b : List ℕ) → IsBody v b → padded_size (length (text_body v)) ≤ padded_size (length b)
+  pub short_body : (v : Tree) (b : List ℕ) → IsBody v b → padded_size (length (encoded_body v)) ≤ padded_size (length b)
   short_body (fixed x) b h = padded_mono (length (fixed_body x)) (length b) (let e = fixed_length (kind_of x) b x h in omega arith)
   short_body (string s) b h = padded_mono (length (s ++ 0 ∷ [])) (length b) (let e = ap length h.1 in omega arith)
   short_body (bytes s) b h = padded_mono (length s) (length b) (let e = ap length h in omega arith)
-  short_body (array k xs) b h = padded_mono (length (text_body (array k xs))) (length b) (let e = same_array_length k xs b h in omega arith)
-  short_body (choice s f k x xs) b h = padded_mono (length (text_body (choice s f k x xs))) (length b) (short_choice s f k x xs b h)
+  short_body (array k xs) b h = padded_mono (length (encoded_body (array k xs))) (length b) (let e = same_array_length k xs b h in omega arith)
+  short_body (choice s f k x xs) b h = padded_mono (length (encoded_body (choice s f k x xs))) (length b) (short_choice s f k x xs b h)
   short_body (pointer t a) b h =
       let e = pointer_length t a in
       let p = pointer_size t a b h in
       let m = padded_mono 12 (length b) p.0 in
       subst (λ n. padded_size n ≤ padded_size (length b)) (sym e) m
-  short_body (struct vs) b h = padded_mono (length (member_texts vs)) (length b) (short_members vs b h)
-  short_body (object t i ps) b h = padded_mono (length (text_body (object t i ps))) (length b) (short_object t i ps b h.0 (short_props ps (drop 8 b) h.3))
+  short_body (struct vs) b h = padded_mono (length (member_encodings vs)) (length b) (short_members vs b h)
+  short_body (object t i ps) b h = padded_mono (length (encoded_body (object t i ps))) (length b) (short_object t i ps b h.0 (short_props ps (drop 8 b) h.3))
 
-  pub short_members : (vs : Trees) (b : List ℕ) → AreMembers vs b → length (member_texts vs) ≤ length b
+  pub short_members : (vs : Trees) (b : List ℕ) → AreMembers vs b → length (member_encodings vs) ≤ length b
   short_members no_trees b h = let e = ap length h in omega arith
   short_members (member v vs) b h =
-      let here = short_frame h.0 (type_of v) (type_of v) (IsBody v) (text_body v) h.3 (short_body v (body_of h.0) h.3.content) in
+      let here = short_frame h.0 (type_of v) (type_of v) (IsBody v) (encoded_body v) h.3 (short_body v (body_of h.0) h.3.content) in
       let there = short_members vs h.1 h.4 in
-      let e0 = length-append (framed_text (type_of v) (text_body v)) (member_texts vs) in
+      let e0 = length-append (framed (type_of v) (encoded_body v)) (member_encodings vs) in
       let e1 = ap length h.2 in
       let e2 = length-append h.0 h.1 in
       omega arith
 
-  pub short_props : (ps : Properties) (b : List ℕ) → AreProperties ps b → length (property_texts ps) ≤ length b
+  pub short_props : (ps : Properties) (b : List ℕ) → AreProperties ps b → length (property_encodings ps) ≤ length b
   short_props no_properties b h = let e = ap length h in omega arith
   short_props (property k f v ps) b h =
-      let here = short_frame h.3 (type_of v) (type_of v) (IsBody v) (text_body v) h.6 (short_body v (body_of h.3) h.6.content) in
+      let here = short_frame h.3 (type_of v) (type_of v) (IsBody v) (encoded_body v) h.6 (short_body v (body_of h.3) h.6.content) in
       let there = short_props ps h.4 h.7 in
-      let t = framed_text (type_of v) (text_body v) in
-      let e0 = length-append (word_bytes k) (word_bytes f ++ (t ++ property_texts ps)) in
-      let e1 = length-append (word_bytes f) (t ++ property_texts ps) in
-      let e2 = length-append t (property_texts ps) in
+      let t = framed (type_of v) (encoded_body v) in
+      let e0 = length-append (word_bytes k) (word_bytes f ++ (t ++ property_encodings ps)) in
+      let e1 = length-append (word_bytes f) (t ++ property_encodings ps) in
+      let e2 = length-append t (property_encodings ps) in
       let e3 = length-word_bytes k in
       let e4 = length-word_bytes f in
       let e5 = ap length h.5 in
@@ -103,8 +103,8 @@ mutual
       let l = h.0 in
       omega arith
 
-pub shortest : (b : List ℕ) (v : Tree) → IsPod b v → length (text_of v) ≤ length b
-shortest b v h = short_frame b (type_of v) (type_of v) (IsBody v) (text_body v) h (short_body v (body_of b) h.content)
+pub shortest : (b : List ℕ) (v : Tree) → IsPod b v → length (encoding_of v) ≤ length b
+shortest b v h = short_frame b (type_of v) (type_of v) (IsBody v) (encoded_body v) h (short_body v (body_of b) h.content)
 
 mutual
   pub without_nul : (v : Tree) (b : List ℕ) → IsBody v b → ¬ (HasNul v)

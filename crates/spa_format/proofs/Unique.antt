@@ -67,7 +67,7 @@ mutual
       let g = front_of_whole b k.0 k.1 _ _ k.2 k.3 in
       let here : IsWhole h.0 (type_of w) (IsBody w) = subst (λ l. IsWhole l (type_of w) (IsBody w)) (g.1 ∙ sym f.1) k.3 in
       let there : AreMembers ws h.1 = subst (AreMembers ws) (g.2 ∙ sym f.2) k.4 in
-      let e0 = same_body v w (body_of h.0) (sym h.3.kind ∙ here.kind) h.3.content here.content in
+      let e0 = same_body v w (body_of h.0) (sym h.3.its_type ∙ here.its_type) h.3.content here.content in
       let e1 = same_members vs ws h.1 h.4 there in
       cc
 
@@ -80,11 +80,11 @@ mutual
       let c = front_of_whole (drop 8 b) k.3 k.4 _ _ k.5 k.6 in
       let here : IsWhole h.3 (type_of w) (IsBody w) = subst (λ l. IsWhole l (type_of w) (IsBody w)) (c.1 ∙ sym a.1) k.6 in
       let there : AreProperties qs h.4 = subst (AreProperties qs) (c.2 ∙ sym a.2) k.7 in
-      let e0 = same_body v w (body_of h.3) (sym h.6.kind ∙ here.kind) h.6.content here.content in
+      let e0 = same_body v w (body_of h.3) (sym h.6.its_type ∙ here.its_type) h.6.content here.content in
       let e1 = same_props ps qs h.4 h.7 there in
       let e2 = h.1 ∙ sym k.1 in
       let e3 = h.2 ∙ sym k.2 in
       cc
 
 pub one_value : (b : List ℕ) (v w : Tree) → IsPod b v → IsPod b w → v ≡ w
-one_value b v w h k = same_body v w (body_of b) (sym h.kind ∙ k.kind) h.content k.content
+one_value b v w h k = same_body v w (body_of b) (sym h.its_type ∙ k.its_type) h.content k.content

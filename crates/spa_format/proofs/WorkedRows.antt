@@ -6,7 +6,7 @@ use Rattle.spa_format.specs.Kind.{int_kind, none_kind, none, bool, int, rectangl
 use Rattle.spa_format.specs.Tree.{none_choice, range_choice, Tree, fixed, string, array, choice, pointer, struct, object, no_trees, member, no_properties, property, node_count}
 use Rattle.spa_format.specs.Normal.{normal_of}
 use Rattle.spa_format.specs.Pod.{IsPod}
-use Rattle.spa_format.specs.Text.{text_of}
+use Rattle.spa_format.specs.Encoding.{encoding_of}
 use Rattle.spa_format.specs.Front.{HasFront, rest_of}
 
 -- words one after another
@@ -16,36 +16,36 @@ words (n ∷ ns) = word_bytes n ++ words ns
 
 unit_is_read : IsPod (words (0 ∷ 1 ∷ [])) (fixed none)
 unfolding words word_at word_bytes
-unit_is_read = record { whole = refl; kind = refl; content = record { whole = refl; says = refl } }
+unit_is_read = record { whole = refl; its_type = refl; content = record { whole = refl; says = refl } }
 
 -- any word but 0 reads as true, and the bytes behind the body are free
 bool_is_read : IsPod (words (4 ∷ 2 ∷ 7 ∷ 9 ∷ [])) (fixed (bool true))
 unfolding words word_at word_bytes
-bool_is_read = record { whole = refl; kind = refl; content = record { whole = refl; says = refl } }
+bool_is_read = record { whole = refl; its_type = refl; content = record { whole = refl; says = refl } }
 
 -- true is written as 1, and the padding is zeros
-bool_is_written : text_of (fixed (bool true)) ≡ words (4 ∷ 2 ∷ 1 ∷ 0 ∷ [])
+bool_is_written : encoding_of (fixed (bool true)) ≡ words (4 ∷ 2 ∷ 1 ∷ 0 ∷ [])
 unfolding words word_bytes
 bool_is_written = refl
 
 -- seven characters and their NUL leave nothing to pad
-string_is_written : text_of (string (49 ∷ 50 ∷ 51 ∷ 52 ∷ 53 ∷ 54 ∷ 55 ∷ [])) ≡ words (8 ∷ 8 ∷ []) ++ (49 ∷ 50 ∷ 51 ∷ 52 ∷ 53 ∷ 54 ∷ 55 ∷ 0 ∷ [])
+string_is_written : encoding_of (string (49 ∷ 50 ∷ 51 ∷ 52 ∷ 53 ∷ 54 ∷ 55 ∷ [])) ≡ words (8 ∷ 8 ∷ []) ++ (49 ∷ 50 ∷ 51 ∷ 52 ∷ 53 ∷ 54 ∷ 55 ∷ 0 ∷ [])
 unfolding words word_bytes
 string_is_written = refl
 
-empty_string_is_written : text_of (string []) ≡ words (1 ∷ 8 ∷ 0 ∷ 0 ∷ [])
+empty_string_is_written : encoding_of (string []) ≡ words (1 ∷ 8 ∷ 0 ∷ 0 ∷ [])
 unfolding words word_bytes
 empty_string_is_written = refl
 
 int_is_read : IsPod (words (4 ∷ 4 ∷ 3 ∷ 0 ∷ [])) (fixed (int (pos 3)))
 unfolding words word_at word_bytes
-int_is_read = record { whole = refl; kind = refl; content = record { whole = refl; says = refl } }
+int_is_read = record { whole = refl; its_type = refl; content = record { whole = refl; says = refl } }
 
 struct_is_read : IsPod (words (16 ∷ 14 ∷ 4 ∷ 4 ∷ 3 ∷ 0 ∷ [])) (struct (member (fixed (int (pos 3))) no_trees))
 unfolding words word_at word_bytes
 struct_is_read = record {
   whole = refl;
-  kind = refl;
+  its_type = refl;
   content = (words (4 ∷ 4 ∷ 3 ∷ 0 ∷ []), [], refl, int_is_read, refl);
 }
 
@@ -56,7 +56,7 @@ array_is_read : IsPod (words (20 ∷ 13 ∷ 4 ∷ 4 ∷ 10 ∷ 15 ∷ 19 ∷ 0 �
 unfolding words ints word_at word_bytes
 array_is_read = record {
   whole = refl;
-  kind = refl;
+  its_type = refl;
   content = record {
     header = lit≤ tt;
     child_size = refl;
@@ -65,12 +65,12 @@ array_is_read = record {
   };
 }
 
--- however many units an array holds, its text has none
-units_are_written : text_of (array none_kind (none ∷ none ∷ none ∷ none ∷ none ∷ [])) ≡ words (8 ∷ 13 ∷ 0 ∷ 1 ∷ [])
+-- however many units an array holds, its encoding has none
+units_are_written : encoding_of (array none_kind (none ∷ none ∷ none ∷ none ∷ none ∷ [])) ≡ words (8 ∷ 13 ∷ 0 ∷ 1 ∷ [])
 unfolding words word_bytes
 units_are_written = refl
 
-range_is_written : text_of (choice range_choice 0 int_kind (int (pos 5)) (int (pos 2) ∷ int (pos 10) ∷ [])) ≡ words (28 ∷ 19 ∷ 1 ∷ 0 ∷ 4 ∷ 4 ∷ 5 ∷ 2 ∷ 10 ∷ 0 ∷ [])
+range_is_written : encoding_of (choice range_choice 0 int_kind (int (pos 5)) (int (pos 2) ∷ int (pos 10) ∷ [])) ≡ words (28 ∷ 19 ∷ 1 ∷ 0 ∷ 4 ∷ 4 ∷ 5 ∷ 2 ∷ 10 ∷ 0 ∷ [])
 unfolding words word_bytes
 range_is_written = refl
 
@@ -79,7 +79,7 @@ none_choice_is_read : IsPod (words (28 ∷ 19 ∷ 0 ∷ 5 ∷ 4 ∷ 4 ∷ 7 ∷ 
 unfolding words word_at word_bytes
 none_choice_is_read = record {
   whole = refl;
-  kind = refl;
+  its_type = refl;
   content = record {
     header = lit≤ tt;
     shape = refl;
@@ -96,8 +96,8 @@ none_choice_is_read = record {
   };
 }
 
--- its text keeps the flags that the value holds, and reads back without them
-none_choice_is_written : text_of (choice none_choice 5 int_kind (int (pos 7)) []) ≡ words (20 ∷ 19 ∷ 0 ∷ 5 ∷ 4 ∷ 4 ∷ 7 ∷ 0 ∷ [])
+-- its encoding keeps the flags that the value holds, and reads back without them
+none_choice_is_written : encoding_of (choice none_choice 5 int_kind (int (pos 7)) []) ≡ words (20 ∷ 19 ∷ 0 ∷ 5 ∷ 4 ∷ 4 ∷ 7 ∷ 0 ∷ [])
 unfolding words word_bytes
 none_choice_is_written = refl
 
@@ -107,9 +107,9 @@ none_choice_is_normalized = refl
 -- a pointer of four bytes is written with eight
 pointer_is_read : IsPod (words (12 ∷ 17 ∷ 7 ∷ 0 ∷ 4096 ∷ 9 ∷ [])) (pointer 7 4096)
 unfolding words word_at word_bytes
-pointer_is_read = record { whole = refl; kind = refl; content = (refl, inl (refl, refl)) }
+pointer_is_read = record { whole = refl; its_type = refl; content = (refl, inl (refl, refl)) }
 
-pointer_is_written : text_of (pointer 7 4096) ≡ words (16 ∷ 17 ∷ 7 ∷ 0 ∷ 4096 ∷ 0 ∷ [])
+pointer_is_written : encoding_of (pointer 7 4096) ≡ words (16 ∷ 17 ∷ 7 ∷ 0 ∷ 4096 ∷ 0 ∷ [])
 unfolding words word_bytes wide_bytes
 pointer_is_written = refl
 
@@ -117,14 +117,14 @@ object_is_read : IsPod (words (32 ∷ 15 ∷ 5 ∷ 3 ∷ 1 ∷ 0 ∷ 4 ∷ 4 ∷
 unfolding words word_at word_bytes
 object_is_read = record {
   whole = refl;
-  kind = refl;
+  its_type = refl;
   content = (lit≤ tt, refl, refl, (lit≤ tt, refl, refl, words (4 ∷ 4 ∷ 3 ∷ 0 ∷ []), [], refl, int_is_read, refl));
 }
 
 tree : Tree
 tree = struct (member (fixed (int (pos 313))) (member (string (102 ∷ 111 ∷ 111 ∷ [])) (member (struct (member (fixed (rectangle 31 14)) no_trees)) no_trees)))
 
-tree_is_written : text_of tree ≡ words (56 ∷ 14 ∷ 4 ∷ 4 ∷ 313 ∷ 0 ∷ 4 ∷ 8 ∷ 7303014 ∷ 0 ∷ 16 ∷ 14 ∷ 8 ∷ 10 ∷ 31 ∷ 14 ∷ [])
+tree_is_written : encoding_of tree ≡ words (56 ∷ 14 ∷ 4 ∷ 4 ∷ 313 ∷ 0 ∷ 4 ∷ 8 ∷ 7303014 ∷ 0 ∷ 16 ∷ 14 ∷ 8 ∷ 10 ∷ 31 ∷ 14 ∷ [])
 unfolding words tree word_bytes
 tree_is_written = refl
 

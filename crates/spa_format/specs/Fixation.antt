@@ -13,20 +13,20 @@ dont_fixate = 16
 abbrev pub may_fixate : ℕ → Bool
 may_fixate flags = nat_eq (bit_and flags dont_fixate) 0
 
--- a choice's pod: its kind, flags and child header within its size
+-- a choice's pod: its shape, flags and child header within its size
 abbrev pub is_choice_pod : List ℕ → Bool
 is_choice_pod b = nat_eq (word_at b 4) choice_type && nat_le choice_header_size (word_at b 0)
 
--- where a choice's kind word begins and where it ends
-abbrev pub kind_place : ℕ
-kind_place = header_size
+-- where a choice's shape word begins and where it ends
+abbrev pub shape_place : ℕ
+shape_place = header_size
 
-abbrev pub kind_end : ℕ
-kind_end = kind_place + 4
+abbrev pub shape_end : ℕ
+shape_end = shape_place + 4
 
--- a choice's pod with the kind word of a None choice
+-- a choice's pod with the shape word of a None choice
 abbrev pub none_choice_pod : List ℕ → List ℕ
-none_choice_pod b = take kind_place b ++ (word_bytes (shape_number none_choice) ++ drop kind_end b)
+none_choice_pod b = take shape_place b ++ (word_bytes (shape_number none_choice) ++ drop shape_end b)
 
 -- a property that fixation changes
 abbrev pub is_fixable : List ℕ → Bool
@@ -55,15 +55,15 @@ abbrev pub fixated_bytes : List ℕ → List ℕ
 fixated_bytes b =
     take (header_size + header_size) b ++ (fixated_properties (properties_of b) ++ drop (header_size + word_at b 0) b)
 
--- the kind word of a property's choice that fixation changes is at this place, where the first property is at `at`
-abbrev pub IsKindPlace : ℕ → List (List ℕ) → ℕ → Type 0
-IsKindPlace at [] i = ⊥
-IsKindPlace at (p ∷ ps) i =
-    (IsTrue (is_fixable p) × (i ≡ at + (header_size + kind_place))) ⊎ IsKindPlace (at + length p) ps i
+-- the shape word of a property's choice that fixation changes is at this place, where the first property is at `at`
+abbrev pub IsShapePlace : ℕ → List (List ℕ) → ℕ → Type 0
+IsShapePlace at [] i = ⊥
+IsShapePlace at (p ∷ ps) i =
+    (IsTrue (is_fixable p) × (i ≡ at + (header_size + shape_place))) ⊎ IsShapePlace (at + length p) ps i
 
 -- the same in the object at the front of an input
 abbrev pub IsFixatedPlace : List ℕ → ℕ → Type 0
-IsFixatedPlace b i = IsKindPlace (header_size + header_size) (property_walk (properties_of b)) i
+IsFixatedPlace b i = IsShapePlace (header_size + header_size) (property_walk (properties_of b)) i
 
 -- a value after fixation: a choice becomes the None choice of its default, without flags
 abbrev pub default_of : Tree → Tree
@@ -82,9 +82,9 @@ default_properties no_properties = no_properties
 default_properties (property key flags v ps) =
     property key flags (if may_fixate flags then default_of v else v) (default_properties ps)
 
--- a pod that needs no fixation: it is no choice's, or its kind word is that of a None choice
+-- a pod that needs no fixation: it is no choice's, or its shape word is that of a None choice
 abbrev pub is_settled_pod : List ℕ → Bool
-is_settled_pod b = not (is_choice_pod b) || nat_eq (word_at b kind_place) (shape_number none_choice)
+is_settled_pod b = not (is_choice_pod b) || nat_eq (word_at b shape_place) (shape_number none_choice)
 
 -- the values of these properties need none
 abbrev pub all_settled : List (List ℕ) → Bool

@@ -3,7 +3,7 @@ pub mod Kind
 pub mod Tree
 pub mod Normal
 pub mod Pod
-pub mod Text
+pub mod Encoding
 pub mod Writable
 pub mod Front
 pub mod Typed

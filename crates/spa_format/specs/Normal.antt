@@ -1,9 +1,9 @@
--- The normal form of a value, as which its text reads back: docs/FORMAT.md, "The normal form".
+-- The normal form of a value, as which its encoding reads back: docs/FORMAT.md, "The normal form".
 use Rattle.std.specs.Prelude.{ℕ, List, []}
 use Rattle.spa_format.specs.Kind.{Kind, none_kind, Fixed}
 use Rattle.spa_format.specs.Tree.{Shape, none_choice, range_choice, step_choice, enum_choice, flags_choice, Tree, fixed, string, bytes, array, choice, pointer, struct, object, Trees, no_trees, member, Properties, no_properties, property}
 
--- the elements of an array that its text keeps: units have no bytes
+-- the elements of an array that its encoding keeps: units have no bytes
 abbrev pub kept_elements : Kind → List Fixed → List Fixed
 kept_elements none_kind xs = []
 kept_elements _ xs = xs

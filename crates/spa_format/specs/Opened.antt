@@ -12,12 +12,12 @@ pub data OpensHeaderAlone (b : List ℕ) : Type 0 where
   short_object : word_at b 4 ≡ object_type → length (body_of b) < header_size → OpensHeaderAlone b
 
 -- so many headers are opened in an input that is refused
-pub data Opens : List ℕ → ℕ → Type 0 where
-  no_header : (b : List ℕ) → length b < header_size → Opens b 0
-  one_header : (b : List ℕ) → header_size ≤ length b → OpensHeaderAlone b → Opens b 1
+pub data OpensHeaders : List ℕ → ℕ → Type 0 where
+  no_header : (b : List ℕ) → length b < header_size → OpensHeaders b 0
+  one_header : (b : List ℕ) → header_size ≤ length b → OpensHeaderAlone b → OpensHeaders b 1
   -- those of the first members that are pods, and those of the next one
-  in_member : (b : List ℕ) (vs : Trees) (first left : List ℕ) (n : ℕ) → HasFront b → word_at b 4 ≡ struct_type → body_of b ≡ first ++ left → AreMembers vs first → left ≢ [] → IsRefused left → Opens left n → Opens b (1 + member_node_count vs + n)
+  in_member : (b : List ℕ) (vs : Trees) (first left : List ℕ) (n : ℕ) → HasFront b → word_at b 4 ≡ struct_type → body_of b ≡ first ++ left → AreMembers vs first → left ≢ [] → IsRefused left → OpensHeaders left n → OpensHeaders b (1 + member_node_count vs + n)
   -- the same in an object, behind the next one's key and flags
-  in_property : (b : List ℕ) (ps : Properties) (first left : List ℕ) (n : ℕ) → HasFront b → word_at b 4 ≡ object_type → header_size ≤ length (body_of b) → drop header_size (body_of b) ≡ first ++ left → AreProperties ps first → header_size ≤ length left → IsRefused (drop header_size left) → Opens (drop header_size left) n → Opens b (1 + property_node_count ps + n)
+  in_property : (b : List ℕ) (ps : Properties) (first left : List ℕ) (n : ℕ) → HasFront b → word_at b 4 ≡ object_type → header_size ≤ length (body_of b) → drop header_size (body_of b) ≡ first ++ left → AreProperties ps first → header_size ≤ length left → IsRefused (drop header_size left) → OpensHeaders (drop header_size left) n → OpensHeaders b (1 + property_node_count ps + n)
   -- where these aren't whole, none more
-  in_key : (b : List ℕ) (ps : Properties) (first left : List ℕ) → HasFront b → word_at b 4 ≡ object_type → header_size ≤ length (body_of b) → drop header_size (body_of b) ≡ first ++ left → AreProperties ps first → left ≢ [] → length left < header_size → Opens b (1 + property_node_count ps)
+  in_key : (b : List ℕ) (ps : Properties) (first left : List ℕ) → HasFront b → word_at b 4 ≡ object_type → header_size ≤ length (body_of b) → drop header_size (body_of b) ≡ first ++ left → AreProperties ps first → left ≢ [] → length left < header_size → OpensHeaders b (1 + property_node_count ps)

@@ -57,7 +57,7 @@ IsPointer t a b = (t ≡ word_at b 0) × (((length b ≡ 12) × (a ≡ word_at b
 -- The bytes behind the body are free.
 pub record IsWhole (b : List ℕ) (type : ℕ) (IsBodyOf : List ℕ → Type 0) : Type 0 where
   pub whole : length b ≡ extent (word_at b 0)
-  pub kind : word_at b 4 ≡ type
+  pub its_type : word_at b 4 ≡ type
   pub content : IsBodyOf (body_of b)
 
 abbrev mutual

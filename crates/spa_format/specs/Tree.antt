@@ -10,7 +10,7 @@ pub data Shape : Type 0 where
   enum_choice : Shape
   flags_choice : Shape
 
--- the kind word of such a choice
+-- the shape word of such a choice
 abbrev pub shape_number : Shape → ℕ
 shape_number none_choice = 0
 shape_number range_choice = 1

@@ -45,7 +45,7 @@ behind_property b = drop (extent_behind header_size b) b
 -- an object is at the front of the input, its type and id within its size
 pub record HasObject (b : List ℕ) : Type 0 where
   pub front : HasFront b
-  pub kind : word_at b 4 ≡ object_type
+  pub its_type : word_at b 4 ≡ object_type
   pub parts : header_size ≤ word_at b 0
 
 -- the bytes of an object's properties, behind its type and its id

@@ -18,7 +18,7 @@ unfoldable pub wide_bytes : ℕ → List ℕ
 wide_bytes n = to_le_bytes w64 n
 
 -- two words: a pod's size and type, an array's child size and child type, an object's type and id, a property's
--- key and flags, a choice's kind and flags, a pointer's type and its free word
+-- key and flags, a choice's shape and flags, a pointer's type and its free word
 abbrev pub header_size : ℕ
 header_size = 8
 

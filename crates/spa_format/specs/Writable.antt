@@ -1,8 +1,8 @@
--- Which values have a text that fits the format: docs/FORMAT.md, "Values that can be written".
+-- Which values have an encoding that fits the format: docs/FORMAT.md, "Values that can be written".
 use Rattle.std.specs.Prelude.{◌≤◌, ◌⊎◌, length, Contains}
 use Rattle.spa_format.specs.Words.{size_limit}
 use Rattle.spa_format.specs.Tree.{Tree, fixed, string, bytes, array, choice, pointer, struct, object, Trees, no_trees, member, Properties, no_properties, property}
-use Rattle.spa_format.specs.Text.{text_body}
+use Rattle.spa_format.specs.Encoding.{encoded_body}
 
 -- a text in the value holds NUL
 abbrev mutual
@@ -24,17 +24,17 @@ abbrev mutual
   SomeValueHasNul no_properties = ⊥
   SomeValueHasNul (property key flags v ps) = HasNul v ⊎ SomeValueHasNul ps
 
--- a size word of the value's text is past 32 bits
+-- a size word of the value's encoding is past 32 bits
 abbrev mutual
   pub IsTooLarge : Tree → Type 0
   IsTooLarge (fixed x) = ⊥
-  IsTooLarge (string s) = size_limit ≤ length (text_body (string s))
-  IsTooLarge (bytes s) = size_limit ≤ length (text_body (bytes s))
-  IsTooLarge (array k xs) = size_limit ≤ length (text_body (array k xs))
-  IsTooLarge (choice s f k x xs) = size_limit ≤ length (text_body (choice s f k x xs))
+  IsTooLarge (string s) = size_limit ≤ length (encoded_body (string s))
+  IsTooLarge (bytes s) = size_limit ≤ length (encoded_body (bytes s))
+  IsTooLarge (array k xs) = size_limit ≤ length (encoded_body (array k xs))
+  IsTooLarge (choice s f k x xs) = size_limit ≤ length (encoded_body (choice s f k x xs))
   IsTooLarge (pointer t a) = ⊥
-  IsTooLarge (struct vs) = (size_limit ≤ length (text_body (struct vs))) ⊎ SomeTooLarge vs
-  IsTooLarge (object t i ps) = (size_limit ≤ length (text_body (object t i ps))) ⊎ SomeValueTooLarge ps
+  IsTooLarge (struct vs) = (size_limit ≤ length (encoded_body (struct vs))) ⊎ SomeTooLarge vs
+  IsTooLarge (object t i ps) = (size_limit ≤ length (encoded_body (object t i ps))) ⊎ SomeValueTooLarge ps
 
   pub SomeTooLarge : Trees → Type 0
   SomeTooLarge no_trees = ⊥

@@ -2,7 +2,7 @@
 ghost use Rattle.std.specs.Prelude.{◌≡◌, ◌≢◌, ◌≤◌, ◌↔◌, ◌++◌, [], List, length, ℕ};
 ghost use Rattle.spa_format.specs.Tree.{Tree, Trees};
 ghost use Rattle.spa_format.specs.Pod.{AreMembers, IsPod};
-ghost use Rattle.spa_format.specs.Text.{text_of};
+ghost use Rattle.spa_format.specs.Encoding.{encoding_of};
 ghost use Rattle.spa_format.specs.Normal.{normal_of};
 ghost use Rattle.spa_format.specs.Faults.{Fault, Stands};
 ghost use Rattle.spa_format.specs.Front.{Begins, IsRefused, front_of};
@@ -19,10 +19,10 @@ pub fn no_pod_begins_another()
     ensures { (b r : List ℕ) (v w : Tree) → IsPod b v → IsPod (b ++ r) w → r ≡ [] }
 {}
 
-/// The text of a value that can be written reads back as the value's normal form, whatever follows it.
-pub fn texts_read_back()
-    ensures there { (v : Tree) (r : List ℕ) → IsTyped v → IsWritable v → front_of (text_of v ++ r) ≡ text_of v }
-    ensures value { (v : Tree) (r : List ℕ) → IsTyped v → IsWritable v → Begins (text_of v ++ r) (normal_of v) }
+/// The encoding of a value that can be written reads back as the value's normal form, whatever follows it.
+pub fn encodings_read_back()
+    ensures there { (v : Tree) (r : List ℕ) → IsTyped v → IsWritable v → front_of (encoding_of v ++ r) ≡ encoding_of v }
+    ensures value { (v : Tree) (r : List ℕ) → IsTyped v → IsWritable v → Begins (encoding_of v ++ r) (normal_of v) }
 {}
 
 /// A normal form is its own normal form.
@@ -39,17 +39,17 @@ pub fn readings_are_normal()
 
 /// A rewriting is a pod of the same value, and so its own rewriting.
 pub fn rewritings_are_pods()
-    ensures { (b : List ℕ) (v : Tree) → IsBytes b → IsPod b v → IsPod (text_of v) v }
+    ensures { (b : List ℕ) (v : Tree) → IsBytes b → IsPod b v → IsPod (encoding_of v) v }
 {}
 
-/// No pod of a value is shorter than the value's text.
-pub fn texts_are_shortest()
-    ensures { (b : List ℕ) (v : Tree) → IsPod b v → length (text_of v) ≤ length b }
+/// No pod of a value is shorter than the value's encoding.
+pub fn encodings_are_shortest()
+    ensures { (b : List ℕ) (v : Tree) → IsPod b v → length (encoding_of v) ≤ length b }
 {}
 
 /// Two pods have one rewriting exactly where they are of one value.
 pub fn same_rewriting_same_value()
-    ensures { (b c : List ℕ) (v w : Tree) → IsBytes b → IsBytes c → IsPod b v → IsPod c w → (text_of v ≡ text_of w) ↔ (v ≡ w) }
+    ensures { (b c : List ℕ) (v w : Tree) → IsBytes b → IsBytes c → IsPod b v → IsPod c w → (encoding_of v ≡ encoding_of w) ↔ (v ≡ w) }
 {}
 
 /// Where a fault stands, the front isn't there or is a pod of no value.

@@ -47,11 +47,11 @@ pub fn fixation_is_of_the_value()
         Begins (fixated_bytes b) (object t i (default_properties ps)) }
 {}
 
-/// Fixating the object at the front of any bytes sets to 0 the kind word of each choice that is the value of a property
-/// without DONT_FIXATE, and changes no other byte.
-pub fn fixation_changes_kind_words()
+/// Fixating the object at the front of any bytes sets to 0 the shape word of each choice that is the value of a
+/// property without DONT_FIXATE, and changes no other byte.
+pub fn fixation_changes_shape_words()
     ensures length { (b : List ℕ) → HasObject b → length (fixated_bytes b) ≡ length b }
-    ensures kind_words { (b : List ℕ) (i : ℕ) → HasObject b → IsFixatedPlace b i →
+    ensures shape_words { (b : List ℕ) (i : ℕ) → HasObject b → IsFixatedPlace b i →
         word_at (fixated_bytes b) i ≡ shape_number none_choice }
     ensures others { (b : List ℕ) (i : ℕ) → HasObject b →
         ((k : ℕ) → IsFixatedPlace b k → (i < k) ⊎ (k + 4 ≤ i)) → slice_index (fixated_bytes b) i ≡ slice_index b i }
@@ -59,7 +59,7 @@ pub fn fixation_changes_kind_words()
 {}
 
 /// The properties of an accepted object need no fixation exactly where none of their values is a choice of another
-/// kind than None.
+/// shape than None.
 pub fn settled_properties_are_settled()
     ensures { (ps : Properties) (bs : List (List ℕ)) → ArePropertiesOf ps bs → all_settled bs ≡ are_settled ps }
 {}

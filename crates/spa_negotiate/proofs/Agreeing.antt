@@ -5,12 +5,12 @@ use Rattle.spa_format.specs.Kind.{id_kind, int_kind, long_kind}
 use Rattle.spa_format.specs.Tree.{none_choice, range_choice, enum_choice, Tree, fixed, choice}
 use Rattle.spa_negotiate.specs.declared.offer.Rule.{Rule}
 use Rattle.spa_negotiate.specs.declared.offer.Offer.{Offer}
-use Rattle.spa_negotiate.specs.Admits.{IsPlain, IsSupported, IsAtMost, Admits, default_of}
-use Rattle.spa_negotiate.specs.Offers.{rule_of, values_of, IsSupportedRule, AdmitsBy, IsOfferOf, OfferAdmits}
+use Rattle.spa_negotiate.specs.Admits.{IsPlain, IsSupported, IsAtMost, Admits, plain_of}
+use Rattle.spa_negotiate.specs.Offers.{rule_of, further_values_of, IsSupportedRule, AdmitsBy, IsOfferOf, OfferAdmits}
 use Rattle.spa_negotiate.specs.Meeting.{Settles, Agree}
 
 -- what a value admits is admitted by its rule, default and further values,
-AdmitsBy-value : (v x : Tree) → Admits v x → AdmitsBy (rule_of v) (default_of v) (values_of v) x
+AdmitsBy-value : (v x : Tree) → Admits v x → AdmitsBy (rule_of v) (plain_of v) (further_values_of v) x
 AdmitsBy-value (choice none_choice f k d vs) x h = h
 AdmitsBy-value (choice enum_choice f k d vs) x h = h
 AdmitsBy-value (choice range_choice f id_kind d (l ∷ m ∷ vs)) x h = (h.1, h.2)
@@ -22,7 +22,7 @@ AdmitsBy-value (choice _ f k d vs) x h = absurd h
 AdmitsBy-value v x h = h
 
 -- and what these admit, the value does
-Admits-rule : (v x : Tree) → AdmitsBy (rule_of v) (default_of v) (values_of v) x → Admits v x
+Admits-rule : (v x : Tree) → AdmitsBy (rule_of v) (plain_of v) (further_values_of v) x → Admits v x
 Admits-rule (choice none_choice f k d vs) x h = h
 Admits-rule (choice enum_choice f k d vs) x h = h
 Admits-rule (choice range_choice f id_kind d (l ∷ m ∷ vs)) x h = (tt, h.0, h.1)

@@ -15,8 +15,8 @@ use Rattle.spa_value.specs.declared.value.Value.{Value}
 use Rattle.spa_value.specs.declared.value.Value.TheVariants as V
 use Rattle.spa_value.specs.View.{view, array_view, choice_view, object_view}
 use Rattle.spa_negotiate.specs.declared.offer.Rule.TheVariants.{Only}
-use Rattle.spa_negotiate.specs.Admits.{IsPlain, IsOrderedKind, IsAtMostFixed, IsAtMost, default_of}
-use Rattle.spa_negotiate.specs.Offers.{rule_of, values_of}
+use Rattle.spa_negotiate.specs.Admits.{IsPlain, IsOrderedKind, IsAtMostFixed, IsAtMost, plain_of}
+use Rattle.spa_negotiate.specs.Offers.{further_values_of, rule_of}
 
 -- what holds of each array holds of an array's tree,
 array_all : (P : Tree → Type 0) → ((k : Kind) (xs : List Fixed) → P (array k xs)) →
@@ -73,16 +73,16 @@ pub rule_of-plain : (t : Tree) → IsPlain t → Only ≡ rule_of t
 rule_of-plain (choice s f k d vs) h = absurd h
 rule_of-plain _ h = refl
 
-pub default_of-plain : (t : Tree) → IsPlain t → t ≡ default_of t
+pub default_of-plain : (t : Tree) → IsPlain t → t ≡ plain_of t
 default_of-plain (choice s f k d vs) h = absurd h
 default_of-plain _ h = refl
 
-pub values_of-plain : (t : Tree) → IsPlain t → [] ≡ values_of t
+pub values_of-plain : (t : Tree) → IsPlain t → [] ≡ further_values_of t
 values_of-plain (choice s f k d vs) h = absurd h
 values_of-plain _ h = refl
 
 -- a default is plain
-pub IsPlain-default_of : (t : Tree) → IsPlain (default_of t)
+pub IsPlain-default_of : (t : Tree) → IsPlain (plain_of t)
 IsPlain-default_of (choice s f k d vs) = tt
 IsPlain-default_of _ = tt
 

@@ -3,7 +3,7 @@ use Rattle.std.proofs.Common.{◌≡◌, ℕ, [], ◌∷◌, ◌++◌, false, re
 use Rattle.std.specs.List.{All}
 use Rattle.std.proofs.lemmas.List.Elements.{All-cons, All-nil}
 use Rattle.spa_format.specs.Tree.{Tree, Properties, no_properties, property, join_properties}
-use Rattle.spa_negotiate.specs.Admits.{IsPlain, default_of}
+use Rattle.spa_negotiate.specs.Admits.{IsPlain, plain_of}
 use Rattle.spa_negotiate.specs.Keys.{value_at, key_list, distinct_of, keys_of}
 use Rattle.spa_negotiate.specs.Meeting.{Settles, SettlesEach, SettlesKeys, AgreeAt}
 use Rattle.spa_negotiate.specs.Refusals.{IsRefusedAt}
@@ -77,7 +77,7 @@ SettlesKeys-first ps qs ss rs ts k f v x at h n p s =
 -- one more property of the second side, whose key isn't settled yet
 pub SettlesKeys-other : (ps qs us rs ts : Properties) (k f : ℕ) (v x : Tree) →
     qs ≡ join_properties us (property k f v ts) → SettlesKeys ps qs (join_properties ps us) rs →
-    value_at k rs ≡ None → IsPlain x → x ≡ default_of v →
+    value_at k rs ≡ None → IsPlain x → x ≡ plain_of v →
     SettlesKeys ps qs (join_properties (join_properties ps us) (property k f v no_properties))
     (join_properties rs (property k 0 x no_properties))
 SettlesKeys-other ps qs us rs ts k f v x at h n p s =

@@ -6,7 +6,7 @@ use Rattle.spa_value.specs.View.{view}
 use Rattle.spa_value.specs.Views.{property_views, property_view}
 use Rattle.spa_value.specs.ViewLaws.{property_views-at, property_views-take_more}
 use Rattle.spa_negotiate.specs.declared.error.NegotiateError.{NegotiateError}
-use Rattle.spa_negotiate.specs.Admits.{IsPlain, default_of}
+use Rattle.spa_negotiate.specs.Admits.{IsPlain, plain_of}
 use Rattle.spa_negotiate.specs.Meeting.{Settles, SettlesKeys}
 use Rattle.spa_negotiate.specs.PropertyLists.{found_at, SettlesListed, IsPushed}
 use Rattle.spa_negotiate.specs.Refusals.{IsKeyRefusal, IsRefusal}
@@ -107,7 +107,7 @@ module _ (ours theirs : List Property) (i : ℕ) (p : Property) (met slice : Lis
 
     -- its key was not met, and its default settles it
     pub other_new : (now : List Property) (x : Tree) → IsPushed met p.key x now →
-        found_at p.key slice ≡ None → IsPlain x → x ≡ default_of (view p.value) →
+        found_at p.key slice ≡ None → IsPlain x → x ≡ plain_of (view p.value) →
         SettlesListed ours theirs (others ours theirs (i + 1)) now
     other_new now x m n plain s =
         let os = property_views ours in

@@ -9,9 +9,9 @@ IsPlain (choice shape flags kind default values) = ⊥
 IsPlain _ = ⊤
 
 -- the value itself where it is plain, and the default of a choice of any shape
-abbrev pub default_of : Tree → Tree
-default_of (choice shape flags kind default values) = fixed default
-default_of value = value
+abbrev pub plain_of : Tree → Tree
+plain_of (choice shape flags kind default values) = fixed default
+plain_of value = value
 
 -- the kinds whose ranges are supported
 abbrev pub IsOrderedKind : Kind → Type 0

@@ -2,15 +2,15 @@
 use Rattle.std.specs.Prelude.{⊤, ◌≡◌, ℕ, Option, Some, None}
 use Rattle.std.specs.List.{All}
 use Rattle.spa_format.specs.Tree.{Tree, object, Properties, no_properties, property, join_properties}
-use Rattle.spa_negotiate.specs.Admits.{IsPlain, IsSupported, IsCommon, HasCommon, default_of}
+use Rattle.spa_negotiate.specs.Admits.{IsPlain, IsSupported, IsCommon, HasCommon, plain_of}
 use Rattle.spa_negotiate.specs.Keys.{value_at, key_list, keys_of}
 
 -- x settles what the two sides have under one key: where both have a value, x is admitted by both; where one
 -- side has, x is that value, or its default where it is a choice
 abbrev pub Settles : Option Tree → Option Tree → Tree → Type 0
 Settles (Some v) (Some w) x = IsCommon v w x
-Settles (Some v) None x = x ≡ default_of v
-Settles None (Some w) x = x ≡ default_of w
+Settles (Some v) None x = x ≡ plain_of v
+Settles None (Some w) x = x ≡ plain_of w
 Settles None None x = ⊥
 
 -- each property has empty flags, and a plain value that settles its key

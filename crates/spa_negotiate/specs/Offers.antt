@@ -4,7 +4,7 @@ use Rattle.std.specs.Prelude.{⊤, ◌≡◌, ℕ, List, [], ◌∷◌, map, Con
 use Rattle.spa_format.specs.Kind.{Kind, id_kind, int_kind, long_kind}
 use Rattle.spa_format.specs.Tree.{none_choice, range_choice, enum_choice, Tree, fixed, choice}
 use Rattle.spa_value.specs.View.{view}
-use Rattle.spa_negotiate.specs.Admits.{IsAtMost, default_of}
+use Rattle.spa_negotiate.specs.Admits.{IsAtMost, plain_of}
 use Rattle.spa_negotiate.specs.declared.error.NegotiateError.{NegotiateError}
 use Rattle.spa_negotiate.specs.declared.error.NegotiateError.TheVariants as error
 use Rattle.spa_negotiate.specs.declared.offer.Rule.{Rule}
@@ -32,16 +32,16 @@ IsSupportedRule Unsupported = ⊥
 IsSupportedRule _ = ⊤
 
 -- the alternatives of an Enum, the minimum and the maximum of a Range
-abbrev pub values_of : Tree → List Tree
-values_of (choice enum_choice flags kind default values) = map (λ v. fixed v) values
-values_of (choice range_choice flags kind default values) = map (λ v. fixed v) values
-values_of _ = []
+abbrev pub further_values_of : Tree → List Tree
+further_values_of (choice enum_choice flags kind default values) = map (λ v. fixed v) values
+further_values_of (choice range_choice flags kind default values) = map (λ v. fixed v) values
+further_values_of _ = []
 
 -- the offer is that of a value with this tree
 pub record IsOfferOf (value : Tree) (offer : Offer) : Type 0 where
   pub rule : offer.rule ≡ rule_of value
-  pub default : view offer.default ≡ default_of value
-  pub values : map view offer.values.items ≡ values_of value
+  pub default : view offer.default ≡ plain_of value
+  pub values : map view offer.values.items ≡ further_values_of value
 
 -- x is admitted by this rule, default and further values
 abbrev pub AdmitsBy : Rule → Tree → List Tree → Tree → Type 0

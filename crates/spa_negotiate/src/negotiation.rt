@@ -30,7 +30,7 @@ use std::alloc::{AllocError, Global};
 ///
 /// The time grows with the square of the number of properties, since a key is looked for along a list.
 pub fn negotiate(alloc: Global, a: &Object, b: &Object) -> Result<Object, NegotiateError>
-    // Want of memory aside, this succeeds exactly where the two can meet,
+    // Unless memory runs out, this succeeds exactly where the two can meet,
     ensures accepted { OnOk result (CanMeet (object_view a.now) (object_view b.now)) }
     ensures refused { IfErr result (OnDisagreement (¬ (CanMeet (object_view a.now) (object_view b.now)))) }
     // in an object that settles each key of either,

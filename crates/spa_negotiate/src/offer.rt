@@ -3,8 +3,8 @@ ghost use Rattle.std.specs.Prelude.{◌≡◌, ◌↔◌, IfOk, IsTrue, [], ◌�
 ghost use Rattle.spa_format.specs.Tree.{fixed};
 ghost use Rattle.spa_value.specs.View.{choice_view, view};
 ghost use Rattle.spa_fixed.specs.Choices.{choice_enum_tree};
-ghost use Rattle.spa_negotiate.specs.Admits.{IsPlain, default_of};
-ghost use Rattle.spa_negotiate.specs.Offers.{IsOfferOf, rule_of, values_of};
+ghost use Rattle.spa_negotiate.specs.Admits.{IsPlain, plain_of};
+ghost use Rattle.spa_negotiate.specs.Offers.{IsOfferOf, further_values_of, rule_of};
 
 use crate::element::Element;
 use spa_utils::ChoiceEnum;
@@ -70,8 +70,8 @@ fn rule_of<T: Element>(choice: &ChoiceEnum<T>) -> Rule
 }
 
 /// The default of a choice, as a value.
-fn default_of<T: Element>(choice: &ChoiceEnum<T>) -> Value
-    ensures { view result ≡ default_of (choice_enum_tree T.kind T.fixed 0 choice.now) }
+fn plain_of<T: Element>(choice: &ChoiceEnum<T>) -> Value
+    ensures { view result ≡ plain_of (choice_enum_tree T.kind T.fixed 0 choice.now) }
 {
     match choice {
         ChoiceEnum::None(default) => default.value(),
@@ -83,8 +83,11 @@ fn default_of<T: Element>(choice: &ChoiceEnum<T>) -> Value
 }
 
 /// The alternatives of an Enum, the minimum and the maximum of a Range, and nothing elsewhere.
-fn values_of<T: Element>(alloc: Global, choice: &ChoiceEnum<T>) -> Result<Vec<Value>, AllocError>
-    ensures { IfOk result (λ values. map view values.items ≡ values_of (choice_enum_tree T.kind T.fixed 0 choice.now)) }
+fn further_values_of<T: Element>(
+    alloc: Global,
+    choice: &ChoiceEnum<T>,
+) -> Result<Vec<Value>, AllocError>
+    ensures { IfOk result (λ values. map view values.items ≡ further_values_of (choice_enum_tree T.kind T.fixed 0 choice.now)) }
 {
     match choice {
         ChoiceEnum::Range { min, max, .. } => pair_of(alloc, min, max),
@@ -120,8 +123,8 @@ fn offer_of_choice<T: Element>(alloc: Global, choice: &ChoiceEnum<T>) -> Result<
 {
     Ok(Offer {
         rule: rule_of(choice),
-        default: default_of(choice),
-        values: values_of(alloc, choice)?,
+        default: plain_of(choice),
+        values: further_values_of(alloc, choice)?,
     })
 }
 
@@ -151,25 +154,25 @@ pub(crate) fn offer_of(alloc: Global, value: &Value) -> Result<Offer, AllocError
 
 /// The default of a choice over any type, as a value.
 fn settled_choice(choice: &ChoiceValue) -> Value
-    ensures { view result ≡ default_of (choice_view choice.now) }
+    ensures { view result ≡ plain_of (choice_view choice.now) }
 {
     match choice {
-        ChoiceValue::Bool(choice) => default_of(&choice.1),
-        ChoiceValue::Id(choice) => default_of(&choice.1),
-        ChoiceValue::Int(choice) => default_of(&choice.1),
-        ChoiceValue::Long(choice) => default_of(&choice.1),
-        ChoiceValue::Float(choice) => default_of(&choice.1),
-        ChoiceValue::Double(choice) => default_of(&choice.1),
-        ChoiceValue::Rectangle(choice) => default_of(&choice.1),
-        ChoiceValue::Fraction(choice) => default_of(&choice.1),
-        ChoiceValue::Fd(choice) => default_of(&choice.1),
+        ChoiceValue::Bool(choice) => plain_of(&choice.1),
+        ChoiceValue::Id(choice) => plain_of(&choice.1),
+        ChoiceValue::Int(choice) => plain_of(&choice.1),
+        ChoiceValue::Long(choice) => plain_of(&choice.1),
+        ChoiceValue::Float(choice) => plain_of(&choice.1),
+        ChoiceValue::Double(choice) => plain_of(&choice.1),
+        ChoiceValue::Rectangle(choice) => plain_of(&choice.1),
+        ChoiceValue::Fraction(choice) => plain_of(&choice.1),
+        ChoiceValue::Fd(choice) => plain_of(&choice.1),
     }
 }
 
 /// The value itself where it is plain, and the default where it is a choice.
 pub(crate) fn settled(value: &Value) -> Result<Value, AllocError>
     ensures plain { IfOk result (λ settled. IsPlain (view settled)) }
-    ensures settled { IfOk result (λ settled. view settled ≡ default_of (view value.now)) }
+    ensures settled { IfOk result (λ settled. view settled ≡ plain_of (view value.now)) }
 {
     match value {
         Value::Choice(choice) => Ok(settled_choice(choice)),

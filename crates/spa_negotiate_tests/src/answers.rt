@@ -46,7 +46,7 @@ fn has_met(alloc: Global, met: &Object, id: u32, wanted: &[Given]) -> Result<boo
     Ok(*met == object(alloc, TYPE, id, 0, wanted)?)
 }
 
-/// The answer for two objects. Want of memory ends the test.
+/// The answer for two objects. Lack of memory ends the test.
 pub(crate) fn answer_of(
     alloc: Global,
     a: &Object,

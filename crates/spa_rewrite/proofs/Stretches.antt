@@ -4,7 +4,7 @@ use Rattle.std.proofs.lemmas.List.{append-nil, nil_from_length}
 use Rattle.std.specs.Borrow.{Bor}
 use Rattle.spa_format.specs.Tree.{Tree, Trees, no_trees, member, join_members}
 use Rattle.spa_format.specs.Pod.{AreMembers}
-use Rattle.spa_format.specs.Text.{text_of, member_texts}
+use Rattle.spa_format.specs.Encoding.{encoding_of, member_encodings}
 use Rattle.spa_format.specs.Front.{front_of}
 use Rattle.spa_format.proofs.Sequences.{members_joined, members_push}
 use Rattle.spa_fixed.specs.declared.fault.DeserializeError.{DeserializeError}
@@ -16,27 +16,27 @@ use Rattle.spa_rewrite.specs.declared.tail.Tail.{Tail}
 use Rattle.spa_rewrite.proofs.Rewritten.{no_members}
 use Rattle.spa_rewrite.proofs.Steps.{MembersSoFar, parted}
 
-member_texts-join : (vs ws : Trees) →
-    member_texts (join_members vs ws) ≡ member_texts vs ++ member_texts ws
-member_texts-join no_trees ws = refl
-member_texts-join (member v vs) ws =
-    ap (λ l. text_of v ++ l) (member_texts-join vs ws)
-    ∙ sym (append_assoc (text_of v) (member_texts vs) (member_texts ws))
+member_encodings-join : (vs ws : Trees) →
+    member_encodings (join_members vs ws) ≡ member_encodings vs ++ member_encodings ws
+member_encodings-join no_trees ws = refl
+member_encodings-join (member v vs) ws =
+    ap (λ l. encoding_of v ++ l) (member_encodings-join vs ws)
+    ∙ sym (append_assoc (encoding_of v) (member_encodings vs) (member_encodings ws))
 
 -- some first pods, and those behind them that are their own rewritings
 pub next_stretch : (body left rest : List ℕ) (a b c : Tail) → MembersSoFar body left a b →
     TakesStretch left b rest c → MembersSoFar body rest a c
 next_stretch body left rest a b c h t =
     let k = t.canonical in
-    let both = appends_both a b c (member_texts h.values) t.stretch h.texts t.text in
-    let same : member_texts h.values ++ t.stretch ≡ member_texts (join_members h.values k.values) =
-    ap (λ l. member_texts h.values ++ l) k.same ∙ sym (member_texts-join h.values k.values) in
+    let both = appends_both a b c (member_encodings h.values) t.stretch h.encodings t.encoding in
+    let same : member_encodings h.values ++ t.stretch ≡ member_encodings (join_members h.values k.values) =
+    ap (λ l. member_encodings h.values ++ l) k.same ∙ sym (member_encodings-join h.values k.values) in
     record {
       values = join_members h.values k.values;
       first = h.first ++ t.stretch;
       parts = h.parts ∙ ap (λ l. h.first ++ l) t.parts ∙ sym (append_assoc h.first t.stretch rest);
       members = members_joined h.values k.values h.first t.stretch h.members k.members;
-      texts = subst (λ l. TailAppends a l c) same both;
+      encodings = subst (λ l. TailAppends a l c) same both;
     }
 
 pub left_of : (body left : List ℕ) (a b : Tail) → MembersSoFar body left a b → left ≢ [] →
@@ -48,14 +48,14 @@ pub both_taken : (input rest : List ℕ) (a b c : Tail) → TakesStretch input a
     TakesMembers rest b c → TakesMembers input a c
 both_taken input rest a b c t m =
     let k = t.canonical in
-    let both = appends_both a b c t.stretch (member_texts m.values) t.text m.texts in
-    let same : t.stretch ++ member_texts m.values ≡ member_texts (join_members k.values m.values) =
-    ap (λ l. l ++ member_texts m.values) k.same ∙ sym (member_texts-join k.values m.values) in
+    let both = appends_both a b c t.stretch (member_encodings m.values) t.encoding m.encodings in
+    let same : t.stretch ++ member_encodings m.values ≡ member_encodings (join_members k.values m.values) =
+    ap (λ l. l ++ member_encodings m.values) k.same ∙ sym (member_encodings-join k.values m.values) in
     record {
       values = join_members k.values m.values;
       members = subst (AreMembers (join_members k.values m.values)) (sym t.parts)
           (members_joined k.values m.values t.stretch rest k.members m.members);
-      texts = subst (λ l. TailAppends a l c) same both;
+      encodings = subst (λ l. TailAppends a l c) same both;
     }
 
 pub both_rewritten : (input first rest out : List ℕ) → input ≡ first ++ rest → AreCanonical first →
@@ -63,9 +63,9 @@ pub both_rewritten : (input first rest out : List ℕ) → input ≡ first ++ re
 both_rewritten input first rest out e k r =
     let vs = join_members k.values r.0 in
     let members = members_joined k.values r.0 first rest k.members r.1 in
-    let same : first ++ out ≡ member_texts vs =
-    ap (λ l. l ++ out) k.same ∙ ap (λ l. member_texts k.values ++ l) r.2
-    ∙ sym (member_texts-join k.values r.0) in
+    let same : first ++ out ≡ member_encodings vs =
+    ap (λ l. l ++ out) k.same ∙ ap (λ l. member_encodings k.values ++ l) r.2
+    ∙ sym (member_encodings-join k.values r.0) in
     (vs, subst (AreMembers vs) (sym e) members, same)
 
 pub in_parts : (input first rest out : List ℕ) → input ≡ first ++ rest → AreCanonical first →
@@ -133,7 +133,7 @@ all_first input left h e =
 pub rewritten_apart : (input out : List ℕ) (a b : Tail) → start_bytes a ≡ [] → tail_bytes a ≡ [] →
     out ≡ start_bytes b ++ tail_bytes b → TakesMembers input a b → AreRewritten input [] out
 rewritten_apart input out a b s t e m =
-    let bytes : out ≡ member_texts m.values =
-    e ∙ ap (λ l. l ++ tail_bytes b) (m.texts.kept.bytes ∙ s)
-    ∙ m.texts.grown ∙ ap (λ l. l ++ member_texts m.values) t in
+    let bytes : out ≡ member_encodings m.values =
+    e ∙ ap (λ l. l ++ tail_bytes b) (m.encodings.kept.bytes ∙ s)
+    ∙ m.encodings.grown ∙ ap (λ l. l ++ member_encodings m.values) t in
     (m.values, m.members, bytes)

@@ -1,4 +1,4 @@
-//! The rewriting of a pod is the text of its value.
+//! The rewriting of a pod is the encoding of its value.
 ghost use Rattle.std.specs.Prelude.{◌≡◌, ◌++◌, [], IfErr, IfNone, IfOk, IfSome, IsErrAnd, OnErr, OnOk};
 ghost use Rattle.spa_format.specs.Faults.{Stands};
 ghost use Rattle.spa_format.specs.Front.{HasFront, IsRefused, rest_of};
@@ -16,19 +16,20 @@ use spa_scan::canonical_stretch;
 use std::alloc::Global;
 use std::mem;
 
-/// The text of the value that the front of the input says, and what follows that front.
+/// The encoding of the value that the front of the input says, and what follows that front.
 ///
-/// Want of memory aside, this succeeds exactly where the front that the first size word names is there and is a pod. The
-/// refusals are those of `PodDeserializer::deserialize_any_from`, but that want of memory can also be answered for a pod of
-/// fixed size, whose text takes memory. A size is never a cause: what was read can be written.
+/// Unless memory runs out, this succeeds exactly where the front that the first size word names is there and is a pod.
+/// The refusals are those of `PodDeserializer::deserialize_any_from`, but that a refusal for lack of memory can also be
+/// answered for a pod of fixed size, whose encoding takes memory. A size is never a cause: what was read can be
+/// written.
 pub fn rewrite(alloc: Global, input: &[u8]) -> Result<(&[u8], Vec<u8>), DeserializeError<&[u8]>>
     ensures rewriting { IfOk result (λ rewritten. IsRewriting input.now rewritten.1.items) }
     ensures rest { IfOk result (λ rewritten. rewritten.0.now ≡ rest_of input.now) }
-    // Any refusal but want of memory says that the front isn't there or is a pod of no value,
+    // Any refusal but one for lack of memory says that the front isn't there or is a pod of no value,
     ensures refused { IfErr result (OnFault (IsRefused input.now)) }
     // and names a fault that stands.
     ensures named { IfErr result (Names (λ fault place. Stands fault place input.now)) }
-    // Where the front isn't there, the input is short; so want of memory says that it is there.
+    // Where the front isn't there, the input is short; so a refusal for lack of memory says that it is there.
     ensures short_first { ¬ (HasFront input.now) → IsErrAnd result (IsShortAt input.now) }
     ensures memory { IfErr result (OnMemory (HasFront input.now)) }
 {
@@ -42,9 +43,9 @@ pub fn rewrite(alloc: Global, input: &[u8]) -> Result<(&[u8], Vec<u8>), Deserial
 
 /// Appends the rewritings of all pods that the input consists of.
 ///
-/// Want of memory aside, this succeeds exactly where the input is pods one after another without remainder, or is empty. A
-/// refusal gives what is left of the input from the refused pod on, with the refusal of that pod, and `out` holds what it
-/// held before the call.
+/// Unless memory runs out, this succeeds exactly where the input is pods one after another without remainder, or is
+/// empty. A refusal gives what is left of the input from the refused pod on, with the refusal of that pod, and `out`
+/// holds what it held before the call.
 pub fn rewrite_all<'a>(
     alloc: Global,
     input: &'a [u8],
@@ -54,7 +55,7 @@ pub fn rewrite_all<'a>(
     ensures unchanged { OnErr result (out.new.items ≡ out.old.items) }
     // What is left begins behind some first pods, or none, and isn't empty.
     ensures left { IfErr result (λ refusal. IsLeft input.now refusal.0.now) }
-    // Any refusal but want of memory says that the input isn't pods one after another,
+    // Any refusal but one for lack of memory says that the input isn't pods one after another,
     ensures refused { IfErr result (λ refusal. OnFault ((vs : Trees) → ¬ (AreMembers vs input.now)) refusal.1) }
     // since what is left begins with none,
     ensures front { IfErr result (λ refusal. OnFault (IsRefused refusal.0.now) refusal.1) }

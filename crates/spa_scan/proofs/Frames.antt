@@ -1,11 +1,11 @@
--- The front with zeros as its padding is a framed text.
+-- The front with zeros as its padding is a framed encoding.
 use Rattle.std.proofs.Common.{◌≡◌, ℕ, ◌+◌, ◌<◌, ◌≤◌, ◌-◌, List, [], ◌++◌, length, take, drop, refl, sym, ap, ◌∙◌, subst, arith, length-append, length-drop, append_assoc}
 use Rattle.std.proofs.Math.Seq.{take-add}
 use Rattle.std.proofs.lemmas.List.{length-take-le, take_at, nil_from_length, take-append-drop}
 use Rattle.spa_format.specs.Words.{word_at, word_bytes, padded_size, extent, padding, body_of, header_size}
 use Rattle.spa_format.specs.Tree.{struct_type, Tree, type_of, struct, no_trees, member, Trees, Properties, property, no_properties}
 use Rattle.spa_format.specs.Pod.{IsBody}
-use Rattle.spa_format.specs.Text.{framed_text, text_body, property_texts}
+use Rattle.spa_format.specs.Encoding.{framed, encoded_body, property_encodings}
 use Rattle.spa_format.specs.Typed.{IsBytes}
 use Rattle.spa_format.specs.Front.{HasFront, front_of, rest_of}
 use Rattle.spa_format.proofs.Fronts.{front_of_whole, length-body_of, front_and_rest}
@@ -24,7 +24,7 @@ use Rattle.spa_format.proofs.WordLemmas.{IsBytes-drop, IsBytes-take, word_at-dro
 use Rattle.spa_format.proofs.FixedKinds.{kind_of_content}
 use Rattle.spa_scan.proofs.Words.{content_kept, two_words_back, wide_back, word_there}
 
-pub framed_front : (b : List ℕ) → IsBytes b → HasFront b → HasZeros (drop 8 b) (word_at b 0) → front_of b ≡ framed_text (word_at b 4) (body_of b)
+pub framed_front : (b : List ℕ) → IsBytes b → HasFront b → HasZeros (drop 8 b) (word_at b 0) → front_of b ≡ framed (word_at b 4) (body_of b)
 framed_front b h f z =
     let n = word_at b 0 in
     let t = word_at b 4 in
@@ -43,13 +43,13 @@ framed_front b h f z =
     ∙ ap (λ m. word_bytes m ++ (word_bytes t ++ (body ++ padding m))) (sym size)
 
 -- a canonical body in a padded front
-pub canonical_front : (input body rest : List ℕ) (kind : ℕ) → OpensPadded input kind body rest → IsCanonicalBody kind body → BeginsCanonical input rest
-canonical_front input body rest kind o c =
+pub canonical_front : (input body rest : List ℕ) (type : ℕ) → OpensPadded input type body rest → IsCanonicalBody type body → BeginsCanonical input rest
+canonical_front input body rest type o c =
     let v = c.value in
     record {
       value = v;
-      begins = pod_read input body rest kind v o.opens c.its_type c.its_body;
-      same = o.padded ∙ ap (λ t. framed_text t body) (sym c.its_type) ∙ ap (framed_text (type_of v)) c.same;
+      begins = pod_read input body rest type v o.opens c.its_type c.its_body;
+      same = o.padded ∙ ap (λ t. framed t body) (sym c.its_type) ∙ ap (framed (type_of v)) c.same;
     }
 
 pub no_members : AreCanonical []
@@ -68,7 +68,7 @@ one_more input rest c r =
     record {
       values = member v r.values;
       members = (front_of input, rest, p, c.begins.begins.pod, r.members);
-      same = p ∙ ap (λ x. x ++ rest) c.same ∙ ap (λ x. framed_text (type_of v) (text_body v) ++ x) r.same;
+      same = p ∙ ap (λ x. x ++ rest) c.same ∙ ap (λ x. framed (type_of v) (encoded_body v) ++ x) r.same;
     }
 
 pub one_more_property : (input behind rest : List ℕ) → IsBytes input → header_size ≤ length input → behind ≡ drop header_size input → BeginsCanonical behind rest → AreCanonicalProperties rest → AreCanonicalProperties input
@@ -77,32 +77,32 @@ one_more_property input behind rest h l d c r =
     let p = parted behind v rest c.begins in
     let head : take 8 input ≡ word_bytes (word_at input 0) ++ word_bytes (word_at input 4) =
     take-add 4 4 input ∙ ap (λ x. x ++ take 4 (drop 4 input)) (sym (word_there input 0 h (omega arith))) ∙ ap (λ x. word_bytes (word_at input 0) ++ x) (sym (word_there input 4 h (omega arith))) in
-    let text = framed_text (type_of v) (text_body v) in
-    let all : behind ≡ text ++ property_texts r.values = p ∙ ap (λ x. x ++ rest) c.same ∙ ap (λ x. text ++ x) r.same in
+    let encoding = framed (type_of v) (encoded_body v) in
+    let all : behind ≡ encoding ++ property_encodings r.values = p ∙ ap (λ x. x ++ rest) c.same ∙ ap (λ x. encoding ++ x) r.same in
     record {
       values = property (word_at input 0) (word_at input 4) v r.values;
       properties = (l, refl, refl, front_of behind, rest, sym d ∙ p, c.begins.begins.pod, r.properties);
-      same = sym (take-append-drop 8 input) ∙ ap (λ x. take 8 input ++ x) (sym d ∙ all) ∙ ap (λ x. x ++ (text ++ property_texts r.values)) head
-          ∙ append_assoc (word_bytes (word_at input 0)) (word_bytes (word_at input 4)) (text ++ property_texts r.values);
+      same = sym (take-append-drop 8 input) ∙ ap (λ x. take 8 input ++ x) (sym d ∙ all) ∙ ap (λ x. x ++ (encoding ++ property_encodings r.values)) head
+          ∙ append_assoc (word_bytes (word_at input 0)) (word_bytes (word_at input 4)) (encoding ++ property_encodings r.values);
     }
 
 -- a struct at the end of its struct
-pub struct_last : (input body rest : List ℕ) (kind : ℕ) → OpensPadded input kind body rest → kind ≡ struct_type → length rest ≡ 0 → AreCanonical body → AreCanonical input
-struct_last input body rest kind o k e c =
-    let b : IsCanonicalBody kind body = record { value = struct c.values; its_type = sym k; its_body = c.members; same = c.same } in
+pub struct_last : (input body rest : List ℕ) (type : ℕ) → OpensPadded input type body rest → type ≡ struct_type → length rest ≡ 0 → AreCanonical body → AreCanonical input
+struct_last input body rest type o k e c =
+    let b : IsCanonicalBody type body = record { value = struct c.values; its_type = sym k; its_body = c.members; same = c.same } in
     let z : rest ≡ [] = nil_from_length rest e in
-    one_more input rest (canonical_front input body rest kind o b) (subst AreCanonical (sym z) no_members)
+    one_more input rest (canonical_front input body rest type o b) (subst AreCanonical (sym z) no_members)
 
-pub padded_of : (input body rest : List ℕ) (kind : ℕ) → IsBytes input → Opens input kind body rest → HasZeros (drop 8 input) (length body) → OpensPadded input kind body rest
-padded_of input body rest kind h o z =
+pub padded_of : (input body rest : List ℕ) (type : ℕ) → IsBytes input → Opens input type body rest → HasZeros (drop 8 input) (length body) → OpensPadded input type body rest
+padded_of input body rest type h o z =
     let size : length body ≡ word_at input 0 = ap length o.its_body ∙ length-body_of input o.there in
     record {
       opens = o;
-      padded = framed_front input h o.there (subst (HasZeros (drop 8 input)) size z) ∙ ap (λ t. framed_text t (body_of input)) (sym o.its_kind) ∙ ap (framed_text kind) (sym o.its_body);
+      padded = framed_front input h o.there (subst (HasZeros (drop 8 input)) size z) ∙ ap (λ t. framed t (body_of input)) (sym o.its_type) ∙ ap (framed type) (sym o.its_body);
     }
 
-pub rest_shorter : (input body rest : List ℕ) (kind : ℕ) → Opens input kind body rest → length rest + 8 ≤ length input
-rest_shorter input body rest kind o =
+pub rest_shorter : (input body rest : List ℕ) (type : ℕ) → Opens input type body rest → length rest + 8 ≤ length input
+rest_shorter input body rest type o =
     let e = ap length o.its_rest in
     let d = length-drop (extent (word_at input 0)) input in
     let w = o.there.whole in
@@ -122,7 +122,7 @@ fixed_begins input rest k s h l e4 e0 e m p z t d =
     let x = content k body in
     let o : Opens input (word_at input 4) body rest = record {
       there = there;
-      its_kind = refl;
+      its_type = refl;
       its_body = refl;
       its_rest = d ∙ ap (λ n. drop n input) (sym whole);
       shorter = omega arith;
@@ -147,8 +147,8 @@ none_left_either b e = subst AreCanonicalProperties (sym (nil_from_length b e)) 
 pub rest_bytes : (behind rest : List ℕ) → IsBytes behind → BeginsCanonical behind rest → IsBytes rest
 rest_bytes behind rest h c = subst IsBytes (sym c.begins.follows) (IsBytes-drop (extent (word_at behind 0)) behind h)
 
-pub object_of : (body behind : List ℕ) (kind : ℕ) → IsBytes body → 8 ≤ length body → behind ≡ drop 8 body → kind ≡ object_type → AreCanonicalProperties behind → IsCanonicalBody kind body
-object_of body behind kind h l d k c =
+pub object_of : (body behind : List ℕ) (type : ℕ) → IsBytes body → 8 ≤ length body → behind ≡ drop 8 body → type ≡ object_type → AreCanonicalProperties behind → IsCanonicalBody type body
+object_of body behind type h l d k c =
     let t = word_at body 0 in
     let i = word_at body 4 in
     let long : length (take 8 body) ≡ 8 = length-take-le 8 body l in
@@ -164,8 +164,8 @@ object_of body behind kind h l d k c =
           ∙ ap (λ y. word_bytes t ++ (word_bytes i ++ y)) (sym d ∙ c.same);
     }
 
-pub pointer_of : (body : List ℕ) (kind : ℕ) → IsBytes body → length body ≡ 16 → kind ≡ pointer_type → word_at body 4 ≡ 0 → IsCanonicalBody kind body
-pointer_of body kind h l k z =
+pub pointer_of : (body : List ℕ) (type : ℕ) → IsBytes body → length body ≡ 16 → type ≡ pointer_type → word_at body 4 ≡ 0 → IsCanonicalBody type body
+pointer_of body type h l k z =
     let t = word_at body 0 in
     let long : length (take 8 body) ≡ 8 = length-take-le 8 body (omega arith) in
     let rest : length (drop 8 body) ≡ 8 = let d = length-drop 8 body in omega arith in
@@ -182,8 +182,8 @@ pointer_of body kind h l k z =
           ∙ ap (λ y. word_bytes t ++ (word_bytes 0 ++ y)) wide;
     }
 
-pub none_of : (body : List ℕ) (kind : ℕ) → kind ≡ 1 → length body ≡ 0 → IsCanonicalBody kind body
-none_of body kind k e = record {
+pub none_of : (body : List ℕ) (type : ℕ) → type ≡ 1 → length body ≡ 0 → IsCanonicalBody type body
+none_of body type k e = record {
   value = fixed none;
   its_type = sym k;
   its_body = record { whole = e; says = refl };
@@ -202,7 +202,7 @@ more_stretch input rest left c s =
       record {
         values = member c.value r.values;
         members = (front, s.0, refl, c.begins.begins.pod, r.members);
-        same = ap (λ x. x ++ s.0) c.same ∙ ap (λ x. framed_text (type_of c.value) (text_body c.value) ++ x) r.same;
+        same = ap (λ x. x ++ s.0) c.same ∙ ap (λ x. framed (type_of c.value) (encoded_body c.value) ++ x) r.same;
       },
     )
 

@@ -11,12 +11,12 @@ use Rattle.spa_format.specs.Kind.{Kind, bool_kind, Fixed, body_size, type_number
 use Rattle.spa_format.specs.Tree.{Tree, array, choice, choice_type, array_type, Shape, none_choice, range_choice, step_choice, enum_choice, flags_choice, shape_number}
 use Rattle.spa_format.specs.Pod.{AreElements, IsArray, IsText, IsBody, IsChoice, least_count, values_taken}
 use Rattle.spa_format.specs.Normal.{kept_flags}
-use Rattle.spa_format.specs.Text.{array_body, fixed_bodies}
+use Rattle.spa_format.specs.Encoding.{array_body, fixed_bodies}
 use Rattle.spa_format.specs.Typed.{IsBytes}
 use Rattle.spa_format.proofs.WordLemmas.{IsBytes-drop, IsBytes-take, word_at-take}
 use Rattle.spa_format.proofs.FixedKinds.{same_kind, kind_of_content}
 use Rattle.spa_format.proofs.Elements.{length_of_elements}
-use Rattle.spa_scan.specs.Canonical.{AreCanonicalElements, IsCanonicalArray, IsCanonicalBody, IsCanonicalText, IsFixedLen, IsPlain, IsPlainFor}
+use Rattle.spa_scan.specs.Canonical.{AreCanonicalElements, IsCanonicalArray, IsCanonicalBody, IsCanonicalText, IsFixedLen, IsPlainByte, IsPlainFor}
 use Rattle.spa_scan.proofs.Words.{content_kept, two_words_back}
 
 -- plain bytes, and more of them
@@ -29,7 +29,7 @@ plain_more n b le first rest i h =
           let here : i - n < length (drop n b) = omega arith in
           let at : n + (i - n) ≡ i = omega arith in
           let same : get_or (drop n b) (i - n) 0 ≡ get_or b i 0 = get_or-drop n b (i - n) 0 ∙ ap (λ m. get_or b m 0) at in
-          subst IsPlain same (rest (i - n) here)
+          subst IsPlainByte same (rest (i - n) here)
     ]
 
 pub plain_text : (b text : List ℕ) → b ≡ text ++ 0 ∷ [] → IsPlainFor (length text) text → IsCanonicalText b

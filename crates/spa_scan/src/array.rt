@@ -21,16 +21,16 @@ pub(crate) fn is_array(body: &[u8]) -> bool
     if body.len() < HEADER_LEN {
         return false;
     }
-    let kind = u32_at(body, SECOND_WORD);
+    let type_ = u32_at(body, SECOND_WORD);
     let size = u32_at(body, 0);
-    if size != fixed_len(kind) {
+    if size != fixed_len(type_) {
         return false;
     }
     let (_, elements) = body.split_at(HEADER_LEN);
     match size {
         0 => elements.is_empty(),
         ONE_WORD => {
-            if kind == BOOL {
+            if type_ == BOOL {
                 return are_bools(elements);
             }
             elements.len() % WORD_LEN == 0

@@ -28,7 +28,7 @@ const SECOND_OF_BODY: usize = 12;
 /// Opens the pod at the front, where all of it is there and its padding is zeros.
 #[inline(always)]
 pub(crate) fn padded_front(input: &[u8]) -> Option<Front<'_>>
-    ensures padded { IfSome result (λ front. OpensPadded input.now front.kind front.body.now front.rest.now) }
+    ensures padded { IfSome result (λ front. OpensPadded input.now front.type_ front.body.now front.rest.now) }
     ensures shorter { IfSome result (λ front. length front.rest.now + 8 ≤ length input.now) }
 {
     let Some(front) = open(input) else {
@@ -65,9 +65,9 @@ pub(crate) fn fixed_front(input: &[u8]) -> Option<&[u8]>
     if input.len() < SHORT_POD {
         return None;
     }
-    let kind = u32_at(input, SECOND_WORD);
+    let type_ = u32_at(input, SECOND_WORD);
     let size = u32_at(input, 0);
-    if size != fixed_len(kind) {
+    if size != fixed_len(type_) {
         return None;
     }
     let (_, rest) = input.split_at(SHORT_POD);
@@ -77,7 +77,7 @@ pub(crate) fn fixed_front(input: &[u8]) -> Option<&[u8]>
     if size != ONE_WORD || u32_at(input, SECOND_OF_BODY) != 0 {
         return None;
     }
-    if kind == BOOL {
+    if type_ == BOOL {
         if u32_at(input, FIRST_OF_BODY) > 1 {
             return None;
         }
@@ -88,10 +88,10 @@ pub(crate) fn fixed_front(input: &[u8]) -> Option<&[u8]>
 
 /// How long the bodies of this type are, in bytes, where it is a kind of fixed size, and else a number past all of these.
 #[inline(always)]
-pub(crate) fn fixed_len(kind: u32) -> u32
-    ensures { result < 9 → IsFixedLen kind result }
+pub(crate) fn fixed_len(type_: u32) -> u32
+    ensures { result < 9 → IsFixedLen type_ result }
 {
-    match kind {
+    match type_ {
         NONE => 0,
         BOOL => ONE_WORD,
         ID => ONE_WORD,

@@ -31,7 +31,7 @@ pub fn canonical_front(input: &[u8]) -> Option<&[u8]>
     let Some(front) = padded_front(input) else {
         return None;
     };
-    if is_body(front.kind, front.body, LEVELS) {
+    if is_body(front.type_, front.body, LEVELS) {
         Some(front.rest)
     } else {
         None
@@ -64,10 +64,10 @@ fn are_members(body: &[u8], levels: u32) -> bool
             let Some(front) = padded_front(left) else {
                 return false;
             };
-            if front.kind == STRUCT && front.rest.is_empty() {
+            if front.type_ == STRUCT && front.rest.is_empty() {
                 left = front.body;
             } else {
-                if !is_body(front.kind, front.body, levels) {
+                if !is_body(front.type_, front.body, levels) {
                     return false;
                 }
                 left = front.rest;
@@ -94,7 +94,7 @@ fn are_properties(body: &[u8], levels: u32) -> bool
             let Some(front) = padded_front(behind) else {
                 return false;
             };
-            if !is_body(front.kind, front.body, levels) {
+            if !is_body(front.type_, front.body, levels) {
                 return false;
             }
             left = front.rest;
@@ -105,10 +105,10 @@ fn are_properties(body: &[u8], levels: u32) -> bool
 
 /// Whether a body of this type is as the value that it says is written.
 #[cycle(scan)]
-fn is_body(kind: u32, body: &[u8], levels: u32) -> bool
-    ensures { result ≡ true → IsCanonicalBody kind body.now }
+fn is_body(type_: u32, body: &[u8], levels: u32) -> bool
+    ensures { result ≡ true → IsCanonicalBody type_ body.now }
 {
-    match kind {
+    match type_ {
         STRING => is_text(body),
         BYTES => true,
         CHOICE => is_choice(body),

@@ -1,6 +1,6 @@
 //! Strings: UTF-8 texts without NUL, with one NUL behind them.
 ghost use Rattle.std.specs.Prelude.{◌≡◌, ◌≤◌, ◌<◌, length, true};
-ghost use Rattle.spa_scan.specs.Canonical.{IsCanonicalText, IsPlain, IsPlainFor};
+ghost use Rattle.spa_scan.specs.Canonical.{IsCanonicalText, IsPlainByte, IsPlainFor};
 
 use spa_read::text_of;
 
@@ -69,7 +69,7 @@ const LAST_ASCII: u8 = 127;
 /// Whether a byte is an ASCII character other than NUL, and so no part of a longer one.
 #[inline(always)]
 fn is_plain(byte: u8) -> bool
-    ensures { result ≡ true → IsPlain byte }
+    ensures { result ≡ true → IsPlainByte byte }
 {
     byte.wrapping_sub(1) < LAST_ASCII
 }

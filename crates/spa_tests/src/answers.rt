@@ -165,7 +165,7 @@ pub(crate) fn assert_own_rewriting(
     Ok(())
 }
 
-/// The text of a value at the end of an output, and how long it is.
+/// The encoding of a value at the end of an output, and how long it is.
 pub(crate) fn write(out: Vec<u8>, value: &Value) -> Result<(Vec<u8>, u64), GenError> {
     PodSerializer::serialize(out, value)
 }

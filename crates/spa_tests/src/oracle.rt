@@ -90,7 +90,7 @@ pub(crate) fn read<'a>(
     match word(input, 1) {
         14 => say_struct(alloc, out, body)?,
         15 => say_object(alloc, out, input, body)?,
-        kind => say_leaf(alloc, out, input, kind, body)?,
+        type_ => say_leaf(alloc, out, input, type_, body)?,
     }
     Ok(rest)
 }
@@ -153,16 +153,16 @@ fn say_leaf<'a>(
     alloc: Global,
     out: &mut String,
     place: &'a [u8],
-    kind: u32,
+    type_: u32,
     body: &[u8],
 ) -> Result<(), Refusal<'a>> {
-    match kind {
+    match type_ {
         8 => say_string(alloc, out, place, body),
         9 => Ok(say_bytes(out, body)?),
         13 => say_array(alloc, out, place, body),
         17 => say_pointer(alloc, out, place, body),
         19 => say_choice(alloc, out, place, body),
-        _ => say_fixed(alloc, out, place, kind, body),
+        _ => say_fixed(alloc, out, place, type_, body),
     }
 }
 
@@ -208,17 +208,17 @@ fn say_fixed<'a>(
     alloc: Global,
     out: &mut String,
     place: &'a [u8],
-    kind: u32,
+    type_: u32,
     body: &[u8],
 ) -> Result<(), Refusal<'a>> {
-    let Some((name, size)) = kind_of_fixed_size(kind) else {
+    let Some((name, size)) = kind_of_fixed_size(type_) else {
         return Err(refused(alloc, place, Fault::InvalidType));
     };
     if body.len() != size {
         return Err(refused(alloc, place, Fault::WrongSize));
     }
     write!(out, "{{\"t\":\"{name}\",\"v\":")?;
-    say_content(out, kind, body)?;
+    say_content(out, type_, body)?;
     out.push_str("}")?;
     Ok(())
 }
@@ -232,8 +232,8 @@ fn say_array<'a>(
     if body.len() < HEADER_LEN {
         return Err(refused(alloc, place, Fault::WrongSize));
     }
-    let kind = word(body, 1);
-    let Some((name, size)) = kind_of_fixed_size(kind) else {
+    let type_ = word(body, 1);
+    let Some((name, size)) = kind_of_fixed_size(type_) else {
         return Err(refused(alloc, place, Fault::InvalidType));
     };
     let elements = behind_header(body);
@@ -241,7 +241,7 @@ fn say_array<'a>(
         return Err(refused(alloc, place, Fault::WrongSize));
     }
     write!(out, "{{\"t\":\"Array\",\"of\":\"{name}\",\"v\":[")?;
-    say_contents(out, kind, size, elements, usize::MAX)?;
+    say_contents(out, type_, size, elements, usize::MAX)?;
     out.push_str("]}")?;
     Ok(())
 }
@@ -265,10 +265,10 @@ fn say_choice<'a>(
 
 /// What the body of a choice without faults says.
 fn say_choice_values(out: &mut String, body: &[u8]) -> Result<(), AllocError> {
-    let kind = word(body, 3);
+    let type_ = word(body, 3);
     let values = behind_header(behind_header(body));
     if let Some((shape, _, taken)) = shape_of(word(body, 0))
-        && let Some((name, size)) = kind_of_fixed_size(kind)
+        && let Some((name, size)) = kind_of_fixed_size(type_)
     {
         let flags = if taken == 1 { 0 } else { word(body, 1) };
         write!(
@@ -276,7 +276,7 @@ fn say_choice_values(out: &mut String, body: &[u8]) -> Result<(), AllocError> {
             "{{\"t\":\"Choice\",\"of\":\"{name}\",\"kind\":\"{shape}\","
         )?;
         write!(out, "\"flags\":{flags},\"v\":[")?;
-        say_contents(out, kind, size, values, taken)?;
+        say_contents(out, type_, size, values, taken)?;
         out.push_str("]}")?;
     }
     Ok(())
@@ -313,7 +313,7 @@ fn choice_faults(alloc: Global, body: &[u8]) -> Result<Vec<Fault>, AllocError> {
 /// The bodies of a kind one after another, so many at most, separated by commas.
 fn say_contents(
     out: &mut String,
-    kind: u32,
+    type_: u32,
     size: usize,
     bodies: &[u8],
     most: usize,
@@ -326,15 +326,15 @@ fn say_contents(
             break;
         }
         say_comma(out, place)?;
-        say_content(out, kind, body)?;
+        say_content(out, type_, body)?;
     }
     Ok(())
 }
 
 /// What a body of a kind of fixed size says.
-fn say_content(out: &mut String, kind: u32, body: &[u8]) -> Result<(), AllocError> {
+fn say_content(out: &mut String, type_: u32, body: &[u8]) -> Result<(), AllocError> {
     let (first, second, both) = (word(body, 0), word(body, 1), wide(body, 0));
-    match kind {
+    match type_ {
         2 => write!(out, "{}", first != 0),
         3 | 6 => write!(out, "{first}"),
         4 => write!(out, "{}", first.cast_signed()),
@@ -346,8 +346,8 @@ fn say_content(out: &mut String, kind: u32, body: &[u8]) -> Result<(), AllocErro
 }
 
 /// The name of the kind with this type number, and how many bytes its bodies have.
-fn kind_of_fixed_size(kind: u32) -> Option<(&'static str, usize)> {
-    match kind {
+fn kind_of_fixed_size(type_: u32) -> Option<(&'static str, usize)> {
+    match type_ {
         1 => Some(("None", 0)),
         2 => Some(("Bool", 4)),
         3 => Some(("Id", 4)),

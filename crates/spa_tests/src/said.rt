@@ -273,13 +273,13 @@ fn say_choice<T: Element>(
 fn say_default<T: Element>(
     out: &mut String,
     name: &str,
-    kind: &str,
+    shape: &str,
     flags: ChoiceFlags,
     x: T,
 ) -> Result<(), AllocError> {
     write!(
         out,
-        "{{\"t\":\"Choice\",\"of\":\"{name}\",\"kind\":\"{kind}\","
+        "{{\"t\":\"Choice\",\"of\":\"{name}\",\"kind\":\"{shape}\","
     )?;
     let flags = flags.bits();
     write!(out, "\"flags\":{flags},\"v\":[")?;

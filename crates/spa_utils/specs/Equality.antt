@@ -3,7 +3,7 @@ use Rattle.std.specs.Prelude.{ℕ, List, [], ◌∷◌}
 use Rattle.spa_utils.specs.declared.choice.ChoiceEnum.{ChoiceEnum}
 use Rattle.spa_utils.specs.declared.choice.ChoiceEnum.TheVariants.{None, Range, Step, Enum, Flags}
 
--- the number of a choice's kind, as it stands in a pod
+-- the number of a choice's shape, as it stands in a pod
 abbrev pub shape_of : {T : Type 0} → ChoiceEnum T → ℕ
 shape_of (None v) = 0
 shape_of (Range v low high) = 1

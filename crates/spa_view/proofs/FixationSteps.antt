@@ -9,7 +9,7 @@ use Rattle.spa_format.specs.Walk.{extent_behind, properties_of, HasObject}
 use Rattle.spa_format.specs.Fixation.{fixated_property, fixated_properties, fixated_bytes}
 use Rattle.spa_format.proofs.WordLemmas.{word_at-take}
 use Rattle.spa_format.proofs.Fronts.{size_of_front, type_of_front}
-use Rattle.spa_view.specs.Tests.{IsObject}
+use Rattle.spa_view.specs.Tests.{IsObjectPod}
 use Rattle.spa_format.proofs.FixationLemmas.{fixated_properties-next, length-first_fixated}
 use Rattle.spa_format.proofs.FixatedObjects.{properties_of-is}
 
@@ -61,16 +61,16 @@ put_fixated xs p ys s h e es l ey =
     ∙ ap (λ z. take 16 xs ++ (fixated_properties (properties_of xs) ++ z)) (drop-drop (word_at xs 0 - 8) 16 xs ∙ ap (λ m. drop m xs) d)
 
 -- an object at the front of an input, and its view
-pub object_there : (b p : List ℕ) → HasFront b → p ≡ front_of b → IsObject p → HasObject b
+pub object_there : (b p : List ℕ) → HasFront b → p ≡ front_of b → IsObjectPod p → HasObject b
 object_there b p h e o =
     let s = ap (λ z. word_at z 0) e ∙ size_of_front b in
     let t = ap (λ z. word_at z 4) e ∙ type_of_front b in
     let l = o.1 in
-    record { front = h; kind = sym t ∙ o.0; parts = omega arith }
+    record { front = h; its_type = sym t ∙ o.0; parts = omega arith }
 
-pub object_at_front : (b p : List ℕ) → p ≡ front_of b → HasObject b → IsObject p
+pub object_at_front : (b p : List ℕ) → p ≡ front_of b → HasObject b → IsObjectPod p
 object_at_front b p e h =
     let s = ap (λ z. word_at z 0) e ∙ size_of_front b in
     let t = ap (λ z. word_at z 4) e ∙ type_of_front b in
     let l = h.parts in
-    (t ∙ h.kind, omega arith)
+    (t ∙ h.its_type, omega arith)

@@ -16,7 +16,7 @@ length-whole_body : (b : List ℕ) (n : ℕ) (P : List ℕ → Type 0) → IsWho
 length-whole_body b n P w = let x = w.whole in let d = length-drop 8 b in length-take-le (word_at b 0) (drop 8 b) (omega arith)
 
 pub fixed_test : (b : List ℕ) (x : Fixed) → IsPod b (fixed x) → t.IsOfKind (kind_of x) b
-fixed_test b x h = (h.kind, sym (length-whole_body b _ _ h) ∙ h.content.whole)
+fixed_test b x h = (h.its_type, sym (length-whole_body b _ _ h) ∙ h.content.whole)
 
 pub fixed_value : (b : List ℕ) (x : Fixed) → IsPod b (fixed x) → content (kind_of x) (body_of b) ≡ x
 fixed_value b x h = sym h.content.says
@@ -38,21 +38,21 @@ string_test b s h =
     let l = ap length e in
     let a = length-append s (0 ∷ []) in
     let last : word_at b 0 - 1 ≡ length s = omega arith in
-    ((h.kind, omega arith), ap (λ z. slice_index z (word_at b 0 - 1)) e ∙ ap (slice_index (s ++ 0 ∷ [])) last ∙ get_or-append_seam s 0 [] 0)
+    ((h.its_type, omega arith), ap (λ z. slice_index z (word_at b 0 - 1)) e ∙ ap (slice_index (s ++ 0 ∷ [])) last ∙ get_or-append_seam s 0 [] 0)
 
 pub string_value : (b s : List ℕ) → IsPod b (string s) → t.before_nul (body_of b) ≡ s
 string_value b s h = ap t.before_nul h.content.1 ∙ before_nul-ended s h.content.0.no_nul
 
-pub bytes_test : (b s : List ℕ) → IsPod b (bytes s) → t.IsBytes b
-bytes_test b s h = h.kind
+pub bytes_test : (b s : List ℕ) → IsPod b (bytes s) → t.IsBytesPod b
+bytes_test b s h = h.its_type
 
 pub bytes_value : (b s : List ℕ) → IsPod b (bytes s) → body_of b ≡ s
 bytes_value b s h = h.content
 
-pub pointer_test : (b : List ℕ) (type a : ℕ) → IsPod b (pointer type a) → t.IsPointer b
+pub pointer_test : (b : List ℕ) (type a : ℕ) → IsPod b (pointer type a) → t.IsPointerPod b
 pointer_test b type a h =
     let n = length-whole_body b _ _ h in
-    (h.kind, elim h.content.1 [ inl q ↦ inl (sym n ∙ q.0) | inr q ↦ inr (sym n ∙ q.0) ])
+    (h.its_type, elim h.content.1 [ inl q ↦ inl (sym n ∙ q.0) | inr q ↦ inr (sym n ∙ q.0) ])
 
 pub pointer_type : (b : List ℕ) (type a : ℕ) → IsPod b (pointer type a) → word_at (body_of b) 0 ≡ type
 pointer_type b type a h = sym h.content.0
@@ -65,22 +65,22 @@ pointer_address b type a c h i =
       | inr q ↦ i.1 (sym n ∙ q.0) ∙ sym q.1
     ]
 
-pub array_test : (b : List ℕ) (k : Kind) (xs : List Fixed) → IsPod b (array k xs) → t.IsArray b
-array_test b k xs h = let n = length-whole_body b _ _ h in let l = h.content.header in (h.kind, omega arith)
+pub array_test : (b : List ℕ) (k : Kind) (xs : List Fixed) → IsPod b (array k xs) → t.IsArrayPod b
+array_test b k xs h = let n = length-whole_body b _ _ h in let l = h.content.header in (h.its_type, omega arith)
 
 pub choice_test : (b : List ℕ) (s : Shape) (f : ℕ) (k : Kind) (x : Fixed) (xs : List Fixed) →
-    IsPod b (choice s f k x xs) → t.IsChoice b
+    IsPod b (choice s f k x xs) → t.IsChoicePod b
 choice_test b s f k x xs h =
     let n = length-whole_body b _ _ h in
     let l = h.content.values.header in
     let d = length-drop 8 (body_of b) in
-    (h.kind, omega arith)
+    (h.its_type, omega arith)
 
-pub struct_test : (b : List ℕ) (vs : Trees) → IsPod b (struct vs) → t.IsStruct b
-struct_test b vs h = h.kind
+pub struct_test : (b : List ℕ) (vs : Trees) → IsPod b (struct vs) → t.IsStructPod b
+struct_test b vs h = h.its_type
 
-pub object_test : (b : List ℕ) (type id : ℕ) (ps : Properties) → IsPod b (object type id ps) → t.IsObject b
-object_test b type id ps h = let n = length-whole_body b _ _ h in let l = h.content.0 in (h.kind, omega arith)
+pub object_test : (b : List ℕ) (type id : ℕ) (ps : Properties) → IsPod b (object type id ps) → t.IsObjectPod b
+object_test b type id ps h = let n = length-whole_body b _ _ h in let l = h.content.0 in (h.its_type, omega arith)
 
 pub object_type : (b : List ℕ) (type id : ℕ) (ps : Properties) → IsPod b (object type id ps) →
     word_at (body_of b) 0 ≡ type

@@ -21,29 +21,29 @@ IsOfKind k b = (word_at b 4 ≡ type_number k) × (word_at b 0 ≡ body_size k)
 abbrev pub IsOfType : ℕ → ℕ → List ℕ → Type 0
 IsOfType type least b = (word_at b 4 ≡ type) × (least ≤ word_at b 0)
 
-abbrev pub IsString : List ℕ → Type 0
-IsString = IsOfType string_type 1
+abbrev pub IsStringPod : List ℕ → Type 0
+IsStringPod = IsOfType string_type 1
 
-abbrev pub IsBytes : List ℕ → Type 0
-IsBytes b = word_at b 4 ≡ bytes_type
+abbrev pub IsBytesPod : List ℕ → Type 0
+IsBytesPod b = word_at b 4 ≡ bytes_type
 
-abbrev pub IsBitmap : List ℕ → Type 0
-IsBitmap b = word_at b 4 ≡ bitmap_type
+abbrev pub IsBitmapPod : List ℕ → Type 0
+IsBitmapPod b = word_at b 4 ≡ bitmap_type
 
-abbrev pub IsArray : List ℕ → Type 0
-IsArray = IsOfType array_type header_size
+abbrev pub IsArrayPod : List ℕ → Type 0
+IsArrayPod = IsOfType array_type header_size
 
-abbrev pub IsStruct : List ℕ → Type 0
-IsStruct b = word_at b 4 ≡ struct_type
+abbrev pub IsStructPod : List ℕ → Type 0
+IsStructPod b = word_at b 4 ≡ struct_type
 
-abbrev pub IsObject : List ℕ → Type 0
-IsObject = IsOfType object_type header_size
+abbrev pub IsObjectPod : List ℕ → Type 0
+IsObjectPod = IsOfType object_type header_size
 
-abbrev pub IsSequence : List ℕ → Type 0
-IsSequence b = word_at b 4 ≡ sequence_type
+abbrev pub IsSequencePod : List ℕ → Type 0
+IsSequencePod b = word_at b 4 ≡ sequence_type
 
-abbrev pub IsChoice : List ℕ → Type 0
-IsChoice = IsOfType choice_type choice_header_size
+abbrev pub IsChoicePod : List ℕ → Type 0
+IsChoicePod = IsOfType choice_type choice_header_size
 
 -- the sizes of a pointer's body: a type word, a free word, and the address in four or eight bytes
 abbrev pub short_pointer_size : ℕ
@@ -52,8 +52,8 @@ short_pointer_size = 12
 abbrev pub long_pointer_size : ℕ
 long_pointer_size = 16
 
-abbrev pub IsPointer : List ℕ → Type 0
-IsPointer b = (word_at b 4 ≡ pointer_type) × ((word_at b 0 ≡ short_pointer_size) ⊎ (word_at b 0 ≡ long_pointer_size))
+abbrev pub IsPointerPod : List ℕ → Type 0
+IsPointerPod b = (word_at b 4 ≡ pointer_type) × ((word_at b 0 ≡ short_pointer_size) ⊎ (word_at b 0 ≡ long_pointer_size))
 
 -- the address in a pointer's body, by its length
 abbrev pub IsAddress : ℕ → List ℕ → Type 0
@@ -63,7 +63,7 @@ IsAddress a b =
 
 -- a string's pod whose last body byte is NUL
 abbrev pub IsNulEnded : List ℕ → Type 0
-IsNulEnded b = IsString b × (slice_index (body_of b) (word_at b 0 - 1) ≡ 0)
+IsNulEnded b = IsStringPod b × (slice_index (body_of b) (word_at b 0 - 1) ≡ 0)
 
 -- the bytes before the first NUL
 abbrev pub before_nul : List ℕ → List ℕ

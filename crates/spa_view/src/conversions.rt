@@ -53,9 +53,9 @@ impl<'a> TryFrom<Pod<'a>> for PodStruct<'a> {
 
     type Error = Errno;
 
-    ghost try_from_gives = { λ pod r. OnOk r (t.IsStruct (pod_bytes pod))
+    ghost try_from_gives = { λ pod r. OnOk r (t.IsStructPod (pod_bytes pod))
         × IfOk r (λ members. struct_bytes members ≡ pod_bytes pod)
-        × IfErr r (λ e. (¬ (t.IsStruct (pod_bytes pod))) × (e ≡ INVAL)) };
+        × IfErr r (λ e. (¬ (t.IsStructPod (pod_bytes pod))) × (e ≡ INVAL)) };
 
     fn try_from(pod: Pod<'a>) -> Result<PodStruct<'a>, Errno> {
         pod.as_struct()
@@ -68,9 +68,9 @@ impl<'a> TryFrom<Pod<'a>> for PodObject<'a> {
 
     type Error = Errno;
 
-    ghost try_from_gives = { λ pod r. OnOk r (t.IsObject (pod_bytes pod))
+    ghost try_from_gives = { λ pod r. OnOk r (t.IsObjectPod (pod_bytes pod))
         × IfOk r (λ object. object_bytes object ≡ pod_bytes pod)
-        × IfErr r (λ e. (¬ (t.IsObject (pod_bytes pod))) × (e ≡ INVAL)) };
+        × IfErr r (λ e. (¬ (t.IsObjectPod (pod_bytes pod))) × (e ≡ INVAL)) };
 
     fn try_from(pod: Pod<'a>) -> Result<PodObject<'a>, Errno> {
         pod.as_object()

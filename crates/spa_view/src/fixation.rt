@@ -8,26 +8,26 @@ ghost use Rattle.spa_format.specs.Words.{header_size};
 
 use crate::pod::Pod;
 use crate::props::{PodObject, PodProp, prop_extent};
-use crate::type_tests::CHOICE_KIND_AT;
+use crate::type_tests::CHOICE_SHAPE_AT;
 use spa_fixed::HEADER_LEN;
 use spa_utils::Errno;
 
 /// Where the properties of an object's pod begin: behind its header, its type and its id.
 const PROPERTIES_AT: usize = HEADER_LEN + HEADER_LEN;
 
-/// Where a property has the kind word of a choice, and where that ends.
-const KIND_AT: usize = HEADER_LEN + CHOICE_KIND_AT;
+/// Where a property has the shape word of a choice, and where that ends.
+const SHAPE_AT: usize = HEADER_LEN + CHOICE_SHAPE_AT;
 
-const KIND_END: usize = KIND_AT + 4;
+const SHAPE_END: usize = SHAPE_AT + 4;
 
-/// Sets the kind word of a property's choice to that of None, unless its flags have DONT_FIXATE.
+/// Sets the shape word of a property's choice to that of None, unless its flags have DONT_FIXATE.
 fn fixate_prop(prop: &mut [u8])
     requires { length prop.old ≡ extent_behind header_size prop.old }
     ensures { prop.new ≡ fixated_property prop.old }
 {
     let view = PodProp { bytes: prop };
     if view.is_fixable() {
-        prop[KIND_AT..KIND_END].copy_from_slice(&[0; 4]);
+        prop[SHAPE_AT..SHAPE_END].copy_from_slice(&[0; 4]);
     }
 }
 
@@ -43,7 +43,7 @@ fn fixate_props(props: &mut [u8])
 }
 
 impl<'a> PodObject<'a> {
-    /// Makes each choice among the properties of the object at the front its default: sets the kind word of each
+    /// Makes each choice among the properties of the object at the front its default: sets the shape word of each
     /// property's value to 0 that is a choice and whose flags lack DONT_FIXATE, and changes no other byte. INVAL, and
     /// nothing is changed, where no object is at the front.
     pub fn fixate(bytes: &mut [u8]) -> Result<(), Errno>

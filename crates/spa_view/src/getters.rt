@@ -136,9 +136,9 @@ impl<'a> Pod<'a> {
 
     /// The bytes of the body. INVAL exactly where `is_bytes` is false.
     pub fn get_bytes(&self) -> Result<&'a [u8], Errno>
-        ensures ok { OnOk result (t.IsBytes (pod_bytes self.now)) }
+        ensures ok { OnOk result (t.IsBytesPod (pod_bytes self.now)) }
         ensures value { IfOk result (λ bytes. bytes.now ≡ body_of (pod_bytes self.now)) }
-        ensures refused { IfErr result (λ e. (¬ (t.IsBytes (pod_bytes self.now))) × (e ≡ Errno.INVAL)) }
+        ensures refused { IfErr result (λ e. (¬ (t.IsBytesPod (pod_bytes self.now))) × (e ≡ Errno.INVAL)) }
     {
         if !self.is_bytes() {
             return Err(Errno::INVAL);
@@ -148,10 +148,10 @@ impl<'a> Pod<'a> {
 
     /// The address, and the type of what it points to. INVAL exactly where `is_pointer` is false.
     pub fn get_pointer(&self) -> Result<(u64, Id), Errno>
-        ensures ok { OnOk result (t.IsPointer (pod_bytes self.now)) }
+        ensures ok { OnOk result (t.IsPointerPod (pod_bytes self.now)) }
         ensures address { IfOk result (λ pointer. t.IsAddress pointer.0 (pod_bytes self.now)) }
         ensures type_of_target { IfOk result (λ pointer. pointer.1.0 ≡ word_at (body_of (pod_bytes self.now)) 0) }
-        ensures refused { IfErr result (λ e. (¬ (t.IsPointer (pod_bytes self.now))) × (e ≡ Errno.INVAL)) }
+        ensures refused { IfErr result (λ e. (¬ (t.IsPointerPod (pod_bytes self.now))) × (e ≡ Errno.INVAL)) }
     {
         if !self.is_pointer() {
             return Err(Errno::INVAL);
@@ -166,9 +166,9 @@ impl<'a> Pod<'a> {
 
     /// The pod as a struct. INVAL exactly where `is_struct` is false.
     pub fn as_struct(&self) -> Result<PodStruct<'a>, Errno>
-        ensures ok { OnOk result (t.IsStruct (pod_bytes self.now)) }
+        ensures ok { OnOk result (t.IsStructPod (pod_bytes self.now)) }
         ensures value { IfOk result (λ members. struct_bytes members ≡ pod_bytes self.now) }
-        ensures refused { IfErr result (λ e. (¬ (t.IsStruct (pod_bytes self.now))) × (e ≡ Errno.INVAL)) }
+        ensures refused { IfErr result (λ e. (¬ (t.IsStructPod (pod_bytes self.now))) × (e ≡ Errno.INVAL)) }
     {
         if !self.is_struct() {
             return Err(Errno::INVAL);
@@ -178,9 +178,9 @@ impl<'a> Pod<'a> {
 
     /// The pod as an object. INVAL exactly where `is_object` is false.
     pub fn as_object(&self) -> Result<PodObject<'a>, Errno>
-        ensures ok { OnOk result (t.IsObject (pod_bytes self.now)) }
+        ensures ok { OnOk result (t.IsObjectPod (pod_bytes self.now)) }
         ensures value { IfOk result (λ object. object_bytes object ≡ pod_bytes self.now) }
-        ensures refused { IfErr result (λ e. (¬ (t.IsObject (pod_bytes self.now))) × (e ≡ Errno.INVAL)) }
+        ensures refused { IfErr result (λ e. (¬ (t.IsObjectPod (pod_bytes self.now))) × (e ≡ Errno.INVAL)) }
     {
         if !self.is_object() {
             return Err(Errno::INVAL);

@@ -21,24 +21,24 @@ pub fn strings_are_read()
 
 /// Bytes pass their test, and the body is the bytes.
 pub fn bytes_are_read()
-    ensures test { (b s : List ℕ) → IsPod b (bytes s) → t.IsBytes b }
+    ensures test { (b s : List ℕ) → IsPod b (bytes s) → t.IsBytesPod b }
     ensures value { (b s : List ℕ) → IsPod b (bytes s) → body_of b ≡ s }
 {}
 
 /// A pointer passes its test, and its body says its type and, at its size, no address but its own.
 pub fn pointers_are_read()
-    ensures test { (b : List ℕ) (type a : ℕ) → IsPod b (pointer type a) → t.IsPointer b }
+    ensures test { (b : List ℕ) (type a : ℕ) → IsPod b (pointer type a) → t.IsPointerPod b }
     ensures type_of_target { (b : List ℕ) (type a : ℕ) → IsPod b (pointer type a) → word_at (body_of b) 0 ≡ type }
     ensures address { (b : List ℕ) (type a c : ℕ) → IsPod b (pointer type a) → t.IsAddress c b → c ≡ a }
 {}
 
 /// Arrays, choices, structs and objects pass their tests, and an object's body says its type and its id.
 pub fn parts_are_seen()
-    ensures array { (b : List ℕ) (k : Kind) (xs : List Fixed) → IsPod b (array k xs) → t.IsArray b }
+    ensures array { (b : List ℕ) (k : Kind) (xs : List Fixed) → IsPod b (array k xs) → t.IsArrayPod b }
     ensures choice { (b : List ℕ) (s : Shape) (f : ℕ) (k : Kind) (x : Fixed) (xs : List Fixed) →
-        IsPod b (choice s f k x xs) → t.IsChoice b }
-    ensures members { (b : List ℕ) (vs : Trees) → IsPod b (struct vs) → t.IsStruct b }
-    ensures object { (b : List ℕ) (type id : ℕ) (ps : Properties) → IsPod b (object type id ps) → t.IsObject b }
+        IsPod b (choice s f k x xs) → t.IsChoicePod b }
+    ensures members { (b : List ℕ) (vs : Trees) → IsPod b (struct vs) → t.IsStructPod b }
+    ensures object { (b : List ℕ) (type id : ℕ) (ps : Properties) → IsPod b (object type id ps) → t.IsObjectPod b }
     ensures object_type { (b : List ℕ) (type id : ℕ) (ps : Properties) → IsPod b (object type id ps) →
         word_at (body_of b) 0 ≡ type }
     ensures object_id { (b : List ℕ) (type id : ℕ) (ps : Properties) → IsPod b (object type id ps) →

@@ -80,7 +80,7 @@ impl<'a> PodObject<'a> {
         None
     }
 
-    /// Whether no property's value is a choice of another kind than None.
+    /// Whether no property's value is a choice of another shape than None.
     pub fn is_fixated(&self) -> bool
         ensures settled { result ≡ all_settled (property_walk (properties_of (object_bytes self.now))) }
         ensures accepted { (t i : ℕ) (ps : Properties) → IsPod (object_bytes self.now) (object t i ps) →

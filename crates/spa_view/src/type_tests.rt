@@ -13,7 +13,7 @@ const LEAST_STRING: u32 = 1;
 /// What stands before the elements of an array, and before an object's properties: two words.
 const TWO_WORDS: u32 = 8;
 
-/// What stands before a choice's values: its kind, its flags and the child header.
+/// What stands before a choice's values: its shape, its flags and the child header.
 const FOUR_WORDS: u32 = 16;
 
 /// The sizes of a pointer's body, whose address has four or eight bytes.
@@ -21,10 +21,10 @@ pub(crate) const SHORT_POINTER: u32 = 12;
 
 pub(crate) const LONG_POINTER: u32 = 16;
 
-/// Where a choice's pod has its kind word, and the kind word of a None choice.
-pub(crate) const CHOICE_KIND_AT: usize = 8;
+/// Where a choice's pod has its shape word, and the shape word of a None choice.
+pub(crate) const CHOICE_SHAPE_AT: usize = 8;
 
-const NONE_KIND: u32 = 0;
+const NONE_SHAPE: u32 = 0;
 
 impl<'a> Pod<'a> {
     ghost use Rattle.spa_view.specs.View.{pod_bytes};
@@ -109,72 +109,72 @@ impl<'a> Pod<'a> {
 
     /// Whether the type is String and the size at least 1.
     pub fn is_string(&self) -> bool
-        ensures { IsTrue result ↔ t.IsString (pod_bytes self.now) }
+        ensures { IsTrue result ↔ t.IsStringPod (pod_bytes self.now) }
     {
         self.type_() == SpaTypes::String && self.size() >= LEAST_STRING
     }
 
     /// Whether the type is Bytes.
     pub fn is_bytes(&self) -> bool
-        ensures { IsTrue result ↔ t.IsBytes (pod_bytes self.now) }
+        ensures { IsTrue result ↔ t.IsBytesPod (pod_bytes self.now) }
     {
         self.type_() == SpaTypes::Bytes
     }
 
     /// Whether the type is Bitmap.
     pub fn is_bitmap(&self) -> bool
-        ensures { IsTrue result ↔ t.IsBitmap (pod_bytes self.now) }
+        ensures { IsTrue result ↔ t.IsBitmapPod (pod_bytes self.now) }
     {
         self.type_() == SpaTypes::Bitmap
     }
 
     /// Whether the type is Array and the size at least 8, a child header.
     pub fn is_array(&self) -> bool
-        ensures { IsTrue result ↔ t.IsArray (pod_bytes self.now) }
+        ensures { IsTrue result ↔ t.IsArrayPod (pod_bytes self.now) }
     {
         self.type_() == SpaTypes::Array && self.size() >= TWO_WORDS
     }
 
     /// Whether the type is Struct.
     pub fn is_struct(&self) -> bool
-        ensures { IsTrue result ↔ t.IsStruct (pod_bytes self.now) }
+        ensures { IsTrue result ↔ t.IsStructPod (pod_bytes self.now) }
     {
         self.type_() == SpaTypes::Struct
     }
 
     /// Whether the type is Object and the size at least 8, a type and an id.
     pub fn is_object(&self) -> bool
-        ensures { IsTrue result ↔ t.IsObject (pod_bytes self.now) }
+        ensures { IsTrue result ↔ t.IsObjectPod (pod_bytes self.now) }
     {
         self.type_() == SpaTypes::Object && self.size() >= TWO_WORDS
     }
 
     /// Whether the type is Sequence.
     pub fn is_sequence(&self) -> bool
-        ensures { IsTrue result ↔ t.IsSequence (pod_bytes self.now) }
+        ensures { IsTrue result ↔ t.IsSequencePod (pod_bytes self.now) }
     {
         self.type_() == SpaTypes::Sequence
     }
 
-    /// Whether the type is Choice and the size at least 16, kind, flags and a child header.
+    /// Whether the type is Choice and the size at least 16, shape, flags and a child header.
     pub fn is_choice(&self) -> bool
-        ensures { IsTrue result ↔ t.IsChoice (pod_bytes self.now) }
+        ensures { IsTrue result ↔ t.IsChoicePod (pod_bytes self.now) }
     {
         self.type_() == SpaTypes::Choice && self.size() >= FOUR_WORDS
     }
 
     /// Whether the type is Pointer and the size 12 or 16.
     pub fn is_pointer(&self) -> bool
-        ensures { IsTrue result ↔ t.IsPointer (pod_bytes self.now) }
+        ensures { IsTrue result ↔ t.IsPointerPod (pod_bytes self.now) }
     {
         self.type_() == SpaTypes::Pointer
             && (self.size() == SHORT_POINTER || self.size() == LONG_POINTER)
     }
 
-    /// Whether it is no choice, or one of the kind None.
+    /// Whether it is no choice, or one of the shape None.
     pub(crate) fn is_settled(&self) -> bool
         ensures { result ≡ is_settled_pod (pod_bytes self.now) }
     {
-        !self.is_choice() || u32_at(self.bytes, CHOICE_KIND_AT) == NONE_KIND
+        !self.is_choice() || u32_at(self.bytes, CHOICE_SHAPE_AT) == NONE_SHAPE
     }
 }

@@ -6,9 +6,9 @@ use Rattle.spa_fixed.specs.declared.gen_error.GenError.{GenError}
 use Rattle.spa_fixed.specs.declared.gen_error.GenError.TheVariants.{TooLarge}
 use Rattle.spa_fixed.specs.Writing.{RefusesWrite}
 use Rattle.spa_format.specs.Words.{header_size, padded_size, padding, size_limit, word_bytes}
-use Rattle.spa_format.specs.Text.{framed_text}
+use Rattle.spa_format.specs.Encoding.{framed}
 use Rattle.spa_write.specs.Written.{Appending, IsClosed, IsExtended, Refusing, begun_length}
-use Rattle.spa_write.proofs.Texts.{body_within, length-framed_text, length-word_bytes, two_words_length}
+use Rattle.spa_write.proofs.Encodings.{body_within, length-framed, length-word_bytes, two_words_length}
 use Rattle.spa_write.proofs.Refusals.{IsSink, part_refused, sink_refused}
 
 -- a body that needs no padding
@@ -23,12 +23,12 @@ begun_body old head body h =
     let e1 = length-append head body in
     omega arith
 
--- its text, once the size word is written
-sized_text : (old body : List ℕ) (type : ℕ) → IsWholeSize (length body) →
+-- its encoding, once the size word is written
+sized_encoding : (old body : List ℕ) (type : ℕ) → IsWholeSize (length body) →
     take (length old) (old ++ ((word_bytes 0 ++ word_bytes type) ++ body)) ++
     (word_bytes (length body) ++ drop (length old + 4) (old ++ ((word_bytes 0 ++ word_bytes type) ++ body)))
-    ≡ old ++ framed_text type body
-sized_text old body type whole =
+    ≡ old ++ framed type body
+sized_encoding old body type whole =
     let b = old ++ ((word_bytes 0 ++ word_bytes type) ++ body) in
     let front : take (length old) b ≡ old =
     take_at old ((word_bytes 0 ++ word_bytes type) ++ body) (length old) refl in
@@ -69,12 +69,12 @@ room_for_header {content = content} a b start type body s p =
     omega arith
 
 -- a pod that was begun and closed
-pub closed_text : {S : Type 0} {content : S → List ℕ} {refuses : Refusing S} (a b c : S)
+pub closed_encoding : {S : Type 0} {content : S → List ℕ} {refuses : Refusing S} (a b c : S)
     (start type : ℕ) (body : List ℕ) → IsWholeSize (length body) → start ≡ length (content a) →
     IsExtended content refuses a ((word_bytes 0 ++ word_bytes type) ++ body) b →
     IsClosed content refuses b start c →
-    IsExtended content refuses a (framed_text type body) c × (length body < size_limit)
-closed_text {content = content} {refuses = refuses} a b c start type body whole s p q =
+    IsExtended content refuses a (framed type body) c × (length body < size_limit)
+closed_encoding {content = content} {refuses = refuses} a b c start type body whole s p q =
     let inside = (word_bytes 0 ++ word_bytes type) ++ body in
     let size = begun_size a b start type body s p in
     let here : content c ≡ take (length (content a)) (content a ++ inside) ++ (word_bytes (length body) ++ drop (length (content a) + 4) (content a ++ inside)) =
@@ -83,15 +83,15 @@ closed_text {content = content} {refuses = refuses} a b c start type body whole 
     ∙ ap
     (λ n. take n (content a ++ inside) ++ (word_bytes (length body) ++ drop (n + 4) (content a ++ inside)))
     s in
-    let e0 = length-framed_text type body in
+    let e0 = length-framed type body in
     let e1 = length-append (word_bytes 0 ++ word_bytes type) body in
     let e2 = two_words_length 0 type in
     let f = q.fits in (
       record {
-        bytes = here ∙ sized_text (content a) body type whole;
+        bytes = here ∙ sized_encoding (content a) body type whole;
         room = λ after n e r.
             let P : ℕ → Type 0 = λ m. refuses a m after e in
-            let same : length inside + n ≡ length (framed_text type body) + n = omega (arith, whole) in
+            let same : length inside + n ≡ length (framed type body) + n = omega (arith, whole) in
             subst P same (p.room after n e (q.room after n e r));
       },
       omega arith,
@@ -103,19 +103,19 @@ pub inside_refused : {S : Type 0} {content : S → List ℕ} {appends : Appendin
     (a b c : S) (before : List ℕ) (n type : ℕ) (body : List ℕ) (e : GenError) →
     IsExtended content refuses a before b → length before + n ≤ header_size + length body →
     RefusesWrite nul large (refuses b n c) e →
-    RefusesWrite nul' large' (refuses a (length (framed_text type body)) c) e
+    RefusesWrite nul' large' (refuses a (length (framed type body)) c) e
 inside_refused s f g a b c before n type body e p le r =
     let w = body_within type body in
-    part_refused s f g a b c (length before) n (length (framed_text type body)) e p.room (omega arith) r
+    part_refused s f g a b c (length before) n (length (framed type body)) e p.room (omega arith) r
 
 -- the refusal of the header
 pub header_refused : {S : Type 0} {appends : Appending S} {refuses : Refusing S} →
     IsSink appends refuses → (nul large : Type 0) (a c : S) (type : ℕ) (body : List ℕ) (e : GenError) →
-    refuses a header_size c e → RefusesWrite nul large (refuses a (length (framed_text type body)) c) e
+    refuses a header_size c e → RefusesWrite nul large (refuses a (length (framed type body)) c) e
 header_refused s nul large a c type body e r =
     let w = body_within type body in
-    sink_refused s nul large a c (length (framed_text type body)) e
-    (s.longer a c header_size (length (framed_text type body)) e (omega arith) r)
+    sink_refused s nul large a c (length (framed type body)) e
+    (s.longer a c header_size (length (framed type body)) e (omega arith) r)
 
 -- the refusal of the size
 pub size_refused : (nul large : Type 0) (other : GenError → Type 0) (big : Type 0) → (big → large) →

@@ -1,4 +1,4 @@
-pub mod Texts
+pub mod Encodings
 pub mod Refusals
 pub mod Extending
 pub mod Frames

@@ -6,35 +6,35 @@ use Rattle.spa_fixed.specs.declared.gen_error.GenError.TheVariants.{TooLarge}
 use Rattle.spa_fixed.specs.Writing.{RefusesWrite}
 use Rattle.spa_format.specs.Words.{header_size, size_limit, word_bytes}
 use Rattle.spa_format.specs.Tree.{Tree, struct, struct_type, Trees, no_trees, member, join_members, type_of}
-use Rattle.spa_format.specs.Text.{framed_text, text_body, text_of, member_texts}
+use Rattle.spa_format.specs.Encoding.{framed, encoded_body, encoding_of, member_encodings}
 use Rattle.spa_format.specs.Typed.{AllTyped}
 use Rattle.spa_format.specs.Writable.{HasNul, IsTooLarge, SomeHasNul, SomeTooLarge}
 use Rattle.spa_value.specs.declared.value.Value.{Value}
 use Rattle.spa_value.specs.View.{view}
 use Rattle.spa_value.specs.Views.{views}
 use Rattle.spa_value.specs.ViewLaws.{views-push, views-at}
-use Rattle.spa_write.specs.Written.{Appending, AreWritten, IsClosed, IsExtended, IsWritten, RefusesText, RefusesTexts, Refusing, begun_length}
-use Rattle.spa_write.proofs.Texts.{length-framed_text, two_words_length}
+use Rattle.spa_write.specs.Written.{Appending, AreWritten, IsClosed, IsExtended, IsWritten, RefusesEncoding, RefusesEncodings, Refusing, begun_length}
+use Rattle.spa_write.proofs.Encodings.{length-framed, two_words_length}
 use Rattle.spa_write.proofs.Refusals.{IsSink, part_refused}
 use Rattle.spa_write.proofs.Extending.{extended_as, extended_none, extended_twice}
-use Rattle.spa_write.proofs.Frames.{IsWholeSize, begun_size, closed_text, header_refused, inside_refused, room_for_header, size_refused}
+use Rattle.spa_write.proofs.Frames.{IsWholeSize, begun_size, closed_encoding, header_refused, inside_refused, room_for_header, size_refused}
 
-member_texts_join : (vs ws : Trees) →
-    member_texts (join_members vs ws) ≡ member_texts vs ++ member_texts ws
-member_texts_join no_trees ws = refl
-member_texts_join (member v vs) ws =
-    ap (λ l. text_of v ++ l) (member_texts_join vs ws)
-    ∙ sym (append_assoc (text_of v) (member_texts vs) (member_texts ws))
+member_encodings_join : (vs ws : Trees) →
+    member_encodings (join_members vs ws) ≡ member_encodings vs ++ member_encodings ws
+member_encodings_join no_trees ws = refl
+member_encodings_join (member v vs) ws =
+    ap (λ l. encoding_of v ++ l) (member_encodings_join vs ws)
+    ∙ sym (append_assoc (encoding_of v) (member_encodings vs) (member_encodings ws))
 
--- a text takes whole padded bytes
-pub whole_text : (type : ℕ) (body : List ℕ) → IsWholeSize (length (framed_text type body))
-whole_text type body = let e = length-framed_text type body in omega arith
+-- an encoding takes whole padded bytes
+pub whole_encoding : (type : ℕ) (body : List ℕ) → IsWholeSize (length (framed type body))
+whole_encoding type body = let e = length-framed type body in omega arith
 
-pub whole_members : (vs : Trees) → IsWholeSize (length (member_texts vs))
+pub whole_members : (vs : Trees) → IsWholeSize (length (member_encodings vs))
 whole_members no_trees = refl
 whole_members (member v vs) =
-    let e = length-append (text_of v) (member_texts vs) in
-    let here = whole_text (type_of v) (text_body v) in
+    let e = length-append (encoding_of v) (member_encodings vs) in
+    let here = whole_encoding (type_of v) (encoded_body v) in
     let there = whole_members vs in
     omega arith
 
@@ -61,7 +61,7 @@ large_in_join (member v vs) ws h = inr (large_in_join vs ws h)
 
 pub none_written : {S : Type 0} {content : S → List ℕ} {refuses : Refusing S} (a : S) →
     AreWritten content refuses a no_trees a
-none_written a = record { texts = extended_none a; typed = tt; no_nul = λ n. n; fits = λ n. n }
+none_written a = record { encodings = extended_none a; typed = tt; no_nul = λ n. n; fits = λ n. n }
 
 -- one more member of a slice
 pub next_written : {S : Type 0} {content : S → List ℕ} {refuses : Refusing S} (a b c : S)
@@ -73,12 +73,12 @@ next_written {content = content} {refuses = refuses} a b c vs i v below here h k
     let last = member (view v) no_trees in
     let more : take (i + 1) vs ≡ take i vs ++ v ∷ [] =
     take_more vs i v below ∙ ap (λ x. take i vs ++ x ∷ []) (sym here) in
-    let same : member_texts first ++ text_of (view v) ≡ member_texts (join_members first last) =
-    ap (λ l. member_texts first ++ l) (sym (append-nil (text_of (view v))))
-    ∙ sym (member_texts_join first last) in
+    let same : member_encodings first ++ encoding_of (view v) ≡ member_encodings (join_members first last) =
+    ap (λ l. member_encodings first ++ l) (sym (append-nil (encoding_of (view v))))
+    ∙ sym (member_encodings_join first last) in
     let P : Trees → Type 0 = λ ws. AreWritten content refuses a ws c in
     let joined : P (join_members first last) = record {
-      texts = extended_as a c _ _ same (extended_twice a b c (member_texts first) (text_of (view v)) h.texts k.text);
+      encodings = extended_as a c _ _ same (extended_twice a b c (member_encodings first) (encoding_of (view v)) h.encodings k.encoding);
       typed = typed_join first last h.typed (k.typed, tt);
       no_nul = nul_join first last h.no_nul (⊎_elim k.writable.no_nul (λ x. x));
       fits = large_join first last h.fits (⊎_elim k.writable.fits (λ x. x));
@@ -89,37 +89,37 @@ next_written {content = content} {refuses = refuses} a b c vs i v below here h k
 pub next_refused : {S : Type 0} {content : S → List ℕ} {appends : Appending S} {refuses : Refusing S} →
     IsSink appends refuses → (a b c : S) (vs : List Value) (i : ℕ) (v : Value) → i < length vs →
     v ≡ get_or vs i v → AreWritten content refuses a (views (take i vs)) b → (e : GenError) →
-    RefusesText refuses b (view v) c e → RefusesTexts refuses a (views vs) c e
+    RefusesEncoding refuses b (view v) c e → RefusesEncodings refuses a (views vs) c e
 next_refused {refuses = refuses} s a b c vs i v below here h e r =
     let first = views (take i vs) in
     let left = views (drop (i + 1) vs) in
     let rest = member (view v) left in
     let e0 =
-    ap length (member_texts_join first rest)
-    ∙ length-append (member_texts first) (member_texts rest) in
-    let e1 = length-append (text_of (view v)) (member_texts left) in
-    let le : length (member_texts first) + length (text_of (view v)) ≤ length (member_texts (join_members first rest)) =
+    ap length (member_encodings_join first rest)
+    ∙ length-append (member_encodings first) (member_encodings rest) in
+    let e1 = length-append (encoding_of (view v)) (member_encodings left) in
+    let le : length (member_encodings first) + length (encoding_of (view v)) ≤ length (member_encodings (join_members first rest)) =
     omega arith in
-    let P : Trees → Type 0 = λ ws. RefusesTexts refuses a ws c e in
+    let P : Trees → Type 0 = λ ws. RefusesEncodings refuses a ws c e in
     subst P (sym (views-at vs i v below here))
     (part_refused s (λ n. nul_in_join first rest (inl n)) (λ n. large_in_join first rest (inl n)) a b c
-    (length (member_texts first)) (length (text_of (view v)))
-    (length (member_texts (join_members first rest))) e h.texts.room le r)
+    (length (member_encodings first)) (length (encoding_of (view v)))
+    (length (member_encodings (join_members first rest))) e h.encodings.room le r)
 
 -- the header and the members
 struct_begun : {S : Type 0} {content : S → List ℕ} {refuses : Refusing S} (a head b : S) (vs : Trees) →
     IsExtended content refuses a (word_bytes 0 ++ word_bytes struct_type) head →
     AreWritten content refuses head vs b →
-    IsExtended content refuses a ((word_bytes 0 ++ word_bytes struct_type) ++ member_texts vs) b
+    IsExtended content refuses a ((word_bytes 0 ++ word_bytes struct_type) ++ member_encodings vs) b
 struct_begun a head b vs p h =
-    extended_twice a head b (word_bytes 0 ++ word_bytes struct_type) (member_texts vs) p h.texts
+    extended_twice a head b (word_bytes 0 ++ word_bytes struct_type) (member_encodings vs) p h.encodings
 
 pub struct_room : {S : Type 0} {content : S → List ℕ} {refuses : Refusing S} (a head b : S) (start : ℕ)
     (vs : Trees) → start ≡ length (content a) →
     IsExtended content refuses a (word_bytes 0 ++ word_bytes struct_type) head →
     AreWritten content refuses head vs b → start + header_size ≤ length (content b)
 struct_room a head b start vs s p h =
-    room_for_header a b start struct_type (member_texts vs) s (struct_begun a head b vs p h)
+    room_for_header a b start struct_type (member_encodings vs) s (struct_begun a head b vs p h)
 
 pub struct_written : {S : Type 0} {content : S → List ℕ} {refuses : Refusing S} (a head b c : S)
     (start : ℕ) (v : Tree) (vs : Trees) → v ≡ struct vs → start ≡ length (content a) →
@@ -128,32 +128,32 @@ pub struct_written : {S : Type 0} {content : S → List ℕ} {refuses : Refusing
     IsWritten content refuses a v c
 struct_written {content = content} {refuses = refuses} a head b c start v vs is s p h q =
     let z =
-    closed_text a b c start struct_type (member_texts vs) (whole_members vs) s
+    closed_encoding a b c start struct_type (member_encodings vs) (whole_members vs) s
     (struct_begun a head b vs p h) q in
     let f = z.1 in
     let P : Tree → Type 0 = λ w. IsWritten content refuses a w c in
     let done : P (struct vs) =
     record
-    { text = z.0; typed = h.typed; writable = record { no_nul = h.no_nul; fits = ⊎_elim (λ l. omega arith) h.fits } }
+    { encoding = z.0; typed = h.typed; writable = record { no_nul = h.no_nul; fits = ⊎_elim (λ l. omega arith) h.fits } }
     in
     subst P (sym is) done
 
 pub struct_header_refused : {S : Type 0} {appends : Appending S} {refuses : Refusing S} →
     IsSink appends refuses → (a c : S) (v : Tree) (e : GenError) → refuses a header_size c e →
-    RefusesText refuses a v c e
+    RefusesEncoding refuses a v c e
 struct_header_refused s a c v e r =
-    header_refused s (HasNul v) (IsTooLarge v) a c (type_of v) (text_body v) e r
+    header_refused s (HasNul v) (IsTooLarge v) a c (type_of v) (encoded_body v) e r
 
 pub struct_members_refused : {S : Type 0} {content : S → List ℕ} {appends : Appending S}
     {refuses : Refusing S} → IsSink appends refuses → (a head c : S) (v : Tree) (vs : Trees) →
     v ≡ struct vs → IsExtended content refuses a (word_bytes 0 ++ word_bytes struct_type) head →
-    (e : GenError) → RefusesTexts refuses head vs c e → RefusesText refuses a v c e
+    (e : GenError) → RefusesEncodings refuses head vs c e → RefusesEncoding refuses a v c e
 struct_members_refused {refuses = refuses} s a head c v vs is p e r =
     let l = two_words_length 0 struct_type in
-    let P : Tree → Type 0 = λ w. RefusesText refuses a w c e in
+    let P : Tree → Type 0 = λ w. RefusesEncoding refuses a w c e in
     subst P (sym is)
-    (inside_refused s (λ n. n) inr a head c (word_bytes 0 ++ word_bytes struct_type) (length (member_texts vs))
-    struct_type (member_texts vs) e p (omega arith) r)
+    (inside_refused s (λ n. n) inr a head c (word_bytes 0 ++ word_bytes struct_type) (length (member_encodings vs))
+    struct_type (member_encodings vs) e p (omega arith) r)
 
 pub struct_size_refused : {S : Type 0} {content : S → List ℕ} {refuses : Refusing S}
     (other : GenError → Type 0) (a head b : S) (start : ℕ) (v : Tree) (vs : Trees) → v ≡ struct vs →
@@ -162,8 +162,8 @@ pub struct_size_refused : {S : Type 0} {content : S → List ℕ} {refuses : Ref
     AreWritten content refuses head vs b → (e : GenError) → (e ≡ TooLarge) ×
     (size_limit ≤ begun_length (content b) start) → RefusesWrite (HasNul v) (IsTooLarge v) other e
 struct_size_refused {content = content} other a head b start v vs is s p h e r =
-    let size = begun_size a b start struct_type (member_texts vs) s (struct_begun a head b vs p h) in
+    let size = begun_size a b start struct_type (member_encodings vs) s (struct_begun a head b vs p h) in
     let P : Tree → Type 0 = λ w. RefusesWrite (HasNul w) (IsTooLarge w) other e in
     subst P (sym is)
     (size_refused (SomeHasNul vs) (IsTooLarge (struct vs)) other (size_limit ≤ begun_length (content b) start)
-    (λ l. inl (let k : size_limit ≤ length (member_texts vs) = omega arith in k)) e r)
+    (λ l. inl (let k : size_limit ≤ length (member_encodings vs) = omega arith in k)) e r)

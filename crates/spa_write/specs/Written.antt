@@ -1,10 +1,10 @@
--- What a writer did to its output: docs/FORMAT.md, "The text of a value".
+-- What a writer did to its output: docs/FORMAT.md, "The encoding of a value".
 use Rattle.std.specs.Prelude.{◌≡◌, ℕ, ◌+◌, ◌-◌, ◌<◌, List, ◌++◌, length, take, drop}
 use Rattle.spa_fixed.specs.declared.gen_error.GenError.{GenError}
 use Rattle.spa_fixed.specs.Writing.{RefusesWrite}
 use Rattle.spa_format.specs.Words.{header_size, size_limit, word_bytes}
 use Rattle.spa_format.specs.Tree.{Tree, fixed, string, bytes, array, choice, pointer, struct, object, Trees, Properties}
-use Rattle.spa_format.specs.Text.{text_of, member_texts, property_texts}
+use Rattle.spa_format.specs.Encoding.{encoding_of, member_encodings, property_encodings}
 use Rattle.spa_format.specs.Typed.{IsTyped, AllTyped, AllPropertiesTyped}
 use Rattle.spa_format.specs.Writable.{IsWritable, HasNul, IsTooLarge, SomeHasNul, SomeTooLarge, SomeValueHasNul, SomeValueTooLarge}
 
@@ -27,9 +27,9 @@ IsLeaf (pointer t a) = Unit {0}
 IsLeaf (struct vs) = ⊥
 IsLeaf (object t i ps) = ⊥
 
--- a sink took the text of this value, which can be written
+-- a sink took the encoding of this value, which can be written
 pub record IsPut {S : Type 0} (appends : Appending S) (old : S) (v : Tree) (new : S) : Type 0 where
-  pub text : appends old (text_of v) new
+  pub encoding : appends old (encoding_of v) new
   pub typed : IsTyped v
   pub writable : IsWritable v
 
@@ -41,17 +41,17 @@ pub record IsExtended {S : Type 0} (content : S → List ℕ) (refuses : Refusin
   pub room : (after : S) (n : ℕ) (e : GenError) → refuses new n after e → refuses old (length added + n)
       after e
 
--- an output got the text of this value, which can be written
+-- an output got the encoding of this value, which can be written
 pub record IsWritten {S : Type 0} (content : S → List ℕ) (refuses : Refusing S)
     (old : S) (v : Tree) (new : S) : Type 0 where
-  pub text : IsExtended content refuses old (text_of v) new
+  pub encoding : IsExtended content refuses old (encoding_of v) new
   pub typed : IsTyped v
   pub writable : IsWritable v
 
--- an output got the texts of these values, one after another
+-- an output got the encodings of these values, one after another
 pub record AreWritten {S : Type 0} (content : S → List ℕ) (refuses : Refusing S)
     (old : S) (vs : Trees) (new : S) : Type 0 where
-  pub texts : IsExtended content refuses old (member_texts vs) new
+  pub encodings : IsExtended content refuses old (member_encodings vs) new
   pub typed : AllTyped vs
   pub no_nul : ¬ (SomeHasNul vs)
   pub fits : ¬ (SomeTooLarge vs)
@@ -59,27 +59,27 @@ pub record AreWritten {S : Type 0} (content : S → List ℕ) (refuses : Refusin
 -- an output got these properties, one after another
 pub record ArePropertiesWritten {S : Type 0} (content : S → List ℕ) (refuses : Refusing S)
     (old : S) (ps : Properties) (new : S) : Type 0 where
-  pub texts : IsExtended content refuses old (property_texts ps) new
+  pub encodings : IsExtended content refuses old (property_encodings ps) new
   pub typed : AllPropertiesTyped ps
   pub no_nul : ¬ (SomeValueHasNul ps)
   pub fits : ¬ (SomeValueTooLarge ps)
 
--- why the text of this value was refused: a text in it holds NUL, a size word is past 32 bits, or the sink refused so many
--- bytes and was left as the second
-abbrev pub RefusesText : {S : Type 0} → Refusing S → S → Tree → S → GenError → Type 0
-RefusesText refuses old v new =
-    RefusesWrite (HasNul v) (IsTooLarge v) (refuses old (length (text_of v)) new)
+-- why the encoding of this value was refused: a text in it holds NUL, a size word is past 32 bits, or the sink refused
+-- so many bytes and was left as the second
+abbrev pub RefusesEncoding : {S : Type 0} → Refusing S → S → Tree → S → GenError → Type 0
+RefusesEncoding refuses old v new =
+    RefusesWrite (HasNul v) (IsTooLarge v) (refuses old (length (encoding_of v)) new)
 
 -- the same of values, one after another
-abbrev pub RefusesTexts : {S : Type 0} → Refusing S → S → Trees → S → GenError → Type 0
-RefusesTexts refuses old vs new =
-    RefusesWrite (SomeHasNul vs) (SomeTooLarge vs) (refuses old (length (member_texts vs)) new)
+abbrev pub RefusesEncodings : {S : Type 0} → Refusing S → S → Trees → S → GenError → Type 0
+RefusesEncodings refuses old vs new =
+    RefusesWrite (SomeHasNul vs) (SomeTooLarge vs) (refuses old (length (member_encodings vs)) new)
 
 -- the same of properties, one after another
 abbrev pub RefusesProperties : {S : Type 0} → Refusing S → S → Properties → S → GenError → Type 0
 RefusesProperties refuses old ps new =
     RefusesWrite (SomeValueHasNul ps) (SomeValueTooLarge ps)
-    (refuses old (length (property_texts ps)) new)
+    (refuses old (length (property_encodings ps)) new)
 
 -- how long the body is of a pod that begins at this place and ends with the bytes
 abbrev pub begun_length : List ℕ → ℕ → ℕ

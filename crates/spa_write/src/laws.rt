@@ -2,7 +2,7 @@
 ghost use Rattle.std.specs.Prelude.{◌≡◌, ◌+◌, ◌<◌, ◌≤◌, ◌++◌, IfErr, IfOk, IsOk, length};
 ghost use Rattle.spa_fixed.specs.Writing.{RefusedFor};
 ghost use Rattle.spa_fixed.specs.declared.gen_error.GenError.TheVariants.{Full, OutOfMemory};
-ghost use Rattle.spa_format.specs.Text.{text_of};
+ghost use Rattle.spa_format.specs.Encoding.{encoding_of};
 ghost use Rattle.spa_format.specs.Writable.{HasNul, IsTooLarge, IsWritable};
 ghost use Rattle.spa_value.specs.View.{view};
 
@@ -11,30 +11,30 @@ use arrayvec::ArrayVec;
 use spa_fixed::GenError;
 use spa_value::Value;
 
-/// Over an output of fixed size each value that can be written is written where its text fits, and no other value is ever
+/// Over an output of fixed size each value that can be written is written where its encoding fits, and no other value is ever
 /// written. It is refused as `NulInText` only where a text in it holds NUL, as `TooLarge` only where a size word is 4294967296
-/// or more, as `Full` only where its text doesn't fit, and never otherwise.
+/// or more, as `Full` only where its encoding doesn't fit, and never otherwise.
 pub fn values_are_written_where_they_fit<const N: usize>(
     out: ArrayVec<u8, N>,
     value: &Value,
 ) -> Result<(ArrayVec<u8, N>, u64), GenError>
-    ensures text { IfOk result (λ done. done.0.items ≡ out.entry.items ++ text_of (view value.now)) }
-    ensures count { IfOk result (λ done. done.1 ≡ length (text_of (view value.now))) }
+    ensures encoding { IfOk result (λ done. done.0.items ≡ out.entry.items ++ encoding_of (view value.now)) }
+    ensures count { IfOk result (λ done. done.1 ≡ length (encoding_of (view value.now))) }
     ensures writable { IsOk result → IsWritable (view value.now) }
-    ensures room { IsWritable (view value.now) → length out.entry.items + length (text_of (view value.now)) ≤ N → IsOk result }
-    ensures cause { IfErr result (RefusedFor (HasNul (view value.now)) (IsTooLarge (view value.now)) (λ e. (e ≡ Full) × (N < length out.entry.items + length (text_of (view value.now))))) }
+    ensures room { IsWritable (view value.now) → length out.entry.items + length (encoding_of (view value.now)) ≤ N → IsOk result }
+    ensures cause { IfErr result (RefusedFor (HasNul (view value.now)) (IsTooLarge (view value.now)) (λ e. (e ≡ Full) × (N < length out.entry.items + length (encoding_of (view value.now))))) }
 {
     PodSerializer::serialize(out, value)
 }
 
-/// Over an output in memory a value that can be written is refused only for want of memory, and one that can't be written is
+/// Over an output in memory a value that can be written is refused only for lack of memory, and one that can't be written is
 /// never written.
 pub fn values_are_written_into_memory(
     out: Vec<u8>,
     value: &Value,
 ) -> Result<(Vec<u8>, u64), GenError>
-    ensures text { IfOk result (λ done. done.0.items ≡ out.items ++ text_of (view value.now)) }
-    ensures count { IfOk result (λ done. done.1 ≡ length (text_of (view value.now))) }
+    ensures encoding { IfOk result (λ done. done.0.items ≡ out.items ++ encoding_of (view value.now)) }
+    ensures count { IfOk result (λ done. done.1 ≡ length (encoding_of (view value.now))) }
     ensures writable { IsOk result → IsWritable (view value.now) }
     ensures memory { IsWritable (view value.now) → IfErr result (λ e. e ≡ OutOfMemory) }
     ensures cause { IfErr result (RefusedFor (HasNul (view value.now)) (IsTooLarge (view value.now)) (λ e. e ≡ OutOfMemory)) }

@@ -2,11 +2,11 @@
 ghost use Rattle.std.specs.Prelude.{◌≡◌, ◌≤◌, IfErr, OnOk, length, map};
 ghost use Rattle.spa_fixed.specs.Choices.{choice_tree};
 ghost use Rattle.spa_fixed.specs.Writing.{RefusesWrite};
-ghost use Rattle.spa_format.specs.Text.{text_of};
+ghost use Rattle.spa_format.specs.Encoding.{encoding_of};
 ghost use Rattle.spa_format.specs.Tree as tree;
 ghost use Rattle.spa_format.specs.Writable.{HasNul, IsTooLarge};
 ghost use Rattle.spa_value.specs.View.{array_view, choice_view, view};
-ghost use Rattle.spa_write.specs.Written.{IsLeaf, IsPut, RefusesText};
+ghost use Rattle.spa_write.specs.Written.{IsLeaf, IsPut, RefusesEncoding};
 
 use crate::text::{put_bytes, put_pointer, put_text};
 use spa_fixed::{
@@ -15,12 +15,12 @@ use spa_fixed::{
 use spa_utils::Choice;
 use spa_value::{ChoiceValue, Value, ValueArray};
 
-/// Appends the text of a value that is neither a struct nor an object. Where it is refused as `NulInText` or `TooLarge`,
-/// nothing is appended.
+/// Appends the encoding of a value that is neither a struct nor an object. Where it is refused as `NulInText` or
+/// `TooLarge`, nothing is appended.
 pub fn put_leaf<S: PodSink>(sink: &mut S, value: &Value) -> Result<(), GenError>
     requires { IsLeaf (view value.now) }
     ensures put { OnOk result (IsPut S.appends sink.old (view value.now) sink.new) }
-    ensures refused { IfErr result (RefusesText S.refuses sink.old (view value.now) sink.new) }
+    ensures refused { IfErr result (RefusesEncoding S.refuses sink.old (view value.now) sink.new) }
 {
     match value {
         Value::None => put_number(sink, &()),
@@ -49,7 +49,7 @@ fn put_number<T: CanonicalFixedSizedPod, S: PodSink>(
     value: &T,
 ) -> Result<(), GenError>
     ensures put { OnOk result (IsPut S.appends sink.old (tree.fixed (T.fixed value.now)) sink.new) }
-    ensures refused { IfErr result (RefusesText S.refuses sink.old (tree.fixed (T.fixed value.now)) sink.new) }
+    ensures refused { IfErr result (RefusesEncoding S.refuses sink.old (tree.fixed (T.fixed value.now)) sink.new) }
 {
     put_fixed(sink, value)
 }
@@ -60,7 +60,7 @@ fn put_elements<T: CanonicalFixedSizedPod, S: PodSink>(
     values: &[T],
 ) -> Result<(), GenError>
     ensures put { OnOk result (IsPut S.appends sink.old (tree.array T.kind (map T.fixed values.now)) sink.new) }
-    ensures refused { IfErr result (RefusesText S.refuses sink.old (tree.array T.kind (map T.fixed values.now)) sink.new) }
+    ensures refused { IfErr result (RefusesEncoding S.refuses sink.old (tree.array T.kind (map T.fixed values.now)) sink.new) }
 {
     put_array(sink, values)
 }
@@ -71,7 +71,7 @@ fn put_alternatives<T: ChoiceElement, S: PodSink>(
     choice: &Choice<T>,
 ) -> Result<(), GenError>
     ensures put { OnOk result (IsPut S.appends sink.old (choice_tree T.kind T.fixed choice.now) sink.new) }
-    ensures refused { IfErr result (RefusesText S.refuses sink.old (choice_tree T.kind T.fixed choice.now) sink.new) }
+    ensures refused { IfErr result (RefusesEncoding S.refuses sink.old (choice_tree T.kind T.fixed choice.now) sink.new) }
 {
     put_choice(sink, choice)
 }
@@ -79,7 +79,7 @@ fn put_alternatives<T: ChoiceElement, S: PodSink>(
 /// Appends the pod of an array.
 fn put_value_array<S: PodSink>(sink: &mut S, array: &ValueArray) -> Result<(), GenError>
     ensures put { OnOk result (IsPut S.appends sink.old (array_view array.now) sink.new) }
-    ensures refused { IfErr result (RefusesText S.refuses sink.old (array_view array.now) sink.new) }
+    ensures refused { IfErr result (RefusesEncoding S.refuses sink.old (array_view array.now) sink.new) }
 {
     match array {
         ValueArray::None(units) => put_elements(sink, units.as_slice()),
@@ -98,7 +98,7 @@ fn put_value_array<S: PodSink>(sink: &mut S, array: &ValueArray) -> Result<(), G
 /// Appends the pod of a choice.
 fn put_choice_value<S: PodSink>(sink: &mut S, choice: &ChoiceValue) -> Result<(), GenError>
     ensures put { OnOk result (IsPut S.appends sink.old (choice_view choice.now) sink.new) }
-    ensures refused { IfErr result (RefusesText S.refuses sink.old (choice_view choice.now) sink.new) }
+    ensures refused { IfErr result (RefusesEncoding S.refuses sink.old (choice_view choice.now) sink.new) }
 {
     match choice {
         ChoiceValue::Bool(values) => put_alternatives(sink, values),

@@ -1,4 +1,4 @@
-//! The writer of values: a value's text is appended to any output.
+//! The writer of values: a value's encoding is appended to any output.
 #![tactic(auto)]
 
 mod frame;

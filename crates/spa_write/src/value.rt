@@ -1,11 +1,11 @@
-//! Values of any kind, with their members.
+//! Values of any type, with their members.
 ghost use Rattle.std.specs.Prelude.{◌≡◌, IfErr, OnOk, length};
 ghost use Rattle.spa_fixed.specs.Writing.{RefusesWrite};
-ghost use Rattle.spa_format.specs.Text.{member_texts, property_texts, text_of};
+ghost use Rattle.spa_format.specs.Encoding.{encoding_of, member_encodings, property_encodings};
 ghost use Rattle.spa_format.specs.Writable.{HasNul, IsTooLarge, SomeHasNul, SomeTooLarge, SomeValueHasNul, SomeValueTooLarge};
 ghost use Rattle.spa_value.specs.View.{view};
 ghost use Rattle.spa_value.specs.Views.{property_views, views};
-ghost use Rattle.spa_write.specs.Written.{ArePropertiesWritten, AreWritten, IsWritten, RefusesProperties, RefusesText, RefusesTexts};
+ghost use Rattle.spa_write.specs.Written.{ArePropertiesWritten, AreWritten, IsWritten, RefusesEncoding, RefusesEncodings, RefusesProperties};
 
 use crate::frame::{begin, close};
 use crate::leaf::put_leaf;
@@ -14,11 +14,11 @@ use spa_fixed::{GenError, PodOutput, put_two};
 use spa_utils::SpaTypes;
 use spa_value::{Property, Value};
 
-/// Appends the text of a value.
+/// Appends the encoding of a value.
 #[cycle(write)]
 pub fn write_value<O: PodOutput>(out: &mut O, value: &Value) -> Result<(), GenError>
     ensures written { OnOk result (IsWritten O.content O.refuses out.old (view value.now) out.new) }
-    ensures refused { IfErr result (RefusesText O.refuses out.old (view value.now) out.new) }
+    ensures refused { IfErr result (RefusesEncoding O.refuses out.old (view value.now) out.new) }
 {
     match value {
         Value::Struct(members) => {
@@ -36,11 +36,11 @@ pub fn write_value<O: PodOutput>(out: &mut O, value: &Value) -> Result<(), GenEr
     }
 }
 
-/// Appends the texts of values, one after another.
+/// Appends the encodings of values, one after another.
 #[cycle(write)]
 fn write_members<O: PodOutput>(out: &mut O, members: &[Value]) -> Result<(), GenError>
     ensures written { OnOk result (AreWritten O.content O.refuses out.old (views members.now) out.new) }
-    ensures refused { IfErr result (RefusesTexts O.refuses out.old (views members.now) out.new) }
+    ensures refused { IfErr result (RefusesEncodings O.refuses out.old (views members.now) out.new) }
 {
     for member in members {
         write_value(out, member)?;
@@ -48,7 +48,7 @@ fn write_members<O: PodOutput>(out: &mut O, members: &[Value]) -> Result<(), Gen
     Ok(())
 }
 
-/// Appends properties, each as its key, its flags and its value's text.
+/// Appends properties, each as its key, its flags and its value's encoding.
 #[cycle(write)]
 fn write_properties<O: PodOutput>(out: &mut O, properties: &[Property]) -> Result<(), GenError>
     ensures written { OnOk result (ArePropertiesWritten O.content O.refuses out.old (property_views properties.now) out.new) }

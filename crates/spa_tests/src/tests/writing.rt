@@ -10,7 +10,7 @@ use std::alloc::{AllocError, Global};
 use std::process::Abort;
 use std::test::Fail;
 
-/// Compares a value's text, behind bytes that were there, with the bytes that the words spell.
+/// Compares a value's encoding, behind bytes that were there, with the bytes that the words spell.
 fn compare(rt: &impl Abort, alloc: Global, value: Value, words: &str) -> Result<(), Fail> {
     let (out, count) = written(alloc, value)?;
     compare_output(rt, alloc, out.as_slice(), count, words)
@@ -30,7 +30,7 @@ fn compare_output(
     Ok(())
 }
 
-/// A value's text behind bytes that were there, and its length.
+/// A value's encoding behind bytes that were there, and its length.
 fn written(alloc: Global, value: Value) -> Result<(Vec<u8>, u64), Fail> {
     match bytes_of(alloc, "x0102") {
         Ok(before) => Ok(write_owned(before, value)?),
@@ -155,7 +155,7 @@ fn struct_of_nul(alloc: Global) -> Result<Value, AllocError> {
 }
 
 #[test]
-fn refuses_what_has_no_text(rt: HostRuntime) -> Result<(), Fail> {
+fn refuses_what_has_no_encoding(rt: HostRuntime) -> Result<(), Fail> {
     let refusal = refusal_of(rt.alloc(), struct_of_nul(rt.alloc())?);
     assert_holds(&rt, refusal == Some(GenError::NulInText), "a NUL in a text");
     Ok(())

@@ -28,7 +28,10 @@ fn array_in<T: CanonicalFixedSizedPod>(alloc: Global, pod: &[u8]) -> Result<Vec<
 }
 
 /// The pod of an array of these values.
-fn array_text<T: CanonicalFixedSizedPod>(alloc: Global, values: &[T]) -> Result<Vec<u8>, GenError> {
+fn array_encoding<T: CanonicalFixedSizedPod>(
+    alloc: Global,
+    values: &[T],
+) -> Result<Vec<u8>, GenError> {
     let mut out = Vec::new(alloc);
     put_array(&mut out, values)?;
     Ok(out)
@@ -93,8 +96,8 @@ fn arrays_of_units_have_no_bytes(rt: HostRuntime) -> Result<(), Fail> {
     for (words, wanted) in rows {
         assert_eq!(rt; unit_count(rt.alloc(), words), wanted, "at {words:?}");
     }
-    let text = array_text(rt.alloc(), &[(), (), (), (), ()])?;
-    assert_words(&rt, rt.alloc(), text.as_slice(), &[8, 13, 0, 1])
+    let encoding = array_encoding(rt.alloc(), &[(), (), (), (), ()])?;
+    assert_words(&rt, rt.alloc(), encoding.as_slice(), &[8, 13, 0, 1])
 }
 
 /// What opening an array of ints gives, and after that its first element: the elements, the int, and what follows it.
@@ -130,9 +133,9 @@ fn three_arrays(alloc: Global) -> Result<Vec<u8>, GenError> {
 
 #[test]
 fn arrays_are_written(rt: HostRuntime) -> Result<(), Fail> {
-    let text = three_arrays(rt.alloc())?;
+    let encoding = three_arrays(rt.alloc())?;
     let pods = [20, 13, 4, 4, 10, 15, 19, 0, 16, 13, 4, 3, 1, 2, 8, 13, 8, 5];
-    assert_words(&rt, rt.alloc(), text.as_slice(), &pods)
+    assert_words(&rt, rt.alloc(), encoding.as_slice(), &pods)
 }
 
 /// A hundred fractions, which are more than one block.
@@ -148,9 +151,9 @@ fn fractions(alloc: Global) -> Result<Vec<Fraction>, AllocError> {
 #[test]
 fn long_arrays_read_back(rt: HostRuntime) -> Result<(), Fail> {
     let values = fractions(rt.alloc())?;
-    let text = array_text(rt.alloc(), values.as_slice())?;
-    assert_eq!(rt; text.len(), 816);
-    let read = array_in::<Fraction>(rt.alloc(), text.as_slice())?;
+    let encoding = array_encoding(rt.alloc(), values.as_slice())?;
+    assert_eq!(rt; encoding.len(), 816);
+    let read = array_in::<Fraction>(rt.alloc(), encoding.as_slice())?;
     assert!(rt; read.as_slice() == values.as_slice());
     Ok(())
 }

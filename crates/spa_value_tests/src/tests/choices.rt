@@ -28,7 +28,10 @@ fn choice_of<T: ChoiceElement>(
 }
 
 /// The pod of a choice.
-fn choice_text<T: ChoiceElement>(alloc: Global, choice: &Choice<T>) -> Result<Vec<u8>, GenError> {
+fn choice_encoding<T: ChoiceElement>(
+    alloc: Global,
+    choice: &Choice<T>,
+) -> Result<Vec<u8>, GenError> {
     let mut out = Vec::new(alloc);
     put_choice(&mut out, choice)?;
     Ok(out)
@@ -49,8 +52,8 @@ fn is_choice<T: ChoiceElement + PartialEq>(
 ) -> Result<(), Fail> {
     let found = choice_of::<T>(alloc, body, 4 * body.len())?;
     assert!(rt; found == *wanted, "the choice of {body:?}");
-    let text = choice_text(alloc, &found)?;
-    assert_words(rt, alloc, text.as_slice(), pod)
+    let encoding = choice_encoding(alloc, &found)?;
+    assert_words(rt, alloc, encoding.as_slice(), pod)
 }
 
 #[test]
@@ -85,11 +88,11 @@ fn choices_of_one_value(rt: HostRuntime) -> Result<(), Fail> {
         &choice(0, ChoiceEnum::None(7)),
         &pod,
     )?;
-    let text = choice_text(rt.alloc(), &choice(5, ChoiceEnum::None(7)))?;
+    let encoding = choice_encoding(rt.alloc(), &choice(5, ChoiceEnum::None(7)))?;
     assert_words(
         &rt,
         rt.alloc(),
-        text.as_slice(),
+        encoding.as_slice(),
         &[20, 19, 0, 5, 4, 4, 7, 0],
     )
 }

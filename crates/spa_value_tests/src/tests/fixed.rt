@@ -41,8 +41,8 @@ fn is_fixed<T>(rt: &impl Abort, alloc: Global, value: T, pod: &[u32]) -> Result<
 where
     T: CanonicalFixedSizedPod + FixedSizedPod<CanonicalType = T> + PartialEq,
 {
-    let text = pod_of(alloc, &value)?;
-    assert_words(rt, alloc, text.as_slice(), pod)?;
+    let encoding = pod_of(alloc, &value)?;
+    assert_words(rt, alloc, encoding.as_slice(), pod)?;
     let mut body = body_of(alloc, &value)?;
     assert_eq!(rt; body.len(), T::SIZE, "at {pod:?}");
     body.push(9)?;

@@ -60,7 +60,7 @@ fn faults_have_their_names(rt: HostRuntime) {
 }
 
 #[test]
-fn want_of_memory_has_a_name_everywhere(rt: HostRuntime) {
+fn lack_of_memory_has_a_name_everywhere(rt: HostRuntime) {
     assert_eq!(rt; GenError::from(AllocError), GenError::OutOfMemory);
     assert_eq!(rt; Refusal::from(AllocError), Refusal::OutOfMemory);
     let error: DeserializeError<u8> = DeserializeError::from(AllocError);

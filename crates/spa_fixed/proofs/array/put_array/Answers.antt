@@ -1,10 +1,10 @@
 use Rattle.std.proofs.Common.{◌≡◌, ◌∙◌, ◌++◌, ◌<◌, ◌≤◌, length, map, sym, subst}
 use Rattle.std.proofs.lemmas.Result.{IfErr-weaker, on_ok_weaker}
 use Rattle.spa_format.specs.Words.{word_bytes, size_limit}
-use Rattle.spa_format.specs.Text.{array_body, framed_text}
+use Rattle.spa_format.specs.Encoding.{array_body, framed}
 use Rattle.spa_format.specs.Tree.{array_type}
-use Rattle.spa_fixed.proofs.Sending.{by_sink, refused_text}
-use Rattle.spa_fixed.proofs.ArrayWriting.{length-array_body, array_text}
+use Rattle.spa_fixed.proofs.Sending.{by_sink, refused_encoding}
+use Rattle.spa_fixed.proofs.ArrayWriting.{length-array_body, array_encoding}
 use Rattle.spa_fixed.proofs.array.put_array.Goals as goal
 
 pub returns-in_default-clause-refused : goal.returns-in_default-clause-refused
@@ -19,8 +19,8 @@ returns-clause-ok g c =
     let xs = map g.T.CanonicalFixedSizedPod.fixed c.args.values.now in
     let l = length-array_body g.T.CanonicalFixedSizedPod.kind g.T.CanonicalFixedSizedPod.fixed g.T.CanonicalFixedSizedPod.SIZE c.args.values.now met.its_kind met.its_size in
     let header : c.joined-header.result ≡ (word_bytes c.in-Some.size ++ word_bytes array_type) ++ (word_bytes c.SIZE.result ++ word_bytes c.TYPE.result) = c.joined-header.ensures ∙ cc (c.two_words.ensures, c.two_words-2.ensures) in
-    let text = array_text g.T.CanonicalFixedSizedPod.kind xs c.joined-header.result c.in-Some.size c.SIZE.result c.TYPE.result header (c.in-Some.ensures.some ∙ sym l) (c.SIZE.ensures ∙ met.its_size) (c.TYPE.ensures ∙ met.its_type) in
-    on_ok_weaker c.put_parts.result (λ p. subst (λ b. g.S.PodSink.appends c.args.sink.now b c.put_parts.new.sink) text p) c.put_parts.ensures.ok
+    let encoding = array_encoding g.T.CanonicalFixedSizedPod.kind xs c.joined-header.result c.in-Some.size c.SIZE.result c.TYPE.result header (c.in-Some.ensures.some ∙ sym l) (c.SIZE.ensures ∙ met.its_size) (c.TYPE.ensures ∙ met.its_type) in
+    on_ok_weaker c.put_parts.result (λ p. subst (λ b. g.S.PodSink.appends c.args.sink.now b c.put_parts.new.sink) encoding p) c.put_parts.ensures.ok
 
 pub returns-clause-fits : goal.returns-clause-fits
 returns-clause-fits g c =
@@ -34,5 +34,5 @@ returns-clause-refused g c =
     let xs = map g.T.CanonicalFixedSizedPod.fixed c.args.values.now in
     let l = length-array_body g.T.CanonicalFixedSizedPod.kind g.T.CanonicalFixedSizedPod.fixed g.T.CanonicalFixedSizedPod.SIZE c.args.values.now met.its_kind met.its_size in
     let header : c.joined-header.result ≡ (word_bytes c.in-Some.size ++ word_bytes array_type) ++ (word_bytes c.SIZE.result ++ word_bytes c.TYPE.result) = c.joined-header.ensures ∙ cc (c.two_words.ensures, c.two_words-2.ensures) in
-    let text = array_text g.T.CanonicalFixedSizedPod.kind xs c.joined-header.result c.in-Some.size c.SIZE.result c.TYPE.result header (c.in-Some.ensures.some ∙ sym l) (c.SIZE.ensures ∙ met.its_size) (c.TYPE.ensures ∙ met.its_type) in
-    IfErr-weaker c.put_parts.result _ _ (λ e r. by_sink g.S.PodSink.refuses g.met.S.PodSink.never_nul g.met.S.PodSink.never_large c.args.sink.now _ (length (framed_text array_type (array_body g.T.CanonicalFixedSizedPod.kind xs))) e (refused_text g.S.PodSink.refuses c.args.sink.now _ _ _ e text r)) c.put_parts.ensures.cause
+    let encoding = array_encoding g.T.CanonicalFixedSizedPod.kind xs c.joined-header.result c.in-Some.size c.SIZE.result c.TYPE.result header (c.in-Some.ensures.some ∙ sym l) (c.SIZE.ensures ∙ met.its_size) (c.TYPE.ensures ∙ met.its_type) in
+    IfErr-weaker c.put_parts.result _ _ (λ e r. by_sink g.S.PodSink.refuses g.met.S.PodSink.never_nul g.met.S.PodSink.never_large c.args.sink.now _ (length (framed array_type (array_body g.T.CanonicalFixedSizedPod.kind xs))) e (refused_encoding g.S.PodSink.refuses c.args.sink.now _ _ _ e encoding r)) c.put_parts.ensures.cause

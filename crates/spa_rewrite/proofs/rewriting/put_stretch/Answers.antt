@@ -10,7 +10,7 @@ returns-then-is_empty-clause-taken c =
       stretch = [];
       parts = refl;
       canonical = record { values = no_trees; members = refl; same = refl };
-      text = appends_none _;
+      encoding = appends_none _;
     }
 
 pub returns-in-Err-clause-front : goal.returns-in-Err-clause-front

@@ -1,5 +1,5 @@
 use Rattle.std.proofs.Common.{◌≡◌, ◌++◌, [], ap, sym, ◌∙◌}
-use Rattle.spa_format.specs.Text.{member_texts}
+use Rattle.spa_format.specs.Encoding.{member_encodings}
 use Rattle.spa_rewrite.specs.Rewriting.{AreRewritten}
 use Rattle.spa_rewrite.specs.Tails.{start_bytes, tail_bytes}
 use Rattle.spa_rewrite.proofs.Stretches.{both_rewritten, in_parts, left_behind, list_refused, rewritten_apart}

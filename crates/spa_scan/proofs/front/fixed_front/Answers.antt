@@ -14,19 +14,19 @@ returns-then-size-eq-TWO_WORDS-clause-taken c =
     let same = c.if-size-fixed_len.false in
     let f = c.fixed_len.ensures (omega arith) in
     let size : 8 ≡ body_size f.0 = sym eight ∙ same ∙ f.2 in
-    fixed_begins _ _ f.0 8 bytes c.if-input-lt-SHORT_POD.false (sym c.u32_at-kind.ensures ∙ f.1) (sym c.u32_at-size.ensures ∙ eight) size
+    fixed_begins _ _ f.0 8 bytes c.if-input-lt-SHORT_POD.false (sym c.u32_at-type_.ensures ∙ f.1) (sym c.u32_at-size.ensures ∙ eight) size
     (omega arith) (omega arith) refl (λ i. absurd (let four : 8 ≡ 4 = size ∙ ap body_size i in omega arith)) c.split_at.ensures.back
 
-pub returns-then-kind-eq-BOOL-clause-taken : goal.returns-then-kind-eq-BOOL-clause-taken
-returns-then-kind-eq-BOOL-clause-taken c =
+pub returns-then-type_-eq-BOOL-clause-taken : goal.returns-then-type_-eq-BOOL-clause-taken
+returns-then-type_-eq-BOOL-clause-taken c =
     let bytes : IsBytes c.args.input.now = λ i. omega (arith, c.type_inv.input i) in
     let four = c.if-size-ne-ONE_WORD.false in
     let same = c.if-size-fixed_len.false in
     let f = c.fixed_len.ensures (omega arith) in
     let size : 4 ≡ body_size f.0 = sym four ∙ same ∙ f.2 in
     let zeros = zeros_of_word _ bytes c.if-input-lt-SHORT_POD.false (sym c.u32_at.ensures ∙ c.if-u32_at-ne0.false) in
-    let small : word_at c.args.input.now 8 < 2 = let e = c.u32_at-then-kind-eq-BOOL.ensures in let l = c.if-u32_at-gt1.false in omega arith in
-    fixed_begins _ _ f.0 4 bytes c.if-input-lt-SHORT_POD.false (sym c.u32_at-kind.ensures ∙ f.1) (sym c.u32_at-size.ensures ∙ four) size
+    let small : word_at c.args.input.now 8 < 2 = let e = c.u32_at-then-type_-eq-BOOL.ensures in let l = c.if-u32_at-gt1.false in omega arith in
+    fixed_begins _ _ f.0 4 bytes c.if-input-lt-SHORT_POD.false (sym c.u32_at-type_.ensures ∙ f.1) (sym c.u32_at-size.ensures ∙ four) size
     (omega arith) (omega arith) zeros (λ _. small) c.split_at.ensures.back
 
 pub returns-clause-taken : goal.returns-clause-taken
@@ -37,5 +37,5 @@ returns-clause-taken c =
     let f = c.fixed_len.ensures (omega arith) in
     let size : 4 ≡ body_size f.0 = sym four ∙ same ∙ f.2 in
     let zeros = zeros_of_word _ bytes c.if-input-lt-SHORT_POD.false (sym c.u32_at.ensures ∙ c.if-u32_at-ne0.false) in
-    fixed_begins _ _ f.0 4 bytes c.if-input-lt-SHORT_POD.false (sym c.u32_at-kind.ensures ∙ f.1) (sym c.u32_at-size.ensures ∙ four) size
-    (omega arith) (omega arith) zeros (λ i. absurd (c.if-kind-eq-BOOL.false (f.1 ∙ ap type_number i))) c.split_at.ensures.back
+    fixed_begins _ _ f.0 4 bytes c.if-input-lt-SHORT_POD.false (sym c.u32_at-type_.ensures ∙ f.1) (sym c.u32_at-size.ensures ∙ four) size
+    (omega arith) (omega arith) zeros (λ i. absurd (c.if-type_-eq-BOOL.false (f.1 ∙ ap type_number i))) c.split_at.ensures.back

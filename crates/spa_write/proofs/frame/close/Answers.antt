@@ -1,7 +1,7 @@
 use Rattle.std.proofs.Common.{◌≡◌, ◌+◌, ◌-◌, ◌++◌, take, drop, arith, ap, sym, ◌∙◌}
 use Rattle.spa_format.specs.Words.{header_size, word_bytes}
 use Rattle.spa_write.specs.Written.{begun_length}
-use Rattle.spa_write.proofs.Texts.{word_bytes_is}
+use Rattle.spa_write.proofs.Encodings.{word_bytes_is}
 use Rattle.spa_write.proofs.frame.close.Goals as goal
 
 pub returns-clause-closed : goal.returns-clause-closed

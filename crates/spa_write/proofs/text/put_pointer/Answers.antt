@@ -2,7 +2,7 @@ use Rattle.std.proofs.Common.{◌++◌, arith, length-append}
 use Rattle.std.proofs.lemmas.Result.{IfErr-weaker}
 use Rattle.spa_format.specs.Tree.{pointer_type}
 use Rattle.spa_format.specs.Words.{word_bytes}
-use Rattle.spa_write.proofs.Texts.{pointer_text_length, two_words_length}
+use Rattle.spa_write.proofs.Encodings.{pointer_encoding_length, two_words_length}
 use Rattle.spa_write.proofs.Refusals.{IsSink, later_refused, passed_on}
 use Rattle.spa_write.proofs.text.put_pointer.Given.{Over}
 use Rattle.spa_write.proofs.text.put_pointer.Goals as goal
@@ -18,7 +18,7 @@ sink_of g = record {
 pub returns-in_err-put_two-2-clause-refused : goal.returns-in_err-put_two-2-clause-refused
 returns-in_err-put_two-2-clause-refused g c =
     let e0 = two_words_length 16 pointer_type in
-    let e1 = pointer_text_length c.args.type_ c.args.address in
+    let e1 = pointer_encoding_length c.args.type_ c.args.address in
     passed_on _ _ _ c.from_residual-in_err-put_two-2.ensures.1
     (later_refused (sink_of g) _ _ c.args.sink.now _ _ (word_bytes 16 ++ word_bytes pointer_type) 8 _ _
     c.in_ok-put_two.ensures.ok (omega arith) c.in_err-put_two-2.ensures.cause)
@@ -28,7 +28,7 @@ returns-clause-refused g c =
     let header = word_bytes 16 ++ word_bytes pointer_type in
     let words = word_bytes c.args.type_ ++ word_bytes 0 in
     let e0 = two_words_length 16 pointer_type in
-    let e1 = pointer_text_length c.args.type_ c.args.address in
+    let e1 = pointer_encoding_length c.args.type_ c.args.address in
     let e2 = two_words_length c.args.type_ 0 in
     let e3 = length-append header words in
     let p =

@@ -8,5 +8,5 @@ returns-clause-back g c =
     let v = g.P.PodSerialize.value c.args.pod.now in
     let w = c.in_ok-out.ensures in
     let P : List ℕ → Type 0 = λ b. IsPod b (normal_of v) in
-    subst P (c.texts_read_back.ensures.there v [] w.typed w.writable)
-    (c.texts_read_back.ensures.value v [] w.typed w.writable).pod
+    subst P (c.encodings_read_back.ensures.there v [] w.typed w.writable)
+    (c.encodings_read_back.ensures.value v [] w.typed w.writable).pod

@@ -1,9 +1,9 @@
--- Texts and their lengths.
+-- Encodings and their lengths.
 use Rattle.std.proofs.Common.{◌≡◌, ℕ, ◌+◌, ◌-◌, ◌≤◌, List, ◌++◌, length, refl, sym, ap, ◌∙◌, arith, append_assoc, length-append}
 use Rattle.std.proofs.lemmas.List.{append-nil, length-replicate}
 use Rattle.std.specs.Int.{w32, to_le_bytes}
 use Rattle.spa_format.specs.Words.{header_size, padded_size, padding, word_bytes, wide_bytes}
-use Rattle.spa_format.specs.Text.{framed_text, text_of}
+use Rattle.spa_format.specs.Encoding.{encoding_of, framed}
 use Rattle.spa_format.specs.Tree.{pointer, pointer_type}
 
 pub length-word_bytes : (n : ℕ) → length (word_bytes n) ≡ 4
@@ -18,9 +18,9 @@ pub length-padding : (size : ℕ) → length (padding size) ≡ padded_size size
 length-padding size = length-replicate (padded_size size - size) 0
 
 -- a header, then the body, rounded up
-pub length-framed_text : (type : ℕ) (body : List ℕ) →
-    length (framed_text type body) ≡ header_size + padded_size (length body)
-length-framed_text type body =
+pub length-framed : (type : ℕ) (body : List ℕ) →
+    length (framed type body) ≡ header_size + padded_size (length body)
+length-framed type body =
     let n = length body in
     let e0 = length-append (word_bytes n) (word_bytes type ++ (body ++ padding n)) in
     let e1 = length-append (word_bytes type) (body ++ padding n) in
@@ -31,12 +31,12 @@ length-framed_text type body =
     let up : n ≤ padded_size n = omega arith in
     omega arith
 
--- the header and the body lie within the text
+-- the header and the body lie within the encoding
 pub body_within : (type : ℕ) (body : List ℕ) →
-    header_size + length body ≤ length (framed_text type body)
-body_within type body = omega (arith, length-framed_text type body)
+    header_size + length body ≤ length (framed type body)
+body_within type body = omega (arith, length-framed type body)
 
-pub header_within : (type : ℕ) (body : List ℕ) → header_size ≤ length (framed_text type body)
+pub header_within : (type : ℕ) (body : List ℕ) → header_size ≤ length (framed type body)
 header_within type body = omega (arith, body_within type body)
 
 pub two_words_length : (m n : ℕ) → length (word_bytes m ++ word_bytes n) ≡ 8
@@ -53,10 +53,10 @@ length-pointer t a =
     let e4 = length-wide_bytes a in
     omega arith
 
--- the text of a pointer, as it is appended
-pub pointer_text : (t a : ℕ) →
-    text_of (pointer t a) ≡ (word_bytes 16 ++ word_bytes pointer_type) ++ ((word_bytes t ++ word_bytes 0) ++ wide_bytes a)
-pointer_text t a =
+-- the encoding of a pointer, as it is appended
+pub pointer_encoding : (t a : ℕ) →
+    encoding_of (pointer t a) ≡ (word_bytes 16 ++ word_bytes pointer_type) ++ ((word_bytes t ++ word_bytes 0) ++ wide_bytes a)
+pointer_encoding t a =
     let body = word_bytes t ++ (word_bytes 0 ++ wide_bytes a) in
     ap (λ n. word_bytes n ++ (word_bytes pointer_type ++ (body ++ padding n))) (length-pointer t a)
     ∙ ap (λ l. word_bytes 16 ++ (word_bytes pointer_type ++ l)) (append-nil body)
@@ -64,10 +64,10 @@ pointer_text t a =
     ∙ ap (λ l. (word_bytes 16 ++ word_bytes pointer_type) ++ l)
     (sym (append_assoc (word_bytes t) (word_bytes 0) (wide_bytes a)))
 
-pub pointer_text_length : (t a : ℕ) → length (text_of (pointer t a)) ≡ 24
-pointer_text_length t a =
+pub pointer_encoding_length : (t a : ℕ) → length (encoding_of (pointer t a)) ≡ 24
+pointer_encoding_length t a =
     omega
-    (arith, length-framed_text pointer_type (word_bytes t ++ (word_bytes 0 ++ wide_bytes a)), length-pointer t a)
+    (arith, length-framed pointer_type (word_bytes t ++ (word_bytes 0 ++ wide_bytes a)), length-pointer t a)
 
 pub word_bytes_is : (n : ℕ) → word_bytes n ≡ to_le_bytes w32 n
 unfolding word_bytes

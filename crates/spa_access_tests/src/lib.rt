@@ -6,6 +6,8 @@ mod bytes;
 #[cfg(test)]
 mod compare;
 #[cfg(test)]
+mod counting;
+#[cfg(test)]
 mod reading;
 #[cfg(test)]
 mod viewing;

@@ -44,7 +44,8 @@ module _ (o p : Object) where
         let w = view-fields p ∙ ap (λ z. object g.type_ g.id (property_views z)) (sym theirs) in
         subst (λ t. P t (object_view p)) (sym v) (subst (λ t. P left t) (sym w) h)
 
-    pub objects_refused : (e : NegotiateError) → IsRefusal (property_views xs) (property_views ys) e →
+    pub objects_refused : (e : NegotiateError) →
+        IsRefusal (property_views xs) (property_views ys) e →
         AreRefused (object_view o) (object_view p) e
     objects_refused e h =
         let f = out-Object o in
@@ -61,11 +62,13 @@ module _ (o p : Object) where
         let f = out-Object o in
         let met = roll-Object (record { type_ = f.type_; id = f.id; properties = rs }) in
         let same = sym (view-object f.type_ f.id rs) in
-        both (λ v w. Meet v w (object_view met)) (subst (Meet left right) same (sym one, refl, refl, h))
+        let one_type = subst (Meet left right) same (sym one, refl, refl, h) in
+        both (λ v w. Meet v w (object_view met)) one_type
 
     pub objects_can : (rs : Properties) →
         SettlesKeys (property_views xs) (property_views ys) (property_views xs) rs →
         CanMeet (object_view o) (object_view p)
     objects_can rs h =
         let each = AgreeAt-settled (property_views xs) (property_views ys) rs h.values in
-        both CanMeet (sym one, subst (All (AgreeAt (property_views xs) (property_views ys))) h.keys each)
+        let agree = subst (All (AgreeAt (property_views xs) (property_views ys))) h.keys each in
+        both CanMeet (sym one, agree)

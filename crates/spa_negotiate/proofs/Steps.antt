@@ -44,8 +44,8 @@ module _ (ours theirs : List Property) (i : ℕ) (p : Property) (met slice : Lis
     one_more_first = sym (property_views-take_more ours i p l e)
 
     -- its key was met
-    pub first_seen : (now : List Property) → now ≡ met → (y : Tree) → found_at p.key slice ≡ Some y →
-        SettlesListed ours theirs (firsts ours (i + 1)) now
+    pub first_seen : (now : List Property) → now ≡ met → (y : Tree) →
+        found_at p.key slice ≡ Some y → SettlesListed ours theirs (firsts ours (i + 1)) now
     first_seen now m y s =
         let os = property_views ours in
         let ts = property_views theirs in
@@ -53,8 +53,9 @@ module _ (ours theirs : List Property) (i : ℕ) (p : Property) (met slice : Lis
         let seen =
         SettlesKeys-seen os ts before (property_views met) p.key h p.flags.0 (view p.value) y
         (still_found (Some y) s) in
+        let after = join_properties before (property_view p) in
         subst (λ ss. SettlesListed ours theirs ss now) one_more_first
-        (subst (λ z. SettlesListed ours theirs (join_properties before (property_view p)) z) (sym m) seen)
+        (subst (λ z. SettlesListed ours theirs after z) (sym m) seen)
 
     -- its key was not met, and x settles it
     pub first_new : (now : List Property) (x : Tree) → IsPushed met p.key x now →
@@ -93,8 +94,8 @@ module _ (ours theirs : List Property) (i : ℕ) (p : Property) (met slice : Lis
         ∙ ap (join_properties (property_views ours)) (sym (property_views-take_more theirs i p l e))
 
     -- its key was met
-    pub other_seen : (now : List Property) → now ≡ met → (y : Tree) → found_at p.key slice ≡ Some y →
-        SettlesListed ours theirs (others ours theirs (i + 1)) now
+    pub other_seen : (now : List Property) → now ≡ met → (y : Tree) →
+        found_at p.key slice ≡ Some y → SettlesListed ours theirs (others ours theirs (i + 1)) now
     other_seen now m y s =
         let os = property_views ours in
         let ts = property_views theirs in
@@ -102,8 +103,9 @@ module _ (ours theirs : List Property) (i : ℕ) (p : Property) (met slice : Lis
         let seen =
         SettlesKeys-seen os ts before (property_views met) p.key h p.flags.0 (view p.value) y
         (still_found (Some y) s) in
+        let after = join_properties before (property_view p) in
         subst (λ ss. SettlesListed ours theirs ss now) one_more_other
-        (subst (λ z. SettlesListed ours theirs (join_properties before (property_view p)) z) (sym m) seen)
+        (subst (λ z. SettlesListed ours theirs after z) (sym m) seen)
 
     -- its key was not met, and its default settles it
     pub other_new : (now : List Property) (x : Tree) → IsPushed met p.key x now →

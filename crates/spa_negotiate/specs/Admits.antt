@@ -40,8 +40,9 @@ IsSupported (choice range_choice flags kind default values) = IsOrderedKind kind
 IsSupported (choice _ flags kind default values) = ⊥
 IsSupported _ = ⊤
 
--- The plain value x is admitted: by a plain value itself; by a None choice its value; by an Enum its default
--- and its alternatives; by a Range over an ordered kind each value from its minimum to its maximum.
+-- The plain value x is admitted: by a plain value itself; by a None choice its value; by an Enum its
+-- default and its alternatives; by a Range over an ordered kind each value from its minimum to its
+-- maximum.
 abbrev pub Admits : Tree → Tree → Type 0
 Admits (choice none_choice flags kind default values) x = x ≡ fixed default
 Admits (choice enum_choice flags kind default values) x =

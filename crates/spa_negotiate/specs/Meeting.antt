@@ -5,8 +5,8 @@ use Rattle.spa_format.specs.Tree.{Tree, object, Properties, no_properties, prope
 use Rattle.spa_negotiate.specs.Admits.{IsPlain, IsSupported, IsCommon, HasCommon, plain_of}
 use Rattle.spa_negotiate.specs.Keys.{value_at, key_list, keys_of}
 
--- x settles what the two sides have under one key: where both have a value, x is admitted by both; where one
--- side has, x is that value, or its default where it is a choice
+-- x settles what the two sides have under one key: where both have a value, x is admitted by both;
+-- where one side has, x is that value, or its default where it is a choice
 abbrev pub Settles : Option Tree → Option Tree → Tree → Type 0
 Settles (Some v) (Some w) x = IsCommon v w x
 Settles (Some v) None x = x ≡ plain_of v
@@ -25,11 +25,13 @@ pub record SettlesKeys (ours theirs these met : Properties) : Type 0 where
   pub keys : key_list met ≡ keys_of these
   pub values : SettlesEach ours theirs met
 
--- the two sides agree under a key: one of them lacks it, or both values are supported and admit a common one
+-- the two sides agree under a key: one of them lacks it, or both values are supported and some value
+-- is admitted by both
 abbrev pub Agree : Option Tree → Option Tree → Type 0
 Agree (Some v) (Some w) = IsSupported v × IsSupported w × HasCommon v w
 Agree _ _ = ⊤
 
+-- the same of the properties of the two sides
 abbrev pub AgreeAt : Properties → Properties → ℕ → Type 0
 AgreeAt ours theirs key = Agree (value_at key ours) (value_at key theirs)
 
@@ -39,8 +41,8 @@ CanMeet (object type our_id ours) (object its_type its_id theirs) =
     (its_type ≡ type) × All (AgreeAt ours theirs) (keys_of ours)
 CanMeet _ _ = ⊥
 
--- The two objects, of one type, meet in the third, which has that type and the first's id. It has the keys of
--- the first and then those that the second alone has, each once, and settles each.
+-- The two objects, of one type, meet in the third, which has that type and the first's id. It has the
+-- keys of the first and then those that the second alone has, each once, and settles each.
 abbrev pub Meet : Tree → Tree → Tree → Type 0
 Meet (object type our_id ours) (object its_type its_id theirs) (object met_type met_id met) =
     (its_type ≡ type) × (met_type ≡ type) × (met_id ≡ our_id)

@@ -1,5 +1,5 @@
--- What a value offers, as the search for a common value sees it: a rule, a default, and further values. A plain
--- value offers itself, as a None choice does.
+-- What a value offers, as the search for a common value sees it: a rule, a default, and further values.
+-- A plain value offers itself, as a None choice does.
 use Rattle.std.specs.Prelude.{⊤, ◌≡◌, ℕ, List, [], ◌∷◌, map, Contains}
 use Rattle.spa_format.specs.Kind.{Kind, id_kind, int_kind, long_kind}
 use Rattle.spa_format.specs.Tree.{none_choice, range_choice, enum_choice, Tree, fixed, choice}
@@ -51,17 +51,20 @@ AdmitsBy Between default (low ∷ high ∷ values) x = IsAtMost low x × IsAtMos
 AdmitsBy Between default _ x = ⊥
 AdmitsBy Unsupported default values x = ⊥
 
+-- x is admitted by this offer
 abbrev pub OfferAdmits : Offer → Tree → Type 0
 OfferAdmits offer x = AdmitsBy offer.rule (view offer.default) (map view offer.values.items) x
 
+-- x is admitted by both offers
 abbrev pub BothAdmit : Offer → Offer → Tree → Type 0
 BothAdmit a b x = OfferAdmits a x × OfferAdmits b x
 
--- the alternatives of an Enum
+-- the alternatives of an Enum, and nothing of other values
 abbrev pub alternatives_by : Rule → List Tree → List Tree
 alternatives_by Among values = values
 alternatives_by _ values = []
 
+-- the same of an offer
 abbrev pub alternatives_of : Offer → List Tree
 alternatives_of offer = alternatives_by offer.rule (map view offer.values.items)
 
@@ -70,6 +73,7 @@ abbrev pub floor_by : Rule → Tree → List Tree → Tree
 floor_by Between default (low ∷ values) = low
 floor_by _ default values = default
 
+-- the same of an offer
 abbrev pub floor_of : Offer → Tree
 floor_of offer = floor_by offer.rule (view offer.default) (map view offer.values.items)
 

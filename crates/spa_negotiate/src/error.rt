@@ -4,13 +4,13 @@ ghost use Rattle.spa_negotiate.specs.declared.error.NegotiateError.TheVariants.{
 
 use std::alloc::AllocError;
 
-/// Why two objects don't meet. A key is the first of the first object's keys under which the two don't agree.
+/// Why two objects don't meet. A key is the first of the first object's keys under which one of these stands.
 #[derive(Clone, Copy, PartialEq, Eq, Debug)]
 pub enum NegotiateError {
     /// The types of the objects differ. No key is looked at then.
     TypeMismatch,
-    /// Both objects have this key, and the value of one is a choice for which no common value is sought: a Step, Flags, or
-    /// a Range over another type than `Id`, `i32` and `i64`.
+    /// Both objects have this key, and the value of one is a choice for which no common value is sought: a Step, Flags,
+    /// or a Range over another type than `Id`, `i32` and `i64`.
     Unsupported(u32),
     /// Both objects have this key, with values for which a common one is sought, and no value is admitted by both.
     Disjoint(u32),

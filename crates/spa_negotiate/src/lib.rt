@@ -1,7 +1,7 @@
 //! Negotiation: two objects meet in a third one, under each of whose keys stands a value that both admit.
 #![tactic(auto)]
 
-mod common;
+mod admission;
 mod element;
 mod error;
 mod negotiation;

@@ -9,7 +9,7 @@ ghost use Rattle.spa_negotiate.specs.Offers.{BothAdmit, IsOfferRefusal};
 ghost use Rattle.spa_negotiate.specs.PropertyLists.{IsPushed, SettlesListed, found_at};
 ghost use Rattle.spa_negotiate.specs.Refusals.{AreRefused, IsKeyRefusal, IsRefusal, OnDisagreement};
 
-use crate::common::first_common;
+use crate::admission::first_common;
 use crate::error::NegotiateError;
 use crate::offer::{Offer, offer_of, settled};
 use spa_value::{Object, Property, Value};
@@ -21,8 +21,8 @@ use std::alloc::{AllocError, Global};
 /// `a` in the order of their first places, then those that `b` alone has, in the same way. On each side the first
 /// property with a key counts, and flags of properties don't.
 ///
-/// A key of one side keeps its plain value, or gets the default of its choice, of whatever shape. A key of both gets the
-/// first of these that both values admit: a's default, b's default, a's alternatives, b's alternatives, a's minimum,
+/// A key of one side keeps its plain value, or gets the default of its choice, of whatever shape. A key of both gets
+/// the first of these that both values admit: a's default, b's default, a's alternatives, b's alternatives, a's minimum,
 /// b's minimum. A plain value is its own default.
 ///
 /// The refusals: `TypeMismatch`, before any other; then, at the first of a's keys under which the two don't agree,

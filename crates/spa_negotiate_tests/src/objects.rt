@@ -74,10 +74,7 @@ fn elements<T: Element>(alloc: Global, numbers: &[i64]) -> Result<Vec<T>, AllocE
 
 /// The first number as an element.
 fn plain<T: Element>(numbers: &[i64]) -> T {
-    match numbers {
-        [number, ..] => T::of(*number),
-        [] => T::of(0),
-    }
+    T::of(numbers.first().copied().unwrap_or(0))
 }
 
 /// A Range or a Step, and a None choice where there are too few elements.

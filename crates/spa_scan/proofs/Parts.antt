@@ -1,7 +1,7 @@
 -- Bodies: texts, elements, arrays, choices.
 use Rattle.std.proofs.Common.{◌≡◌, ◌≢◌, ℕ, ◌+◌, ◌*◌, ◌<◌, ◌≤◌, ◌-◌, ◌/◌, inl, inr, List, [], ◌∷◌, ◌++◌, length, take, drop, get_or, zero, suc, refl, sym, ap, ◌∙◌, subst, arith, length-append, length-drop, append_assoc}
 use Rattle.std.specs.Prelude.{Contains, slice_index}
-use Rattle.std.proofs.lemmas.List.{get_or-drop, get_or_past, length-take-le, nil_from_length, take-append-drop, take_all}
+use Rattle.std.proofs.lemmas.List.{drop-drop, get_or-drop, get_or_past, length-take-le, nil_from_length, take-append-drop, take_all}
 use Rattle.std.proofs.lemmas.Bool.{cases_lt}
 use Rattle.std.proofs.Math.Nat.{mul-div_cancel}
 use Rattle.std.proofs.lemmas.Str.{IsUtf8-from_ascii}
@@ -162,3 +162,38 @@ enum_count n = (omega arith, λ xs h. refl)
 
 pub flags_count : (n : ℕ) → IsRightCount flags_choice n
 flags_count n = (omega arith, λ xs h. refl)
+
+-- these are the last bytes of those
+pub record IsEnd (left text : List ℕ) : Type 0 where
+  pub before : ℕ
+  pub size : before + length left ≡ length text
+  pub same : left ≡ drop before text
+
+pub whole_end : (text : List ℕ) → IsEnd text text
+whole_end text = record { before = 0; size = omega arith; same = refl }
+
+pub shorter_end : (left rest text : List ℕ) (n : ℕ) → n ≤ length left → rest ≡ drop n left →
+    IsEnd left text → IsEnd rest text
+shorter_end left rest text n l e h =
+    let size : length rest + n ≡ length left = omega (arith, ap length e, length-drop n left) in
+    record {
+      before = h.before + n;
+      size = let whole = h.size in omega arith;
+      same = e ∙ ap (drop n) h.same ∙ drop-drop n h.before text;
+    }
+
+-- where the last eight bytes are such ones, so are fewer
+pub end_plain : (left last text : List ℕ) → 8 ≤ length text → length left ≤ 8 → IsEnd left text →
+    last ≡ drop (length text - 8) text → IsPlainFor 8 last → IsPlainFor (length left) left
+end_plain left last text l s h e p = λ i b.
+    let size = h.size in
+    let k = 8 - length left + i in
+    let here : slice_index left i ≡ slice_index text (h.before + i) =
+    ap (λ y. slice_index y i) h.same ∙ get_or-drop h.before text i 0 in
+    let there : slice_index last k ≡ slice_index text (length text - 8 + k) =
+    ap (λ y. slice_index y k) e ∙ get_or-drop (length text - 8) text k 0 in
+    let place : length text - 8 + k ≡ h.before + i = omega arith in
+    let same : slice_index last k ≡ slice_index left i =
+    there ∙ ap (slice_index text) place ∙ sym here in
+    let few : k < 8 = omega arith in
+    subst IsPlainByte same (p k few)

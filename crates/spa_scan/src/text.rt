@@ -30,14 +30,30 @@ const PIECE: usize = 8;
 fn is_plain_text(text: &[u8]) -> bool
     ensures { result ≡ true → IsPlainFor (length text.now) text.now }
 {
+    if text.len() < PIECE {
+        return is_short_plain_text(text);
+    }
+    // The last piece is looked at whole: the piece before it may reach into it.
+    let (_, last) = text.split_at(text.len() - PIECE);
+    if !are_plain(last) {
+        return false;
+    }
     let mut left = text;
-    while left.len() >= PIECE {
+    while left.len() > PIECE {
         if !are_plain(left) {
             return false;
         }
         let (_, rest) = left.split_at(PIECE);
         left = rest;
     }
+    true
+}
+
+/// The same, byte by byte.
+fn is_short_plain_text(text: &[u8]) -> bool
+    ensures { result ≡ true → IsPlainFor (length text.now) text.now }
+{
+    let mut left = text;
     while let Some((byte, rest)) = left.split_first() {
         if !is_plain(*byte) {
             return false;

@@ -5,4 +5,5 @@ use Rattle.spa_negotiate.proofs.offer.list_of.Given as goal
 
 abbrev pub invariant-loop-element : goal.invariant-loop-element
 invariant-loop-element g l =
-    map view l.values.items ≡ map (λ x. fixed x) (map g.T.CanonicalFixedSizedPod.fixed (take l.element-index l.elements))
+    let taken = take l.element-index l.elements in
+    map view l.values.items ≡ map (λ x. fixed x) (map g.T.CanonicalFixedSizedPod.fixed taken)

@@ -1,0 +1,262 @@
+-- Pods of a struct's or of an object's body, read one after another.
+use Rattle.std.proofs.Common.{◌≡◌, ◌≢◌, ℕ, ◌+◌, ◌<◌, ◌≤◌, inl, inr, List, [], ◌∷◌, ◌++◌, length, drop, take, refl, sym, ap, ◌∙◌, subst, arith, append_assoc, length-append, length-drop, nat_eq, true, false, Vec, Global}
+use Rattle.std.proofs.lemmas.List.{append-nil, drop_at, length-take-le, nil_from_length, take-append-drop}
+use Rattle.std.proofs.lemmas.Bool.{eqb-true}
+use Rattle.spa_format.specs.Words.{header_size, word_at, body_of, extent}
+use Rattle.spa_format.specs.Tree.{Tree, struct, object, Trees, Properties, no_properties, property, join_properties, node_count, type_of, struct_type, object_type}
+use Rattle.spa_format.specs.Pod.{IsBody, AreProperties}
+use Rattle.spa_format.specs.Faults.{Fault, Short, Stands}
+use Rattle.spa_format.specs.Faults as fault
+use Rattle.spa_format.specs.Front.{IsRefused, front_of}
+use Rattle.spa_format.specs.Opened as headers
+use Rattle.spa_format.proofs.Fronts.{length-body_of}
+use Rattle.spa_format.proofs.Refused as format
+use Rattle.spa_format.proofs.Sequences.{members_push, props_joined}
+use Rattle.spa_format.proofs.WordLemmas.{word_at-append}
+use Rattle.spa_fixed.specs.declared.fault.Refusal.{Refusal}
+use Rattle.spa_fixed.specs.declared.fault.Refusal.TheVariants as refusal
+use Rattle.spa_value.specs.View.{view}
+use Rattle.spa_value.specs.ViewLaws.{property_views-push, views-push}
+use Rattle.spa_value.specs.Views.{property_views, views}
+use Rattle.spa_value.specs.declared.object.Property.{Property}
+use Rattle.spa_value.specs.declared.value.Value.{Value}
+use Rattle.spa_read.specs.Opening.{BeginsWith, CountsShort, Opens}
+use Rattle.spa_read.specs.Reading.{MayLackMemory, TakesMemory}
+use Rattle.spa_read.specs.Refusing.{RefusesBody}
+use Rattle.spa_read.specs.Nesting.{IsAlike, IsReadUpTo, LacksKey, Reaches, Reads, RefusesAt, RefusesBehind, so_far, with_child}
+use Rattle.spa_read.specs.declared.inside.Inside.{Inside}
+use Rattle.spa_read.specs.declared.inside.Inside.TheVariants as inside
+use Rattle.spa_read.specs.declared.inside.OpenObject.{OpenObject}
+use Rattle.spa_read.proofs.Counting.{count_with, is_one, plain_at, short_at}
+use Rattle.spa_read.proofs.Refusals.{says_through}
+use Rattle.spa_read.proofs.Steps.{parted, pod_read}
+
+pub type_with : (i : Inside) (v : Tree) → type_of (with_child i v) ≡ type_of (so_far i)
+type_with (inside.Struct vs) v = refl
+type_with (inside.Object o) v = refl
+
+pub emptied : (left : List ℕ) → true ≡ nat_eq (length left) 0 → left ≡ []
+emptied left e = nil_from_length left (eqb-true (length left) 0 (sym e))
+
+pub filled : (left : List ℕ) → false ≡ nat_eq (length left) 0 → left ≢ []
+filled [] e n = cc
+filled (x ∷ xs) e n = cc
+
+-- a member is put behind the others
+pub members_grown : (vs ws : Vec Value Global) (v : Value) → ws.items ≡ vs.items ++ v ∷ [] →
+    so_far (inside.Struct ws) ≡ with_child (inside.Struct vs) (view v)
+members_grown vs ws v e = ap struct (ap views e ∙ views-push vs.items v)
+
+-- an object with one more property
+abbrev with_property : OpenObject → ℕ → ℕ → Tree → Tree
+with_property o key flags v =
+    object o.type_ o.id (join_properties (property_views o.properties.items) (property key flags v no_properties))
+
+-- a property is put behind the others
+pub properties_grown : (o : OpenObject) (qs : List Property) (p : Property) → p.key ≡ o.key → p.flags ≡ o.flags →
+    qs ≡ o.properties.items ++ p ∷ [] →
+    object o.type_ o.id (property_views qs) ≡ with_child (inside.Object o) (view p.value)
+properties_grown o qs p k f g =
+    ap (λ l. object o.type_ o.id (property_views l)) g
+    ∙ ap (object o.type_ o.id) (property_views-push o.properties.items p)
+    ∙ ap (λ x. with_property o x p.flags.0 (view p.value)) k
+    ∙ ap (λ x. with_property o o.key x.0 (view p.value)) f
+
+-- Where the next pod stands.
+
+-- a member of a struct begins where what is left does
+reaches_struct : (vs : Trees) (left here body rest at : List ℕ) (n all : ℕ) (why : Refusal) → left ≢ [] →
+    Opens here struct_type body rest → IsReadUpTo (struct vs) body left → all ≡ node_count (struct vs) + n →
+    RefusesAt left at n why → RefusesAt here at all why
+reaches_struct vs left here body rest at n all why some o r e q =
+    let its_type : word_at here 4 ≡ struct_type = sym o.its_type in
+    let parts : body_of here ≡ r.0 ++ left = sym o.its_body ∙ r.1 in
+    let stands : (k : Fault) → Stands k at left × headers.OpensHeaders left n → Stands k at here × headers.OpensHeaders here all = λ k s. (
+      fault.in_member here vs r.0 left o.there its_type parts r.2 some s.0,
+      subst (headers.OpensHeaders here) (sym e)
+          (headers.in_member here vs r.0 left n o.there its_type parts r.2 some (format.refused k at left s.0) s.1),
+    ) in
+    says_through (λ k. Stands k at left × headers.OpensHeaders left n) (λ k. Stands k at here × headers.OpensHeaders here all)
+    (MayLackMemory left) (MayLackMemory here) stands (λ _. (o.there, inr (inr (inr (inl its_type))))) why q
+
+pub reaches_member : (vs : Vec Value Global) (left : List ℕ) → left ≢ [] → Reaches (inside.Struct vs) left left
+reaches_member vs left some = record {
+  read = λ body rest v r b. (
+    r.0 ++ front_of left,
+    r.1 ∙ ap (λ l. r.0 ++ l) (parted left v rest b) ∙ sym (append_assoc r.0 (front_of left) rest),
+    members_push (views vs.items) v r.0 (front_of left) r.2 b.begins.pod,
+  );
+  refused = λ here body rest at n all why o r e q.
+      reaches_struct (views vs.items) left here body rest at n all why some o r e q;
+  no_longer = omega arith;
+}
+
+-- what is left begins with a key and flags, and behind these stands a pod
+record HasKey (left behind : List ℕ) (k f : ℕ) : Type 0 where
+  long : header_size ≤ length left
+  is_behind : behind ≡ drop header_size left
+  key : k ≡ word_at left 0
+  flags : f ≡ word_at left 4
+
+-- the property that those make with the front behind them
+record IsFirst (left rest : List ℕ) (one : Properties) : Type 0 where
+  here : List ℕ
+  parts : left ≡ here ++ rest
+  its_bytes : AreProperties one here
+
+first_property : (left behind rest : List ℕ) (k f : ℕ) (v : Tree) → HasKey left behind k f →
+    BeginsWith behind v rest → IsFirst left rest (property k f v no_properties)
+first_property left behind rest k f v h b =
+    let head = take 8 left in
+    let front = front_of behind in
+    let here = head ++ front in
+    let long : length head ≡ 8 = length-take-le 8 left h.long in
+    let whole : left ≡ here ++ rest =
+    sym (take-append-drop 8 left)
+    ∙ ap (λ y. head ++ y) (sym h.is_behind ∙ parted behind v rest b)
+    ∙ sym (append_assoc head front rest) in
+    let size = length-append head front in
+    let w0 : word_at left 0 ≡ word_at here 0 = ap (λ y. word_at y 0) whole
+    ∙ word_at-append here rest 0 (omega arith) in
+    let w4 : word_at left 4 ≡ word_at here 4 = ap (λ y. word_at y 4) whole
+    ∙ word_at-append here rest 4 (omega arith) in
+    let value_here : drop 8 here ≡ front ++ [] = drop_at head front 8 long ∙ sym (append-nil front) in
+    let enough : 8 ≤ length here = omega arith in
+    record {
+      here = here;
+      parts = whole;
+      its_bytes = (enough, h.key ∙ w0, h.flags ∙ w4, front, [], value_here, b.begins.pod, refl);
+    }
+
+-- a property of an object begins there
+reaches_object : (t i : ℕ) (ps : Properties) (left behind here body rest at : List ℕ) (k f n all : ℕ) (why : Refusal) →
+    HasKey left behind k f → Opens here object_type body rest → IsReadUpTo (object t i ps) body left →
+    all ≡ node_count (object t i ps) + n → RefusesAt behind at n why → RefusesAt here at all why
+reaches_object t i ps left behind here body rest at k f n all why h o r e q =
+    let its_type : word_at here 4 ≡ object_type = sym o.its_type in
+    let l = r.0 in
+    let long : header_size ≤ length (body_of here) = omega (arith, ap length o.its_body) in
+    let parts : drop header_size (body_of here) ≡ r.3 ++ left = ap (drop header_size) (sym o.its_body) ∙ r.4 in
+    let d = h.is_behind in
+    let stands : (c : Fault) → Stands c at behind × headers.OpensHeaders behind n → Stands c at here × headers.OpensHeaders here all = λ c s. (
+      fault.in_property here ps r.3 left o.there its_type long parts r.5 h.long (subst (Stands c at) d s.0),
+      subst (headers.OpensHeaders here) (sym e)
+          (headers.in_property here ps r.3 left n o.there its_type long parts r.5 h.long
+          (subst IsRefused d (format.refused c at behind s.0)) (subst (λ b. headers.OpensHeaders b n) d s.1)),
+    ) in
+    says_through (λ c. Stands c at behind × headers.OpensHeaders behind n) (λ c. Stands c at here × headers.OpensHeaders here all)
+    (MayLackMemory behind) (MayLackMemory here) stands (λ _. (o.there, inr (inr (inr (inr (inl its_type)))))) why q
+
+pub reaches_property : (p : OpenObject) (left behind : List ℕ) → header_size ≤ length left →
+    behind ≡ drop header_size left → p.key ≡ word_at left 0 → p.flags.0 ≡ word_at left 4 →
+    Reaches (inside.Object p) left behind
+reaches_property p left behind l d k f =
+    let h : HasKey left behind p.key p.flags.0 = record { long = l; is_behind = d; key = k; flags = f } in
+    let ps = property_views p.properties.items in
+    let next = property p.key p.flags.0 in
+    let shorter = ap length d ∙ length-drop 8 left in
+    record {
+      read = λ body rest v r b.
+          let one = first_property left behind rest p.key p.flags.0 v h b in (
+            r.0,
+            r.1,
+            r.2,
+            r.3 ++ one.here,
+            r.4 ∙ ap (λ y. r.3 ++ y) one.parts ∙ sym (append_assoc r.3 one.here rest),
+            props_joined ps (next v no_properties) r.3 one.here r.5 one.its_bytes,
+          );
+      refused = λ here body rest at n all why x r e q.
+          reaches_object p.type_ p.id ps left behind here body rest at p.key p.flags.0 n all why h x r e q;
+      no_longer = omega arith;
+    }
+
+-- what is left is too short for a key and flags
+key_short_at : (t i : ℕ) (ps : Properties) (left here body rest : List ℕ) → Opens here object_type body rest →
+    IsReadUpTo (object t i ps) body left → left ≢ [] → length left < header_size →
+    RefusesAt here left (node_count (object t i ps)) refusal.Short
+key_short_at t i ps left here body rest o r some short =
+    let its_type : word_at here 4 ≡ object_type = sym o.its_type in
+    let l = r.0 in
+    let long : header_size ≤ length (body_of here) = omega (arith, ap length o.its_body) in
+    let parts : drop header_size (body_of here) ≡ r.3 ++ left = ap (drop header_size) (sym o.its_body) ∙ r.4 in (
+      fault.in_key here ps r.3 o.there its_type long parts r.5 some short refl,
+      headers.in_key here ps r.3 left o.there its_type long parts r.5 some short,
+    )
+
+-- Some pods are read.
+
+-- what is left of an opened pod, and what follows it, are shorter than the input
+pub opened_shorter : (input body rest : List ℕ) (type : ℕ) → Opens input type body rest →
+    length body + length rest + header_size ≤ length input
+opened_shorter input body rest type o =
+    let whole = o.there.whole in
+    let inside = ap length o.its_body ∙ length-body_of input o.there in
+    let behind = ap length o.its_rest ∙ length-drop (extent (word_at input 0)) input in
+    omega arith
+
+-- one more of them
+pub one_read : (from i reached roomy to : Inside) (left now place body rest : List ℕ) (type opened before all : ℕ) (v : Tree) →
+    Reads from left opened i now before → so_far reached ≡ so_far i → Reaches reached now place →
+    Opens place type body rest → (type ≢ struct_type) × (type ≢ object_type) → type_of v ≡ type → IsBody v body →
+    IsAlike reached roomy → so_far to ≡ with_child roomy v → all ≡ before + 1 → Reads from left opened to rest all
+one_read from i reached roomy to left now place body rest type opened before all v h s x o n t b a g e =
+    let grown : so_far to ≡ with_child reached v = g ∙ a.next v in
+    let one = is_one v (λ y. n.0 (sym t ∙ y)) (λ y. n.1 (sym t ∙ y)) in
+    let counts = ap node_count grown ∙ count_with reached v in
+    let kept = ap node_count s in
+    let whole = opened_shorter place body rest type o in
+    let short = x.no_longer in
+    let count = h.count in
+    let more = h.more in
+    let few = h.few in
+    record {
+      same_type = ap type_of grown ∙ type_with reached v ∙ ap type_of s ∙ h.same_type;
+      read = λ all r.
+          subst (λ y. IsReadUpTo y all rest) (sym grown)
+          (x.read all rest v (subst (λ y. IsReadUpTo y all now) (sym s) (h.read all r)) (pod_read place body rest type v o t b));
+      count = omega arith;
+      more = omega arith;
+      few = omega arith;
+    }
+
+-- Refusals behind them.
+
+pub refused_behind : (from i reached : Inside) (left now place at : List ℕ) (opened before more all : ℕ) (why : Refusal) →
+    Reads from left opened i now before → so_far reached ≡ so_far i → Reaches reached now place →
+    all ≡ before + more → RefusesAt place at more why → RefusesBehind (so_far from) left opened at all why
+refused_behind from i reached left now place at opened before more all why h s x e q here body rest n o r c =
+    let count = h.count in
+    let kept = ap node_count s in
+    x.refused here body rest at more n why
+    (subst (λ t. Opens here t body rest) (sym (ap type_of s ∙ h.same_type)) o)
+    (subst (λ t. IsReadUpTo t body now) (sym s) (h.read body r)) (omega arith) q
+
+pub short_behind : (from i reached : Inside) (left now place : List ℕ) (opened before all : ℕ) →
+    Reads from left opened i now before → so_far reached ≡ so_far i → Reaches reached now place →
+    CountsShort place before all → RefusesBehind (so_far from) left opened place all refusal.Short
+short_behind from i reached left now place opened before all h s x c =
+    refused_behind from i reached left now place place opened before c.opened all refusal.Short h s x c.count
+    (short_at place before all c)
+
+pub plain_behind : (from i reached : Inside) (left now place body rest : List ℕ) (type opened before all : ℕ) (why : Refusal) →
+    Reads from left opened i now before → so_far reached ≡ so_far i → Reaches reached now place →
+    Opens place type body rest → (type ≢ struct_type) × (type ≢ object_type) → RefusesBody type body why →
+    all ≡ before + 1 → RefusesBehind (so_far from) left opened place all why
+plain_behind from i reached left now place body rest type opened before all why h s x o n q e =
+    refused_behind from i reached left now place place opened before 1 all why h s x e
+    (plain_at place body rest type why o n.0 n.1 q)
+
+pub key_short_behind : (from i : Inside) (left now : List ℕ) (opened before : ℕ) → Reads from left opened i now before →
+    now ≢ [] → LacksKey i now → RefusesBehind (so_far from) left opened now before refusal.Short
+key_short_behind from (inside.Struct vs) left now opened before h some l here body rest n o r c = absurd l
+key_short_behind from (inside.Object p) left now opened before h some l here body rest n o r c =
+    let count = h.count in
+    let same : node_count (so_far (inside.Object p)) ≡ n = omega arith in
+    subst (λ m. RefusesAt here now m refusal.Short) same
+    (key_short_at p.type_ p.id (property_views p.properties.items) now here body rest
+    (subst (λ t. Opens here t body rest) (sym h.same_type) o) (h.read body r) some l)
+
+-- structs and objects take memory
+pub takes_memory : (i : Inside) → TakesMemory (type_of (so_far i))
+takes_memory (inside.Struct vs) = inr (inr (inr (inl refl)))
+takes_memory (inside.Object o) = inr (inr (inr (inr (inl refl))))

@@ -1,0 +1,155 @@
+-- Counts of pods and of the headers opened.
+use Rattle.std.proofs.Common.{◌≡◌, ◌≢◌, ℕ, ◌+◌, ◌<◌, ◌≤◌, List, length, refl, sym, ap, ◌∙◌, subst, arith, Option, Some, None}
+use Rattle.std.specs.Prelude.{IfNone}
+use Rattle.std.specs.Borrow.{Bor}
+use Rattle.spa_format.specs.Words.{header_size, word_at, body_of}
+use Rattle.spa_format.specs.Tree.{Tree, fixed, string, bytes, array, choice, pointer, struct, object, Trees, no_trees, member, Properties, no_properties, property, join_members, join_properties, node_count, member_node_count, property_node_count, type_of, struct_type, object_type}
+use Rattle.spa_format.specs.Pod.{IsBody}
+use Rattle.spa_format.specs.Faults.{Stands, at_front}
+use Rattle.spa_format.specs.Front.{HasFront}
+use Rattle.spa_format.specs.Opened as headers
+use Rattle.spa_fixed.specs.declared.fault.Refusal.{Refusal}
+use Rattle.spa_fixed.specs.declared.fault.Refusal.TheVariants as refusal
+use Rattle.spa_value.specs.Views.{property_views, views}
+use Rattle.spa_read.specs.Opening.{CountsShort, Opens}
+use Rattle.spa_read.specs.Reading.{MayLackMemory, OnFault}
+use Rattle.spa_read.specs.Refusing.{RefusesBody, RefusesPod, error_of}
+use Rattle.spa_read.specs.Nesting.{IsReadCounted, RefusesAt, so_far, with_child}
+use Rattle.spa_read.specs.declared.inside.Inside.{Inside}
+use Rattle.spa_read.specs.declared.inside.Inside.TheVariants as inside
+use Rattle.spa_read.proofs.Refusals.{body_refused, says_through, short_object_refused}
+use Rattle.spa_read.proofs.Steps.{pod_read}
+
+-- Pods in a value.
+
+members_count : (vs : Trees) (v : Tree) →
+    member_node_count (join_members vs (member v no_trees)) ≡ member_node_count vs + node_count v
+members_count no_trees v = omega arith
+members_count (member w vs) v = let e = members_count vs v in omega arith
+
+properties_count : (ps : Properties) (k f : ℕ) (v : Tree) →
+    property_node_count (join_properties ps (property k f v no_properties)) ≡ property_node_count ps + node_count v
+properties_count no_properties k f v = omega arith
+properties_count (property l g w ps) k f v = let e = properties_count ps k f v in omega arith
+
+pub count_with : (i : Inside) (v : Tree) → node_count (with_child i v) ≡ node_count (so_far i) + node_count v
+count_with (inside.Struct vs) v = let e = members_count (views vs.items) v in omega arith
+count_with (inside.Object o) v =
+    let e = properties_count (property_views o.properties.items) o.key o.flags.0 v in omega arith
+
+pub is_some : (v : Tree) → 0 < node_count v
+is_some (fixed x) = omega arith
+is_some (string s) = omega arith
+is_some (bytes s) = omega arith
+is_some (array k xs) = omega arith
+is_some (choice s f k x xs) = omega arith
+is_some (pointer t a) = omega arith
+is_some (struct vs) = omega arith
+is_some (object t i ps) = omega arith
+
+pub is_one : (v : Tree) → type_of v ≢ struct_type → type_of v ≢ object_type → node_count v ≡ 1
+is_one (fixed x) n m = refl
+is_one (string s) n m = refl
+is_one (bytes s) n m = refl
+is_one (array k xs) n m = refl
+is_one (choice s f k x xs) n m = refl
+is_one (pointer t a) n m = refl
+is_one (struct vs) n m = absurd (n refl)
+is_one (object t i ps) n m = absurd (m refl)
+
+-- Refusals with the headers opened.
+
+-- the front is refused when so many headers are opened
+pub refuses_at : (input place : List ℕ) (n : ℕ) (why : Refusal) →
+    RefusesPod input place why → headers.OpensHeaders input n → RefusesAt input place n why
+refuses_at input place n why h o =
+    says_through (λ k. Stands k place input) (λ k. Stands k place input × headers.OpensHeaders input n)
+    (MayLackMemory input) (MayLackMemory input) (λ k s. (s, o)) (λ m. m) why h
+
+pub without_count : (input place : List ℕ) (n : ℕ) (why : Refusal) →
+    RefusesAt input place n why → RefusesPod input place why
+without_count input place n why h =
+    says_through (λ k. Stands k place input × headers.OpensHeaders input n) (λ k. Stands k place input)
+    (MayLackMemory input) (MayLackMemory input) (λ k s. s.0) (λ m. m) why h
+
+pub short_at : (input : List ℕ) (old new : ℕ) (c : CountsShort input old new) →
+    RefusesAt input input c.opened refusal.Short
+short_at input old new c = (at_front input refl c.short, c.opens)
+
+pub plain_at : (input body rest : List ℕ) (type : ℕ) (why : Refusal) → Opens input type body rest →
+    type ≢ struct_type → type ≢ object_type → RefusesBody type body why → RefusesAt input input 1 why
+plain_at input body rest type why o n m h =
+    refuses_at input input 1 why (body_refused input body rest type why o h)
+    (headers.one_header input o.there.header
+    (headers.no_parts (λ e. n (o.its_type ∙ e)) (λ e. m (o.its_type ∙ e))))
+
+pub short_object_at : (input body rest : List ℕ) (type : ℕ) (why : Refusal) → Opens input type body rest →
+    why ≡ refusal.WrongSize → type ≡ object_type → length body < header_size → RefusesAt input input 1 why
+short_object_at input body rest type why o e t l =
+    let small : length (body_of input) < header_size = omega (arith, ap length o.its_body) in
+    let its_type : word_at input 4 ≡ object_type = sym o.its_type ∙ t in
+    subst (RefusesAt input input 1) (sym e)
+    (refuses_at input input 1 refusal.WrongSize (short_object_refused input body rest type o t l)
+    (headers.one_header input o.there.header (headers.short_object its_type small)))
+
+-- The public refusal that is made of one at a place, with the headers opened.
+pub opened_as : (input : List ℕ) (place : Bor (List ℕ)) (n : ℕ) (why : Refusal) → RefusesAt input place.now n why →
+    OnFault (headers.OpensHeaders input n) (error_of place why)
+opened_as input place n refusal.Short h = h.1
+opened_as input place n refusal.Text h = h.1
+opened_as input place n refusal.InvalidType h = h.1
+opened_as input place n refusal.InvalidChoiceType h = h.1
+opened_as input place n refusal.MissingChoiceValues h = h.1
+opened_as input place n refusal.WrongSize h = h.1
+opened_as input place n refusal.OutOfMemory h = tt
+
+-- Headers opened at a front.
+
+pub header_counted : (input : List ℕ) (old new : ℕ) → new ≡ old + 1 → header_size ≤ length input → ¬ (HasFront input) →
+    CountsShort input old new
+header_counted input old new e l n = record {
+  short = n;
+  opened = 1;
+  opens = headers.one_header input l (headers.no_front n);
+  count = e;
+}
+
+pub none_counted : (input : List ℕ) (old new : ℕ) → new ≡ old → length input < header_size → ¬ (HasFront input) →
+    CountsShort input old new
+none_counted input old new e l n = record {
+  short = n;
+  opened = 0;
+  opens = headers.no_header input l;
+  count = omega arith;
+}
+
+pub counted_or_none : {T : Type 0} (r : Option T) (input : List ℕ) (old new : ℕ) → IfNone r (¬ (HasFront input)) →
+    header_size ≤ length input → new ≡ old + 1 → IfNone r (CountsShort input old new)
+counted_or_none (Some x) input old new n l e = tt
+counted_or_none None input old new n l e = header_counted input old new e l n
+
+pub uncounted_or_none : {T : Type 0} (r : Option T) (input : List ℕ) (old new : ℕ) → IfNone r (¬ (HasFront input)) →
+    length input < header_size → new ≡ old → IfNone r (CountsShort input old new)
+uncounted_or_none (Some x) input old new n l e = tt
+uncounted_or_none None input old new n l e = none_counted input old new e l n
+
+-- At the front of the input.
+
+pub short_front : (input : List ℕ) (old new : ℕ) → old ≡ 0 → CountsShort input old new → RefusesAt input input new refusal.Short
+short_front input old new z c =
+    let count = c.count in
+    let same : c.opened ≡ new = omega arith in
+    (at_front input refl c.short, subst (headers.OpensHeaders input) same c.opens)
+
+pub one_front : (input place : List ℕ) (old new : ℕ) (why : Refusal) → old ≡ 0 → new ≡ old + 1 →
+    RefusesAt input place 1 why → RefusesAt input place new why
+one_front input place old new why z e h =
+    let same : 1 ≡ new = omega arith in
+    subst (λ n. RefusesAt input place n why) same h
+
+pub plain_read : (input body rest : List ℕ) (type old new : ℕ) (v : Tree) → Opens input type body rest →
+    (type ≢ struct_type) × (type ≢ object_type) → type_of v ≡ type → IsBody v body → old ≡ 0 → new ≡ old + 1 →
+    IsReadCounted input v rest new
+plain_read input body rest type old new v o n t b z e =
+    let one = is_one v (λ x. n.0 (sym t ∙ x)) (λ x. n.1 (sym t ∙ x)) in
+    record { begins = pod_read input body rest type v o t b; count = omega arith }

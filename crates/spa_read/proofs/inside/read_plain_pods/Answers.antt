@@ -1,0 +1,29 @@
+use Rattle.spa_read.proofs.Bodies.{filled, key_short_behind, one_read, plain_behind, short_behind}
+use Rattle.spa_read.proofs.inside.read_plain_pods.Goals as goal
+
+pub returns-in_default-clause-refused : goal.returns-in_default-clause-refused
+returns-in_default-clause-refused g c =
+    key_short_behind _ (g.G.Grows.inside c.loop-alloc.to) _ _ _ _ c.loop-alloc.invariant
+    (filled c.loop-alloc.left.now c.loop-alloc-test.ensures) c.in_default.ensures.short
+
+pub returns-in_default-open_counted-clause-refused :
+    goal.returns-in_default-open_counted-clause-refused
+returns-in_default-open_counted-clause-refused g c =
+    short_behind _ _ (g.G.Grows.inside c.reach.new.self) _ _ _ _ _ _ c.loop-alloc.invariant c.reach.ensures.same
+    c.in-Some.ensures.reached c.in_default-open_counted.ensures.short
+
+pub returns-in-Err-clause-refused : goal.returns-in-Err-clause-refused
+returns-in-Err-clause-refused g c =
+    plain_behind _ _ (g.G.Grows.inside c.reach.new.self) _ _ _ _ _ _ _ _ _ _ c.loop-alloc.invariant c.reach.ensures.same
+    c.in-Some.ensures.reached c.in-Some-open_counted.ensures.there
+    (c.if-front-eq-STRUCT.false, c.if-front-eq-OBJECT.false) c.in-Err.ensures.refused
+    c.in-Some-open_counted.ensures.counted
+
+pub loop-alloc-preserved : goal.loop-alloc-preserved
+loop-alloc-preserved g c =
+    let inside = g.G.Grows.inside in
+    let taken = c.in_default-put_plain.ensures.taken in
+    one_read _ _ (inside c.reach.new.self) (inside c.reserve.new.self) _ _ _ _ _ _ _ _ _ _ taken.value
+    c.loop-alloc.invariant c.reach.ensures.same c.in-Some.ensures.reached c.in-Some-open_counted.ensures.there
+    (c.if-front-eq-STRUCT.false, c.if-front-eq-OBJECT.false) taken.its_type taken.read c.reserve.ensures.same
+    (g.met.G.Grows.grown _ _ taken.value taken.taken) c.in-Some-open_counted.ensures.counted

@@ -1,0 +1,11 @@
+use Rattle.std.proofs.Common.{length}
+use Rattle.spa_read.specs.Nesting.{Reads}
+use Rattle.spa_read.proofs.inside.read_plain_pods.Given as goal
+
+abbrev pub invariant-loop-alloc : goal.invariant-loop-alloc
+invariant-loop-alloc g l =
+    let inside = g.G.Grows.inside in
+    Reads (inside l.fn.to) l.fn.left.now l.fn.opened (inside l.to) l.left.now l.opened
+
+abbrev pub decreases-loop-alloc : goal.decreases-loop-alloc
+decreases-loop-alloc g l = length l.left.now

@@ -1,0 +1,225 @@
+//! What is read of the body of a struct or of an object, up to the next struct or object in it.
+ghost use Rattle.std.specs.Prelude.{◌≡◌, ◌≢◌, ◌+◌, ◌*◌, ◌<◌, ◌≤◌, ◌^◌, [], IfErr, IfNone, IfOk, IfSome, OnOk, length};
+ghost use Rattle.spa_format.specs.Tree.{Tree};
+ghost use Rattle.spa_read.specs.Nesting.{HasRoom, IsAlike, LacksKey, Reaches, ReadsOn, RefusesBehind, so_far, with_child};
+ghost use Rattle.spa_read.specs.declared.inside.Inside.{Inside};
+ghost use Rattle.spa_read.specs.declared.inside.Inside.TheVariants as inside_variant;
+ghost use Rattle.spa_value.specs.View.{view};
+
+use crate::front::{Front, open_counted};
+use crate::plain::put_plain;
+use crate::refused::Refused;
+use crate::taking::Takes;
+use crate::types::{OBJECT, SECOND_WORD, STRUCT};
+use bitflags::Flags;
+use spa_fixed::{HEADER_LEN, Refusal, u32_at};
+use spa_value::{Object, Property, PropertyFlags, Value};
+use std::alloc::{AllocError, Global};
+
+/// What is read of a body so far.
+#[derive(Drop)]
+pub(crate) enum Inside {
+    Struct(Vec<Value>),
+    Object(OpenObject),
+}
+
+/// What is read of an object so far.
+#[derive(Drop)]
+pub(crate) struct OpenObject {
+    pub(crate) type_: u32,
+    pub(crate) id: u32,
+    pub(crate) properties: Vec<Property>,
+    /// The key of the property whose value is read next.
+    pub(crate) key: u32,
+    /// The flags of that property.
+    pub(crate) flags: PropertyFlags,
+}
+
+/// A body that is read pod by pod.
+pub(crate) trait Grows: Takes {
+    ghost inside: { Self → Inside };
+
+    /// Goes on to the next pod in a struct or, behind its key and flags, in an object, where these are whole.
+    fn reach<'a>(&mut self, left: &'a [u8]) -> Option<&'a [u8]>
+        requires { left.now ≢ [] }
+        ensures same { so_far (inside self.new) ≡ so_far (inside self.old) }
+        ensures reached { IfSome result (λ place. Reaches (inside self.new) left.now place.now) }
+        ensures short { IfNone result (LacksKey (inside self.old) left.now) };
+
+    /// Makes room for one more.
+    fn reserve(&mut self) -> Result<(), AllocError>
+        ensures room { OnOk result (Self.has_room self.new) }
+        ensures same { IsAlike (inside self.old) (inside self.new) };
+
+    ghost grown: { (a b : Self) (v : Tree) → Self.takes a v b → so_far (inside b) ≡ with_child (inside a) v };
+}
+
+impl Takes for Vec<Value> {
+    ghost has_room = { λ it. HasRoom (inside_variant.Struct it) };
+
+    ghost takes = { λ a v b. so_far (inside_variant.Struct b) ≡ with_child (inside_variant.Struct a) v };
+
+    #[inline(always)]
+    fn put(&mut self, value: Value) {
+        self.push_reserved(value);
+    }
+}
+
+/// The members of a struct.
+impl Grows for Vec<Value> {
+    ghost inside = { λ it. inside_variant.Struct it };
+
+    ghost grown = { λ _ _ _ e. e };
+
+    #[inline(always)]
+    fn reach<'a>(&mut self, left: &'a [u8]) -> Option<&'a [u8]> {
+        Some(left)
+    }
+
+    #[inline(always)]
+    fn reserve(&mut self) -> Result<(), AllocError> {
+        Vec::reserve(self, 1)
+    }
+}
+
+impl Takes for OpenObject {
+    ghost has_room = { λ it. HasRoom (inside_variant.Object it) };
+
+    ghost takes = { λ a v b. so_far (inside_variant.Object b) ≡ with_child (inside_variant.Object a) v };
+
+    #[inline(always)]
+    fn put(&mut self, value: Value) {
+        let property = Property {
+            key: self.key,
+            flags: self.flags,
+            value,
+        };
+        self.properties.push_reserved(property);
+    }
+}
+
+impl Grows for OpenObject {
+    ghost inside = { λ it. inside_variant.Object it };
+
+    ghost grown = { λ _ _ _ e. e };
+
+    #[inline(always)]
+    fn reach<'a>(&mut self, left: &'a [u8]) -> Option<&'a [u8]> {
+        if left.len() < HEADER_LEN {
+            return None;
+        }
+        self.key = u32_at(left, 0);
+        self.flags = PropertyFlags::from_bits_retain(u32_at(left, SECOND_WORD));
+        let (_, behind) = left.split_at(HEADER_LEN);
+        Some(behind)
+    }
+
+    #[inline(always)]
+    fn reserve(&mut self) -> Result<(), AllocError> {
+        self.properties.reserve(1)
+    }
+}
+
+/// Reads pods up to the end of a body, where it answers nothing, or up to a struct or an object, which it answers opened and
+/// where it then stands.
+#[inline(always)]
+pub(crate) fn read_plain_pods<'de, G: Grows>(
+    alloc: Global,
+    left: &mut &'de [u8],
+    opened: &mut u64,
+    to: &mut G,
+) -> Result<Option<Front<'de>>, Refused<'de>>
+    requires { 8 * opened.old + length left.old.now < 2 ^ 64 }
+    ensures few { 8 * opened.new ≤ 8 * opened.old + length left.old.now }
+    ensures more { opened.old ≤ opened.new }
+    ensures read { IfOk result (λ front. ReadsOn (G.inside to.old) left.old.now opened.old front (G.inside to.new) left.new.now opened.new) }
+    ensures refused { IfErr result (λ refused. RefusesBehind (so_far (G.inside to.old)) left.old.now opened.old refused.place.now opened.new refused.why) }
+{
+    while !left.is_empty() {
+        let Some(place) = to.reach(*left) else {
+            return Err(Refused {
+                place: *left,
+                why: Refusal::Short,
+            });
+        };
+        let Some(front) = open_counted(place, opened) else {
+            return Err(Refused {
+                place,
+                why: Refusal::Short,
+            });
+        };
+        if front.type_ == STRUCT || front.type_ == OBJECT {
+            *left = place;
+            return Ok(Some(front));
+        }
+        if to.reserve().is_err() {
+            return Err(Refused::lacking_memory());
+        }
+        if let Err(why) = put_plain(alloc, front.type_, front.body, to) {
+            return Err(Refused { place, why });
+        }
+        *left = front.rest;
+    }
+    Ok(None)
+}
+
+impl Inside {
+    /// Reads on as the members of a struct or as the properties of an object.
+    #[inline(always)]
+    pub(crate) fn read_on<'de>(
+        &mut self,
+        alloc: Global,
+        left: &mut &'de [u8],
+        opened: &mut u64,
+    ) -> Result<Option<Front<'de>>, Refused<'de>>
+        requires { 8 * opened.old + length left.old.now < 2 ^ 64 }
+        ensures few { 8 * opened.new ≤ 8 * opened.old + length left.old.now }
+        ensures more { opened.old ≤ opened.new }
+        ensures read { IfOk result (λ front. ReadsOn self.old left.old.now opened.old front self.new left.new.now opened.new) }
+        ensures refused { IfErr result (λ refused. RefusesBehind (so_far self.old) left.old.now opened.old refused.place.now opened.new refused.why) }
+    {
+        match self {
+            Inside::Struct(members) => read_plain_pods(alloc, left, opened, members),
+            Inside::Object(object) => read_plain_pods(alloc, left, opened, object),
+        }
+    }
+
+    /// Makes room for one more.
+    #[inline(always)]
+    pub(crate) fn reserve(&mut self) -> Result<(), AllocError>
+        ensures room { OnOk result (HasRoom self.new) }
+        ensures same { IsAlike self.old self.new }
+    {
+        match self {
+            Inside::Struct(members) => Grows::reserve(members),
+            Inside::Object(object) => Grows::reserve(object),
+        }
+    }
+
+    /// Puts the next member, or the value of the next property, behind the others.
+    #[inline(always)]
+    pub(crate) fn put(&mut self, value: Value)
+        requires { HasRoom self.old }
+        ensures { so_far self.new ≡ with_child self.old (view value) }
+    {
+        match self {
+            Inside::Struct(members) => members.put(value),
+            Inside::Object(object) => object.put(value),
+        }
+    }
+
+    /// The value that is read.
+    #[inline(always)]
+    pub(crate) fn into_value(self) -> Value
+        ensures { view result ≡ so_far self }
+    {
+        match self {
+            Inside::Struct(members) => Value::Struct(members),
+            Inside::Object(object) => Value::Object(Object {
+                type_: object.type_,
+                id: object.id,
+                properties: object.properties,
+            }),
+        }
+    }
+}

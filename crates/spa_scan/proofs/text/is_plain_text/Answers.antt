@@ -1,0 +1,27 @@
+use Rattle.std.proofs.Common.{◌≡◌, ◌≤◌, ap, arith, length, subst, sym}
+use Rattle.spa_scan.specs.Canonical.{IsPlainFor}
+use Rattle.spa_scan.proofs.Parts.{end_plain, plain_more, shorter_end, whole_end}
+use Rattle.spa_scan.proofs.text.is_plain_text.Goals as goal
+
+pub loop-left-init : goal.loop-left-init
+loop-left-init c = (whole_end c.args.text.now, λ p. p)
+
+pub loop-left-preserved : goal.loop-left-preserved
+loop-left-preserved c =
+    let before = c.loop-left.invariant in
+    let left = c.loop-left.left.now in
+    let back = c.split_at-in-loop-left.ensures.back in
+    let long : 8 ≤ length left = omega (arith, c.loop-left-test.true) in
+    let first = c.are_plain-in-loop-left.ensures c.if-not-are_plain-2.false in (
+      shorter_end left _ _ 8 long back before.0,
+      λ p.
+          before.1 (plain_more 8 left long first (subst (λ y. IsPlainFor (length y) y) back p)),
+    )
+
+pub returns : goal.returns
+returns c = λ _.
+    let before = c.loop-left.invariant in
+    let long : 8 ≤ length c.args.text.now = omega (arith, c.if-text-lt-PIECE.false) in
+    before.1
+    (end_plain _ _ _ long c.loop-left-test.false before.0 c.split_at.ensures.back
+    (c.are_plain.ensures c.if-not-are_plain.false))

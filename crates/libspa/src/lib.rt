@@ -44,7 +44,7 @@ pub mod pod {
 
     /// Writing values.
     pub mod serialize {
-        pub use spa_fixed::{GenError, PodOutput, PodSink};
+        pub use spa_sink::{GenError, PodOutput, PodSink};
         pub use spa_write::{PodSerialize, PodSerializer, SerializeSuccess, laws};
     }
 

@@ -18,9 +18,6 @@ const REFUSED: u8 = 1;
 /// The status of a run whose words are none of the program's.
 const MISUSED: u8 = 2;
 
-/// The length in bytes of a pod's header.
-const HEADER_LEN: usize = 8;
-
 /// Why a run was refused.
 #[derive(Debug, Drop)]
 pub enum Failure {
@@ -153,8 +150,7 @@ fn first_of(bytes: &[u8]) -> Option<(Pod<'_>, usize)>
     ensures within { IfSome result (λ first. first.1 ≤ length bytes.now) }
 {
     let pod = Pod::from_bytes(bytes)?;
-    let extent = HEADER_LEN + (pod.size() as usize).div_ceil(HEADER_LEN) * HEADER_LEN;
-    Some((pod, extent))
+    Some((pod, pod.extent()))
 }
 
 /// All bytes that the reader gives.

@@ -3,7 +3,7 @@ use crate::bytes::bytes_spelled;
 use crate::compare::{assert_bytes, assert_holds};
 use arrayvec::ArrayVec;
 use bitflags::Flags;
-use spa_fixed::GenError;
+use spa_sink::GenError;
 use spa_utils::{Choice, ChoiceEnum, ChoiceFlags, Fd, Float32, Float64, Fraction, Id, Rectangle};
 use spa_value::{ChoiceValue, Object, Property, PropertyFlags, Value, ValueArray};
 use spa_write::{PodSerializer, laws, put_bytes, put_leaf, put_pointer, put_text, write_value};

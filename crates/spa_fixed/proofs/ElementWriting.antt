@@ -6,9 +6,9 @@ use Rattle.spa_format.specs.Encoding.{fixed_bodies}
 use Rattle.spa_format.specs.Typed.{IsTypedFixed, AreOf}
 use Rattle.spa_format.proofs.FixedKinds.{length-fixed_body}
 use Rattle.spa_format.proofs.Elements.{fixed_bodies-append}
-use Rattle.spa_fixed.specs.declared.gen_error.GenError.{GenError}
-use Rattle.spa_fixed.specs.Writing.{Sent, none_sent, some_sent}
-use Rattle.spa_fixed.proofs.Sending.{AppendsMore, RefusesAfter, RefusesLonger, sent_before, refused_behind}
+use Rattle.spa_sink.specs.declared.gen_error.GenError.{GenError}
+use Rattle.spa_sink.specs.Writing.{Sent, none_sent, some_sent}
+use Rattle.spa_sink.proofs.Sending.{AppendsMore, RefusesAfter, RefusesLonger, sent_before, refused_behind}
 
 -- the first values stand in the block
 pub record IsFilled {T : Type 0} (k : Kind) (f : T → Fixed) (s at i : ℕ) (block : List ℕ) (vs : List T) : Type 0 where

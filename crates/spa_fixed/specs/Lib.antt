@@ -1,4 +1,3 @@
 pub mod Faults
-pub mod Writing
 pub mod Choices
 pub mod Reading

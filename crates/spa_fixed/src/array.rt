@@ -4,7 +4,7 @@ ghost use Rattle.spa_fixed.specs.Reading.{AreWhole, RefusesArray};
 ghost use Rattle.spa_format.specs.Faults.{IsWrongArray};
 ghost use Rattle.spa_format.specs.Kind.{IsFixedBody, body_size, content};
 ghost use Rattle.spa_format.specs.Pod.{AreElements, IsArray};
-ghost use Rattle.spa_fixed.specs.Writing.{RefusesWrite};
+ghost use Rattle.spa_sink.specs.Writing.{RefusesPiece};
 ghost use Rattle.spa_format.specs.Encoding.{array_body, framed};
 ghost use Rattle.spa_format.specs.Tree.{array_type};
 ghost use Rattle.spa_format.specs.Typed.{AreOf};
@@ -13,9 +13,8 @@ ghost use Rattle.spa_format.specs.Words.{header_size, size_limit, word_at};
 use crate::elements::{body_len, put_parts};
 use crate::fault::Refusal;
 use crate::fixed::{CanonicalFixedSizedPod, WIDE_LEN, WORD_LEN};
-use crate::gen_error::GenError;
-use crate::sink::PodSink;
-use crate::words::{HEADER_LEN, joined, two_words, u32_at};
+use spa_bytes::{HEADER_LEN, joined, two_words, u32_at};
+use spa_sink::{GenError, PodSink};
 use spa_utils::SpaTypes;
 use std::alloc::{AllocError, Global};
 
@@ -115,7 +114,7 @@ pub fn put_array<T: CanonicalFixedSizedPod, S: PodSink>(
     ensures ok { OnOk result (S.appends sink.old (framed array_type (array_body T.kind (map T.fixed values.now))) sink.new) }
     ensures typed { OnOk result (AreOf T.kind (map T.fixed values.now)) }
     ensures fits { OnOk result (length (array_body T.kind (map T.fixed values.now)) < size_limit) }
-    ensures refused { IfErr result (RefusesWrite ⊥ (size_limit ≤ length (array_body T.kind (map T.fixed values.now))) (λ e. S.refuses sink.old (length (framed array_type (array_body T.kind (map T.fixed values.now)))) sink.new e)) }
+    ensures refused { IfErr result (RefusesPiece ⊥ (size_limit ≤ length (array_body T.kind (map T.fixed values.now))) (λ e. S.refuses sink.old (length (framed array_type (array_body T.kind (map T.fixed values.now)))) sink.new e) sink.old sink.new) }
 {
     let Some(size) = body_len::<T>(HEADER_LEN, values.len()) else {
         return Err(GenError::TooLarge);

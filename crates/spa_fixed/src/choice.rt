@@ -5,7 +5,7 @@ ghost use Rattle.spa_fixed.specs.Reading.{AreWhole, ReadsAs, RefusesChoice, Refu
 ghost use Rattle.spa_format.specs.Faults.{choice_header_size};
 ghost use Rattle.spa_format.specs.Kind.{IsFixedBody};
 ghost use Rattle.spa_format.specs.Pod.{AreElements, IsBody};
-ghost use Rattle.spa_fixed.specs.Writing.{RefusesWrite};
+ghost use Rattle.spa_sink.specs.Writing.{RefusesPiece};
 ghost use Rattle.spa_format.specs.Encoding.{encoded_body, encoding_of, fixed_bodies, framed};
 ghost use Rattle.spa_format.specs.Tree.{choice_type, enum_choice, none_choice, range_choice, step_choice};
 ghost use Rattle.spa_format.specs.Typed.{AreOf, IsTyped};
@@ -15,9 +15,8 @@ use crate::array::{next_element, open_array, read_elements};
 use crate::elements::{body_len, put_parts};
 use crate::fault::Refusal;
 use crate::fixed::{CanonicalFixedSizedPod, ChoiceElement};
-use crate::gen_error::GenError;
-use crate::sink::PodSink;
-use crate::words::{HEADER_LEN, joined, two_words, u32_at};
+use spa_bytes::{HEADER_LEN, joined, two_words, u32_at};
+use spa_sink::{GenError, PodSink};
 use bitflags::Flags;
 use spa_utils::{Choice, ChoiceEnum, ChoiceFlags, SpaTypes};
 use std::alloc::Global;
@@ -204,7 +203,7 @@ fn put_values<T: CanonicalFixedSizedPod, S: PodSink>(
     ensures ok { OnOk result (S.appends sink.old (framed choice_type (choice_body shape flags T.kind (map (λ x. T.fixed x.now) first.now ++ map T.fixed more.now))) sink.new) }
     ensures typed { OnOk result ((flags < size_limit) × AreOf T.kind (map (λ x. T.fixed x.now) first.now ++ map T.fixed more.now)) }
     ensures fits { OnOk result (length (choice_body shape flags T.kind (map (λ x. T.fixed x.now) first.now ++ map T.fixed more.now)) < size_limit) }
-    ensures refused { IfErr result (RefusesWrite ⊥ (size_limit ≤ length (choice_body shape flags T.kind (map (λ x. T.fixed x.now) first.now ++ map T.fixed more.now))) (λ e. S.refuses sink.old (length (framed choice_type (choice_body shape flags T.kind (map (λ x. T.fixed x.now) first.now ++ map T.fixed more.now)))) sink.new e)) }
+    ensures refused { IfErr result (RefusesPiece ⊥ (size_limit ≤ length (choice_body shape flags T.kind (map (λ x. T.fixed x.now) first.now ++ map T.fixed more.now))) (λ e. S.refuses sink.old (length (framed choice_type (choice_body shape flags T.kind (map (λ x. T.fixed x.now) first.now ++ map T.fixed more.now)))) sink.new e) sink.old sink.new) }
 {
     let first_len = first.len() * T::SIZE;
     let Some(size) = body_len::<T>(2 * HEADER_LEN + first_len, more.len()) else {
@@ -228,7 +227,7 @@ pub fn put_choice<T: ChoiceElement, S: PodSink>(
     ensures ok { OnOk result (S.appends sink.old (encoding_of (choice_tree T.kind T.fixed choice.now)) sink.new) }
     ensures typed { OnOk result (IsTyped (choice_tree T.kind T.fixed choice.now)) }
     ensures fits { OnOk result (length (encoded_body (choice_tree T.kind T.fixed choice.now)) < size_limit) }
-    ensures refused { IfErr result (RefusesWrite ⊥ (size_limit ≤ length (encoded_body (choice_tree T.kind T.fixed choice.now))) (λ e. S.refuses sink.old (length (encoding_of (choice_tree T.kind T.fixed choice.now))) sink.new e)) }
+    ensures refused { IfErr result (RefusesPiece ⊥ (size_limit ≤ length (encoded_body (choice_tree T.kind T.fixed choice.now))) (λ e. S.refuses sink.old (length (encoding_of (choice_tree T.kind T.fixed choice.now))) sink.new e) sink.old sink.new) }
 {
     let flags = choice.0.bits();
     match &choice.1 {

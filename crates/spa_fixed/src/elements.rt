@@ -1,14 +1,12 @@
 //! Elements on their way to a sink.
 ghost use Rattle.std.specs.Prelude.{◌≡◌, ◌+◌, ◌*◌, ◌<◌, ◌≤◌, ◌++◌, IfErr, IfNone, IfSome, OnOk, length, map, take};
-ghost use Rattle.spa_fixed.specs.Writing.{Sent};
+ghost use Rattle.spa_sink.specs.Writing.{Sent};
 ghost use Rattle.spa_format.specs.Encoding.{fixed_bodies};
 ghost use Rattle.spa_format.specs.Typed.{AreOf};
 ghost use Rattle.spa_format.specs.Words.{padding, size_limit};
 
 use crate::fixed::CanonicalFixedSizedPod;
-use crate::gen_error::GenError;
-use crate::sink::PodSink;
-use crate::words::put_padding;
+use spa_sink::{GenError, PodSink, put_padding};
 
 /// How many elements are handed to a sink at once, at most.
 const BLOCK_COUNT: usize = 32;

@@ -7,10 +7,9 @@ ghost use Rattle.spa_format.specs.Typed.{IsTypedFixed};
 ghost use Rattle.std.proofs.Common.{arith};
 
 use crate::fault::{Fault, FaultKind};
-use crate::gen_error::GenError;
-use crate::sink::PodSink;
-use crate::words::{two_words, u32_at, u64_at, wide_body, word_body};
-use spa_utils::{Fd, Float32, Float64, Fraction, Id, Rectangle};
+use spa_bytes::{two_words, u32_at, u64_at, wide_body, word_body};
+use spa_sink::{GenError, PodSink};
+use spa_utils::{Fd, Float32, Float64, Fraction, Id, Rectangle, SpaTypes};
 
 mod sealed {
     /// The types of fixed size are these ten, and no type of another crate.
@@ -101,13 +100,13 @@ pub trait ChoiceElement: CanonicalFixedSizedPod {
 impl Sealed for () {}
 
 impl CanonicalFixedSizedPod for () {
-    const TYPE: u32 = 1;
+    const TYPE: u32 = SpaTypes::None.0;
 
     const SIZE: usize = 0;
 
-    ghost TYPE = { 1 };
+    ghost TYPE = { type_number k.none_kind };
 
-    ghost SIZE = { 0 };
+    ghost SIZE = { body_size k.none_kind };
 
     ghost kind = { k.none_kind };
 
@@ -129,13 +128,13 @@ impl CanonicalFixedSizedPod for () {
 impl Sealed for bool {}
 
 impl CanonicalFixedSizedPod for bool {
-    const TYPE: u32 = 2;
+    const TYPE: u32 = SpaTypes::Bool.0;
 
     const SIZE: usize = WORD_LEN;
 
-    ghost TYPE = { 2 };
+    ghost TYPE = { type_number k.bool_kind };
 
-    ghost SIZE = { 4 };
+    ghost SIZE = { body_size k.bool_kind };
 
     ghost kind = { k.bool_kind };
 
@@ -163,13 +162,13 @@ impl ChoiceElement for bool {
 impl Sealed for Id {}
 
 impl CanonicalFixedSizedPod for Id {
-    const TYPE: u32 = 3;
+    const TYPE: u32 = SpaTypes::Id.0;
 
     const SIZE: usize = WORD_LEN;
 
-    ghost TYPE = { 3 };
+    ghost TYPE = { type_number k.id_kind };
 
-    ghost SIZE = { 4 };
+    ghost SIZE = { body_size k.id_kind };
 
     ghost kind = { k.id_kind };
 
@@ -197,13 +196,13 @@ impl ChoiceElement for Id {
 impl Sealed for i32 {}
 
 impl CanonicalFixedSizedPod for i32 {
-    const TYPE: u32 = 4;
+    const TYPE: u32 = SpaTypes::Int.0;
 
     const SIZE: usize = WORD_LEN;
 
-    ghost TYPE = { 4 };
+    ghost TYPE = { type_number k.int_kind };
 
-    ghost SIZE = { 4 };
+    ghost SIZE = { body_size k.int_kind };
 
     ghost kind = { k.int_kind };
 
@@ -231,13 +230,13 @@ impl ChoiceElement for i32 {
 impl Sealed for i64 {}
 
 impl CanonicalFixedSizedPod for i64 {
-    const TYPE: u32 = 5;
+    const TYPE: u32 = SpaTypes::Long.0;
 
     const SIZE: usize = WIDE_LEN;
 
-    ghost TYPE = { 5 };
+    ghost TYPE = { type_number k.long_kind };
 
-    ghost SIZE = { 8 };
+    ghost SIZE = { body_size k.long_kind };
 
     ghost kind = { k.long_kind };
 
@@ -265,13 +264,13 @@ impl ChoiceElement for i64 {
 impl Sealed for Float32 {}
 
 impl CanonicalFixedSizedPod for Float32 {
-    const TYPE: u32 = 6;
+    const TYPE: u32 = SpaTypes::Float.0;
 
     const SIZE: usize = WORD_LEN;
 
-    ghost TYPE = { 6 };
+    ghost TYPE = { type_number k.float_kind };
 
-    ghost SIZE = { 4 };
+    ghost SIZE = { body_size k.float_kind };
 
     ghost kind = { k.float_kind };
 
@@ -299,13 +298,13 @@ impl ChoiceElement for Float32 {
 impl Sealed for Float64 {}
 
 impl CanonicalFixedSizedPod for Float64 {
-    const TYPE: u32 = 7;
+    const TYPE: u32 = SpaTypes::Double.0;
 
     const SIZE: usize = WIDE_LEN;
 
-    ghost TYPE = { 7 };
+    ghost TYPE = { type_number k.double_kind };
 
-    ghost SIZE = { 8 };
+    ghost SIZE = { body_size k.double_kind };
 
     ghost kind = { k.double_kind };
 
@@ -333,13 +332,13 @@ impl ChoiceElement for Float64 {
 impl Sealed for Rectangle {}
 
 impl CanonicalFixedSizedPod for Rectangle {
-    const TYPE: u32 = 10;
+    const TYPE: u32 = SpaTypes::Rectangle.0;
 
     const SIZE: usize = WIDE_LEN;
 
-    ghost TYPE = { 10 };
+    ghost TYPE = { type_number k.rectangle_kind };
 
-    ghost SIZE = { 8 };
+    ghost SIZE = { body_size k.rectangle_kind };
 
     ghost kind = { k.rectangle_kind };
 
@@ -370,13 +369,13 @@ impl ChoiceElement for Rectangle {
 impl Sealed for Fraction {}
 
 impl CanonicalFixedSizedPod for Fraction {
-    const TYPE: u32 = 11;
+    const TYPE: u32 = SpaTypes::Fraction.0;
 
     const SIZE: usize = WIDE_LEN;
 
-    ghost TYPE = { 11 };
+    ghost TYPE = { type_number k.fraction_kind };
 
-    ghost SIZE = { 8 };
+    ghost SIZE = { body_size k.fraction_kind };
 
     ghost kind = { k.fraction_kind };
 
@@ -407,13 +406,13 @@ impl ChoiceElement for Fraction {
 impl Sealed for Fd {}
 
 impl CanonicalFixedSizedPod for Fd {
-    const TYPE: u32 = 18;
+    const TYPE: u32 = SpaTypes::Fd.0;
 
     const SIZE: usize = WIDE_LEN;
 
-    ghost TYPE = { 18 };
+    ghost TYPE = { type_number k.fd_kind };
 
-    ghost SIZE = { 8 };
+    ghost SIZE = { body_size k.fd_kind };
 
     ghost kind = { k.fd_kind };
 

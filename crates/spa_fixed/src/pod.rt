@@ -6,9 +6,8 @@ ghost use Rattle.spa_format.specs.Typed.{IsTypedFixed};
 ghost use Rattle.spa_format.specs.Words.{extent};
 
 use crate::fixed::CanonicalFixedSizedPod;
-use crate::gen_error::GenError;
-use crate::sink::PodSink;
-use crate::words::{HEADER_LEN, two_words};
+use spa_bytes::{HEADER_LEN, extent_of, two_words};
+use spa_sink::{GenError, PodSink};
 
 /// The length in bytes of the longest pod of fixed size: a header, and a body with its padding.
 const LONGEST_POD_LEN: usize = 16;
@@ -24,18 +23,7 @@ pub fn put_fixed<T: CanonicalFixedSizedPod, S: PodSink>(
     ensures begun { OnErr result ((count : ℕ) × S.appends sink.old (take count (framed T.TYPE (fixed_body (T.fixed value.now)))) sink.new) }
     ensures cause { IfErr result (λ e. S.refuses sink.old (length (framed T.TYPE (fixed_body (T.fixed value.now)))) sink.new e) }
 {
-    sink.append(&pod_bytes(value)[..pod_len::<T>()])
-}
-
-/// The length in bytes of a pod of this type: that of a header, and of a body with its padding.
-fn pod_len<T: CanonicalFixedSizedPod>() -> usize
-    ensures { result ≡ extent T.SIZE }
-{
-    if T::SIZE == 0 {
-        HEADER_LEN
-    } else {
-        LONGEST_POD_LEN
-    }
+    sink.append(&pod_bytes(value)[..extent_of(T::SIZE as u32)])
 }
 
 /// A pod, and zeros behind it up to sixteen bytes.

@@ -18,3 +18,4 @@ pub mod FixationLemmas
 pub mod FixatedValues
 pub mod FixatedObjects
 pub mod FixatedPlaces
+pub mod Encodings

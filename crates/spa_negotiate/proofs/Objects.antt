@@ -6,7 +6,7 @@ use Rattle.spa_value.specs.declared.object.Property.{Property}
 use Rattle.spa_value.specs.declared.object.Object.{Object, out-Object, roll-Object}
 use Rattle.spa_value.specs.View.{object_view}
 use Rattle.spa_value.specs.Views.{property_views}
-use Rattle.spa_value.specs.ViewLaws.{view-object, view-fields}
+use Rattle.spa_value.proofs.ViewLaws.{view-object, view-fields}
 use Rattle.spa_negotiate.specs.declared.error.NegotiateError.{NegotiateError}
 use Rattle.spa_negotiate.specs.declared.error.NegotiateError.TheVariants.{TypeMismatch}
 use Rattle.spa_negotiate.specs.Meeting.{SettlesKeys, AgreeAt, Meet, CanMeet}

@@ -4,7 +4,7 @@ use Rattle.spa_format.specs.Tree.{Tree, Properties, no_properties, property, joi
 use Rattle.spa_value.specs.declared.object.Property.{Property}
 use Rattle.spa_value.specs.View.{view}
 use Rattle.spa_value.specs.Views.{property_views, property_view}
-use Rattle.spa_value.specs.ViewLaws.{property_views-at, property_views-take_more}
+use Rattle.spa_value.proofs.ViewLaws.{property_views-at, property_views-take_more}
 use Rattle.spa_negotiate.specs.declared.error.NegotiateError.{NegotiateError}
 use Rattle.spa_negotiate.specs.Admits.{IsPlain, plain_of}
 use Rattle.spa_negotiate.specs.Meeting.{Settles, SettlesKeys}

@@ -16,11 +16,12 @@ use Rattle.spa_format.proofs.WordLemmas.{word_at-append}
 use Rattle.spa_fixed.specs.declared.fault.Refusal.{Refusal}
 use Rattle.spa_fixed.specs.declared.fault.Refusal.TheVariants as refusal
 use Rattle.spa_value.specs.View.{view}
-use Rattle.spa_value.specs.ViewLaws.{property_views-push, views-push}
+use Rattle.spa_value.proofs.ViewLaws.{property_views-push, views-push}
 use Rattle.spa_value.specs.Views.{property_views, views}
 use Rattle.spa_value.specs.declared.object.Property.{Property}
 use Rattle.spa_value.specs.declared.value.Value.{Value}
-use Rattle.spa_read.specs.Opening.{BeginsWith, CountsShort, Opens}
+use Rattle.spa_bytes.specs.Opening.{Opens}
+use Rattle.spa_read.specs.Opening.{BeginsWith, CountsShort}
 use Rattle.spa_read.specs.Reading.{MayLackMemory, TakesMemory}
 use Rattle.spa_read.specs.Refusing.{RefusesBody}
 use Rattle.spa_read.specs.Nesting.{IsAlike, IsReadUpTo, LacksKey, Reaches, Reads, RefusesAt, RefusesBehind, so_far, with_child}

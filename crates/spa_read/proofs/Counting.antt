@@ -11,7 +11,8 @@ use Rattle.spa_format.specs.Opened as headers
 use Rattle.spa_fixed.specs.declared.fault.Refusal.{Refusal}
 use Rattle.spa_fixed.specs.declared.fault.Refusal.TheVariants as refusal
 use Rattle.spa_value.specs.Views.{property_views, views}
-use Rattle.spa_read.specs.Opening.{CountsShort, Opens}
+use Rattle.spa_bytes.specs.Opening.{Opens}
+use Rattle.spa_read.specs.Opening.{CountsShort}
 use Rattle.spa_read.specs.Reading.{MayLackMemory, OnFault}
 use Rattle.spa_read.specs.Refusing.{RefusesBody, RefusesPod, error_of}
 use Rattle.spa_read.specs.Nesting.{IsReadCounted, RefusesAt, so_far, with_child}

@@ -6,14 +6,15 @@ ghost use Rattle.spa_read.specs.declared.inside.Inside.{Inside};
 ghost use Rattle.spa_read.specs.declared.inside.Inside.TheVariants as inside_variant;
 ghost use Rattle.spa_value.specs.View.{view};
 
-use crate::front::{Front, open_counted};
+use spa_bytes::{Front, HEADER_LEN, SECOND_WORD, u32_at};
+use crate::front::open_counted;
 use crate::plain::put_plain;
 use crate::refused::Refused;
 use crate::taking::Takes;
-use crate::types::{OBJECT, SECOND_WORD, STRUCT};
 use bitflags::Flags;
-use spa_fixed::{HEADER_LEN, Refusal, u32_at};
+use spa_fixed::Refusal;
 use spa_value::{Object, Property, PropertyFlags, Value};
+use spa_utils::SpaTypes;
 use std::alloc::{AllocError, Global};
 
 /// What is read of a body so far.
@@ -148,7 +149,7 @@ pub(crate) fn read_plain_pods<'de, G: Grows>(
                 why: Refusal::Short,
             });
         };
-        if front.type_ == STRUCT || front.type_ == OBJECT {
+        if front.type_ == SpaTypes::Struct.0 || front.type_ == SpaTypes::Object.0 {
             *left = place;
             return Ok(Some(front));
         }

@@ -6,13 +6,13 @@ ghost use Rattle.spa_format.specs.Words.{header_size};
 ghost use Rattle.spa_read.specs.Nesting.{EndsInner, IsBegunAs, IsUnderWay, RefusesAt, Steps, ahead, around, so_far};
 ghost use Rattle.spa_value.specs.View.{view};
 
-use crate::front::Front;
+use spa_bytes::{Front, HEADER_LEN, SECOND_WORD, u32_at};
 use crate::inside::{Inside, OpenObject};
 use crate::refused::Refused;
-use crate::types::{SECOND_WORD, STRUCT};
 use bitflags::Flags;
-use spa_fixed::{HEADER_LEN, Refusal, u32_at};
+use spa_fixed::Refusal;
 use spa_value::{PropertyFlags, Value, discard};
+use spa_utils::SpaTypes;
 use std::alloc::{AllocError, Global};
 use std::mem;
 
@@ -34,7 +34,7 @@ pub(crate) fn begin<'de>(
     ensures begun { IfOk result (λ begun. IsBegunAs front.entry.type_ front.entry.body.now front.entry.rest.now begun.0 begun.1.now) }
     ensures refused { IfErr result (λ why. (why ≡ refusal.WrongSize) × (front.entry.type_ ≡ object_type) × (length front.entry.body.now < header_size)) }
 {
-    if front.type_ == STRUCT {
+    if front.type_ == SpaTypes::Struct.0 {
         let begun = Open {
             rest: front.rest,
             inside: Inside::Struct(Vec::new(alloc)),

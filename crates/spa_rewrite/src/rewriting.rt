@@ -10,7 +10,8 @@ ghost use Rattle.spa_rewrite.specs.Tails.{KeepsStart};
 
 use crate::pod::rewrite_pod;
 use crate::tail::Tail;
-use spa_fixed::{DeserializeError, PodSink, Refusal};
+use spa_fixed::{DeserializeError, Refusal};
+use spa_sink::PodSink;
 use spa_read::error_at;
 use spa_scan::canonical_stretch;
 use std::alloc::Global;

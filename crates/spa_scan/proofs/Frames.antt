@@ -10,7 +10,8 @@ use Rattle.spa_format.specs.Typed.{IsBytes}
 use Rattle.spa_format.specs.Front.{HasFront, front_of, rest_of}
 use Rattle.spa_format.proofs.Fronts.{front_of_whole, length-body_of, front_and_rest}
 use Rattle.spa_format.proofs.Short.{padded_above}
-use Rattle.spa_read.specs.Opening.{BeginsWith, Opens}
+use Rattle.spa_bytes.specs.Opening.{Opens}
+use Rattle.spa_read.specs.Opening.{BeginsWith}
 use Rattle.spa_read.proofs.Steps.{pod_read}
 use Rattle.spa_scan.specs.Canonical.{AreCanonical, AreCanonicalProperties, BeginsCanonical, HasZeros, IsCanonicalBody, IsStretch, OpensPadded}
 use Rattle.std.proofs.Common.{inr}

@@ -5,8 +5,8 @@ ghost use Rattle.spa_format.specs.Tree.{choice_type};
 ghost use Rattle.spa_scan.specs.Canonical.{AreCanonicalElements, IsCanonicalArray, IsCanonicalBody};
 
 use crate::front::{ONE_WORD, TWO_WORDS, fixed_len};
-use spa_fixed::{HEADER_LEN, u32_at};
-use spa_read::types::*;
+use spa_bytes::{HEADER_LEN, SECOND_WORD, u32_at};
+use spa_utils::SpaTypes;
 
 /// The length in bytes of the four words before the values of a choice.
 const CHOICE_HEADER: usize = 16;
@@ -30,7 +30,7 @@ pub(crate) fn is_array(body: &[u8]) -> bool
     match size {
         0 => elements.is_empty(),
         ONE_WORD => {
-            if type_ == BOOL {
+            if type_ == SpaTypes::Bool.0 {
                 return are_bools(elements);
             }
             elements.len() % WORD_LEN == 0

@@ -3,9 +3,8 @@ ghost use Rattle.std.specs.Prelude.{◌≡◌, ◌+◌, ◌<◌, ◌≤◌, IfSo
 ghost use Rattle.spa_format.specs.Words.{padded_size};
 ghost use Rattle.spa_scan.specs.Canonical.{BeginsCanonical, HasZeros, IsFixedLen, OpensPadded};
 
-use spa_fixed::{HEADER_LEN, u32_at, u64_at};
-use spa_read::types::*;
-use spa_read::{Front, open};
+use spa_bytes::{Front, HEADER_LEN, SECOND_WORD, open, u32_at, u64_at};
+use spa_utils::SpaTypes;
 
 /// The length in bytes of a body of one word.
 pub(crate) const ONE_WORD: u32 = 4;
@@ -77,7 +76,7 @@ pub(crate) fn fixed_front(input: &[u8]) -> Option<&[u8]>
     if size != ONE_WORD || u32_at(input, SECOND_OF_BODY) != 0 {
         return None;
     }
-    if type_ == BOOL {
+    if type_ == SpaTypes::Bool.0 {
         if u32_at(input, FIRST_OF_BODY) > 1 {
             return None;
         }
@@ -91,17 +90,17 @@ pub(crate) fn fixed_front(input: &[u8]) -> Option<&[u8]>
 pub(crate) fn fixed_len(type_: u32) -> u32
     ensures { result < 9 → IsFixedLen type_ result }
 {
-    match type_ {
-        NONE => 0,
-        BOOL => ONE_WORD,
-        ID => ONE_WORD,
-        INT => ONE_WORD,
-        LONG => TWO_WORDS,
-        FLOAT => ONE_WORD,
-        DOUBLE => TWO_WORDS,
-        RECTANGLE => TWO_WORDS,
-        FRACTION => TWO_WORDS,
-        FD => TWO_WORDS,
+    match SpaTypes(type_) {
+        SpaTypes::None => 0,
+        SpaTypes::Bool => ONE_WORD,
+        SpaTypes::Id => ONE_WORD,
+        SpaTypes::Int => ONE_WORD,
+        SpaTypes::Long => TWO_WORDS,
+        SpaTypes::Float => ONE_WORD,
+        SpaTypes::Double => TWO_WORDS,
+        SpaTypes::Rectangle => TWO_WORDS,
+        SpaTypes::Fraction => TWO_WORDS,
+        SpaTypes::Fd => TWO_WORDS,
         _ => NO_LENGTH,
     }
 }

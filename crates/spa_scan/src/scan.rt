@@ -6,15 +6,12 @@ ghost use Rattle.spa_scan.specs.Canonical.{AreCanonical, AreCanonicalProperties,
 use crate::array::{is_array, is_choice};
 use crate::front::{fixed_front, padded_front};
 use crate::text::is_text;
-use spa_fixed::{HEADER_LEN, u32_at};
-use spa_read::types::*;
+use spa_bytes::{HEADER_LEN, POINTER_LEN, SECOND_WORD, u32_at};
+use spa_utils::SpaTypes;
 
 /// How deep structs and objects may stand in one another to be looked into, structs at the end of a struct aside. The look
 /// calls itself at each level: this bounds the stack that it takes.
 const LEVELS: u32 = 1000;
-
-/// The length in bytes of the body of a pointer that is written: its type, a free word and eight bytes.
-const POINTER_LEN: usize = 16;
 
 /// What follows the pod at the front, where a look over its bytes finds that it is its own rewriting: its padding is zeros,
 /// its truth values are 0 or 1, its choices hold no surplus values, its pointers take 16 bytes, and the same holds of its
@@ -64,7 +61,7 @@ fn are_members(body: &[u8], levels: u32) -> bool
             let Some(front) = padded_front(left) else {
                 return false;
             };
-            if front.type_ == STRUCT && front.rest.is_empty() {
+            if front.type_ == SpaTypes::Struct.0 && front.rest.is_empty() {
                 left = front.body;
             } else {
                 if !is_body(front.type_, front.body, levels) {
@@ -108,21 +105,21 @@ fn are_properties(body: &[u8], levels: u32) -> bool
 fn is_body(type_: u32, body: &[u8], levels: u32) -> bool
     ensures { result ≡ true → IsCanonicalBody type_ body.now }
 {
-    match type_ {
-        STRING => is_text(body),
-        BYTES => true,
-        CHOICE => is_choice(body),
-        ARRAY => is_array(body),
-        STRUCT => levels > 0 && are_members(body, levels - 1),
-        OBJECT => {
+    match SpaTypes(type_) {
+        SpaTypes::String => is_text(body),
+        SpaTypes::Bytes => true,
+        SpaTypes::Choice => is_choice(body),
+        SpaTypes::Array => is_array(body),
+        SpaTypes::Struct => levels > 0 && are_members(body, levels - 1),
+        SpaTypes::Object => {
             if levels == 0 || body.len() < HEADER_LEN {
                 return false;
             }
             let (_, properties) = body.split_at(HEADER_LEN);
             are_properties(properties, levels - 1)
         }
-        POINTER => body.len() == POINTER_LEN && u32_at(body, SECOND_WORD) == 0,
-        NONE => body.is_empty(),
+        SpaTypes::Pointer => body.len() == POINTER_LEN && u32_at(body, SECOND_WORD) == 0,
+        SpaTypes::None => body.is_empty(),
         _ => false,
     }
 }

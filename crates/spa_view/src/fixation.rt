@@ -9,7 +9,7 @@ ghost use Rattle.spa_format.specs.Words.{header_size};
 use crate::pod::Pod;
 use crate::props::{PodObject, PodProp, prop_extent};
 use crate::type_tests::CHOICE_SHAPE_AT;
-use spa_fixed::HEADER_LEN;
+use spa_bytes::HEADER_LEN;
 use spa_utils::Errno;
 
 /// Where the properties of an object's pod begin: behind its header, its type and its id.

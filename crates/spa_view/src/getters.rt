@@ -8,8 +8,8 @@ ghost use Rattle.spa_view.specs.Tests as t;
 use crate::fields::PodStruct;
 use crate::pod::Pod;
 use crate::props::PodObject;
-use crate::type_tests::SHORT_POINTER;
-use spa_fixed::{CanonicalFixedSizedPod, HEADER_LEN, u32_at, u64_at};
+use spa_bytes::{HEADER_LEN, SHORT_POINTER_LEN, u32_at, u64_at};
+use spa_fixed::CanonicalFixedSizedPod;
 use spa_utils::{Errno, Fd, Float32, Float64, Fraction, Id, Rectangle};
 
 /// The byte behind a text.
@@ -158,7 +158,7 @@ impl<'a> Pod<'a> {
         }
         let body = self.body();
         let type_ = Id(u32_at(body, POINTER_TYPE_AT));
-        if self.size() == SHORT_POINTER {
+        if self.size() as usize == SHORT_POINTER_LEN {
             return Ok((u64::from(u32_at(body, HEADER_LEN)), type_));
         }
         Ok((u64_at(body, HEADER_LEN), type_))

@@ -3,7 +3,7 @@ ghost use Rattle.std.specs.Prelude.{◌≡◌, ◌≤◌, ◌<◌, ◌+◌, ◌^
 ghost use Rattle.spa_format.specs.Front.{HasFront, front_of};
 ghost use Rattle.spa_format.specs.Words.{body_of, extent, header_size, size_limit, word_at};
 
-use spa_fixed::{HEADER_LEN, u32_at};
+use spa_bytes::{HEADER_LEN, extent_of, u32_at};
 use spa_utils::SpaTypes;
 
 /// Where the size word and the type word of a pod stand.
@@ -30,12 +30,12 @@ impl<'a> Pod<'a> {
         if bytes.len() < HEADER_LEN {
             return None;
         }
-        let extent = extent_at(bytes, SIZE_AT);
-        if (bytes.len() as u64) < extent {
+        let extent = extent_of(u32_at(bytes, SIZE_AT));
+        if bytes.len() < extent {
             return None;
         }
         Some(Pod {
-            bytes: &bytes[..extent as usize],
+            bytes: &bytes[..extent],
         })
     }
 
@@ -44,6 +44,13 @@ impl<'a> Pod<'a> {
         ensures { result.now ≡ take (header_size + word_at (pod_bytes self.now) 0) (pod_bytes self.now) }
     {
         &self.bytes[..HEADER_LEN + self.size() as usize]
+    }
+
+    /// How many bytes the pod takes, header and padding counted.
+    pub fn extent(&self) -> usize
+        ensures { result ≡ length (pod_bytes self.now) }
+    {
+        self.bytes.len()
     }
 
     /// The type that the header names.
@@ -68,14 +75,4 @@ impl<'a> Pod<'a> {
     {
         &self.bytes[HEADER_LEN..HEADER_LEN + self.size() as usize]
     }
-}
-
-/// How many bytes the whole pod takes that stands at this place.
-pub(crate) fn extent_at(bytes: &[u8], at: usize) -> u64
-    requires { at + 4 ≤ length bytes.now }
-    ensures extent { result ≡ extent (word_at bytes.now at) }
-    ensures bounded { result ≤ header_size + size_limit }
-{
-    let size = u32_at(bytes, at) as u64;
-    HEADER_LEN as u64 + size.div_ceil(HEADER_LEN as u64) * HEADER_LEN as u64
 }

@@ -4,8 +4,8 @@ ghost use Rattle.spa_format.specs.Words.{body_of, header_size, size_limit, word_
 ghost use Rattle.spa_format.specs.Walk.{extent_behind};
 
 use crate::flags::{DONT_FIXATE, PodPropFlags};
-use crate::pod::{Pod, extent_at};
-use spa_fixed::{HEADER_LEN, u32_at};
+use crate::pod::Pod;
+use spa_bytes::{HEADER_LEN, extent_of, u32_at};
 use spa_utils::{Id, SpaTypes};
 
 /// Where an object's body has its type and its id.
@@ -144,11 +144,11 @@ pub(crate) fn prop_extent(left: &[u8]) -> Option<usize>
     if left.len() < HEADER_LEN + HEADER_LEN {
         return None;
     }
-    let extent = HEADER_LEN as u64 + extent_at(left, VALUE_AT);
-    if (left.len() as u64) < extent {
+    let extent = HEADER_LEN + extent_of(u32_at(left, VALUE_AT));
+    if left.len() < extent {
         return None;
     }
-    Some(extent as usize)
+    Some(extent)
 }
 
 /// The properties of an object that are still to come. It ends for good at the first that isn't whole.

@@ -4,7 +4,8 @@ ghost use Rattle.spa_format.specs.Kind as k;
 ghost use Rattle.spa_view.specs.Tests as t;
 
 use crate::pod::Pod;
-use spa_fixed::{CanonicalFixedSizedPod, u32_at};
+use spa_bytes::{POINTER_LEN, SHORT_POINTER_LEN, u32_at};
+use spa_fixed::CanonicalFixedSizedPod;
 use spa_utils::{Fd, Float32, Float64, Fraction, Id, Rectangle, SpaTypes};
 
 /// A string's body has its NUL at least.
@@ -15,11 +16,6 @@ const TWO_WORDS: u32 = 8;
 
 /// What stands before a choice's values: its shape, its flags and the child header.
 const FOUR_WORDS: u32 = 16;
-
-/// The sizes of a pointer's body, whose address has four or eight bytes.
-pub(crate) const SHORT_POINTER: u32 = 12;
-
-pub(crate) const LONG_POINTER: u32 = 16;
 
 /// Where a choice's pod has its shape word, and the shape word of a None choice.
 pub(crate) const CHOICE_SHAPE_AT: usize = 8;
@@ -168,7 +164,7 @@ impl<'a> Pod<'a> {
         ensures { IsTrue result ↔ t.IsPointerPod (pod_bytes self.now) }
     {
         self.type_() == SpaTypes::Pointer
-            && (self.size() == SHORT_POINTER || self.size() == LONG_POINTER)
+            && (self.size() as usize == SHORT_POINTER_LEN || self.size() as usize == POINTER_LEN)
     }
 
     /// Whether it is no choice, or one of the shape None.

@@ -2,18 +2,14 @@
 use Rattle.std.proofs.Common.{◌≡◌, ℕ, ◌+◌, ◌-◌, ◌<◌, ◌≤◌, List, [], ◌++◌, length, take, drop, refl, sym, ap, ◌∙◌, subst, arith, append_assoc, length-append}
 use Rattle.std.specs.Prelude.{replicate}
 use Rattle.std.proofs.lemmas.List.{append-nil, take_at, drop_at}
-use Rattle.spa_fixed.specs.declared.gen_error.GenError.{GenError}
-use Rattle.spa_fixed.specs.declared.gen_error.GenError.TheVariants.{TooLarge}
-use Rattle.spa_fixed.specs.Writing.{RefusesWrite}
+use Rattle.spa_sink.specs.declared.gen_error.GenError.{GenError}
+use Rattle.spa_sink.specs.declared.gen_error.GenError.TheVariants.{TooLarge}
+use Rattle.spa_sink.specs.Writing.{RefusesWrite}
 use Rattle.spa_format.specs.Words.{header_size, padded_size, padding, size_limit, word_bytes}
 use Rattle.spa_format.specs.Encoding.{framed}
-use Rattle.spa_write.specs.Written.{Appending, IsClosed, IsExtended, Refusing, begun_length}
-use Rattle.spa_write.proofs.Encodings.{body_within, length-framed, length-word_bytes, two_words_length}
+use Rattle.spa_write.specs.Written.{Appending, ClosesPod, IsBegun, IsClosed, IsExtended, IsPastLimit, IsWholeSize, Refusing, begun_length}
+use Rattle.spa_format.proofs.Encodings.{body_within, length-framed, length-word_bytes, two_words_length}
 use Rattle.spa_write.proofs.Refusals.{IsSink, part_refused, sink_refused}
-
--- a body that needs no padding
-abbrev pub IsWholeSize : ℕ → Type 0
-IsWholeSize n = padded_size n ≡ n
 
 -- the body of a pod that was begun behind some bytes
 begun_body : (old head body : List ℕ) → length head ≡ header_size →
@@ -96,6 +92,18 @@ closed_encoding {content = content} {refuses = refuses} a b c start type body wh
       },
       omega arith,
     )
+
+-- so the pod that was begun there is whole,
+pub closes_pod : {S : Type 0} {content : S → List ℕ} {refuses : Refusing S} (b c : S) (start : ℕ) →
+    IsClosed content refuses b start c → ClosesPod content refuses b start c
+closes_pod b c start q a type body p whole = (closed_encoding a b c start type body whole p.place p.inside q).0
+
+-- or its body is past 32 bits
+pub past_limit : {S : Type 0} (content : S → List ℕ) (refuses : Refusing S) (b : S) (start : ℕ) →
+    size_limit ≤ begun_length (content b) start → IsPastLimit content refuses b start
+past_limit content refuses b start l a type body p =
+    let size = begun_size a b start type body p.place p.inside in
+    omega (arith, l, size)
 
 -- the refusal of a part of a pod
 pub inside_refused : {S : Type 0} {content : S → List ℕ} {appends : Appending S} {refuses : Refusing S}

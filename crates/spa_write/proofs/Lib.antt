@@ -1,4 +1,3 @@
-pub mod Encodings
 pub mod Refusals
 pub mod Extending
 pub mod Frames

@@ -1,9 +1,9 @@
 -- Steps of the writer of objects.
 use Rattle.std.proofs.Common.{◌≡◌, ℕ, ◌+◌, ◌<◌, ◌≤◌, ◌^◌, inl, inr, ⊎_elim, List, [], ◌∷◌, ◌++◌, length, take, drop, get_or, refl, sym, ap, ◌∙◌, subst, arith, append_assoc, length-append}
 use Rattle.std.proofs.lemmas.List.{append-nil, take_more}
-use Rattle.spa_fixed.specs.declared.gen_error.GenError.{GenError}
-use Rattle.spa_fixed.specs.declared.gen_error.GenError.TheVariants.{TooLarge}
-use Rattle.spa_fixed.specs.Writing.{RefusesWrite}
+use Rattle.spa_sink.specs.declared.gen_error.GenError.{GenError}
+use Rattle.spa_sink.specs.declared.gen_error.GenError.TheVariants.{TooLarge}
+use Rattle.spa_sink.specs.Writing.{RefusesWrite}
 use Rattle.spa_format.specs.Words.{header_size, size_limit, word_bytes}
 use Rattle.spa_format.specs.Tree.{Tree, object, object_type, Properties, no_properties, property, join_properties, type_of}
 use Rattle.spa_format.specs.Encoding.{encoded_body, encoding_of, property_encodings}
@@ -12,33 +12,12 @@ use Rattle.spa_format.specs.Writable.{HasNul, IsTooLarge, SomeValueHasNul, SomeV
 use Rattle.spa_value.specs.declared.object.Property.{Property}
 use Rattle.spa_value.specs.View.{view}
 use Rattle.spa_value.specs.Views.{property_views}
-use Rattle.spa_value.specs.ViewLaws.{property_views-push, property_views-at}
+use Rattle.spa_value.proofs.ViewLaws.{property_views-push, property_views-at}
 use Rattle.spa_write.specs.Written.{Appending, ArePropertiesWritten, IsClosed, IsExtended, IsWritten, RefusesEncoding, RefusesProperties, Refusing, begun_length}
-use Rattle.spa_write.proofs.Encodings.{two_words_length}
+use Rattle.spa_format.proofs.Encodings.{key_words, length-property_encoding, property_encoding, two_words_length, whole_properties}
 use Rattle.spa_write.proofs.Refusals.{IsSink, part_refused, sink_refused}
 use Rattle.spa_write.proofs.Extending.{extended_as, extended_none, extended_twice}
-use Rattle.spa_write.proofs.Frames.{IsWholeSize, begun_size, closed_encoding, inside_refused, room_for_header, size_refused}
-use Rattle.spa_write.proofs.Structs.{whole_encoding}
-
--- the two words before the value of a property
-abbrev key_words : ℕ → ℕ → List ℕ
-key_words k f = word_bytes k ++ word_bytes f
-
--- the encodings of a property and of those behind it, as they are appended
-property_encoding : (k f : ℕ) (v : Tree) (ps : Properties) →
-    property_encodings (property k f v ps) ≡ (key_words k f ++ encoding_of v) ++ property_encodings ps
-property_encoding k f v ps =
-    sym (append_assoc (word_bytes k) (word_bytes f) (encoding_of v ++ property_encodings ps))
-    ∙ sym (append_assoc (key_words k f) (encoding_of v) (property_encodings ps))
-
-length-property_encoding : (k f : ℕ) (v : Tree) (ps : Properties) →
-    length (property_encodings (property k f v ps)) ≡ 8 + length (encoding_of v) + length (property_encodings ps)
-length-property_encoding k f v ps =
-    let e0 = ap length (property_encoding k f v ps) in
-    let e1 = length-append (key_words k f ++ encoding_of v) (property_encodings ps) in
-    let e2 = length-append (key_words k f) (encoding_of v) in
-    let e3 = two_words_length k f in
-    omega arith
+use Rattle.spa_write.proofs.Frames.{begun_size, closed_encoding, inside_refused, room_for_header, size_refused}
 
 property_encodings_join : (ps qs : Properties) →
     property_encodings (join_properties ps qs) ≡ property_encodings ps ++ property_encodings qs
@@ -48,14 +27,6 @@ property_encodings_join (property k f v ps) qs =
     ∙ ap (λ l. (key_words k f ++ encoding_of v) ++ l) (property_encodings_join ps qs)
     ∙ sym (append_assoc (key_words k f ++ encoding_of v) (property_encodings ps) (property_encodings qs))
     ∙ ap (λ l. l ++ property_encodings qs) (sym (property_encoding k f v ps))
-
-pub whole_properties : (ps : Properties) → IsWholeSize (length (property_encodings ps))
-whole_properties no_properties = refl
-whole_properties (property k f v ps) =
-    let e = length-property_encoding k f v ps in
-    let here = whole_encoding (type_of v) (encoded_body v) in
-    let there = whole_properties ps in
-    omega arith
 
 typed_join : (ps qs : Properties) → AllPropertiesTyped ps → AllPropertiesTyped qs →
     AllPropertiesTyped (join_properties ps qs)

@@ -2,9 +2,9 @@
 use Rattle.std.proofs.Common.{◌≡◌, ℕ, ◌+◌, ◌≤◌, List, length, Result}
 use Rattle.std.specs.Prelude.{IfErr, IsErrAnd}
 use Rattle.std.proofs.lemmas.Result.{err_from_is_err_and}
-use Rattle.spa_fixed.specs.declared.gen_error.GenError.{GenError}
-use Rattle.spa_fixed.specs.declared.gen_error.GenError.TheVariants.{Full, TooLarge, NulInText, WrongCount, Failed, Io, OutOfMemory}
-use Rattle.spa_fixed.specs.Writing.{RefusedFor, RefusesWrite}
+use Rattle.spa_sink.specs.declared.gen_error.GenError.{GenError}
+use Rattle.spa_sink.specs.declared.gen_error.GenError.TheVariants.{Full, TooLarge, NulInText, WrongCount, Failed, Io, OutOfMemory}
+use Rattle.spa_sink.specs.Writing.{RefusedFor, RefusesWrite}
 use Rattle.spa_write.specs.Written.{Refusing, Appending}
 
 -- what a `?` passes on

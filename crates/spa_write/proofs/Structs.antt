@@ -1,9 +1,9 @@
 -- Steps of the writer of structs.
 use Rattle.std.proofs.Common.{◌≡◌, ℕ, ◌+◌, ◌<◌, ◌≤◌, inl, inr, ⊎_elim, List, [], ◌∷◌, ◌++◌, length, take, drop, get_or, refl, sym, ap, ◌∙◌, subst, arith, append_assoc, length-append}
 use Rattle.std.proofs.lemmas.List.{append-nil, take_more}
-use Rattle.spa_fixed.specs.declared.gen_error.GenError.{GenError}
-use Rattle.spa_fixed.specs.declared.gen_error.GenError.TheVariants.{TooLarge}
-use Rattle.spa_fixed.specs.Writing.{RefusesWrite}
+use Rattle.spa_sink.specs.declared.gen_error.GenError.{GenError}
+use Rattle.spa_sink.specs.declared.gen_error.GenError.TheVariants.{TooLarge}
+use Rattle.spa_sink.specs.Writing.{RefusesWrite}
 use Rattle.spa_format.specs.Words.{header_size, size_limit, word_bytes}
 use Rattle.spa_format.specs.Tree.{Tree, struct, struct_type, Trees, no_trees, member, join_members, type_of}
 use Rattle.spa_format.specs.Encoding.{framed, encoded_body, encoding_of, member_encodings}
@@ -12,12 +12,12 @@ use Rattle.spa_format.specs.Writable.{HasNul, IsTooLarge, SomeHasNul, SomeTooLar
 use Rattle.spa_value.specs.declared.value.Value.{Value}
 use Rattle.spa_value.specs.View.{view}
 use Rattle.spa_value.specs.Views.{views}
-use Rattle.spa_value.specs.ViewLaws.{views-push, views-at}
+use Rattle.spa_value.proofs.ViewLaws.{views-push, views-at}
 use Rattle.spa_write.specs.Written.{Appending, AreWritten, IsClosed, IsExtended, IsWritten, RefusesEncoding, RefusesEncodings, Refusing, begun_length}
-use Rattle.spa_write.proofs.Encodings.{length-framed, two_words_length}
+use Rattle.spa_format.proofs.Encodings.{two_words_length, whole_members}
 use Rattle.spa_write.proofs.Refusals.{IsSink, part_refused}
 use Rattle.spa_write.proofs.Extending.{extended_as, extended_none, extended_twice}
-use Rattle.spa_write.proofs.Frames.{IsWholeSize, begun_size, closed_encoding, header_refused, inside_refused, room_for_header, size_refused}
+use Rattle.spa_write.proofs.Frames.{begun_size, closed_encoding, header_refused, inside_refused, room_for_header, size_refused}
 
 member_encodings_join : (vs ws : Trees) →
     member_encodings (join_members vs ws) ≡ member_encodings vs ++ member_encodings ws
@@ -25,18 +25,6 @@ member_encodings_join no_trees ws = refl
 member_encodings_join (member v vs) ws =
     ap (λ l. encoding_of v ++ l) (member_encodings_join vs ws)
     ∙ sym (append_assoc (encoding_of v) (member_encodings vs) (member_encodings ws))
-
--- an encoding takes whole padded bytes
-pub whole_encoding : (type : ℕ) (body : List ℕ) → IsWholeSize (length (framed type body))
-whole_encoding type body = let e = length-framed type body in omega arith
-
-pub whole_members : (vs : Trees) → IsWholeSize (length (member_encodings vs))
-whole_members no_trees = refl
-whole_members (member v vs) =
-    let e = length-append (encoding_of v) (member_encodings vs) in
-    let here = whole_encoding (type_of v) (encoded_body v) in
-    let there = whole_members vs in
-    omega arith
 
 typed_join : (vs ws : Trees) → AllTyped vs → AllTyped ws → AllTyped (join_members vs ws)
 typed_join no_trees ws h k = k

@@ -1,10 +1,10 @@
 -- What a writer did to its output: docs/FORMAT.md, "The encoding of a value".
-use Rattle.std.specs.Prelude.{◌≡◌, ℕ, ◌+◌, ◌-◌, ◌<◌, List, ◌++◌, length, take, drop}
-use Rattle.spa_fixed.specs.declared.gen_error.GenError.{GenError}
-use Rattle.spa_fixed.specs.Writing.{RefusesWrite}
-use Rattle.spa_format.specs.Words.{header_size, size_limit, word_bytes}
+use Rattle.std.specs.Prelude.{◌≡◌, ℕ, ◌+◌, ◌-◌, ◌<◌, ◌≤◌, List, ◌++◌, length, take, drop}
+use Rattle.spa_sink.specs.declared.gen_error.GenError.{GenError}
+use Rattle.spa_sink.specs.Writing.{RefusesPiece, RefusesWrite}
+use Rattle.spa_format.specs.Words.{header_size, padded_size, size_limit, word_bytes}
 use Rattle.spa_format.specs.Tree.{Tree, fixed, string, bytes, array, choice, pointer, struct, object, Trees, Properties}
-use Rattle.spa_format.specs.Encoding.{encoding_of, member_encodings, property_encodings}
+use Rattle.spa_format.specs.Encoding.{encoding_of, framed, member_encodings, property_encodings}
 use Rattle.spa_format.specs.Typed.{IsTyped, AllTyped, AllPropertiesTyped}
 use Rattle.spa_format.specs.Writable.{IsWritable, HasNul, IsTooLarge, SomeHasNul, SomeTooLarge, SomeValueHasNul, SomeValueTooLarge}
 
@@ -70,6 +70,11 @@ abbrev pub RefusesEncoding : {S : Type 0} → Refusing S → S → Tree → S �
 RefusesEncoding refuses old v new =
     RefusesWrite (HasNul v) (IsTooLarge v) (refuses old (length (encoding_of v)) new)
 
+-- the same of a value without members: for a text or a size it is refused before a byte is appended
+abbrev pub RefusesLeaf : {S : Type 0} → Refusing S → S → Tree → S → GenError → Type 0
+RefusesLeaf refuses old v new =
+    RefusesPiece (HasNul v) (IsTooLarge v) (refuses old (length (encoding_of v)) new) old new
+
 -- the same of values, one after another
 abbrev pub RefusesEncodings : {S : Type 0} → Refusing S → S → Trees → S → GenError → Type 0
 RefusesEncodings refuses old vs new =
@@ -92,3 +97,25 @@ pub record IsClosed {S : Type 0} (content : S → List ℕ) (refuses : Refusing 
       (word_bytes (begun_length (content old) start) ++ drop (start + 4) (content old))
   pub room : (after : S) (n : ℕ) (e : GenError) → refuses new n after e → refuses old n after e
   pub fits : begun_length (content old) start < size_limit
+
+-- no padding stands behind so many bytes
+abbrev pub IsWholeSize : ℕ → Type 0
+IsWholeSize n = padded_size n ≡ n
+
+-- A pod of this type begins at this place of an output, behind what it held before: a header whose size word isn't written
+-- yet, and this body.
+pub record IsBegun {S : Type 0} (content : S → List ℕ) (refuses : Refusing S)
+    (before : S) (start type : ℕ) (body : List ℕ) (now : S) : Type 0 where
+  pub place : start ≡ length (content before)
+  pub inside : IsExtended content refuses before ((word_bytes 0 ++ word_bytes type) ++ body) now
+
+-- the pod that begins there was closed: where its body needs no padding, it stands whole behind what was there before
+abbrev pub ClosesPod : {S : Type 0} → (S → List ℕ) → Refusing S → S → ℕ → S → Type 0
+ClosesPod {S = S} content refuses old start new = (before : S) (type : ℕ) (body : List ℕ) →
+    IsBegun content refuses before start type body old → IsWholeSize (length body) →
+    IsExtended content refuses before (framed type body) new
+
+-- the body of the pod that begins there is past 32 bits
+abbrev pub IsPastLimit : {S : Type 0} → (S → List ℕ) → Refusing S → S → ℕ → Type 0
+IsPastLimit {S = S} content refuses old start = (before : S) (type : ℕ) (body : List ℕ) →
+    IsBegun content refuses before start type body old → size_limit ≤ length body

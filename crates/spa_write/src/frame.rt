@@ -1,10 +1,11 @@
 //! Pods whose size is written after their body.
-ghost use Rattle.std.specs.Prelude.{◌≡◌, ◌+◌, ◌≤◌, ◌++◌, IfErr, IfOk, OnOk, length};
-ghost use Rattle.spa_fixed.specs.declared.gen_error.GenError.TheVariants.{TooLarge};
+ghost use Rattle.std.specs.Prelude.{◌≡◌, ◌+◌, ◌≤◌, ◌++◌, IfErr, IfOk, OnErr, OnOk, length};
+ghost use Rattle.spa_sink.specs.declared.gen_error.GenError.TheVariants.{TooLarge};
 ghost use Rattle.spa_format.specs.Words.{header_size, size_limit, word_bytes};
-ghost use Rattle.spa_write.specs.Written.{IsClosed, begun_length};
+ghost use Rattle.spa_write.specs.Written.{ClosesPod, IsClosed, IsPastLimit, begun_length};
 
-use spa_fixed::{GenError, HEADER_LEN, PodOutput, put_two};
+use spa_bytes::HEADER_LEN;
+use spa_sink::{GenError, PodOutput, put_two};
 
 /// Begins a pod of this type at the end of the output, with a size word of 0, and answers where it begins.
 pub fn begin<O: PodOutput>(out: &mut O, type_: u32) -> Result<usize, GenError>
@@ -22,7 +23,11 @@ pub fn begin<O: PodOutput>(out: &mut O, type_: u32) -> Result<usize, GenError>
 pub fn close<O: PodOutput>(out: &mut O, start: usize) -> Result<(), GenError>
     requires { start + header_size ≤ length (O.content out.old) }
     ensures closed { OnOk result (IsClosed O.content O.refuses out.old start out.new) }
+    // So whatever pod was begun there is whole now, behind what was there before it,
+    ensures pod { OnOk result (ClosesPod O.content O.refuses out.old start out.new) }
     ensures large { IfErr result (λ e. (e ≡ TooLarge) × (size_limit ≤ begun_length (O.content out.old) start)) }
+    // or its body is past 32 bits.
+    ensures past { OnErr result (IsPastLimit O.content O.refuses out.old start) }
 {
     let Ok(size) = u32::try_from(out.len() - (start + HEADER_LEN)) else {
         return Err(GenError::TooLarge);

@@ -1,14 +1,14 @@
 //! What writing a value comes to over each output. The functions only call the writer: their contracts are the laws.
 ghost use Rattle.std.specs.Prelude.{◌≡◌, ◌+◌, ◌<◌, ◌≤◌, ◌++◌, IfErr, IfOk, IsOk, length};
-ghost use Rattle.spa_fixed.specs.Writing.{RefusedFor};
-ghost use Rattle.spa_fixed.specs.declared.gen_error.GenError.TheVariants.{Full, OutOfMemory};
+ghost use Rattle.spa_sink.specs.Writing.{RefusedFor};
+ghost use Rattle.spa_sink.specs.declared.gen_error.GenError.TheVariants.{Full, OutOfMemory};
 ghost use Rattle.spa_format.specs.Encoding.{encoding_of};
 ghost use Rattle.spa_format.specs.Writable.{HasNul, IsTooLarge, IsWritable};
 ghost use Rattle.spa_value.specs.View.{view};
 
 use crate::serializer::PodSerializer;
 use arrayvec::ArrayVec;
-use spa_fixed::GenError;
+use spa_sink::GenError;
 use spa_value::Value;
 
 /// Over an output of fixed size each value that can be written is written where its encoding fits, and no other value is ever

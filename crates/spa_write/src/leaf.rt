@@ -1,17 +1,16 @@
 //! Values without members.
 ghost use Rattle.std.specs.Prelude.{◌≡◌, ◌≤◌, IfErr, OnOk, length, map};
 ghost use Rattle.spa_fixed.specs.Choices.{choice_tree};
-ghost use Rattle.spa_fixed.specs.Writing.{RefusesWrite};
+ghost use Rattle.spa_sink.specs.Writing.{RefusesWrite};
 ghost use Rattle.spa_format.specs.Encoding.{encoding_of};
 ghost use Rattle.spa_format.specs.Tree as tree;
 ghost use Rattle.spa_format.specs.Writable.{HasNul, IsTooLarge};
 ghost use Rattle.spa_value.specs.View.{array_view, choice_view, view};
-ghost use Rattle.spa_write.specs.Written.{IsLeaf, IsPut, RefusesEncoding};
+ghost use Rattle.spa_write.specs.Written.{IsLeaf, IsPut, RefusesLeaf};
 
 use crate::text::{put_bytes, put_pointer, put_text};
-use spa_fixed::{
-    CanonicalFixedSizedPod, ChoiceElement, GenError, PodSink, put_array, put_choice, put_fixed,
-};
+use spa_fixed::{CanonicalFixedSizedPod, ChoiceElement, put_array, put_choice, put_fixed};
+use spa_sink::{GenError, PodSink};
 use spa_utils::Choice;
 use spa_value::{ChoiceValue, Value, ValueArray};
 
@@ -20,7 +19,7 @@ use spa_value::{ChoiceValue, Value, ValueArray};
 pub fn put_leaf<S: PodSink>(sink: &mut S, value: &Value) -> Result<(), GenError>
     requires { IsLeaf (view value.now) }
     ensures put { OnOk result (IsPut S.appends sink.old (view value.now) sink.new) }
-    ensures refused { IfErr result (RefusesEncoding S.refuses sink.old (view value.now) sink.new) }
+    ensures refused { IfErr result (RefusesLeaf S.refuses sink.old (view value.now) sink.new) }
 {
     match value {
         Value::None => put_number(sink, &()),
@@ -49,7 +48,7 @@ fn put_number<T: CanonicalFixedSizedPod, S: PodSink>(
     value: &T,
 ) -> Result<(), GenError>
     ensures put { OnOk result (IsPut S.appends sink.old (tree.fixed (T.fixed value.now)) sink.new) }
-    ensures refused { IfErr result (RefusesEncoding S.refuses sink.old (tree.fixed (T.fixed value.now)) sink.new) }
+    ensures refused { IfErr result (RefusesLeaf S.refuses sink.old (tree.fixed (T.fixed value.now)) sink.new) }
 {
     put_fixed(sink, value)
 }
@@ -60,7 +59,7 @@ fn put_elements<T: CanonicalFixedSizedPod, S: PodSink>(
     values: &[T],
 ) -> Result<(), GenError>
     ensures put { OnOk result (IsPut S.appends sink.old (tree.array T.kind (map T.fixed values.now)) sink.new) }
-    ensures refused { IfErr result (RefusesEncoding S.refuses sink.old (tree.array T.kind (map T.fixed values.now)) sink.new) }
+    ensures refused { IfErr result (RefusesLeaf S.refuses sink.old (tree.array T.kind (map T.fixed values.now)) sink.new) }
 {
     put_array(sink, values)
 }
@@ -71,7 +70,7 @@ fn put_alternatives<T: ChoiceElement, S: PodSink>(
     choice: &Choice<T>,
 ) -> Result<(), GenError>
     ensures put { OnOk result (IsPut S.appends sink.old (choice_tree T.kind T.fixed choice.now) sink.new) }
-    ensures refused { IfErr result (RefusesEncoding S.refuses sink.old (choice_tree T.kind T.fixed choice.now) sink.new) }
+    ensures refused { IfErr result (RefusesLeaf S.refuses sink.old (choice_tree T.kind T.fixed choice.now) sink.new) }
 {
     put_choice(sink, choice)
 }
@@ -79,7 +78,7 @@ fn put_alternatives<T: ChoiceElement, S: PodSink>(
 /// Appends the pod of an array.
 fn put_value_array<S: PodSink>(sink: &mut S, array: &ValueArray) -> Result<(), GenError>
     ensures put { OnOk result (IsPut S.appends sink.old (array_view array.now) sink.new) }
-    ensures refused { IfErr result (RefusesEncoding S.refuses sink.old (array_view array.now) sink.new) }
+    ensures refused { IfErr result (RefusesLeaf S.refuses sink.old (array_view array.now) sink.new) }
 {
     match array {
         ValueArray::None(units) => put_elements(sink, units.as_slice()),
@@ -98,7 +97,7 @@ fn put_value_array<S: PodSink>(sink: &mut S, array: &ValueArray) -> Result<(), G
 /// Appends the pod of a choice.
 fn put_choice_value<S: PodSink>(sink: &mut S, choice: &ChoiceValue) -> Result<(), GenError>
     ensures put { OnOk result (IsPut S.appends sink.old (choice_view choice.now) sink.new) }
-    ensures refused { IfErr result (RefusesEncoding S.refuses sink.old (choice_view choice.now) sink.new) }
+    ensures refused { IfErr result (RefusesLeaf S.refuses sink.old (choice_view choice.now) sink.new) }
 {
     match choice {
         ChoiceValue::Bool(values) => put_alternatives(sink, values),

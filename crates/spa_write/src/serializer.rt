@@ -1,7 +1,7 @@
 //! Types that are written as pods, and the writer of one pod.
 ghost use Rattle.std.specs.Prelude.{◌≡◌, ◌+◌, ◌++◌, ◌⊎◌, List, ℕ, IfErr, IfOk, OnOk, length};
-ghost use Rattle.spa_fixed.specs.Writing.{MayRefuse, RefusedFor};
-ghost use Rattle.spa_fixed.specs.declared.gen_error.GenError.{GenError};
+ghost use Rattle.spa_sink.specs.Writing.{MayRefuse, RefusedFor};
+ghost use Rattle.spa_sink.specs.declared.gen_error.GenError.{GenError};
 ghost use Rattle.spa_format.specs.Front.{front_of};
 ghost use Rattle.spa_format.specs.Normal.{normal_of};
 ghost use Rattle.spa_format.specs.Pod.{IsPod};
@@ -12,7 +12,7 @@ ghost use Rattle.spa_format.specs.Writable.{HasNul, IsTooLarge, IsWritable};
 ghost use Rattle.spa_value.specs.View.{view};
 
 use crate::value::write_value;
-use spa_fixed::{GenError, PodOutput};
+use spa_sink::{GenError, PodOutput};
 use spa_format::laws::encodings_read_back;
 use spa_value::Value;
 use std::marker::Model;

@@ -1,22 +1,20 @@
 //! Texts, bytes and pointers.
 ghost use Rattle.std.specs.Prelude.{◌≡◌, ◌+◌, ◌≤◌, [], ◌∷◌, ◌++◌, Contains, IfErr, OnOk, length, replicate};
-ghost use Rattle.spa_fixed.specs.Writing.{RefusesWrite};
+ghost use Rattle.spa_sink.specs.Writing.{RefusesWrite};
 ghost use Rattle.spa_format.specs.Encoding.{encoding_of};
 ghost use Rattle.spa_format.specs.Tree as tree;
 ghost use Rattle.spa_format.specs.Words.{padding, size_limit, wide_bytes, word_bytes};
-ghost use Rattle.spa_write.specs.Written.{IsPut, RefusesEncoding};
+ghost use Rattle.spa_write.specs.Written.{IsPut, RefusesLeaf};
 
-use spa_fixed::{GenError, HEADER_LEN, PodSink, put_padding, put_two, put_wide};
+use spa_bytes::{HEADER_LEN, POINTER_LEN};
+use spa_sink::{GenError, PodSink, put_padding, put_two, put_wide};
 use spa_utils::SpaTypes;
-
-/// The length in bytes of a pointer's body: a type word, a free word, and the address.
-const POINTER_LEN: u32 = 16;
 
 /// Appends the pod of a text, in UTF-8 and with a NUL at its end. It is refused as `NulInText` where the text holds a NUL
 /// of its own, and as `TooLarge` where text and NUL are 4294967296 bytes or more; nothing is appended then.
 pub fn put_text<S: PodSink>(sink: &mut S, text: &str) -> Result<(), GenError>
     ensures put { OnOk result (IsPut S.appends sink.old (tree.string text.now) sink.new) }
-    ensures refused { IfErr result (RefusesEncoding S.refuses sink.old (tree.string text.now) sink.new) }
+    ensures refused { IfErr result (RefusesLeaf S.refuses sink.old (tree.string text.now) sink.new) }
 {
     let bytes = text.as_bytes();
     if bytes.contains(&0) {
@@ -40,10 +38,10 @@ fn put_end<S: PodSink>(sink: &mut S, len: usize) -> Result<(), GenError>
 }
 
 /// Appends the pod of bytes. It is refused as `TooLarge` where they are 4294967296 or more; nothing is appended then.
-#[tactic(auto, using(crate::proofs::Encodings::header_within))]
+#[tactic(auto, using(spa_format::proofs::Encodings::header_within))]
 pub fn put_bytes<S: PodSink>(sink: &mut S, bytes: &[u8]) -> Result<(), GenError>
     ensures put { OnOk result (IsPut S.appends sink.old (tree.bytes bytes.now) sink.new) }
-    ensures refused { IfErr result (RefusesEncoding S.refuses sink.old (tree.bytes bytes.now) sink.new) }
+    ensures refused { IfErr result (RefusesLeaf S.refuses sink.old (tree.bytes bytes.now) sink.new) }
 {
     let Ok(size) = u32::try_from(bytes.len()) else {
         return Err(GenError::TooLarge);
@@ -54,12 +52,12 @@ pub fn put_bytes<S: PodSink>(sink: &mut S, bytes: &[u8]) -> Result<(), GenError>
 }
 
 /// Appends the pod of a pointer: a type number and an address.
-#[tactic(auto, using(crate::proofs::Encodings::pointer_encoding, crate::proofs::Encodings::pointer_encoding_length, crate::proofs::Encodings::two_words_length))]
+#[tactic(auto, using(spa_format::proofs::Encodings::pointer_encoding, spa_format::proofs::Encodings::pointer_encoding_length, spa_format::proofs::Encodings::two_words_length))]
 pub fn put_pointer<S: PodSink>(sink: &mut S, type_: u32, address: u64) -> Result<(), GenError>
     ensures put { OnOk result (IsPut S.appends sink.old (tree.pointer type_ address) sink.new) }
-    ensures refused { IfErr result (RefusesEncoding S.refuses sink.old (tree.pointer type_ address) sink.new) }
+    ensures refused { IfErr result (RefusesLeaf S.refuses sink.old (tree.pointer type_ address) sink.new) }
 {
-    put_two(sink, POINTER_LEN, SpaTypes::Pointer.0)?;
+    put_two(sink, POINTER_LEN as u32, SpaTypes::Pointer.0)?;
     put_two(sink, type_, 0)?;
     put_wide(sink, address)
 }

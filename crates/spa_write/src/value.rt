@@ -1,6 +1,6 @@
 //! Values of any type, with their members.
 ghost use Rattle.std.specs.Prelude.{◌≡◌, IfErr, OnOk, length};
-ghost use Rattle.spa_fixed.specs.Writing.{RefusesWrite};
+ghost use Rattle.spa_sink.specs.Writing.{RefusesWrite};
 ghost use Rattle.spa_format.specs.Encoding.{encoding_of, member_encodings, property_encodings};
 ghost use Rattle.spa_format.specs.Writable.{HasNul, IsTooLarge, SomeHasNul, SomeTooLarge, SomeValueHasNul, SomeValueTooLarge};
 ghost use Rattle.spa_value.specs.View.{view};
@@ -10,7 +10,7 @@ ghost use Rattle.spa_write.specs.Written.{ArePropertiesWritten, AreWritten, IsWr
 use crate::frame::{begin, close};
 use crate::leaf::put_leaf;
 use bitflags::Flags;
-use spa_fixed::{GenError, PodOutput, put_two};
+use spa_sink::{GenError, PodOutput, put_two};
 use spa_utils::SpaTypes;
 use spa_value::{Property, Value};
 

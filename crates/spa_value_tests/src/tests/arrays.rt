@@ -1,9 +1,8 @@
 //! Bodies of arrays, read and written, with bytes from outside.
 use crate::bytes::{assert_words, bytes_of, cut_bytes};
-use spa_fixed::{
-    CanonicalFixedSizedPod, GenError, HEADER_LEN, Refusal, next_element, open_array, put_array,
-    read_array, u32_at,
-};
+use spa_bytes::{HEADER_LEN, u32_at};
+use spa_fixed::{CanonicalFixedSizedPod, Refusal, next_element, open_array, put_array, read_array};
+use spa_sink::GenError;
 use spa_utils::{Fraction, Id};
 use std::alloc::{AllocError, Global};
 use std::test::Fail;

@@ -1,7 +1,9 @@
 //! Bodies of choices, read and written, with bytes from outside.
 use crate::bytes::{assert_words, cut_bytes};
 use bitflags::Flags;
-use spa_fixed::{ChoiceElement, GenError, Refusal, put_choice, read_choice, u32_at};
+use spa_bytes::u32_at;
+use spa_fixed::{ChoiceElement, Refusal, put_choice, read_choice};
+use spa_sink::GenError;
 use spa_utils::{Choice, ChoiceEnum, ChoiceFlags, Id};
 use std::alloc::{AllocError, Global};
 use std::process::Abort;

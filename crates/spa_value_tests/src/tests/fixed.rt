@@ -1,6 +1,7 @@
 //! The ten types of fixed size, with bytes from outside.
 use crate::bytes::assert_words;
-use spa_fixed::{CanonicalFixedSizedPod, Fault, FaultKind, FixedSizedPod, GenError, put_fixed};
+use spa_fixed::{CanonicalFixedSizedPod, Fault, FaultKind, FixedSizedPod, put_fixed};
+use spa_sink::GenError;
 use spa_utils::{Fd, Float32, Float64, Fraction, Id, Rectangle};
 use std::alloc::Global;
 use std::process::Abort;

@@ -1,10 +1,9 @@
 //! What bytes are written to: vectors, and outputs of fixed room.
 use crate::bytes::assert_words;
 use arrayvec::ArrayVec;
-use spa_fixed::{
-    GenError, PodOutput, PodSink, put_fixed, put_padding, put_two, put_wide, put_word, two_words,
-    u32_at, u64_at,
-};
+use spa_bytes::{two_words, u32_at, u64_at};
+use spa_fixed::put_fixed;
+use spa_sink::{GenError, PodOutput, PodSink, put_padding, put_two, put_wide, put_word};
 use std::alloc::Global;
 use std::test::Fail;
 

@@ -1,5 +1,6 @@
 //! The names of refusals.
-use spa_fixed::{DeserializeError, Fault, FaultKind, GenError, Refusal};
+use spa_fixed::{DeserializeError, Fault, FaultKind, Refusal};
+use spa_sink::GenError;
 use std::alloc::AllocError;
 use std::test::Fail;
 

@@ -1,9 +1,9 @@
-use Rattle.std.proofs.Common.{◌≡◌, ◌∙◌, ◌++◌, ◌<◌, ◌≤◌, length, map, sym, subst}
+use Rattle.std.proofs.Common.{◌≡◌, refl, ◌∙◌, ◌++◌, ◌<◌, ◌≤◌, length, map, sym, subst}
 use Rattle.std.proofs.lemmas.Result.{IfErr-weaker, on_ok_weaker}
 use Rattle.spa_format.specs.Words.{word_bytes, size_limit}
 use Rattle.spa_format.specs.Encoding.{array_body, framed}
 use Rattle.spa_format.specs.Tree.{array_type}
-use Rattle.spa_fixed.proofs.Sending.{by_sink, refused_encoding}
+use Rattle.spa_sink.proofs.Sending.{by_sink, refused_encoding}
 use Rattle.spa_fixed.proofs.ArrayWriting.{length-array_body, array_encoding}
 use Rattle.spa_fixed.proofs.array.put_array.Goals as goal
 
@@ -11,7 +11,7 @@ pub returns-in_default-clause-refused : goal.returns-in_default-clause-refused
 returns-in_default-clause-refused g c =
     let met = g.met.T.CanonicalFixedSizedPod in
     let l = length-array_body g.T.CanonicalFixedSizedPod.kind g.T.CanonicalFixedSizedPod.fixed g.T.CanonicalFixedSizedPod.SIZE c.args.values.now met.its_kind met.its_size in
-    record { cause = subst (λ n. size_limit ≤ n) (sym l) c.in_default.ensures.none }
+    record { cause = (subst (λ n. size_limit ≤ n) (sym l) c.in_default.ensures.none, refl) }
 
 pub returns-clause-ok : goal.returns-clause-ok
 returns-clause-ok g c =

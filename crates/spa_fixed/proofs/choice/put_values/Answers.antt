@@ -1,10 +1,10 @@
-use Rattle.std.proofs.Common.{◌≡◌, ◌∙◌, ◌++◌, ◌+◌, ◌*◌, ◌<◌, ◌≤◌, length, map, take, ap, subst, arith}
+use Rattle.std.proofs.Common.{◌≡◌, refl, ◌∙◌, ◌++◌, ◌+◌, ◌*◌, ◌<◌, ◌≤◌, length, map, take, ap, subst, arith}
 use Rattle.std.proofs.lemmas.Result.{IfErr-weaker, on_ok_weaker}
 use Rattle.spa_format.specs.Words.{size_limit}
 use Rattle.spa_format.specs.Encoding.{framed}
 use Rattle.spa_format.specs.Tree.{choice_type}
 use Rattle.spa_fixed.specs.Choices.{choice_body}
-use Rattle.spa_fixed.proofs.Sending.{by_sink, refused_encoding}
+use Rattle.spa_sink.proofs.Sending.{by_sink, refused_encoding}
 use Rattle.spa_fixed.proofs.ElementWriting.{AreOf-append}
 use Rattle.spa_fixed.proofs.ChoiceWriting.{length-choice_body, choice_encoding}
 use Rattle.spa_fixed.proofs.choice.put_values.Goals as goal
@@ -15,7 +15,7 @@ returns-in_default-clause-refused g c =
     let l = length-choice_body c.args.shape c.args.flags g.T.CanonicalFixedSizedPod.kind (λ r. g.T.CanonicalFixedSizedPod.fixed r.now) g.T.CanonicalFixedSizedPod.fixed g.T.CanonicalFixedSizedPod.SIZE c.args.first.now c.args.more.now (λ r. met.its_kind r.now) met.its_kind met.its_size in
     let z : length c.args.first.now * c.SIZE.result ≡ length c.args.first.now * g.T.CanonicalFixedSizedPod.SIZE = ap (λ n. length c.args.first.now * n) c.SIZE.ensures in
     let h : size_limit ≤ 16 + length c.args.first.now * c.SIZE.result + length c.args.more.now * g.T.CanonicalFixedSizedPod.SIZE = c.in_default.ensures.none in
-    record { cause = omega (arith, l, z, h) }
+    record { cause = (omega (arith, l, z, h), refl) }
 
 pub returns-clause-ok : goal.returns-clause-ok
 returns-clause-ok g c =

@@ -1,6 +1,6 @@
 use Rattle.std.proofs.Common.{◌∙◌, sym}
 use Rattle.spa_format.specs.Tree.{none_choice, range_choice, step_choice, enum_choice, flags_choice}
-use Rattle.spa_fixed.proofs.Refusals.{passed_on}
+use Rattle.spa_bytes.proofs.Passing.{passed_on}
 use Rattle.spa_fixed.proofs.ChoiceReading.{array_type, opened, refused_values, before, whole_behind, left_over, none_reads, enum_reads, flags_reads}
 use Rattle.spa_fixed.proofs.choice.read_choice.Goals as goal
 

@@ -1,5 +1,5 @@
 use Rattle.std.proofs.Common.{◌∙◌, ◌*◌, length, take, ap, sym}
-use Rattle.spa_fixed.proofs.Refusals.{passed_on}
+use Rattle.spa_bytes.proofs.Passing.{passed_on}
 use Rattle.spa_fixed.proofs.ElementWriting.{sent_more, sent_refused, units_are, units_unsent}
 use Rattle.spa_fixed.proofs.elements.put_elements.Goals as goal
 

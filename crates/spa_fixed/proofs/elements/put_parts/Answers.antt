@@ -2,8 +2,8 @@ use Rattle.std.proofs.Common.{map}
 use Rattle.std.proofs.lemmas.Result.{IfErr-weaker, on_ok_weaker}
 use Rattle.spa_format.specs.Words.{padding}
 use Rattle.spa_format.specs.Encoding.{fixed_bodies}
-use Rattle.spa_fixed.proofs.Refusals.{passed_on}
-use Rattle.spa_fixed.proofs.Sending.{parts_sent, parts_refused, last_refused}
+use Rattle.spa_bytes.proofs.Passing.{passed_on}
+use Rattle.spa_sink.proofs.Sending.{parts_sent, parts_refused, last_refused}
 use Rattle.spa_fixed.proofs.elements.put_parts.Goals as goal
 
 pub returns-in_err-put_elements-clause-cause : goal.returns-in_err-put_elements-clause-cause

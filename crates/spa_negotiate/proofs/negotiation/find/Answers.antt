@@ -2,7 +2,7 @@ use Rattle.std.proofs.Common.{take, drop, ◌+◌, ap, ◌∙◌}
 use Rattle.spa_format.specs.Tree.{property}
 use Rattle.spa_value.specs.View.{view}
 use Rattle.spa_value.specs.Views.{property_views, property_view}
-use Rattle.spa_value.specs.ViewLaws.{property_views-at, property_views-take_more}
+use Rattle.spa_value.proofs.ViewLaws.{property_views-at, property_views-take_more}
 use Rattle.spa_negotiate.specs.Keys.{value_at}
 use Rattle.spa_negotiate.proofs.KeyLists.{value_at-behind, value_at-same, value_at-other}
 use Rattle.spa_negotiate.proofs.negotiation.find.Goals as goal

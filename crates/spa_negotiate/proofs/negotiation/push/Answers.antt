@@ -2,7 +2,7 @@ use Rattle.std.proofs.Common.{ap, ◌∙◌}
 use Rattle.spa_format.specs.Tree.{property, no_properties, join_properties}
 use Rattle.spa_value.specs.View.{view}
 use Rattle.spa_value.specs.Views.{property_views}
-use Rattle.spa_value.specs.ViewLaws.{property_views-push}
+use Rattle.spa_value.proofs.ViewLaws.{property_views-push}
 use Rattle.spa_negotiate.proofs.negotiation.push.Goals as goal
 
 pub returns : goal.returns

@@ -16,7 +16,7 @@ pub returns-in-Err-clause-refused : goal.returns-in-Err-clause-refused
 returns-in-Err-clause-refused g c =
     plain_behind _ _ (g.G.Grows.inside c.reach.new.self) _ _ _ _ _ _ _ _ _ _ c.loop-alloc.invariant c.reach.ensures.same
     c.in-Some.ensures.reached c.in-Some-open_counted.ensures.there
-    (c.if-front-eq-STRUCT.false, c.if-front-eq-OBJECT.false) c.in-Err.ensures.refused
+    (c.if-front.false, c.if-front-2.false) c.in-Err.ensures.refused
     c.in-Some-open_counted.ensures.counted
 
 pub loop-alloc-preserved : goal.loop-alloc-preserved
@@ -25,5 +25,5 @@ loop-alloc-preserved g c =
     let taken = c.in_default-put_plain.ensures.taken in
     one_read _ _ (inside c.reach.new.self) (inside c.reserve.new.self) _ _ _ _ _ _ _ _ _ _ taken.value
     c.loop-alloc.invariant c.reach.ensures.same c.in-Some.ensures.reached c.in-Some-open_counted.ensures.there
-    (c.if-front-eq-STRUCT.false, c.if-front-eq-OBJECT.false) taken.its_type taken.read c.reserve.ensures.same
+    (c.if-front.false, c.if-front-2.false) taken.its_type taken.read c.reserve.ensures.same
     (g.met.G.Grows.grown _ _ taken.value taken.taken) c.in-Some-open_counted.ensures.counted

@@ -17,15 +17,15 @@ returns-then-size-eq-TWO_WORDS-clause-taken c =
     fixed_begins _ _ f.0 8 bytes c.if-input-lt-SHORT_POD.false (sym c.u32_at-type_.ensures ∙ f.1) (sym c.u32_at-size.ensures ∙ eight) size
     (omega arith) (omega arith) refl (λ i. absurd (let four : 8 ≡ 4 = size ∙ ap body_size i in omega arith)) c.split_at.ensures.back
 
-pub returns-then-type_-eq-BOOL-clause-taken : goal.returns-then-type_-eq-BOOL-clause-taken
-returns-then-type_-eq-BOOL-clause-taken c =
+pub returns-then-type_-clause-taken : goal.returns-then-type_-clause-taken
+returns-then-type_-clause-taken c =
     let bytes : IsBytes c.args.input.now = λ i. omega (arith, c.type_inv.input i) in
     let four = c.if-size-ne-ONE_WORD.false in
     let same = c.if-size-fixed_len.false in
     let f = c.fixed_len.ensures (omega arith) in
     let size : 4 ≡ body_size f.0 = sym four ∙ same ∙ f.2 in
     let zeros = zeros_of_word _ bytes c.if-input-lt-SHORT_POD.false (sym c.u32_at.ensures ∙ c.if-u32_at-ne0.false) in
-    let small : word_at c.args.input.now 8 < 2 = let e = c.u32_at-then-type_-eq-BOOL.ensures in let l = c.if-u32_at-gt1.false in omega arith in
+    let small : word_at c.args.input.now 8 < 2 = let e = c.u32_at-then-type_.ensures in let l = c.if-u32_at-gt1.false in omega arith in
     fixed_begins _ _ f.0 4 bytes c.if-input-lt-SHORT_POD.false (sym c.u32_at-type_.ensures ∙ f.1) (sym c.u32_at-size.ensures ∙ four) size
     (omega arith) (omega arith) zeros (λ _. small) c.split_at.ensures.back
 
@@ -38,4 +38,4 @@ returns-clause-taken c =
     let size : 4 ≡ body_size f.0 = sym four ∙ same ∙ f.2 in
     let zeros = zeros_of_word _ bytes c.if-input-lt-SHORT_POD.false (sym c.u32_at.ensures ∙ c.if-u32_at-ne0.false) in
     fixed_begins _ _ f.0 4 bytes c.if-input-lt-SHORT_POD.false (sym c.u32_at-type_.ensures ∙ f.1) (sym c.u32_at-size.ensures ∙ four) size
-    (omega arith) (omega arith) zeros (λ i. absurd (c.if-type_-eq-BOOL.false (f.1 ∙ ap type_number i))) c.split_at.ensures.back
+    (omega arith) (omega arith) zeros (λ i. absurd (c.if-type_.false (f.1 ∙ ap type_number i))) c.split_at.ensures.back

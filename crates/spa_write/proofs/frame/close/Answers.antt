@@ -1,7 +1,8 @@
 use Rattle.std.proofs.Common.{◌≡◌, ◌+◌, ◌-◌, ◌++◌, take, drop, arith, ap, sym, ◌∙◌}
 use Rattle.spa_format.specs.Words.{header_size, word_bytes}
 use Rattle.spa_write.specs.Written.{begun_length}
-use Rattle.spa_write.proofs.Encodings.{word_bytes_is}
+use Rattle.spa_write.proofs.Frames.{closes_pod, past_limit}
+use Rattle.spa_format.proofs.Encodings.{word_bytes_is}
 use Rattle.spa_write.proofs.frame.close.Goals as goal
 
 pub returns-clause-closed : goal.returns-clause-closed
@@ -16,3 +17,12 @@ returns-clause-closed g c =
       room = λ after n e r. c.overwrite.ensures.room after n e r;
       fits = omega (arith, c.in-Ok.ensures.0, c.len.ensures);
     }
+
+pub returns-clause-pod : goal.returns-clause-pod
+returns-clause-pod g c = closes_pod _ _ _ (returns-clause-closed g c)
+
+pub returns-in_default-clause-past : goal.returns-in_default-clause-past
+returns-in_default-clause-past g c =
+    let e = c.len.ensures in
+    let l = c.in_default.ensures in
+    past_limit g.O.PodOutput.content g.O.PodSink.refuses c.args.out.now c.args.start (omega (arith, e, l))

@@ -1,6 +1,6 @@
 use Rattle.std.proofs.Common.{ap, ◌∙◌, subst}
 use Rattle.spa_value.specs.View.{view}
-use Rattle.spa_value.specs.ViewLaws.{view-fields}
+use Rattle.spa_value.proofs.ViewLaws.{view-fields}
 use Rattle.spa_write.specs.Written.{IsLeaf}
 use Rattle.spa_write.proofs.leaf.put_leaf.Goals as goal
 

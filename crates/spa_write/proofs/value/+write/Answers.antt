@@ -5,7 +5,7 @@ use Rattle.spa_format.specs.Words.{word_bytes}
 use Rattle.spa_value.specs.declared.object.Object.{out-Object}
 use Rattle.spa_value.specs.View.{view}
 use Rattle.spa_value.specs.Views.{views, property_views}
-use Rattle.spa_value.specs.ViewLaws.{view-struct, view-fields}
+use Rattle.spa_value.proofs.ViewLaws.{view-struct, view-fields}
 use Rattle.spa_write.proofs.Refusals.{IsSink, passed_on}
 use Rattle.spa_write.proofs.Extending.{IsOutput, extended_as, extended_by}
 use Rattle.spa_write.proofs.Structs.{next_refused, next_written, none_written, struct_header_refused, struct_members_refused, struct_room, struct_size_refused, struct_written}

@@ -1,6 +1,6 @@
 use Rattle.std.proofs.Common.{sym, ap, ◌∙◌}
 use Rattle.spa_read.specs.Nesting.{so_far}
-use Rattle.spa_value.specs.ViewLaws.{view-object, view-struct}
+use Rattle.spa_value.proofs.ViewLaws.{view-object, view-struct}
 use Rattle.spa_read.proofs.inside.Inside.into_value.Goals as goal
 
 pub returns-in-Struct : goal.returns-in-Struct

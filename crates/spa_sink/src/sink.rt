@@ -1,7 +1,7 @@
 //! What bytes are written to.
 ghost use Rattle.std.specs.Prelude.{◌≡◌, ℕ, ◌+◌, ◌<◌, ◌≤◌, List, ◌++◌, length, take, drop, OnOk, OnErr, IfErr};
-ghost use Rattle.spa_fixed.specs.declared.gen_error.GenError.{GenError};
-ghost use Rattle.spa_fixed.specs.declared.gen_error.GenError.TheVariants.{Full, TooLarge, NulInText, OutOfMemory};
+ghost use Rattle.spa_sink.specs.declared.gen_error.GenError.{GenError};
+ghost use Rattle.spa_sink.specs.declared.gen_error.GenError.TheVariants.{Full, TooLarge, NulInText, OutOfMemory};
 ghost use Rattle.std.proofs.Common.{ap, arith, append_assoc, length-append};
 
 use crate::gen_error::GenError;

@@ -1,7 +1,7 @@
 -- What a refused write says: docs/FORMAT.md, "Values that can be written".
 use Rattle.std.specs.Prelude.{◌≡◌, ℕ, List, []}
-use Rattle.spa_fixed.specs.declared.gen_error.GenError.{GenError}
-use Rattle.spa_fixed.specs.declared.gen_error.GenError.TheVariants.{Full, TooLarge, NulInText, WrongCount, Failed, Io, OutOfMemory}
+use Rattle.spa_sink.specs.declared.gen_error.GenError.{GenError}
+use Rattle.spa_sink.specs.declared.gen_error.GenError.TheVariants.{Full, TooLarge, NulInText, WrongCount, Failed, Io, OutOfMemory}
 
 -- NulInText, TooLarge and any other refusal are answered only where these facts hold.
 abbrev pub RefusedFor : Type 0 → Type 0 → (GenError → Type 0) → GenError → Type 0
@@ -17,6 +17,10 @@ RefusedFor nul large other OutOfMemory = other OutOfMemory
 -- It is a record, so that lemmas find its arguments.
 pub record RefusesWrite (nul large : Type 0) (lacks : GenError → Type 0) (e : GenError) : Type 0 where
   pub cause : RefusedFor nul large lacks e
+
+-- A refused write of one piece: the same, and for a text or a size it is refused before a byte is appended.
+abbrev pub RefusesPiece : {S : Type 0} → Type 0 → Type 0 → (GenError → Type 0) → S → S → GenError → Type 0
+RefusesPiece nul large lacks old new = RefusesWrite (nul × (new ≡ old)) (large × (new ≡ old)) lacks
 
 -- the sink may refuse so many bytes so, whatever it is left as
 abbrev pub MayRefuse : {S : Type 0} → (S → ℕ → S → GenError → Type 0) → S → ℕ → GenError → Type 0

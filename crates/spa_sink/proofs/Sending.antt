@@ -1,9 +1,9 @@
 -- Steps of the writers: what follows from the laws of a sink.
 use Rattle.std.proofs.Common.{◌≡◌, ℕ, ◌+◌, ◌≤◌, List, ◌++◌, length, sym, ap, ◌∙◌, subst, arith, append_assoc, length-append}
 use Rattle.std.proofs.lemmas.List.{append-nil}
-use Rattle.spa_fixed.specs.declared.gen_error.GenError.{GenError}
-use Rattle.spa_fixed.specs.declared.gen_error.GenError.TheVariants.{Full, TooLarge, NulInText, WrongCount, Failed, Io, OutOfMemory}
-use Rattle.spa_fixed.specs.Writing.{Sent, none_sent, some_sent, RefusesWrite}
+use Rattle.spa_sink.specs.declared.gen_error.GenError.{GenError}
+use Rattle.spa_sink.specs.declared.gen_error.GenError.TheVariants.{Full, TooLarge, NulInText, WrongCount, Failed, Io, OutOfMemory}
+use Rattle.spa_sink.specs.Writing.{Sent, none_sent, some_sent, RefusesWrite}
 
 -- The laws of a sink, as its trait has them.
 

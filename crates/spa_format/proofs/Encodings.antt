@@ -1,10 +1,10 @@
--- Encodings and their lengths.
+-- Encodings: their lengths, and that those of members and properties need no padding.
 use Rattle.std.proofs.Common.{◌≡◌, ℕ, ◌+◌, ◌-◌, ◌≤◌, List, ◌++◌, length, refl, sym, ap, ◌∙◌, arith, append_assoc, length-append}
 use Rattle.std.proofs.lemmas.List.{append-nil, length-replicate}
 use Rattle.std.specs.Int.{w32, to_le_bytes}
 use Rattle.spa_format.specs.Words.{header_size, padded_size, padding, word_bytes, wide_bytes}
-use Rattle.spa_format.specs.Encoding.{encoding_of, framed}
-use Rattle.spa_format.specs.Tree.{pointer, pointer_type}
+use Rattle.spa_format.specs.Encoding.{encoded_body, encoding_of, framed, member_encodings, property_encodings}
+use Rattle.spa_format.specs.Tree.{Tree, Trees, Properties, no_trees, member, no_properties, property, type_of, pointer, pointer_type}
 
 pub length-word_bytes : (n : ℕ) → length (word_bytes n) ≡ 4
 unfolding word_bytes
@@ -72,3 +72,43 @@ pointer_encoding_length t a =
 pub word_bytes_is : (n : ℕ) → word_bytes n ≡ to_le_bytes w32 n
 unfolding word_bytes
 word_bytes_is n = refl
+
+-- an encoding takes whole padded bytes
+pub whole_encoding : (type : ℕ) (body : List ℕ) → padded_size (length (framed type body)) ≡ length (framed type body)
+whole_encoding type body = let e = length-framed type body in omega arith
+
+pub whole_members : (vs : Trees) → padded_size (length (member_encodings vs)) ≡ length (member_encodings vs)
+whole_members no_trees = refl
+whole_members (member v vs) =
+    let e = length-append (encoding_of v) (member_encodings vs) in
+    let here = whole_encoding (type_of v) (encoded_body v) in
+    let there = whole_members vs in
+    omega arith
+
+-- the two words before the value of a property
+abbrev pub key_words : ℕ → ℕ → List ℕ
+key_words k f = word_bytes k ++ word_bytes f
+
+-- the encodings of a property and of those behind it, as they are appended
+pub property_encoding : (k f : ℕ) (v : Tree) (ps : Properties) →
+    property_encodings (property k f v ps) ≡ (key_words k f ++ encoding_of v) ++ property_encodings ps
+property_encoding k f v ps =
+    sym (append_assoc (word_bytes k) (word_bytes f) (encoding_of v ++ property_encodings ps))
+    ∙ sym (append_assoc (key_words k f) (encoding_of v) (property_encodings ps))
+
+pub length-property_encoding : (k f : ℕ) (v : Tree) (ps : Properties) →
+    length (property_encodings (property k f v ps)) ≡ 8 + length (encoding_of v) + length (property_encodings ps)
+length-property_encoding k f v ps =
+    let e0 = ap length (property_encoding k f v ps) in
+    let e1 = length-append (key_words k f ++ encoding_of v) (property_encodings ps) in
+    let e2 = length-append (key_words k f) (encoding_of v) in
+    let e3 = two_words_length k f in
+    omega arith
+
+pub whole_properties : (ps : Properties) → padded_size (length (property_encodings ps)) ≡ length (property_encodings ps)
+whole_properties no_properties = refl
+whole_properties (property k f v ps) =
+    let e = length-property_encoding k f v ps in
+    let here = whole_encoding (type_of v) (encoded_body v) in
+    let there = whole_properties ps in
+    omega arith

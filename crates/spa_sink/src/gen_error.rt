@@ -1,6 +1,6 @@
 //! Why a value could not be written.
 ghost use Rattle.std.specs.Prelude.{◌≡◌};
-ghost use Rattle.spa_fixed.specs.declared.gen_error.GenError.TheVariants as error;
+ghost use Rattle.spa_sink.specs.declared.gen_error.GenError.TheVariants as error;
 
 use std::alloc::AllocError;
 use std::fmt;

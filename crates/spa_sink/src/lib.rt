@@ -1,0 +1,10 @@
+//! What bytes are written to, and why a write is refused.
+#![tactic(auto)]
+
+mod gen_error;
+mod put;
+mod sink;
+
+pub use gen_error::GenError;
+pub use put::{put_padding, put_two, put_wide, put_word};
+pub use sink::{PodOutput, PodSink};

@@ -8,10 +8,14 @@ use Rattle.spa_dict.specs.declared.parse.ParseValueError.{ParseValueError}
 abbrev pub pairs : DictRef → List Pair
 pairs dict = pairs_of dict.items.now
 
--- what a reading of a text answers: the value that the text reads as, or the text back where it reads as none
-abbrev pub IsAnswerFor : {T : Type 0} → (List ℕ → Option T → Type 0) → List ℕ → Result T ParseValueError → Type 0
-IsAnswerFor reads text answer = MatchResult answer (λ v. reads text (Some v)) (λ e. reads text None × (e.text.now ≡ text))
+-- what a reading of a text answers: the value that the text reads as, or, where it reads as none, the text back with the
+-- name of the type
+abbrev pub IsAnswerFor : {T : Type 0} → List ℕ → (List ℕ → Option T → Type 0) → List ℕ → Result T ParseValueError → Type 0
+IsAnswerFor name reads text answer =
+    MatchResult answer (λ v. reads text (Some v))
+    (λ e. reads text None × (e.text.now ≡ text) × (e.type_name.now ≡ name))
 
 -- the same of a value that may be missing: an answer is there exactly where the value is
-abbrev pub IsReadingOf : {T : Type 0} → (List ℕ → Option T → Type 0) → Option (List ℕ) → Option (Result T ParseValueError) → Type 0
-IsReadingOf reads value found = MatchOption value (found ≡ None) (λ text. MatchOption found ⊥ (IsAnswerFor reads text))
+abbrev pub IsReadingOf : {T : Type 0} → List ℕ → (List ℕ → Option T → Type 0) → Option (List ℕ) → Option (Result T ParseValueError) → Type 0
+IsReadingOf name reads value found =
+    MatchOption value (found ≡ None) (λ text. MatchOption found ⊥ (IsAnswerFor name reads text))

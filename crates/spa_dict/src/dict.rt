@@ -130,14 +130,15 @@ impl<'a> DictRef<'a> {
         None
     }
 
-    /// What `get` answers, read as a `T`. It is refused where the text is no text of a `T`.
+    /// What `get` answers, read as a `T`. It is refused where the text is no text of a `T`, with the
+    /// text and the name of `T`.
     pub fn parse<T: ParsableValue>(&self, key: &str) -> Option<Result<T, ParseValueError<'a>>>
-        ensures { IsReadingOf T.reads (first_value key.now (text_pairs (pairs self.now))) result }
+        ensures { IsReadingOf T.its_name T.reads (first_value key.now (text_pairs (pairs self.now))) result }
     {
         let text = self.get(key)?;
         Some(T::parse_value(text).ok_or(ParseValueError {
             text,
-            type_name: T::TYPE_NAME,
+            type_name: T::name(),
         }))
     }
 }

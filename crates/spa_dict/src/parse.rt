@@ -1,5 +1,5 @@
 //! Values of a dictionary read as truth values and integers.
-ghost use Rattle.std.specs.Prelude.{ℕ, List, Option};
+ghost use Rattle.std.specs.Prelude.{◌≡◌, ℕ, List, Option, codes};
 ghost use Rattle.std.specs.Int.{w8, w16, w32, w64, w128};
 ghost use Rattle.spa_dict.specs.Parsing.{ReadsBool, ReadsSigned, ReadsUnsigned};
 
@@ -11,8 +11,15 @@ pub trait ParsableValue: Copy {
     /// The type's name, as a refusal prints it.
     const TYPE_NAME: &'static str;
 
+    /// The bytes of the type's name.
+    ghost its_name: { List ℕ };
+
     // Holds of a text's bytes and of what `parse_value` may answer for them.
     ghost reads: { List ℕ → Option Self → Type 0 };
+
+    /// The type's name, which is `TYPE_NAME`: a call, so that contracts can speak of it.
+    fn name() -> &'static str
+        ensures { result.now ≡ its_name };
 
     /// What the text reads as, or `None` where it is no text of this type.
     fn parse_value(value: &str) -> Option<Self>
@@ -23,7 +30,13 @@ pub trait ParsableValue: Copy {
 impl ParsableValue for bool {
     const TYPE_NAME: &'static str = "bool";
 
+    ghost its_name = { codes "bool" };
+
     ghost reads = { ReadsBool };
+
+    fn name() -> &'static str {
+        Self::TYPE_NAME
+    }
 
     fn parse_value(value: &str) -> Option<bool> {
         Some(value == "true" || value.parse::<i32>() == Ok(1))
@@ -33,7 +46,13 @@ impl ParsableValue for bool {
 impl ParsableValue for i8 {
     const TYPE_NAME: &'static str = "i8";
 
+    ghost its_name = { codes "i8" };
+
     ghost reads = { ReadsSigned w8 };
+
+    fn name() -> &'static str {
+        Self::TYPE_NAME
+    }
 
     fn parse_value(value: &str) -> Option<i8> {
         value.parse().ok()
@@ -43,7 +62,13 @@ impl ParsableValue for i8 {
 impl ParsableValue for i16 {
     const TYPE_NAME: &'static str = "i16";
 
+    ghost its_name = { codes "i16" };
+
     ghost reads = { ReadsSigned w16 };
+
+    fn name() -> &'static str {
+        Self::TYPE_NAME
+    }
 
     fn parse_value(value: &str) -> Option<i16> {
         value.parse().ok()
@@ -53,7 +78,13 @@ impl ParsableValue for i16 {
 impl ParsableValue for i32 {
     const TYPE_NAME: &'static str = "i32";
 
+    ghost its_name = { codes "i32" };
+
     ghost reads = { ReadsSigned w32 };
+
+    fn name() -> &'static str {
+        Self::TYPE_NAME
+    }
 
     fn parse_value(value: &str) -> Option<i32> {
         value.parse().ok()
@@ -63,7 +94,13 @@ impl ParsableValue for i32 {
 impl ParsableValue for i64 {
     const TYPE_NAME: &'static str = "i64";
 
+    ghost its_name = { codes "i64" };
+
     ghost reads = { ReadsSigned w64 };
+
+    fn name() -> &'static str {
+        Self::TYPE_NAME
+    }
 
     fn parse_value(value: &str) -> Option<i64> {
         value.parse().ok()
@@ -73,7 +110,13 @@ impl ParsableValue for i64 {
 impl ParsableValue for i128 {
     const TYPE_NAME: &'static str = "i128";
 
+    ghost its_name = { codes "i128" };
+
     ghost reads = { ReadsSigned w128 };
+
+    fn name() -> &'static str {
+        Self::TYPE_NAME
+    }
 
     fn parse_value(value: &str) -> Option<i128> {
         value.parse().ok()
@@ -83,7 +126,13 @@ impl ParsableValue for i128 {
 impl ParsableValue for isize {
     const TYPE_NAME: &'static str = "isize";
 
+    ghost its_name = { codes "isize" };
+
     ghost reads = { ReadsSigned w64 };
+
+    fn name() -> &'static str {
+        Self::TYPE_NAME
+    }
 
     fn parse_value(value: &str) -> Option<isize> {
         value.parse().ok()
@@ -93,7 +142,13 @@ impl ParsableValue for isize {
 impl ParsableValue for u8 {
     const TYPE_NAME: &'static str = "u8";
 
+    ghost its_name = { codes "u8" };
+
     ghost reads = { ReadsUnsigned 8 };
+
+    fn name() -> &'static str {
+        Self::TYPE_NAME
+    }
 
     fn parse_value(value: &str) -> Option<u8> {
         value.parse().ok()
@@ -103,7 +158,13 @@ impl ParsableValue for u8 {
 impl ParsableValue for u16 {
     const TYPE_NAME: &'static str = "u16";
 
+    ghost its_name = { codes "u16" };
+
     ghost reads = { ReadsUnsigned 16 };
+
+    fn name() -> &'static str {
+        Self::TYPE_NAME
+    }
 
     fn parse_value(value: &str) -> Option<u16> {
         value.parse().ok()
@@ -113,7 +174,13 @@ impl ParsableValue for u16 {
 impl ParsableValue for u32 {
     const TYPE_NAME: &'static str = "u32";
 
+    ghost its_name = { codes "u32" };
+
     ghost reads = { ReadsUnsigned 32 };
+
+    fn name() -> &'static str {
+        Self::TYPE_NAME
+    }
 
     fn parse_value(value: &str) -> Option<u32> {
         value.parse().ok()
@@ -123,7 +190,13 @@ impl ParsableValue for u32 {
 impl ParsableValue for u64 {
     const TYPE_NAME: &'static str = "u64";
 
+    ghost its_name = { codes "u64" };
+
     ghost reads = { ReadsUnsigned 64 };
+
+    fn name() -> &'static str {
+        Self::TYPE_NAME
+    }
 
     fn parse_value(value: &str) -> Option<u64> {
         value.parse().ok()
@@ -133,7 +206,13 @@ impl ParsableValue for u64 {
 impl ParsableValue for u128 {
     const TYPE_NAME: &'static str = "u128";
 
+    ghost its_name = { codes "u128" };
+
     ghost reads = { ReadsUnsigned 128 };
+
+    fn name() -> &'static str {
+        Self::TYPE_NAME
+    }
 
     fn parse_value(value: &str) -> Option<u128> {
         value.parse().ok()
@@ -143,7 +222,13 @@ impl ParsableValue for u128 {
 impl ParsableValue for usize {
     const TYPE_NAME: &'static str = "usize";
 
+    ghost its_name = { codes "usize" };
+
     ghost reads = { ReadsUnsigned 64 };
+
+    fn name() -> &'static str {
+        Self::TYPE_NAME
+    }
 
     fn parse_value(value: &str) -> Option<usize> {
         value.parse().ok()

@@ -1,6 +1,7 @@
 //! Look-ups, iterators and readings, against values from outside, and each call once.
 use crate::{DictRef, Flags, ParsableValue};
 use bitflags::Flags as _;
+use std::alloc::{AllocError, Global};
 use std::fmt::Debug;
 use std::process::Abort;
 use std::test::Fail;
@@ -219,24 +220,39 @@ fn refusals_name_the_text_and_the_type(rt: HostRuntime) -> Result<(), Fail> {
         printed.as_str(),
         "'9223372036854775807' cannot be parsed to i32"
     );
-    assert_eq!(rt; bool::TYPE_NAME, "bool");
-    let names = [
-        i8::TYPE_NAME,
-        i16::TYPE_NAME,
-        i32::TYPE_NAME,
-        i64::TYPE_NAME,
-        i128::TYPE_NAME,
-        isize::TYPE_NAME,
-        u8::TYPE_NAME,
-        u16::TYPE_NAME,
-        u32::TYPE_NAME,
-        u64::TYPE_NAME,
-        u128::TYPE_NAME,
-        usize::TYPE_NAME,
-    ];
-    let wanted = [
-        "i8", "i16", "i32", "i64", "i128", "isize", "u8", "u16", "u32", "u64", "u128", "usize",
-    ];
-    assert_eq!(rt; names, wanted);
+    // A truth value is never refused, so its name is printed by no refusal.
+    assert_eq!(rt; bool::name(), "bool");
     Ok(())
+}
+
+/// What `parse` answers for a text that is no number, printed.
+fn printed_refusal<T: ParsableValue>(alloc: Global) -> Result<Option<String>, AllocError> {
+    let items: [(&[u8], &[u8]); 1] = [(b"key", b"ten")];
+    match DictRef::new(&items, Flags::empty()).parse::<T>("key") {
+        Some(Err(refusal)) => Ok(Some(format!(in alloc; "{refusal}")?)),
+        _ => Ok(None),
+    }
+}
+
+/// A type's refusal prints its name.
+fn check_name<T: ParsableValue>(rt: &impl Abort, alloc: Global, wanted: &str) -> Result<(), Fail> {
+    let printed = printed_refusal::<T>(alloc)?;
+    assert_eq!(rt; printed.as_deref(), Some(wanted));
+    Ok(())
+}
+
+#[test]
+fn refusals_print_the_name_of_each_type(rt: HostRuntime) -> Result<(), Fail> {
+    check_name::<i8>(&rt, rt.alloc(), "'ten' cannot be parsed to i8")?;
+    check_name::<i16>(&rt, rt.alloc(), "'ten' cannot be parsed to i16")?;
+    check_name::<i32>(&rt, rt.alloc(), "'ten' cannot be parsed to i32")?;
+    check_name::<i64>(&rt, rt.alloc(), "'ten' cannot be parsed to i64")?;
+    check_name::<i128>(&rt, rt.alloc(), "'ten' cannot be parsed to i128")?;
+    check_name::<isize>(&rt, rt.alloc(), "'ten' cannot be parsed to isize")?;
+    check_name::<u8>(&rt, rt.alloc(), "'ten' cannot be parsed to u8")?;
+    check_name::<u16>(&rt, rt.alloc(), "'ten' cannot be parsed to u16")?;
+    check_name::<u32>(&rt, rt.alloc(), "'ten' cannot be parsed to u32")?;
+    check_name::<u64>(&rt, rt.alloc(), "'ten' cannot be parsed to u64")?;
+    check_name::<u128>(&rt, rt.alloc(), "'ten' cannot be parsed to u128")?;
+    check_name::<usize>(&rt, rt.alloc(), "'ten' cannot be parsed to usize")
 }

@@ -4,6 +4,8 @@
 #[cfg(test)]
 mod bytes;
 #[cfg(test)]
+mod equality;
+#[cfg(test)]
 mod tests;
 #[cfg(test)]
 mod values;

@@ -34,7 +34,7 @@ pub mod pod {
     pub use spa_format::{laws, view_laws};
     pub use spa_rewrite::{accept_all, rewrite, rewrite_all, rewrite_in_parts};
     pub use spa_value::{
-        ChoiceValue, Object, Property, PropertyFlags, Value, ValueArray, discard,
+        Bitmap, ChoiceValue, Object, Property, PropertyFlags, Value, ValueArray, discard,
         laws as value_laws,
     };
     pub use spa_view::{

@@ -137,9 +137,14 @@ fn assert_run(
 }
 
 /// A word, the words of an input, and those that are written.
-const DONE: [(&str, &[u32], &[u32]); 11] = [
+const DONE: [(&str, &[u32], &[u32]); 12] = [
     ("rewrite", &[], &[]),
     ("rewrite", &[4, 2, 7, 9], &[4, 2, 1, 0]),
+    (
+        "rewrite",
+        &[3, 12, 0xff030201, 0xffffffff],
+        &[3, 12, 197121, 0],
+    ),
     ("rewrite", &[0, 1, 4, 4, 3, 0], &[0, 1, 4, 4, 3, 0]),
     (
         "rewrite",
@@ -222,7 +227,7 @@ fn assert_shown(rt: &impl Abort, alloc: Global, input: &[u32], lines: &str) -> R
 
 #[test]
 fn pods_are_shown(rt: HostRuntime) -> Result<(), Fail> {
-    let rows: [(&[u32], &str); 4] = [
+    let rows: [(&[u32], &str); 5] = [
         (&[32, 15, 5, 3, 1, 0, 4, 4, 3, 0], "0 15 32\n1 4 4\n"),
         (
             &[
@@ -231,6 +236,7 @@ fn pods_are_shown(rt: HostRuntime) -> Result<(), Fail> {
             "0 14 56\n1 4 4\n1 8 4\n1 14 16\n2 10 8\n",
         ),
         (&[8, 16, 0, 0], "0 16 8\n"),
+        (&[3, 12, 197121, 0], "0 12 3\n"),
         (
             &[0, 1, 8, 14, 0, 1, 4, 4, 3, 0],
             "0 1 0\n0 14 8\n1 1 0\n0 4 4\n",

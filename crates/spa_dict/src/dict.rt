@@ -3,20 +3,17 @@ ghost use Rattle.std.specs.Prelude.{⊤, ◌≡◌, ◌∷◌, [], codes, IsTrue
 
 use crate::iter::{CIter, Iter, Keys, Values};
 use crate::parse::{ParsableValue, ParseValueError};
-use bitflags::Flag;
+use bitflags::{Flag, bitflag_items};
 
 /// What is known of a dictionary. All bits are kept, and none changes a look-up.
 #[derive(Clone, Copy, Debug, PartialEq, Eq)]
 pub struct Flags(u32);
 
-impl Flags {
-    /// The keys are in order.
-    pub const SORTED: Flags = Flags(1);
-
-    const TABLE: &'static [Flag<Flags>] = &[Flag {
-        name: "SORTED",
-        value: Flags::SORTED,
-    }];
+bitflag_items! {
+    impl Flags: u32 {
+        /// The keys are in order.
+        const SORTED = 1;
+    }
 }
 
 impl bitflags::Flags for Flags {
@@ -29,7 +26,7 @@ impl bitflags::Flags for Flags {
     ghost set_of = { λ f. f.0 };
 
     fn flags<'a>() -> &'a [Flag<Flags>] {
-        Flags::TABLE
+        Flags::FLAGS
     }
 
     fn bits(&self) -> u32 {

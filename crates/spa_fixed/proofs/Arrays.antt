@@ -1,5 +1,6 @@
 -- Steps of the reader of arrays.
-use Rattle.std.proofs.Common.{◌≡◌, ℕ, suc, zero, ◌*◌, ◌-◌, ◌/◌, ◌%◌, ◌<◌, ◌≤◌, List, [], ◌∷◌, length, refl, arith}
+use Rattle.std.proofs.Common.{◌≡◌, ℕ, suc, zero, ◌*◌, ◌-◌, ◌/◌, ◌%◌, ◌<◌, ◌≤◌, List, [], ◌∷◌}
+use Rattle.std.proofs.Common.{length, refl, arith}
 use Rattle.spa_fixed.specs.Reading.{AreWhole}
 
 whole_parts : (n s : ℕ) → n % s ≡ 0 → n ≡ n / s * s

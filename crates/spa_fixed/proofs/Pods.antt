@@ -1,5 +1,7 @@
 -- The encoding of a pod of fixed size.
-use Rattle.std.proofs.Common.{◌≡◌, ℕ, suc, zero, ◌-◌, ◌≤◌, List, [], ◌∷◌, ◌++◌, length, take, drop, refl, sym, ap, ◌∙◌, arith, append_assoc, length-append, take-append-drop}
+use Rattle.std.proofs.Common.{◌≡◌, ℕ, suc, zero, ◌-◌, ◌≤◌, List, [], ◌∷◌, ◌++◌, length, take, drop}
+use Rattle.std.proofs.Common.{refl, sym, ap, ◌∙◌, arith, append_assoc, length-append}
+use Rattle.std.proofs.Common.{take-append-drop}
 use Rattle.std.proofs.lemmas.List.{append-nil, take_all, take_at, length-replicate}
 use Rattle.std.specs.Prelude.{replicate}
 use Rattle.spa_format.specs.Words.{word_bytes, padding, padded_size, extent}
@@ -9,10 +11,13 @@ use Rattle.spa_format.proofs.WordLemmas.{length-word_bytes}
 use Rattle.spa_format.proofs.FixedKinds.{length-fixed_body}
 
 pub length-two_words : (m n : ℕ) → length (word_bytes m ++ word_bytes n) ≡ 8
-length-two_words m n = length-append (word_bytes m) (word_bytes n) ∙ (let e = length-word_bytes m in let f = length-word_bytes n in omega arith)
+length-two_words m n =
+    length-append (word_bytes m) (word_bytes n) ∙ (let e = length-word_bytes
+    m in let f = length-word_bytes n in omega arith)
 
 -- a body of the kind has the size of the type
-pub body_length : (k : Kind) (x : Fixed) (size : ℕ) → kind_of x ≡ k → size ≡ body_size k → length (fixed_body x) ≡ size
+pub body_length : (k : Kind) (x : Fixed) (size : ℕ) → kind_of x ≡ k → size ≡ body_size k →
+    length (fixed_body x) ≡ size
 body_length k x size t z = length-fixed_body x ∙ ap body_size t ∙ sym z
 
 nothing : (b : List ℕ) → length b ≡ 0 → b ≡ []
@@ -20,18 +25,25 @@ nothing [] e = refl
 nothing (x ∷ b) e = absurd (omega arith)
 
 -- header, body and zeros, as far as the pod goes
-pub encoding_of_fixed : (size type : ℕ) (b header padded : List ℕ) → length b ≡ size → size ≤ 8 → take size padded ≡ b → drop size padded ≡ replicate (8 - size) 0 → header ≡ word_bytes size ++ word_bytes type → take (extent size) (header ++ padded) ≡ framed type b
+pub encoding_of_fixed : (size type : ℕ) (b header padded : List ℕ) → length b ≡ size → size ≤ 8 →
+    take size padded ≡ b → drop size padded ≡ replicate (8 - size) 0 →
+    header ≡ word_bytes size ++ word_bytes type →
+    take (extent size) (header ++ padded) ≡ framed type b
 encoding_of_fixed zero type b header padded l w t d e =
     let n = nothing b l in
-    ap (take 8) (ap (λ x. x ++ padded) e) ∙ take_at (word_bytes 0 ++ word_bytes type) padded 8 (length-two_words 0 type)
+    ap (take 8) (ap (λ x. x ++ padded) e) ∙ take_at (word_bytes 0 ++ word_bytes type) padded 8
+        (length-two_words 0 type)
     ∙ ap (λ x. word_bytes 0 ++ x) (sym (append-nil (word_bytes type)))
     ∙ ap (framed type) (sym n)
 encoding_of_fixed (suc m) type b header padded l w t d e =
     let size : ℕ = suc m in
     let p : padded_size size ≡ 8 = omega arith in
     let zeros : drop size padded ≡ padding size = d ∙ ap (λ n. replicate (n - size) 0) (sym p) in
-    let whole : padded ≡ b ++ padding size = sym (take-append-drop size padded) ∙ ap (λ x. x ++ drop size padded) t ∙ ap (λ x. b ++ x) zeros in
-    let lz : length (padding size) ≡ 8 - size = length-replicate {A = ℕ} (padded_size size - size) 0 ∙ ap (λ n. n - size) p in
+    let whole : padded ≡ b ++ padding size =
+        sym (take-append-drop size padded) ∙ ap (λ x. x ++ drop size padded) t ∙ ap (λ x. b ++ x)
+        zeros in
+    let lz : length (padding size) ≡ 8 - size =
+        length-replicate {A = ℕ} (padded_size size - size) 0 ∙ ap (λ n. n - size) p in
     let lp : length padded ≡ 8 = ap length whole ∙ length-append b (padding size) ∙ omega arith in
     let lh : length header ≡ 8 = ap length e ∙ length-two_words size type in
     let la = length-append header padded in

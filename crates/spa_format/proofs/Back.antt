@@ -2,7 +2,7 @@
 use Rattle.std.proofs.Common.{◌≡◌, ℕ, ◌<◌, ◌≤◌, ◌^◌, inl, inr, List, [], ◌++◌, length, drop, take, refl, sym, ap, ◌∙◌, subst, arith, length-append, append_assoc}
 use Rattle.std.proofs.lemmas.List.{take_at, drop_at}
 use Rattle.spa_format.specs.Words.{word_at, word_bytes, extent, padding, body_of}
-use Rattle.spa_format.specs.Tree.{Tree, fixed, string, bytes, array, choice, pointer, struct, object, Trees, no_trees, member, Properties, no_properties, property, type_of}
+use Rattle.spa_format.specs.Tree.{Tree, fixed, string, bytes, bitmap, array, choice, pointer, struct, object, Trees, no_trees, member, Properties, no_properties, property, type_of}
 use Rattle.spa_format.specs.Kind.{kind_of}
 use Rattle.spa_format.specs.Pod.{IsWhole, IsBody, AreMembers, AreProperties, IsPod}
 use Rattle.spa_format.specs.Encoding.{framed, encoded_body, member_encodings, property_encodings, encoding_of}
@@ -33,6 +33,7 @@ pub same_type : (v : Tree) → type_of (normal_of v) ≡ type_of v
 same_type (fixed x) = refl
 same_type (string s) = refl
 same_type (bytes s) = refl
+same_type (bitmap s) = refl
 same_type (array k xs) = refl
 same_type (choice s f k x xs) = refl
 same_type (pointer t a) = refl
@@ -43,6 +44,7 @@ pub type_fits : (v : Tree) → type_of v < 2 ^ 32
 type_fits (fixed x) = let i = number_is (kind_of x) in grind arith
 type_fits (string s) = omega arith
 type_fits (bytes s) = omega arith
+type_fits (bitmap s) = omega arith
 type_fits (array k xs) = omega arith
 type_fits (choice s f k x xs) = omega arith
 type_fits (pointer t a) = omega arith
@@ -54,6 +56,7 @@ pub body_fits : (v : Tree) → ¬ (IsTooLarge v) → length (encoded_body v) < 2
 body_fits (fixed x) h = let e = length-fixed_body x in let l = size_fits (kind_of x) in omega arith
 body_fits (string s) h = omega arith
 body_fits (bytes s) h = omega arith
+body_fits (bitmap s) h = omega arith
 body_fits (array k xs) h = omega arith
 body_fits (choice s f k x xs) h = omega arith
 body_fits (pointer t a) h = let e = pointer_length t a in omega arith
@@ -65,6 +68,7 @@ mutual
   back_body (fixed x) h n l = fixed_back x h
   back_body (string s) h n l = (record { utf8 = h; no_nul = n }, refl)
   back_body (bytes s) h n l = refl
+  back_body (bitmap s) h n l = refl
   back_body (array k xs) h n l = array_back k xs h
   back_body (choice s f k x xs) h n l = choice_back s f k x xs h.0 h.1 h.2 h.3
   back_body (pointer t a) h n l = pointer_back t a h.0 h.1

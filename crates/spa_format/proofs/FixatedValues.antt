@@ -6,7 +6,7 @@ use Rattle.std.proofs.lemmas.Bool.{le-leb, ne_eqb}
 use Rattle.std.proofs.lemmas.List.{drop_at, take_at, append_assoc, length-take-le, drop-drop, drop-take}
 use Rattle.spa_format.specs.Words.{word_at, word_bytes, extent, body_of}
 use Rattle.spa_format.specs.Kind.{Kind, Fixed, kind_of}
-use Rattle.spa_format.specs.Tree.{Shape, none_choice, Tree, fixed, string, bytes, array, choice, pointer, struct, object, Properties, no_properties, property, type_of}
+use Rattle.spa_format.specs.Tree.{Shape, none_choice, Tree, fixed, string, bytes, bitmap, array, choice, pointer, struct, object, Properties, no_properties, property, type_of}
 use Rattle.spa_format.specs.Pod.{IsWhole, IsArray, IsChoice, AreProperties, IsPod}
 use Rattle.spa_format.specs.Walk.{ArePropertiesOf}
 use Rattle.spa_format.specs.Fixation.{may_fixate, is_choice_pod, is_fixable, none_choice_pod, fixated_property, fixated_properties, default_of, default_properties, is_settled_pod, all_settled, is_settled, are_settled}
@@ -146,6 +146,7 @@ value_fixated (choice s f k x xs) h first l p =
 value_fixated (fixed x) h first l p = other_fixated (fixed x) h first l p (λ e. let i = number_is (kind_of x) in grind arith)
 value_fixated (string s) h first l p = other_fixated (string s) h first l p (λ e. omega arith)
 value_fixated (bytes s) h first l p = other_fixated (bytes s) h first l p (λ e. omega arith)
+value_fixated (bitmap s) h first l p = other_fixated (bitmap s) h first l p (λ e. omega arith)
 value_fixated (array k xs) h first l p = other_fixated (array k xs) h first l p (λ e. omega arith)
 value_fixated (pointer t a) h first l p = other_fixated (pointer t a) h first l p (λ e. omega arith)
 value_fixated (struct vs) h first l p = other_fixated (struct vs) h first l p (λ e. omega arith)
@@ -201,6 +202,7 @@ one_settled (choice s f k x xs) b h =
 one_settled (fixed x) b h = other_settled (fixed x) b h (λ e. let i = number_is (kind_of x) in grind arith)
 one_settled (string s) b h = other_settled (string s) b h (λ e. omega arith)
 one_settled (bytes s) b h = other_settled (bytes s) b h (λ e. omega arith)
+one_settled (bitmap s) b h = other_settled (bitmap s) b h (λ e. omega arith)
 one_settled (array k xs) b h = other_settled (array k xs) b h (λ e. omega arith)
 one_settled (pointer t a) b h = other_settled (pointer t a) b h (λ e. omega arith)
 one_settled (struct vs) b h = other_settled (struct vs) b h (λ e. omega arith)

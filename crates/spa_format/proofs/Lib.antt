@@ -5,6 +5,7 @@ pub mod Choices
 pub mod Shapes
 pub mod Fronts
 pub mod Unique
+pub mod PodsOfBefore
 pub mod Short
 pub mod Back
 pub mod Origin

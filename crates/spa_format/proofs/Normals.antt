@@ -1,7 +1,7 @@
 -- A normal form is its own normal form.
 use Rattle.std.proofs.Common.{◌≡◌, ℕ, List, refl, ap}
 use Rattle.spa_format.specs.Kind.{Kind, none_kind, bool_kind, id_kind, int_kind, long_kind, float_kind, double_kind, rectangle_kind, fraction_kind, fd_kind, Fixed}
-use Rattle.spa_format.specs.Tree.{Shape, none_choice, range_choice, step_choice, enum_choice, flags_choice, Tree, fixed, string, bytes, array, choice, pointer, struct, object, Trees, no_trees, member, Properties, no_properties, property}
+use Rattle.spa_format.specs.Tree.{Shape, none_choice, range_choice, step_choice, enum_choice, flags_choice, Tree, fixed, string, bytes, bitmap, array, choice, pointer, struct, object, Trees, no_trees, member, Properties, no_properties, property}
 use Rattle.spa_format.specs.Normal.{kept_elements, kept_flags, normal_of, normal_members, normal_properties}
 
 kept_elements-kept_elements : (k : Kind) (xs : List Fixed) → kept_elements k (kept_elements k xs) ≡ kept_elements k xs
@@ -28,6 +28,7 @@ mutual
   normal_of-normal_of (fixed x) = refl
   normal_of-normal_of (string s) = refl
   normal_of-normal_of (bytes s) = refl
+  normal_of-normal_of (bitmap s) = refl
   normal_of-normal_of (array k xs) = ap (array k) (kept_elements-kept_elements k xs)
   normal_of-normal_of (choice s f k x xs) = ap (λ g. choice s g k x xs) (kept_flags-kept_flags s f)
   normal_of-normal_of (pointer t a) = refl

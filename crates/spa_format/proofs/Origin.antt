@@ -1,7 +1,7 @@
 -- What is known of a value that bytes spell: it is typed, normal and writable.
 use Rattle.std.proofs.Common.{◌≡◌, ℕ, ◌<◌, ◌^◌, List, [], ◌∷◌, ◌++◌, length, drop, take, refl, sym, ap, ◌∙◌, subst, arith, length-append}
 use Rattle.spa_format.specs.Words.{word_at, extent, body_of}
-use Rattle.spa_format.specs.Tree.{Tree, fixed, string, bytes, array, choice, pointer, struct, object, Trees, no_trees, member, Properties, no_properties, property}
+use Rattle.spa_format.specs.Tree.{Tree, fixed, string, bytes, bitmap, array, choice, pointer, struct, object, Trees, no_trees, member, Properties, no_properties, property}
 use Rattle.spa_format.specs.Kind.{kind_of}
 use Rattle.spa_format.specs.Pod.{IsBody, AreMembers, AreProperties, IsPod}
 use Rattle.spa_format.specs.Normal.{normal_of, normal_members, normal_properties}
@@ -24,6 +24,7 @@ mutual
   normal_body (fixed x) b h = refl
   normal_body (string s) b h = refl
   normal_body (bytes s) b h = refl
+  normal_body (bitmap s) b h = refl
   normal_body (array k xs) b h = ap (array k) (normal_elements k xs (drop 8 b) h.elements)
   normal_body (choice s f k x xs) b h = ap (λ g. choice s g k x xs) (normal_choice s f k x xs b h)
   normal_body (pointer t a) b h = refl
@@ -61,6 +62,7 @@ mutual
   typed_body (fixed x) b f h = typed_fixed (kind_of x) b x f h
   typed_body (string s) b f h = IsUtf8-from_text s h.0
   typed_body (bytes s) b f h = tt
+  typed_body (bitmap s) b f h = tt
   typed_body (array k xs) b f h = typed_array k xs b f h
   typed_body (choice s g k x xs) b f h = typed_choice s g k x xs b f h
   typed_body (pointer t a) b f h = typed_pointer t a b f h

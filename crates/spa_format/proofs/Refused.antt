@@ -2,7 +2,7 @@
 use Rattle.std.proofs.Common.{◌≡◌, ◌≢◌, ℕ, ◌+◌, ◌<◌, ◌≤◌, List, [], ◌∷◌, ◌++◌, length, drop, sym, ap, ◌∙◌, subst, arith, length-drop, ⊎_elim}
 use Rattle.spa_format.specs.Words.{word_at, body_of}
 use Rattle.spa_format.specs.Kind.{Kind, type_number, body_size, Fixed, kind_of}
-use Rattle.spa_format.specs.Tree.{Shape, Tree, fixed, string, bytes, array, choice, pointer, struct, object, Trees, no_trees, member, Properties, no_properties, property, type_of}
+use Rattle.spa_format.specs.Tree.{Shape, Tree, fixed, string, bytes, bitmap, array, choice, pointer, struct, object, Trees, no_trees, member, Properties, no_properties, property, type_of}
 use Rattle.spa_format.specs.Pod.{IsArray, IsChoice, least_count, IsBody, AreMembers, AreProperties, IsPod}
 use Rattle.spa_format.specs.Front.{Begins, IsRefused}
 use Rattle.spa_format.specs.Faults.{Fault, Short, Text, InvalidType, InvalidChoiceType, MissingChoiceValues, WrongSize, IsUnknownType, IsInvalidType, no_type, of_elements, of_values, IsWrongArray, IsWrongSize, of_fixed, of_array, of_choice, of_pointer, short_array, short_choice, short_object, LacksValues, StandsAtFront, Stands, at_front, in_member, in_key, in_property}
@@ -24,6 +24,7 @@ known : (v : Tree) → ¬ (IsUnknownType (type_of v))
 known (fixed x) h = let i = number_is (kind_of x) in grind arith
 known (string s) h = grind arith
 known (bytes s) h = grind arith
+known (bitmap s) h = grind arith
 known (array k xs) h = grind arith
 known (choice s f k x xs) h = grind arith
 known (pointer t a) h = grind arith

@@ -1,7 +1,7 @@
 -- A value's shape, from its type number.
 use Rattle.std.proofs.Common.{◌≡◌, ◌≢◌, ℕ, refl, sym, arith, List}
 use Rattle.spa_format.specs.Kind.{Kind, type_number, Fixed, kind_of}
-use Rattle.spa_format.specs.Tree.{Shape, Tree, fixed, string, bytes, array, choice, pointer, struct, object, Trees, Properties, type_of}
+use Rattle.spa_format.specs.Tree.{Shape, Tree, fixed, string, bytes, bitmap, array, choice, pointer, struct, object, Trees, Properties, type_of}
 use Rattle.spa_format.proofs.FixedKinds.{same_kind, number_is}
 
 -- numbers of no kind that has a fixed size
@@ -10,6 +10,9 @@ other_8 k e = let i = number_is k in grind arith
 
 other_9 : (k : Kind) → type_number k ≢ 9
 other_9 k e = let i = number_is k in grind arith
+
+other_12 : (k : Kind) → type_number k ≢ 12
+other_12 k e = let i = number_is k in grind arith
 
 other_13 : (k : Kind) → type_number k ≢ 13
 other_13 k e = let i = number_is k in grind arith
@@ -35,6 +38,11 @@ pub bytes_only : (w : Tree) → type_of w ≡ 9 → (s : List ℕ) × (w ≡ byt
 bytes_only (fixed x) e = absurd (other_9 (kind_of x) e)
 bytes_only (bytes s) e = (s, refl)
 bytes_only _ e = absurd (omega arith)
+
+pub bitmap_only : (w : Tree) → type_of w ≡ 12 → (s : List ℕ) × (w ≡ bitmap s)
+bitmap_only (fixed x) e = absurd (other_12 (kind_of x) e)
+bitmap_only (bitmap s) e = (s, refl)
+bitmap_only _ e = absurd (omega arith)
 
 pub array_only : (w : Tree) → type_of w ≡ 13 → (k : Kind) × (xs : List Fixed) × (w ≡ array k xs)
 array_only (fixed x) e = absurd (other_13 (kind_of x) e)
@@ -65,6 +73,7 @@ pub fixed_only : (w : Tree) (k : Kind) → type_of w ≡ type_number k → (y : 
 fixed_only (fixed y) k e = (y, same_kind (kind_of y) k e, refl)
 fixed_only (string s) k e = absurd (other_8 k (sym e))
 fixed_only (bytes s) k e = absurd (other_9 k (sym e))
+fixed_only (bitmap s) k e = absurd (other_12 k (sym e))
 fixed_only (array l xs) k e = absurd (other_13 k (sym e))
 fixed_only (choice s f l x xs) k e = absurd (other_19 k (sym e))
 fixed_only (pointer t a) k e = absurd (other_17 k (sym e))

@@ -2,7 +2,7 @@
 use Rattle.std.proofs.Common.{◌≡◌, ℕ, ◌-◌, ◌<◌, ◌≤◌, ◌^◌, ⊎_elim, List, [], ◌∷◌, ◌++◌, length, drop, sym, ap, ◌∙◌, subst, arith, length-append, length-drop, length-take}
 use Rattle.std.proofs.lemmas.List.{length-replicate}
 use Rattle.spa_format.specs.Words.{word_at, word_bytes, extent, padded_size, padding, body_of}
-use Rattle.spa_format.specs.Tree.{Tree, fixed, string, bytes, array, choice, pointer, struct, object, Trees, no_trees, member, Properties, no_properties, property, type_of}
+use Rattle.spa_format.specs.Tree.{Tree, fixed, string, bytes, bitmap, array, choice, pointer, struct, object, Trees, no_trees, member, Properties, no_properties, property, type_of}
 use Rattle.spa_format.specs.Kind.{kind_of, fixed_body}
 use Rattle.spa_format.specs.Pod.{IsWhole, IsBody, AreMembers, AreProperties, IsPod}
 use Rattle.spa_format.specs.Encoding.{framed, encoded_body, member_encodings, property_encodings, encoding_of}
@@ -66,6 +66,7 @@ mutual
   short_body (fixed x) b h = padded_mono (length (fixed_body x)) (length b) (let e = fixed_length (kind_of x) b x h in omega arith)
   short_body (string s) b h = padded_mono (length (s ++ 0 ∷ [])) (length b) (let e = ap length h.1 in omega arith)
   short_body (bytes s) b h = padded_mono (length s) (length b) (let e = ap length h in omega arith)
+  short_body (bitmap s) b h = padded_mono (length s) (length b) (let e = ap length h in omega arith)
   short_body (array k xs) b h = padded_mono (length (encoded_body (array k xs))) (length b) (let e = same_array_length k xs b h in omega arith)
   short_body (choice s f k x xs) b h = padded_mono (length (encoded_body (choice s f k x xs))) (length b) (short_choice s f k x xs b h)
   short_body (pointer t a) b h =
@@ -111,6 +112,7 @@ mutual
   without_nul (fixed x) b h n = n
   without_nul (string s) b h n = h.0.no_nul n
   without_nul (bytes s) b h n = n
+  without_nul (bitmap s) b h n = n
   without_nul (array k xs) b h n = n
   without_nul (choice s f k x xs) b h n = n
   without_nul (pointer t a) b h n = n
@@ -130,6 +132,7 @@ mutual
   not_too_large (fixed x) b l h n = n
   not_too_large (string s) b l h n = let e = ap length h.1 in omega arith
   not_too_large (bytes s) b l h n = let e = ap length h in omega arith
+  not_too_large (bitmap s) b l h n = let e = ap length h in omega arith
   not_too_large (array k xs) b l h n = let e = same_array_length k xs b h in omega arith
   not_too_large (choice s f k x xs) b l h n = let e = short_choice s f k x xs b h in omega arith
   not_too_large (pointer t a) b l h n = n

@@ -2,10 +2,10 @@
 use Rattle.std.proofs.Common.{◌≡◌, ℕ, List, [], ◌∷◌, ◌++◌, length, drop, refl, sym, ap, ◌∙◌, subst, arith, length-append}
 use Rattle.std.proofs.lemmas.List.{append_cancel_right}
 use Rattle.spa_format.specs.Words.{body_of}
-use Rattle.spa_format.specs.Tree.{Tree, fixed, string, bytes, array, choice, pointer, struct, object, Trees, no_trees, member, Properties, no_properties, property, type_of}
+use Rattle.spa_format.specs.Tree.{Tree, fixed, string, bytes, bitmap, array, choice, pointer, struct, object, Trees, no_trees, member, Properties, no_properties, property, type_of}
 use Rattle.spa_format.specs.Kind.{kind_of, IsFixedBody}
 use Rattle.spa_format.specs.Pod.{IsWhole, IsBody, AreMembers, AreProperties, IsPod}
-use Rattle.spa_format.proofs.Shapes.{fixed_only, string_only, bytes_only, array_only, choice_only, pointer_only, struct_only, object_only}
+use Rattle.spa_format.proofs.Shapes.{fixed_only, string_only, bytes_only, bitmap_only, array_only, choice_only, pointer_only, struct_only, object_only}
 use Rattle.spa_format.proofs.FixedKinds.{same_fixed}
 use Rattle.spa_format.proofs.Elements.{same_array}
 use Rattle.spa_format.proofs.Choices.{same_choice, same_pointer}
@@ -29,6 +29,10 @@ mutual
       let i = bytes_only w (sym e) in
       let k' : IsBody (bytes i.0) b = subst (λ t. IsBody t b) i.1 k in
       ap bytes (sym h ∙ k') ∙ sym i.1
+  same_body (bitmap s) w b e h k =
+      let i = bitmap_only w (sym e) in
+      let k' : IsBody (bitmap i.0) b = subst (λ t. IsBody t b) i.1 k in
+      ap bitmap (sym h ∙ k') ∙ sym i.1
   same_body (array l xs) w b e h k =
       let i = array_only w (sym e) in
       let k' : IsBody (array i.0 i.1) b = subst (λ t. IsBody t b) i.2 k in

@@ -3,7 +3,7 @@ use Rattle.std.proofs.Common.{◌≡◌, ℕ, List, [], ◌∷◌, ◌++◌, ref
 use Rattle.std.specs.Prelude.{true, pos}
 use Rattle.spa_format.specs.Words.{word_at, word_bytes, wide_bytes}
 use Rattle.spa_format.specs.Kind.{int_kind, none_kind, none, bool, int, rectangle, Fixed}
-use Rattle.spa_format.specs.Tree.{none_choice, range_choice, Tree, fixed, string, array, choice, pointer, struct, object, no_trees, member, no_properties, property, node_count}
+use Rattle.spa_format.specs.Tree.{none_choice, range_choice, Tree, fixed, string, bitmap, array, choice, pointer, struct, object, no_trees, member, no_properties, property, node_count}
 use Rattle.spa_format.specs.Normal.{normal_of}
 use Rattle.spa_format.specs.Pod.{IsPod}
 use Rattle.spa_format.specs.Encoding.{encoding_of}
@@ -48,6 +48,19 @@ struct_is_read = record {
   its_type = refl;
   content = (words (4 ∷ 4 ∷ 3 ∷ 0 ∷ []), [], refl, int_is_read, refl);
 }
+
+-- the bytes behind a bitmap's body are free, and written as zeros
+bitmap_is_read : IsPod (words (3 ∷ 12 ∷ []) ++ (1 ∷ 2 ∷ 3 ∷ 255 ∷ 255 ∷ 255 ∷ 255 ∷ 255 ∷ [])) (bitmap (1 ∷ 2 ∷ 3 ∷ []))
+unfolding words word_at word_bytes
+bitmap_is_read = record { whole = refl; its_type = refl; content = refl }
+
+bitmap_is_written : encoding_of (bitmap (1 ∷ 2 ∷ 3 ∷ [])) ≡ words (3 ∷ 12 ∷ 197121 ∷ 0 ∷ [])
+unfolding words word_bytes
+bitmap_is_written = refl
+
+empty_bitmap_is_read : IsPod (words (0 ∷ 12 ∷ [])) (bitmap [])
+unfolding words word_at word_bytes
+empty_bitmap_is_read = record { whole = refl; its_type = refl; content = refl }
 
 ints : List Fixed
 ints = int (pos 10) ∷ int (pos 15) ∷ int (pos 19) ∷ []

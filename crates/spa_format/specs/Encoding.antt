@@ -2,7 +2,7 @@
 use Rattle.std.specs.Prelude.{ℕ, List, [], ◌∷◌, ◌++◌, length}
 use Rattle.spa_format.specs.Words.{word_bytes, wide_bytes, padding}
 use Rattle.spa_format.specs.Kind.{Kind, type_number, body_size, Fixed, fixed_body}
-use Rattle.spa_format.specs.Tree.{shape_number, Tree, fixed, string, bytes, array, choice, pointer, struct, object, Trees, no_trees, member, Properties, no_properties, property, type_of}
+use Rattle.spa_format.specs.Tree.{shape_number, Tree, fixed, string, bytes, bitmap, array, choice, pointer, struct, object, Trees, no_trees, member, Properties, no_properties, property, type_of}
 
 -- bodies one after another; those of units are empty
 abbrev pub fixed_bodies : List Fixed → List ℕ
@@ -23,6 +23,7 @@ abbrev mutual
   encoded_body (fixed x) = fixed_body x
   encoded_body (string s) = s ++ 0 ∷ []
   encoded_body (bytes s) = s
+  encoded_body (bitmap s) = s
   encoded_body (array k xs) = array_body k xs
   encoded_body (choice s f k x xs) = word_bytes (shape_number s) ++ (word_bytes f ++ array_body k (x ∷ xs))
   encoded_body (pointer t a) = word_bytes t ++ (word_bytes 0 ++ wide_bytes a)

@@ -21,7 +21,7 @@ choice_header_size = 16
 
 -- a type number that no value has
 abbrev pub IsUnknownType : ℕ → Type 0
-IsUnknownType t = (t ≡ 0) ⊎ (t ≡ 12) ⊎ (t ≡ 16) ⊎ (20 ≤ t)
+IsUnknownType t = (t ≡ 0) ⊎ (t ≡ 16) ⊎ (20 ≤ t)
 
 -- A type number of no value: the pod's own, or that of an array's elements, or that of a choice's values.
 pub data IsInvalidType (t : ℕ) (b : List ℕ) : Type 0 where

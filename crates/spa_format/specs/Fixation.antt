@@ -1,7 +1,7 @@
 -- Fixation, which makes each choice among an object's properties its default: docs/FORMAT.md, "Fixation".
 use Rattle.std.specs.Prelude.{◌≡◌, ℕ, ◌+◌, ◌⊎◌, List, [], ◌∷◌, ◌++◌, length, take, drop, if◌then◌else◌, Bool, true, false, not, IsTrue, nat_eq, nat_le, ◌&&◌, ◌||◌, bit_and}
 use Rattle.spa_format.specs.Words.{word_at, word_bytes, header_size}
-use Rattle.spa_format.specs.Tree.{shape_number, none_choice, choice_type, Tree, fixed, string, bytes, array, choice, pointer, struct, object, Properties, no_properties, property}
+use Rattle.spa_format.specs.Tree.{shape_number, none_choice, choice_type, Tree, fixed, string, bytes, bitmap, array, choice, pointer, struct, object, Properties, no_properties, property}
 use Rattle.spa_format.specs.Faults.{choice_header_size}
 use Rattle.spa_format.specs.Walk.{property_walk, properties_of}
 
@@ -71,6 +71,7 @@ default_of (choice s f k x xs) = choice none_choice 0 k x []
 default_of (fixed x) = fixed x
 default_of (string s) = string s
 default_of (bytes s) = bytes s
+default_of (bitmap s) = bitmap s
 default_of (array k xs) = array k xs
 default_of (pointer t a) = pointer t a
 default_of (struct vs) = struct vs
@@ -97,6 +98,7 @@ is_settled (choice s f k x xs) = nat_eq (shape_number s) (shape_number none_choi
 is_settled (fixed x) = true
 is_settled (string s) = true
 is_settled (bytes s) = true
+is_settled (bitmap s) = true
 is_settled (array k xs) = true
 is_settled (pointer t a) = true
 is_settled (struct vs) = true

@@ -5,6 +5,7 @@ pub mod Normal
 pub mod Pod
 pub mod Encoding
 pub mod Writable
+pub mod Before
 pub mod Front
 pub mod Typed
 pub mod Faults

@@ -1,7 +1,7 @@
 -- The normal form of a value, as which its encoding reads back: docs/FORMAT.md, "The normal form".
 use Rattle.std.specs.Prelude.{ℕ, List, []}
 use Rattle.spa_format.specs.Kind.{Kind, none_kind, Fixed}
-use Rattle.spa_format.specs.Tree.{Shape, none_choice, range_choice, step_choice, enum_choice, flags_choice, Tree, fixed, string, bytes, array, choice, pointer, struct, object, Trees, no_trees, member, Properties, no_properties, property}
+use Rattle.spa_format.specs.Tree.{Shape, none_choice, range_choice, step_choice, enum_choice, flags_choice, Tree, fixed, string, bytes, bitmap, array, choice, pointer, struct, object, Trees, no_trees, member, Properties, no_properties, property}
 
 -- the elements of an array that its encoding keeps: units have no bytes
 abbrev pub kept_elements : Kind → List Fixed → List Fixed
@@ -22,6 +22,7 @@ abbrev mutual
   normal_of (fixed x) = fixed x
   normal_of (string s) = string s
   normal_of (bytes s) = bytes s
+  normal_of (bitmap s) = bitmap s
   normal_of (array k xs) = array k (kept_elements k xs)
   normal_of (choice s f k x xs) = choice s (kept_flags s f) k x xs
   normal_of (pointer t a) = pointer t a

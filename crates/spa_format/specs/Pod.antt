@@ -2,7 +2,7 @@
 use Rattle.std.specs.Prelude.{◌≡◌, ℕ, ◌<◌, ◌≤◌, ◌⊎◌, List, [], ◌∷◌, ◌++◌, length, take, drop, IsUtf8, Contains}
 use Rattle.spa_format.specs.Words.{word_at, wide_at, header_size, extent, body_of}
 use Rattle.spa_format.specs.Kind.{Kind, type_number, body_size, Fixed, kind_of, IsFixedBody}
-use Rattle.spa_format.specs.Tree.{Shape, none_choice, range_choice, step_choice, enum_choice, flags_choice, shape_number, Tree, fixed, string, bytes, array, choice, pointer, struct, object, Trees, no_trees, member, Properties, no_properties, property, type_of}
+use Rattle.spa_format.specs.Tree.{Shape, none_choice, range_choice, step_choice, enum_choice, flags_choice, shape_number, Tree, fixed, string, bytes, bitmap, array, choice, pointer, struct, object, Trees, no_trees, member, Properties, no_properties, property, type_of}
 use Rattle.spa_format.specs.Normal.{kept_flags}
 
 -- a text without NUL
@@ -66,6 +66,7 @@ abbrev mutual
   IsBody (fixed x) b = IsFixedBody (kind_of x) b x
   IsBody (string s) b = IsText s × (b ≡ s ++ 0 ∷ [])
   IsBody (bytes s) b = b ≡ s
+  IsBody (bitmap s) b = b ≡ s
   IsBody (array k xs) b = IsArray k xs b
   IsBody (choice s f k x xs) b = IsChoice s f k x xs b
   IsBody (pointer t a) b = IsPointer t a b

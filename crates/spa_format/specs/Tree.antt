@@ -23,6 +23,7 @@ mutual
     fixed : Fixed → Tree
     string : List ℕ → Tree
     bytes : List ℕ → Tree
+    bitmap : List ℕ → Tree
     -- values of one kind
     array : Kind → List Fixed → Tree
     -- a default and further values of one kind: minimum and maximum, then the step, or alternatives, or flags
@@ -48,6 +49,9 @@ string_type = 8
 abbrev pub bytes_type : ℕ
 bytes_type = 9
 
+abbrev pub bitmap_type : ℕ
+bitmap_type = 12
+
 abbrev pub array_type : ℕ
 array_type = 13
 
@@ -68,6 +72,7 @@ abbrev pub type_of : Tree → ℕ
 type_of (fixed x) = type_number (kind_of x)
 type_of (string s) = string_type
 type_of (bytes s) = bytes_type
+type_of (bitmap s) = bitmap_type
 type_of (array k xs) = array_type
 type_of (choice s f k x xs) = choice_type
 type_of (pointer t a) = pointer_type
@@ -89,6 +94,7 @@ abbrev mutual
   node_count (fixed x) = 1
   node_count (string s) = 1
   node_count (bytes s) = 1
+  node_count (bitmap s) = 1
   node_count (array k xs) = 1
   node_count (choice s f k x xs) = 1
   node_count (pointer t a) = 1

@@ -3,7 +3,7 @@
 use Rattle.std.specs.Prelude.{◌≡◌, ℕ, ◌<◌, ◌^◌, List, [], ◌∷◌, length, slice_index, IsUtf8, ⊤, FitsSigned}
 use Rattle.std.specs.Int.{w32, w64}
 use Rattle.spa_format.specs.Kind.{Kind, body_size, Fixed, none, bool, id, int, long, float, double, rectangle, fraction, fd, kind_of}
-use Rattle.spa_format.specs.Tree.{Shape, none_choice, range_choice, step_choice, enum_choice, flags_choice, Tree, fixed, string, bytes, array, choice, pointer, struct, object, Trees, no_trees, member, Properties, no_properties, property}
+use Rattle.spa_format.specs.Tree.{Shape, none_choice, range_choice, step_choice, enum_choice, flags_choice, Tree, fixed, string, bytes, bitmap, array, choice, pointer, struct, object, Trees, no_trees, member, Properties, no_properties, property}
 
 -- each number in the list is a byte
 abbrev pub IsBytes : List ℕ → Type 0
@@ -40,6 +40,7 @@ abbrev mutual
   IsTyped (fixed x) = IsTypedFixed x
   IsTyped (string s) = IsUtf8 s
   IsTyped (bytes s) = ⊤
+  IsTyped (bitmap s) = ⊤
   IsTyped (array k xs) = AreOf k xs
   IsTyped (choice s f k x xs) = (f < 2 ^ 32) × (0 < body_size k) × AreOf k (x ∷ xs) × IsCount s (length xs)
   IsTyped (pointer t a) = (t < 2 ^ 32) × (a < 2 ^ 64)

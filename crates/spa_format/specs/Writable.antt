@@ -1,7 +1,7 @@
 -- Which values have an encoding that fits the format: docs/FORMAT.md, "Values that can be written".
 use Rattle.std.specs.Prelude.{◌≤◌, ◌⊎◌, length, Contains}
 use Rattle.spa_format.specs.Words.{size_limit}
-use Rattle.spa_format.specs.Tree.{Tree, fixed, string, bytes, array, choice, pointer, struct, object, Trees, no_trees, member, Properties, no_properties, property}
+use Rattle.spa_format.specs.Tree.{Tree, fixed, string, bytes, bitmap, array, choice, pointer, struct, object, Trees, no_trees, member, Properties, no_properties, property}
 use Rattle.spa_format.specs.Encoding.{encoded_body}
 
 -- a text in the value holds NUL
@@ -10,6 +10,7 @@ abbrev mutual
   HasNul (fixed x) = ⊥
   HasNul (string s) = Contains s 0
   HasNul (bytes s) = ⊥
+  HasNul (bitmap s) = ⊥
   HasNul (array k xs) = ⊥
   HasNul (choice s f k x xs) = ⊥
   HasNul (pointer t a) = ⊥
@@ -30,6 +31,7 @@ abbrev mutual
   IsTooLarge (fixed x) = ⊥
   IsTooLarge (string s) = size_limit ≤ length (encoded_body (string s))
   IsTooLarge (bytes s) = size_limit ≤ length (encoded_body (bytes s))
+  IsTooLarge (bitmap s) = size_limit ≤ length (encoded_body (bitmap s))
   IsTooLarge (array k xs) = size_limit ≤ length (encoded_body (array k xs))
   IsTooLarge (choice s f k x xs) = size_limit ≤ length (encoded_body (choice s f k x xs))
   IsTooLarge (pointer t a) = ⊥

@@ -2,16 +2,23 @@
 ghost use Rattle.std.specs.Prelude.{◌≡◌, ◌≢◌, ◌≤◌, ◌↔◌, ◌++◌, [], List, length, ℕ};
 ghost use Rattle.spa_format.specs.Tree.{Tree, Trees};
 ghost use Rattle.spa_format.specs.Pod.{AreMembers, IsPod};
+ghost use Rattle.spa_format.specs.Before.{HasBitmap, WasPod};
 ghost use Rattle.spa_format.specs.Encoding.{encoding_of};
 ghost use Rattle.spa_format.specs.Normal.{normal_of};
 ghost use Rattle.spa_format.specs.Faults.{Fault, Stands};
 ghost use Rattle.spa_format.specs.Front.{Begins, IsRefused, front_of};
 ghost use Rattle.spa_format.specs.Typed.{IsBytes, IsTyped};
+ghost use Rattle.spa_format.specs.Words.{extent, word_at};
 ghost use Rattle.spa_format.specs.Writable.{IsWritable};
 
 /// Bytes are a pod of one value at most.
 pub fn pods_have_one_value()
     ensures { (b : List ℕ) (v w : Tree) → IsPod b v → IsPod b w → v ≡ w }
+{}
+
+/// The size word of a pod says how many bytes it takes.
+pub fn sizes_fix_extents()
+    ensures { (b : List ℕ) (v : Tree) → IsPod b v → length b ≡ extent (word_at b 0) }
 {}
 
 /// No pod is a proper front of another.
@@ -60,4 +67,13 @@ pub fn faults_refuse()
 /// Where what is left behind some first pods is refused, the whole isn't pods one after another.
 pub fn refused_members_refuse()
     ensures { (vs ws : Trees) (first left : List ℕ) → AreMembers vs first → left ≢ [] → IsRefused left → ¬ (AreMembers ws (first ++ left)) }
+{}
+
+/// What was a pod before there were bitmaps is a pod of the same value and of no other, so its rewriting is the same.
+/// Those pods are the pods of values in which no bitmap stands.
+pub fn pods_of_before_stay()
+    ensures same { (b : List ℕ) (v : Tree) → WasPod b v → IsPod b v }
+    ensures one { (b : List ℕ) (v w : Tree) → WasPod b v → IsPod b w → w ≡ v }
+    ensures rewriting { (b : List ℕ) (v w : Tree) → WasPod b v → IsPod b w → encoding_of w ≡ encoding_of v }
+    ensures exactly { (b : List ℕ) (v : Tree) → WasPod b v ↔ (IsPod b v × ¬ (HasBitmap v)) }
 {}

@@ -78,7 +78,7 @@ reaches_struct vs left here body rest at n all why some o r e q =
           (headers.in_member here vs r.0 left n o.there its_type parts r.2 some (format.refused k at left s.0) s.1),
     ) in
     says_through (λ k. Stands k at left × headers.OpensHeaders left n) (λ k. Stands k at here × headers.OpensHeaders here all)
-    (MayLackMemory left) (MayLackMemory here) stands (λ _. (o.there, inr (inr (inr (inl its_type))))) why q
+    (MayLackMemory left) (MayLackMemory here) stands (λ _. (o.there, inr (inr (inr (inr (inl its_type)))))) why q
 
 pub reaches_member : (vs : Vec Value Global) (left : List ℕ) → left ≢ [] → Reaches (inside.Struct vs) left left
 reaches_member vs left some = record {
@@ -146,7 +146,7 @@ reaches_object t i ps left behind here body rest at k f n all why h o r e q =
           (subst IsRefused d (format.refused c at behind s.0)) (subst (λ b. headers.OpensHeaders b n) d s.1)),
     ) in
     says_through (λ c. Stands c at behind × headers.OpensHeaders behind n) (λ c. Stands c at here × headers.OpensHeaders here all)
-    (MayLackMemory behind) (MayLackMemory here) stands (λ _. (o.there, inr (inr (inr (inr (inl its_type)))))) why q
+    (MayLackMemory behind) (MayLackMemory here) stands (λ _. (o.there, inr (inr (inr (inr (inr (inl its_type))))))) why q
 
 pub reaches_property : (p : OpenObject) (left behind : List ℕ) → header_size ≤ length left →
     behind ≡ drop header_size left → p.key ≡ word_at left 0 → p.flags.0 ≡ word_at left 4 →
@@ -259,5 +259,5 @@ key_short_behind from (inside.Object p) left now opened before h some l here bod
 
 -- structs and objects take memory
 pub takes_memory : (i : Inside) → TakesMemory (type_of (so_far i))
-takes_memory (inside.Struct vs) = inr (inr (inr (inl refl)))
-takes_memory (inside.Object o) = inr (inr (inr (inr (inl refl))))
+takes_memory (inside.Struct vs) = inr (inr (inr (inr (inl refl))))
+takes_memory (inside.Object o) = inr (inr (inr (inr (inr (inl refl)))))

@@ -3,7 +3,7 @@ use Rattle.std.proofs.Common.{◌≡◌, ◌≢◌, ℕ, ◌+◌, ◌<◌, ◌�
 use Rattle.std.specs.Prelude.{IfNone}
 use Rattle.std.specs.Borrow.{Bor}
 use Rattle.spa_format.specs.Words.{header_size, word_at, body_of}
-use Rattle.spa_format.specs.Tree.{Tree, fixed, string, bytes, array, choice, pointer, struct, object, Trees, no_trees, member, Properties, no_properties, property, join_members, join_properties, node_count, member_node_count, property_node_count, type_of, struct_type, object_type}
+use Rattle.spa_format.specs.Tree.{Tree, fixed, string, bytes, bitmap, array, choice, pointer, struct, object, Trees, no_trees, member, Properties, no_properties, property, join_members, join_properties, node_count, member_node_count, property_node_count, type_of, struct_type, object_type}
 use Rattle.spa_format.specs.Pod.{IsBody}
 use Rattle.spa_format.specs.Faults.{Stands, at_front}
 use Rattle.spa_format.specs.Front.{HasFront}
@@ -42,6 +42,7 @@ pub is_some : (v : Tree) → 0 < node_count v
 is_some (fixed x) = omega arith
 is_some (string s) = omega arith
 is_some (bytes s) = omega arith
+is_some (bitmap s) = omega arith
 is_some (array k xs) = omega arith
 is_some (choice s f k x xs) = omega arith
 is_some (pointer t a) = omega arith
@@ -52,6 +53,7 @@ pub is_one : (v : Tree) → type_of v ≢ struct_type → type_of v ≢ object_t
 is_one (fixed x) n m = refl
 is_one (string s) n m = refl
 is_one (bytes s) n m = refl
+is_one (bitmap s) n m = refl
 is_one (array k xs) n m = refl
 is_one (choice s f k x xs) n m = refl
 is_one (pointer t a) n m = refl

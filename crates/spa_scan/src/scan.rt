@@ -108,6 +108,7 @@ fn is_body(type_: u32, body: &[u8], levels: u32) -> bool
     match SpaTypes(type_) {
         SpaTypes::String => is_text(body),
         SpaTypes::Bytes => true,
+        SpaTypes::Bitmap => true,
         SpaTypes::Choice => is_choice(body),
         SpaTypes::Array => is_array(body),
         SpaTypes::Struct => levels > 0 && are_members(body, levels - 1),

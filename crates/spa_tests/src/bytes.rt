@@ -1,38 +1,8 @@
-//! Bytes from the text of a table, and what the tests assert of bytes, texts and numbers: each assertion is proved here, once.
-use std::alloc::{AllocError, Global};
+//! What the tests assert of bytes, texts and numbers: each assertion is proved here, once.
+use spa_spelling::bytes_spelled;
+use std::alloc::Global;
 use std::process::Abort;
 use std::test::Fail;
-
-/// The bytes that a text of words spells: decimal words, and bytes in hexadecimal behind an `x`, in any order.
-pub(crate) fn bytes_of(alloc: Global, text: &str) -> Result<Vec<u8>, AllocError> {
-    let mut bytes = Vec::new(alloc);
-    for word in text.split_whitespace() {
-        match word.strip_prefix("x") {
-            Some(digits) => push_hexadecimal(&mut bytes, digits)?,
-            None => {
-                let number: u32 = word.parse().unwrap_or(0);
-                bytes.extend_from_slice(&number.to_le_bytes())?;
-            }
-        }
-    }
-    Ok(bytes)
-}
-
-fn push_hexadecimal(bytes: &mut Vec<u8>, digits: &str) -> Result<(), AllocError> {
-    for pair in digits.as_bytes().as_chunks::<2>().0 {
-        bytes.extend_from_slice(&[half(pair[0]) << 4 | half(pair[1])])?;
-    }
-    Ok(())
-}
-
-/// What a hexadecimal digit stands for.
-fn half(digit: u8) -> u8 {
-    match digit {
-        b'0'..=b'9' => digit - b'0',
-        b'a'..=b'f' => digit - b'a' + 10,
-        _ => 0,
-    }
-}
 
 /// Compares bytes with those that the words spell.
 pub(crate) fn assert_spelt(
@@ -41,7 +11,7 @@ pub(crate) fn assert_spelt(
     found: &[u8],
     words: &str,
 ) -> Result<(), Fail> {
-    let wanted = bytes_of(alloc, words)?;
+    let wanted = bytes_spelled(alloc, words)?;
     assert_bytes(rt, found, wanted.as_slice(), words);
     Ok(())
 }

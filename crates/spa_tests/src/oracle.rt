@@ -158,7 +158,8 @@ fn say_leaf<'a>(
 ) -> Result<(), Refusal<'a>> {
     match type_ {
         8 => say_string(alloc, out, place, body),
-        9 => Ok(say_bytes(out, body)?),
+        9 => Ok(say_bytes(out, "Bytes", body)?),
+        12 => Ok(say_bytes(out, "Bitmap", body)?),
         13 => say_array(alloc, out, place, body),
         17 => say_pointer(alloc, out, place, body),
         19 => say_choice(alloc, out, place, body),

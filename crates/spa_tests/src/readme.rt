@@ -1,6 +1,6 @@
 //! What README.md shows of the library, word for word, and what each of these functions answers on bytes that PipeWire's own C
 //! builder made, or on a worked example of docs/FORMAT.md.
-use crate::bytes::{assert_holds, assert_number, assert_spelt, bytes_of};
+use crate::bytes::{assert_holds, assert_number, assert_spelt};
 use crate::readme::fixate::settle;
 use crate::readme::look::int_under;
 use crate::readme::look_up::channels;
@@ -8,6 +8,7 @@ use crate::readme::read::count;
 use crate::readme::result_codes::told;
 use crate::readme::rewrite::{all_rewritten, say_the_same};
 use crate::readme::write::{encoded_int, encoded_pair};
+use spa_spelling::bytes_spelled;
 use libspa::utils::Id;
 use std::alloc::Global;
 use std::test::Fail;
@@ -145,7 +146,7 @@ const REWRITTEN: &str = "
 
 #[test]
 fn reads(rt: HostRuntime) -> Result<(), Fail> {
-    let bytes = bytes_of(rt.alloc(), BUFFERS)?;
+    let bytes = bytes_spelled(rt.alloc(), BUFFERS)?;
     let found = count_at(rt.alloc(), bytes.as_slice())?;
     assert_number(&rt, found, 5, "the properties");
     Ok(())
@@ -187,8 +188,8 @@ fn rewrites(rt: HostRuntime) -> Result<(), Fail> {
 }
 
 fn are_same(alloc: Global, one: &str, other: &str) -> Result<bool, Fail> {
-    let one = bytes_of(alloc, one)?;
-    let other = bytes_of(alloc, other)?;
+    let one = bytes_spelled(alloc, one)?;
+    let other = bytes_spelled(alloc, other)?;
     match say_the_same(alloc, one.as_slice(), other.as_slice()) {
         Some(are_same) => Ok(are_same),
         None => Err(Fail::from("a pod is refused")),
@@ -197,12 +198,12 @@ fn are_same(alloc: Global, one: &str, other: &str) -> Result<bool, Fail> {
 
 #[test]
 fn rewrites_lists(rt: HostRuntime) -> Result<(), Fail> {
-    let pods = bytes_of(rt.alloc(), "4 2 7 9 4 4 3 0")?;
+    let pods = bytes_spelled(rt.alloc(), "4 2 7 9 4 4 3 0")?;
     let Ok(rewritten) = all_rewritten(rt.alloc(), pods.as_slice()) else {
         return Err(Fail::from("the list is refused"));
     };
     assert_spelt(&rt, rt.alloc(), rewritten.as_slice(), "4 2 1 0 4 4 3 0")?;
-    let pods = bytes_of(rt.alloc(), "4 4 3 0 8 4 3 0")?;
+    let pods = bytes_spelled(rt.alloc(), "4 4 3 0 8 4 3 0")?;
     let place = refused_place(rt.alloc(), pods.as_slice());
     assert_number(&rt, place, 16, "the refused pod");
     Ok(())
@@ -217,7 +218,7 @@ fn refused_place(alloc: Global, pods: &[u8]) -> usize {
 
 #[test]
 fn looks(rt: HostRuntime) -> Result<(), Fail> {
-    let bytes = bytes_of(rt.alloc(), BUFFERS)?;
+    let bytes = bytes_spelled(rt.alloc(), BUFFERS)?;
     for (key, wanted) in [(1, None), (2, Some(1)), (4, Some(4)), (5, None)] {
         let found = int_under(Id(key), bytes.as_slice());
         assert_eq!(rt; found, wanted, "under {key}");
@@ -227,7 +228,7 @@ fn looks(rt: HostRuntime) -> Result<(), Fail> {
 
 #[test]
 fn fixates(rt: HostRuntime) -> Result<(), Fail> {
-    let mut bytes = bytes_of(rt.alloc(), BUFFERS)?;
+    let mut bytes = bytes_spelled(rt.alloc(), BUFFERS)?;
     settle(bytes.as_mut_slice())?;
     assert_spelt(&rt, rt.alloc(), bytes.as_slice(), FIXATED)
 }

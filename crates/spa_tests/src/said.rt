@@ -102,7 +102,8 @@ fn say_leaf(out: &mut String, value: &Value) -> Result<(), AllocError> {
         Value::Fraction(x) => say_fixed(out, "Fraction", *x),
         Value::Fd(x) => say_fixed(out, "Fd", *x),
         Value::String(text) => say_text(out, text.as_str()),
-        Value::Bytes(bytes) => say_bytes(out, bytes.as_slice()),
+        Value::Bytes(bytes) => say_bytes(out, "Bytes", bytes.as_slice()),
+        Value::Bitmap(bytes) => say_bytes(out, "Bitmap", bytes.as_slice()),
         Value::ValueArray(array) => say_array(out, array),
         Value::Choice(choice) => say_choice_value(out, choice),
         Value::Pointer(type_, address) => say_pointer(out, *type_, *address),
@@ -181,9 +182,9 @@ pub(crate) fn say_text(out: &mut String, text: &str) -> Result<(), AllocError> {
     out.push_str("\"}")
 }
 
-/// Bytes, in hexadecimal.
-pub(crate) fn say_bytes(out: &mut String, bytes: &[u8]) -> Result<(), AllocError> {
-    out.push_str("{\"t\":\"Bytes\",\"v\":\"")?;
+/// The bytes of a value of this name, in hexadecimal.
+pub(crate) fn say_bytes(out: &mut String, name: &str, bytes: &[u8]) -> Result<(), AllocError> {
+    write!(out, "{{\"t\":\"{name}\",\"v\":\"")?;
     for byte in bytes {
         write!(out, "{byte:02x}")?;
     }

@@ -7,7 +7,7 @@ ghost use Rattle.std.specs.Ordering.{eq_of_both, on};
 ghost use Rattle.spa_utils.specs.Equality.{shape_of, values_of};
 ghost use Rattle.spa_utils.specs.Copies.{IsCopyOf, IsChoiceCopyOf};
 
-use bitflags::{Flag, Flags};
+use bitflags::{Flag, Flags, bitflag_items};
 use std::alloc::AllocError;
 
 /// A choice: its flags and its values.
@@ -26,15 +26,12 @@ impl<T: Copy> Clone for Choice<T> {
 #[derive(Clone, Copy, Debug, PartialEq, Eq)]
 pub struct ChoiceFlags(u32);
 
-impl ChoiceFlags {
-    /// A flag without a meaning, so that the table has one.
-    #[doc(hidden)]
-    pub const _FAKE: ChoiceFlags = ChoiceFlags(1);
-
-    const TABLE: &'static [Flag<ChoiceFlags>] = &[Flag {
-        name: "_FAKE",
-        value: ChoiceFlags::_FAKE,
-    }];
+bitflag_items! {
+    impl ChoiceFlags: u32 {
+        /// A flag without a meaning, so that the table has one.
+        #[doc(hidden)]
+        const _FAKE = 1;
+    }
 }
 
 impl Flags for ChoiceFlags {
@@ -47,7 +44,7 @@ impl Flags for ChoiceFlags {
     ghost set_of = { λ f. f.0 };
 
     fn flags<'a>() -> &'a [Flag<ChoiceFlags>] {
-        ChoiceFlags::TABLE
+        ChoiceFlags::FLAGS
     }
 
     fn bits(&self) -> u32 {

@@ -1,16 +1,8 @@
 //! Bytes from the words of a table.
+use spa_spelling::bytes_of;
 use std::alloc::{AllocError, Global};
 use std::process::Abort;
 use std::test::Fail;
-
-/// The bytes of these words, least byte first.
-pub(crate) fn bytes_of(alloc: Global, words: &[u32]) -> Result<Vec<u8>, AllocError> {
-    let mut bytes = Vec::new(alloc);
-    for word in words {
-        bytes.extend_from_slice(&word.to_le_bytes())?;
-    }
-    Ok(bytes)
-}
 
 /// The first bytes of these words, as many as `size` says.
 pub(crate) fn cut_bytes(alloc: Global, words: &[u32], size: usize) -> Result<Vec<u8>, AllocError> {

@@ -95,9 +95,9 @@ fn id_flags(alloc: Global) -> Result<Value, AllocError> {
     ))))
 }
 
-const WORKED_VALUES: usize = 8;
+const WORKED_VALUES: usize = 9;
 
-/// The worked values: texts, a struct, an object, bytes, an array and two choices.
+/// The worked values: texts, a struct, an object, bytes, a bitmap, an array and two choices.
 fn worked_value(alloc: Global, row: usize) -> Result<Value, AllocError> {
     match row {
         0 => text(alloc, "1234567"),
@@ -105,8 +105,9 @@ fn worked_value(alloc: Global, row: usize) -> Result<Value, AllocError> {
         2 => Ok(Value::Struct(single(alloc, Value::Int(3))?)),
         3 => flagged_object(alloc),
         4 => Ok(Value::Bytes(copied(alloc, &[1, 2, 3])?)),
-        5 => Ok(Value::ValueArray(ValueArray::Int(copied(alloc, &[10, 15, 19])?))),
-        6 => Ok(int_choice(0, range(5, 2, 10))),
+        5 => Ok(Value::Bitmap(copied(alloc, &[1, 2, 3])?)),
+        6 => Ok(Value::ValueArray(ValueArray::Int(copied(alloc, &[10, 15, 19])?))),
+        7 => Ok(int_choice(0, range(5, 2, 10))),
         _ => id_flags(alloc),
     }
 }
@@ -146,9 +147,9 @@ fn fixed_value(row: usize) -> Value {
     }
 }
 
-const LISTS: usize = 14;
+const LISTS: usize = 17;
 
-/// Texts, bytes and structs, no two of them equal.
+/// Texts, bytes, bitmaps and structs, no two of them equal.
 fn list(alloc: Global, row: usize) -> Result<Value, AllocError> {
     match row {
         0 => text(alloc, ""),
@@ -159,11 +160,14 @@ fn list(alloc: Global, row: usize) -> Result<Value, AllocError> {
         5 => Ok(Value::Bytes(copied(alloc, &[97])?)),
         6 => Ok(Value::Bytes(copied(alloc, &[98])?)),
         7 => Ok(Value::Bytes(copied(alloc, &[97, 98])?)),
-        8 => Ok(Value::Struct(Vec::new(alloc))),
-        9 => Ok(Value::Struct(single(alloc, Value::None)?)),
-        10 => Ok(Value::Struct(pair(alloc, Value::None, Value::None)?)),
-        11 => Ok(Value::Struct(pair(alloc, Value::None, Value::Int(3))?)),
-        12 => Ok(Value::Struct(pair(alloc, Value::Int(3), Value::None)?)),
+        8 => Ok(Value::Bitmap(Vec::new(alloc))),
+        9 => Ok(Value::Bitmap(copied(alloc, &[97])?)),
+        10 => Ok(Value::Bitmap(copied(alloc, &[98])?)),
+        11 => Ok(Value::Struct(Vec::new(alloc))),
+        12 => Ok(Value::Struct(single(alloc, Value::None)?)),
+        13 => Ok(Value::Struct(pair(alloc, Value::None, Value::None)?)),
+        14 => Ok(Value::Struct(pair(alloc, Value::None, Value::Int(3))?)),
+        15 => Ok(Value::Struct(pair(alloc, Value::Int(3), Value::None)?)),
         _ => nested_structs(alloc, 2),
     }
 }

@@ -3,13 +3,10 @@ use Rattle.std.specs.Prelude.{◌≡◌, ℕ, ◌-◌, ◌≤◌, ◌⊎◌, ◌
 use Rattle.std.specs.List.{before_first}
 use Rattle.spa_format.specs.Words.{word_at, wide_at, header_size, body_of}
 use Rattle.spa_format.specs.Kind.{Kind, type_number, body_size}
-use Rattle.spa_format.specs.Tree.{string_type, bytes_type, array_type, struct_type, object_type, pointer_type, choice_type}
+use Rattle.spa_format.specs.Tree.{string_type, bytes_type, bitmap_type, array_type, struct_type, object_type, pointer_type, choice_type}
 use Rattle.spa_format.specs.Faults.{choice_header_size}
 
--- the type numbers that a view knows and no value has
-abbrev pub bitmap_type : ℕ
-bitmap_type = 12
-
+-- the type number that a view knows and no value has
 abbrev pub sequence_type : ℕ
 sequence_type = 16
 

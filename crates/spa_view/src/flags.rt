@@ -1,7 +1,7 @@
 //! The flags of a property, as a view shows them.
 ghost use Rattle.std.specs.Prelude.{⊤, [], ◌∷◌, codes};
 
-use bitflags::{Flag, Flags};
+use bitflags::{Flag, Flags, bitflag_items};
 
 /// The flags of a property. Unknown bits are kept.
 #[derive(Clone, Copy, PartialEq, Eq, Debug)]
@@ -10,44 +10,23 @@ pub struct PodPropFlags(pub(crate) u32);
 /// The bit of the flag DONT_FIXATE.
 pub(crate) const DONT_FIXATE: u32 = 16;
 
-impl PodPropFlags {
-    /// The property can't be changed: bit 0.
-    pub const READONLY: PodPropFlags = PodPropFlags(1);
+bitflag_items! {
+    impl PodPropFlags: u32 {
+        /// The property can't be changed: bit 0.
+        const READONLY = 1;
 
-    /// The property is one of the hardware: bit 1.
-    pub const HARDWARE: PodPropFlags = PodPropFlags(2);
+        /// The property is one of the hardware: bit 1.
+        const HARDWARE = 2;
 
-    /// The property holds a dictionary, as a struct of texts: bit 2.
-    pub const HINT_DICT: PodPropFlags = PodPropFlags(4);
+        /// The property holds a dictionary, as a struct of texts: bit 2.
+        const HINT_DICT = 4;
 
-    /// The property must be there on both sides of a negotiation: bit 3.
-    pub const MANDATORY: PodPropFlags = PodPropFlags(8);
+        /// PipeWire asks for the property on both sides where formats are filtered: bit 3.
+        const MANDATORY = 8;
 
-    /// The property's choice is kept where its object is fixated: bit 4.
-    pub const DONT_FIXATE: PodPropFlags = PodPropFlags(DONT_FIXATE);
-
-    const FLAGS: &'static [Flag<PodPropFlags>] = &[
-        Flag {
-            name: "READONLY",
-            value: PodPropFlags::READONLY,
-        },
-        Flag {
-            name: "HARDWARE",
-            value: PodPropFlags::HARDWARE,
-        },
-        Flag {
-            name: "HINT_DICT",
-            value: PodPropFlags::HINT_DICT,
-        },
-        Flag {
-            name: "MANDATORY",
-            value: PodPropFlags::MANDATORY,
-        },
-        Flag {
-            name: "DONT_FIXATE",
-            value: PodPropFlags::DONT_FIXATE,
-        },
-    ];
+        /// The property's choice is kept where its object is fixated: bit 4.
+        const DONT_FIXATE = DONT_FIXATE;
+    }
 }
 
 impl Flags for PodPropFlags {

@@ -146,6 +146,18 @@ impl<'a> Pod<'a> {
         Ok(self.body())
     }
 
+    /// The bytes of a bitmap. INVAL exactly where `is_bitmap` is false.
+    pub fn get_bitmap(&self) -> Result<&'a [u8], Errno>
+        ensures ok { OnOk result (t.IsBitmapPod (pod_bytes self.now)) }
+        ensures value { IfOk result (λ bytes. bytes.now ≡ body_of (pod_bytes self.now)) }
+        ensures refused { IfErr result (λ e. (¬ (t.IsBitmapPod (pod_bytes self.now))) × (e ≡ Errno.INVAL)) }
+    {
+        if !self.is_bitmap() {
+            return Err(Errno::INVAL);
+        }
+        Ok(self.body())
+    }
+
     /// The address, and the type of what it points to. INVAL exactly where `is_pointer` is false.
     pub fn get_pointer(&self) -> Result<(u64, Id), Errno>
         ensures ok { OnOk result (t.IsPointerPod (pod_bytes self.now)) }

@@ -3,7 +3,7 @@
 ghost use Rattle.std.specs.Prelude.{◌≡◌, List, ℕ};
 ghost use Rattle.spa_format.specs.Kind.{Fixed, Kind, content, kind_of};
 ghost use Rattle.spa_format.specs.Pod.{IsPod};
-ghost use Rattle.spa_format.specs.Tree.{Properties, Shape, Trees, array, bytes, choice, fixed, object, pointer, string, struct};
+ghost use Rattle.spa_format.specs.Tree.{Properties, Shape, Trees, array, bitmap, bytes, choice, fixed, object, pointer, string, struct};
 ghost use Rattle.spa_format.specs.Words.{body_of, word_at};
 ghost use Rattle.spa_view.specs.Tests as t;
 
@@ -23,6 +23,12 @@ pub fn strings_are_read()
 pub fn bytes_are_read()
     ensures test { (b s : List ℕ) → IsPod b (bytes s) → t.IsBytesPod b }
     ensures value { (b s : List ℕ) → IsPod b (bytes s) → body_of b ≡ s }
+{}
+
+/// A bitmap passes its test, and the body is its bytes.
+pub fn bitmaps_are_read()
+    ensures test { (b s : List ℕ) → IsPod b (bitmap s) → t.IsBitmapPod b }
+    ensures value { (b s : List ℕ) → IsPod b (bitmap s) → body_of b ≡ s }
 {}
 
 /// A pointer passes its test, and its body says its type and, at its size, no address but its own.

@@ -3,7 +3,7 @@ use Rattle.std.specs.Prelude.{◌≡◌, ℕ, ◌+◌, ◌-◌, ◌<◌, ◌≤�
 use Rattle.spa_sink.specs.declared.gen_error.GenError.{GenError}
 use Rattle.spa_sink.specs.Writing.{RefusesPiece, RefusesWrite}
 use Rattle.spa_format.specs.Words.{header_size, padded_size, size_limit, word_bytes}
-use Rattle.spa_format.specs.Tree.{Tree, fixed, string, bytes, array, choice, pointer, struct, object, Trees, Properties}
+use Rattle.spa_format.specs.Tree.{Tree, fixed, string, bytes, bitmap, array, choice, pointer, struct, object, Trees, Properties}
 use Rattle.spa_format.specs.Encoding.{encoding_of, framed, member_encodings, property_encodings}
 use Rattle.spa_format.specs.Typed.{IsTyped, AllTyped, AllPropertiesTyped}
 use Rattle.spa_format.specs.Writable.{IsWritable, HasNul, IsTooLarge, SomeHasNul, SomeTooLarge, SomeValueHasNul, SomeValueTooLarge}
@@ -21,6 +21,7 @@ abbrev pub IsLeaf : Tree → Type 0
 IsLeaf (fixed x) = Unit {0}
 IsLeaf (string s) = Unit {0}
 IsLeaf (bytes s) = Unit {0}
+IsLeaf (bitmap s) = Unit {0}
 IsLeaf (array k xs) = Unit {0}
 IsLeaf (choice s f k x xs) = Unit {0}
 IsLeaf (pointer t a) = Unit {0}

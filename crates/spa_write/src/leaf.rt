@@ -8,7 +8,7 @@ ghost use Rattle.spa_format.specs.Writable.{HasNul, IsTooLarge};
 ghost use Rattle.spa_value.specs.View.{array_view, choice_view, view};
 ghost use Rattle.spa_write.specs.Written.{IsLeaf, IsPut, RefusesLeaf};
 
-use crate::text::{put_bytes, put_pointer, put_text};
+use crate::text::{put_bitmap, put_bytes, put_pointer, put_text};
 use spa_fixed::{CanonicalFixedSizedPod, ChoiceElement, put_array, put_choice, put_fixed};
 use spa_sink::{GenError, PodSink};
 use spa_utils::Choice;
@@ -31,6 +31,7 @@ pub fn put_leaf<S: PodSink>(sink: &mut S, value: &Value) -> Result<(), GenError>
         Value::Double(bits) => put_number(sink, bits),
         Value::String(text) => put_text(sink, text.as_str()),
         Value::Bytes(bytes) => put_bytes(sink, bytes.as_slice()),
+        Value::Bitmap(bytes) => put_bitmap(sink, bytes.as_slice()),
         Value::Rectangle(rectangle) => put_number(sink, rectangle),
         Value::Fraction(fraction) => put_number(sink, fraction),
         Value::Fd(fd) => put_number(sink, fd),

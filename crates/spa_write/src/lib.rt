@@ -11,5 +11,5 @@ mod value;
 pub use frame::{begin, close};
 pub use leaf::put_leaf;
 pub use serializer::{PodSerialize, PodSerializer, SerializeSuccess};
-pub use text::{put_bytes, put_pointer, put_text};
+pub use text::{put_bitmap, put_bytes, put_pointer, put_text};
 pub use value::write_value;

@@ -1,7 +1,7 @@
-//! Texts, bytes and pointers.
-ghost use Rattle.std.specs.Prelude.{◌≡◌, ◌+◌, ◌≤◌, [], ◌∷◌, ◌++◌, Contains, IfErr, OnOk, length, replicate};
-ghost use Rattle.spa_sink.specs.Writing.{RefusesWrite};
-ghost use Rattle.spa_format.specs.Encoding.{encoding_of};
+//! Texts, bytes, bitmaps and pointers.
+ghost use Rattle.std.specs.Prelude.{◌≡◌, ◌+◌, ◌<◌, ◌≤◌, [], ◌∷◌, ◌++◌, Contains, IfErr, OnOk, length, replicate};
+ghost use Rattle.spa_sink.specs.Writing.{RefusesPiece};
+ghost use Rattle.spa_format.specs.Encoding.{encoding_of, framed};
 ghost use Rattle.spa_format.specs.Tree as tree;
 ghost use Rattle.spa_format.specs.Words.{padding, size_limit, wide_bytes, word_bytes};
 ghost use Rattle.spa_write.specs.Written.{IsPut, RefusesLeaf};
@@ -38,15 +38,32 @@ fn put_end<S: PodSink>(sink: &mut S, len: usize) -> Result<(), GenError>
 }
 
 /// Appends the pod of bytes. It is refused as `TooLarge` where they are 4294967296 or more; nothing is appended then.
-#[tactic(auto, using(spa_format::proofs::Encodings::header_within))]
 pub fn put_bytes<S: PodSink>(sink: &mut S, bytes: &[u8]) -> Result<(), GenError>
     ensures put { OnOk result (IsPut S.appends sink.old (tree.bytes bytes.now) sink.new) }
     ensures refused { IfErr result (RefusesLeaf S.refuses sink.old (tree.bytes bytes.now) sink.new) }
 {
+    put_body(sink, SpaTypes::Bytes.0, bytes)
+}
+
+/// Appends the pod of a bitmap. It is refused as `TooLarge` where its bytes are 4294967296 or more; nothing is appended then.
+pub fn put_bitmap<S: PodSink>(sink: &mut S, bytes: &[u8]) -> Result<(), GenError>
+    ensures put { OnOk result (IsPut S.appends sink.old (tree.bitmap bytes.now) sink.new) }
+    ensures refused { IfErr result (RefusesLeaf S.refuses sink.old (tree.bitmap bytes.now) sink.new) }
+{
+    put_body(sink, SpaTypes::Bitmap.0, bytes)
+}
+
+/// Appends a pod of this type whose body is these bytes, as they are.
+#[tactic(auto, using(spa_format::proofs::Encodings::header_within))]
+fn put_body<S: PodSink>(sink: &mut S, type_: u32, bytes: &[u8]) -> Result<(), GenError>
+    ensures put { OnOk result (S.appends sink.old (framed type_ bytes.now) sink.new) }
+    ensures fits { OnOk result (length bytes.now < size_limit) }
+    ensures refused { IfErr result (RefusesPiece ⊥ (size_limit ≤ length bytes.now) (S.refuses sink.old (length (framed type_ bytes.now)) sink.new) sink.old sink.new) }
+{
     let Ok(size) = u32::try_from(bytes.len()) else {
         return Err(GenError::TooLarge);
     };
-    put_two(sink, size, SpaTypes::Bytes.0)?;
+    put_two(sink, size, type_)?;
     sink.append(bytes)?;
     put_padding(sink, bytes.len())
 }

@@ -21,16 +21,17 @@ fn holder(alloc: Global, row: usize) -> Result<Object, AllocError> {
     Ok(object)
 }
 
-const VALUES: usize = 6;
+const VALUES: usize = 7;
 
 /// Values of no fixed size, no two of them equal.
 fn value(alloc: Global, row: usize) -> Result<Value, AllocError> {
     match row {
         0 => Ok(Value::String(String::from_str(alloc, "a")?)),
         1 => Ok(Value::Bytes([97].to_vec(alloc)?)),
-        2 => Ok(Value::ValueArray(ValueArray::Int([97].to_vec(alloc)?))),
-        3 => Ok(Value::Struct(Vec::new(alloc))),
-        4 => Ok(Value::Object(empty(alloc))),
+        2 => Ok(Value::Bitmap([97].to_vec(alloc)?)),
+        3 => Ok(Value::ValueArray(ValueArray::Int([97].to_vec(alloc)?))),
+        4 => Ok(Value::Struct(Vec::new(alloc))),
+        5 => Ok(Value::Object(empty(alloc))),
         _ => Ok(Value::Pointer(1, 97)),
     }
 }

@@ -2,7 +2,8 @@
 
 /// Four lines a pod: its name; its bytes; what they say, as `said` has it, or the fault for which they are refused; and the
 /// rewriting that libspa 0.10.1 makes of them, `=` where it is the bytes themselves. The flags of the None choice are read as
-/// empty here, where the C iterators show the 1 that lies there. The empty choice makes libspa 0.10.1 panic.
+/// empty here, where the C iterators show the 1 that lies there. The empty choice makes libspa 0.10.1 panic; it refuses the
+/// bitmap, whose bytes are their own rewriting here.
 pub const BUILT: &str = r#"array-double
 x180000000d0000000800000007000000000000000000f03f000000000000e0bf
 {"t":"Array","of":"Double","v":[4607182418800017408,13826050856027422720]}
@@ -78,6 +79,10 @@ x800000000f000000030004000400000001000000000000000400000003000000010000000000000
 audio-format-wild
 x380000000f0000000300040003000000010000000000000004000000030000000100000000000000020000000000000004000000030000000100000000000000
 {"t":"Object","type":262147,"id":3,"v":[{"key":1,"flags":0,"v":{"t":"Id","v":1}},{"key":2,"flags":0,"v":{"t":"Id","v":1}}]}
+=
+bitmap
+x080000000c0000000102030405060708
+{"t":"Bitmap","v":"0102030405060708"}
 =
 buffers-flags-alternatives
 x480000000f000000040004000500000006000000000000001400000013000000040000000000000004000000040000000400000000000000050000000000000004000000040000001000000000000000
@@ -261,10 +266,6 @@ xc80000000f00000002000400020000000100080004000000b00000000e0000000f0000000800000
 =
 refused-array-of-struct
 x180000000d000000100000000e00000004000000040000000100000000000000
-refused InvalidType
--
-refused-bitmap
-x080000000c0000000102030405060708
 refused InvalidType
 -
 refused-choice-empty

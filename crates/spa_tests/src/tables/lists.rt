@@ -24,4 +24,7 @@ refused WrongSize
 40
 0 14 4 2 7 9 4 4 3
 refused Short
-24"#;
+24
+3 12 197121 0 3 12 x010203ffffffffff 4 2 7 9
+3 12 197121 0 3 12 197121 0 4 2 1 0
+-"#;

@@ -206,7 +206,19 @@ refused Short
 refused Short
 -
 -
+3 12 x010203ffffffffff
+{"t":"Bitmap","v":"010203"}
+0
+3 12 197121 0
 0 12
+{"t":"Bitmap","v":""}
+0
+-
+12 13 4 12 7 0
 refused InvalidType
 -
+-
+16 14 3 12 197121 0
+{"t":"Struct","v":[{"t":"Bitmap","v":"010203"}]}
+0
 -"#;

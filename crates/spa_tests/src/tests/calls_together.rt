@@ -1,6 +1,7 @@
 //! Calls that a user makes one after the other: a value written, read back and rewritten; an object fixated and looked at.
 use crate::answers::{after_of, assert_own_rewriting, value_of, write};
-use crate::bytes::{assert_bytes, assert_holds, bytes_of};
+use crate::bytes::{assert_bytes, assert_holds};
+use spa_spelling::bytes_spelled;
 use bitflags::Flags;
 use libspa::pod::serialize::GenError;
 use libspa::pod::{Pod, PodObject, Value, rewrite_all};
@@ -85,7 +86,7 @@ fn fixate_and_look(bytes: &mut [u8]) -> Result<i32, Fail> {
 #[test]
 fn looks_and_fixates(rt: HostRuntime) -> Result<(), Fail> {
     let words = "56 15 5 3 1 0 4 4 3 0 1 0 4 4 9 0";
-    let mut bytes = bytes_of(rt.alloc(), words)?;
+    let mut bytes = bytes_spelled(rt.alloc(), words)?;
     let number = fixate_and_look(bytes.as_mut_slice())?;
     assert_holds(&rt, number == 3, "the number");
     Ok(())

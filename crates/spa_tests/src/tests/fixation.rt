@@ -1,8 +1,9 @@
 //! Fixation in place, on worked examples, and what is then read.
 use crate::answers::{assert_rewriting, fixate, object_of, said_at};
-use crate::bytes::{assert_holds, assert_spelt, bytes_of};
+use crate::bytes::{assert_holds, assert_spelt};
 use crate::tables::fixations::FIXATIONS;
 use crate::tables::lines_of;
+use spa_spelling::bytes_spelled;
 use libspa::utils::Errno;
 use std::alloc::Global;
 use std::process::Abort;
@@ -24,7 +25,7 @@ fn compare(
 }
 
 fn compare_refused(rt: &impl Abort, alloc: Global, words: &str) -> Result<(), Fail> {
-    let mut bytes = bytes_of(alloc, words)?;
+    let mut bytes = bytes_spelled(alloc, words)?;
     let fixated = fixate(bytes.as_mut_slice());
     assert_holds(rt, fixated == Err(Errno::INVAL), words);
     assert_spelt(rt, alloc, bytes.as_slice(), words)
@@ -57,7 +58,7 @@ fn compare_state(
 
 /// The fixated bytes that the words spell.
 fn fixated_of(alloc: Global, words: &str) -> Result<Vec<u8>, Fail> {
-    let mut bytes = bytes_of(alloc, words)?;
+    let mut bytes = bytes_spelled(alloc, words)?;
     match fixate(bytes.as_mut_slice()) {
         Ok(()) => Ok(bytes),
         Err(error) => Err(Fail::from(error)),

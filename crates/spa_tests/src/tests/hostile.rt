@@ -4,9 +4,10 @@ ghost use Rattle.std.specs.Prelude.{◌<◌, length};
 use crate::answers::{
     Reading, assert_own_rewriting, assert_said, reading_of, rewriting_of, verdict_of,
 };
-use crate::bytes::{assert_holds_at, assert_number_at, assert_text, bytes_of};
+use crate::bytes::{assert_holds_at, assert_number_at, assert_text};
 use crate::oracle::{Answer, Fault, answer_of, stands};
 use crate::tables::{lines_of_built, lines_of_read_rows};
+use spa_spelling::bytes_spelled;
 use std::alloc::Global;
 use std::process::Abort;
 use std::test::Fail;
@@ -133,7 +134,7 @@ fn change_one(
 /// A row of the worked examples: cut everywhere where nothing follows its front, and changed everywhere where it is accepted.
 fn agree_on_row(rt: &impl Abort, alloc: Global, row: &[&str; 4]) -> Result<(), Fail> {
     let [words, wanted, after, _] = *row;
-    let mut input = bytes_of(alloc, words)?;
+    let mut input = bytes_spelled(alloc, words)?;
     agree_on_input(rt, alloc, input.as_mut_slice(), wanted, after)
 }
 
@@ -172,7 +173,7 @@ fn change_in_turn(rt: &impl Abort, alloc: Global, input: &mut [u8]) -> Result<()
 }
 
 fn agree_on_pod(rt: &impl Abort, alloc: Global, digits: &str) -> Result<(), Fail> {
-    let mut input = bytes_of(alloc, digits)?;
+    let mut input = bytes_spelled(alloc, digits)?;
     change_in_turn(rt, alloc, input.as_mut_slice())
 }
 

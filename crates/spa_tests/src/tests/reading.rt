@@ -3,9 +3,10 @@ use crate::answers::{
     Reading, after_of, assert_own_rewriting, assert_rewriting, assert_said, reading_of, said_of,
     value_of,
 };
-use crate::bytes::{assert_holds_at, assert_number, assert_number_at, assert_text, bytes_of};
+use crate::bytes::{assert_holds_at, assert_number, assert_number_at, assert_text};
 use crate::tables::c_bytes::C_BYTES;
 use crate::tables::{lines_of, lines_of_built, lines_of_read_rows};
+use spa_spelling::bytes_spelled;
 use libspa::pod::Value;
 use libspa::pod::deserialize::PodDeserializer;
 use std::alloc::{AllocError, Global};
@@ -87,7 +88,7 @@ fn compare_rewriting(
 /// Compares all that is read of the input that the words spell with what a row says of it.
 fn compare_row(rt: &impl Abort, alloc: Global, row: &[&str; 4]) -> Result<(), Fail> {
     let [words, wanted, after, rewriting] = *row;
-    let input = bytes_of(alloc, words)?;
+    let input = bytes_spelled(alloc, words)?;
     compare_input(rt, alloc, input.as_slice(), [wanted, after, rewriting])
 }
 
@@ -140,7 +141,7 @@ fn compare_by_type(
 
 #[test]
 fn reads_a_value_by_its_type(rt: HostRuntime) -> Result<(), Fail> {
-    let input = bytes_of(rt.alloc(), "16 14 4 4 3 0 4 4")?;
+    let input = bytes_spelled(rt.alloc(), "16 14 4 4 3 0 4 4")?;
     let wanted = "{\"t\":\"Struct\",\"v\":[{\"t\":\"Int\",\"v\":3}]}";
     compare_by_type(&rt, rt.alloc(), input.as_slice(), wanted, 8)
 }
@@ -148,7 +149,7 @@ fn reads_a_value_by_its_type(rt: HostRuntime) -> Result<(), Fail> {
 /// A row of the bytes of C is its own rewriting.
 fn compare_bytes_of_c(rt: &impl Abort, alloc: Global, row: &[&str; 2]) -> Result<(), Fail> {
     let [name, digits] = *row;
-    let bytes = bytes_of(alloc, digits)?;
+    let bytes = bytes_spelled(alloc, digits)?;
     assert_own_rewriting(rt, alloc, bytes.as_slice(), name)
 }
 

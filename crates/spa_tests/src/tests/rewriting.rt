@@ -1,8 +1,9 @@
 //! Rewriting lists of pods, by the three calls that take a list.
 use crate::answers::are_joined;
-use crate::bytes::{assert_holds, assert_number, assert_spelt, bytes_of};
+use crate::bytes::{assert_holds, assert_number, assert_spelt};
 use crate::tables::lines_of;
 use crate::tables::lists::LISTS;
+use spa_spelling::bytes_spelled;
 use libspa::pod::deserialize::DeserializeError;
 use libspa::pod::{accept_all, rewrite_all, rewrite_in_parts};
 use std::alloc::Global;
@@ -56,7 +57,7 @@ fn compare_calls(
 
 /// Compares the rewriting of a list of pods, behind bytes that were there, with what a row says.
 fn compare_list(rt: &impl Abort, alloc: Global, row: &[&str; 3]) -> Result<(), Fail> {
-    let input = bytes_of(alloc, row[0])?;
+    let input = bytes_spelled(alloc, row[0])?;
     compare_list_at(rt, alloc, input.as_slice(), row)
 }
 
@@ -66,7 +67,7 @@ fn compare_list_at(
     input: &[u8],
     row: &[&str; 3],
 ) -> Result<(), Fail> {
-    let mut out = bytes_of(alloc, "x0102")?;
+    let mut out = bytes_spelled(alloc, "x0102")?;
     let rewritten = rewrite_list(alloc, input, &mut out)?;
     compare_calls(rt, alloc, input, rewritten, row[0])?;
     compare_output(rt, alloc, out.as_slice(), rewritten, input, row)
@@ -99,7 +100,7 @@ fn compare_output(
 
 /// The two parts of a rewriting, one after the other, are the bytes that the words spell.
 fn assert_in_parts(rt: &impl Abort, alloc: Global, input: &[u8], words: &str) -> Result<(), Fail> {
-    let wanted = bytes_of(alloc, words)?;
+    let wanted = bytes_spelled(alloc, words)?;
     let are_joined = are_joined(alloc, input, wanted.as_slice())?;
     assert_holds(rt, are_joined, words);
     Ok(())

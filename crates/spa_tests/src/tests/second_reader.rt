@@ -1,14 +1,15 @@
 //! The second reader itself, on tables that other programs and hands made.
-use crate::bytes::{assert_holds_at, assert_text, bytes_of};
+use crate::bytes::{assert_holds_at, assert_text};
 use crate::oracle::{Answer, answer_of, stands};
 use crate::tables::{lines_of_built, lines_of_read_rows};
+use spa_spelling::bytes_spelled;
 use std::alloc::Global;
 use std::process::Abort;
 use std::test::Fail;
 
 /// Compares what the second reader finds with what a row says: a tree, or a fault that stands among others.
 fn compare(rt: &impl Abort, alloc: Global, words: &str, wanted: &str) -> Result<(), Fail> {
-    let input = bytes_of(alloc, words)?;
+    let input = bytes_spelled(alloc, words)?;
     compare_answer_at(rt, alloc, input.as_slice(), wanted)
 }
 

@@ -1,7 +1,8 @@
 //! Views: on accepted pods they show what the reader reads; on any bytes they end.
 use crate::answers::{after_of, object_of, value_of, verdict_of, view_of};
-use crate::bytes::{assert_holds, assert_holds_at, bytes_of};
+use crate::bytes::{assert_holds, assert_holds_at};
 use crate::tables::{lines_of_built, lines_of_read_rows};
+use spa_spelling::bytes_spelled;
 use bitflags::Flags;
 use libspa::pod::{Object, Pod, PodObject, PodProp, PodStruct, Property, Value};
 use libspa::utils::{Errno, Id};
@@ -30,6 +31,7 @@ fn shows_leaf(pod: Pod<'_>, value: &Value) -> bool {
     match value {
         Value::String(text) => pod.get_string_raw() == Ok(text.as_bytes()),
         Value::Bytes(bytes) => pod.get_bytes() == Ok(bytes.as_slice()),
+        Value::Bitmap(bytes) => pod.get_bitmap() == Ok(bytes.as_slice()),
         Value::Pointer(type_, address) => pod.get_pointer() == Ok((*address, Id(*type_))),
         Value::ValueArray(_) => pod.is_array(),
         Value::Choice(_) => pod.is_choice(),
@@ -107,7 +109,7 @@ fn shows_owned(pod: Pod<'_>, value: Value) -> bool {
 
 /// Compares the view of an accepted input with its value, and its cut with none.
 fn compare(rt: &impl Abort, alloc: Global, words: &str) -> Result<(), Fail> {
-    let input = bytes_of(alloc, words)?;
+    let input = bytes_spelled(alloc, words)?;
     compare_input(rt, alloc, input.as_slice())
 }
 
@@ -171,7 +173,7 @@ fn compare_firsts(rt: &impl Abort, bytes: &[u8]) -> Result<(), Fail> {
 
 #[test]
 fn finds_the_first_with_a_key(rt: HostRuntime) -> Result<(), Fail> {
-    let bytes = bytes_of(rt.alloc(), "56 15 5 3 1 0 4 4 3 0 1 0 4 4 9 0")?;
+    let bytes = bytes_spelled(rt.alloc(), "56 15 5 3 1 0 4 4 3 0 1 0 4 4 9 0")?;
     compare_firsts(&rt, bytes.as_slice())
 }
 
@@ -192,7 +194,7 @@ fn compare_fields(rt: &impl Abort, bytes: &[u8]) -> Result<(), Fail> {
 
 #[test]
 fn ends_at_a_member_that_crosses(rt: HostRuntime) -> Result<(), Fail> {
-    let bytes = bytes_of(rt.alloc(), "8 14 4 4 3 0")?;
+    let bytes = bytes_spelled(rt.alloc(), "8 14 4 4 3 0")?;
     compare_fields(&rt, bytes.as_slice())
 }
 
@@ -209,7 +211,7 @@ fn compare_cut_text(rt: &impl Abort, bytes: &[u8]) -> Result<(), Fail> {
 
 #[test]
 fn shows_a_text_before_its_first_nul(rt: HostRuntime) -> Result<(), Fail> {
-    let bytes = bytes_of(rt.alloc(), "4 8 x6100620000000000")?;
+    let bytes = bytes_spelled(rt.alloc(), "4 8 x6100620000000000")?;
     compare_cut_text(&rt, bytes.as_slice())
 }
 
@@ -223,6 +225,6 @@ fn compare_open_text(rt: &impl Abort, bytes: &[u8]) -> Result<(), Fail> {
 
 #[test]
 fn shows_no_text_without_a_nul(rt: HostRuntime) -> Result<(), Fail> {
-    let bytes = bytes_of(rt.alloc(), "4 8 x6162636400000000")?;
+    let bytes = bytes_spelled(rt.alloc(), "4 8 x6162636400000000")?;
     compare_open_text(&rt, bytes.as_slice())
 }

@@ -1,6 +1,7 @@
 //! Writing values, on worked examples.
 use crate::answers::write;
-use crate::bytes::{assert_holds, assert_spelt, bytes_of};
+use crate::bytes::{assert_holds, assert_spelt};
+use spa_spelling::bytes_spelled;
 use arrayvec::ArrayVec;
 use bitflags::Flags;
 use libspa::pod::serialize::{GenError, PodSerializer};
@@ -32,7 +33,7 @@ fn compare_output(
 
 /// A value's encoding behind bytes that were there, and its length.
 fn written(alloc: Global, value: Value) -> Result<(Vec<u8>, u64), Fail> {
-    match bytes_of(alloc, "x0102") {
+    match bytes_spelled(alloc, "x0102") {
         Ok(before) => Ok(write_owned(before, value)?),
         Err(error) => Err(Fail::from(error)),
     }
@@ -69,6 +70,18 @@ fn writes_texts(rt: HostRuntime) -> Result<(), Fail> {
         compare(&rt, rt.alloc(), value, words)?;
     }
     Ok(())
+}
+
+/// A struct of a bitmap.
+fn bitmap_in_struct(alloc: Global) -> Result<Value, AllocError> {
+    let bitmap = Value::Bitmap(Vec::from_slice(alloc, &[1, 2, 3])?);
+    Ok(Value::Struct(vec![in alloc; bitmap]?))
+}
+
+#[test]
+fn writes_bitmaps(rt: HostRuntime) -> Result<(), Fail> {
+    let value = bitmap_in_struct(rt.alloc())?;
+    compare(&rt, rt.alloc(), value, "16 14 3 12 197121 0")
 }
 
 fn five_units(alloc: Global) -> Result<Value, AllocError> {

@@ -2,4 +2,6 @@ use Rattle.spa_fixed.proofs.ElementWriting.{IsFilled}
 use Rattle.spa_fixed.proofs.elements.block_of.Given as goal
 
 abbrev pub invariant-loop-value : goal.invariant-loop-value
-invariant-loop-value g l = IsFilled g.T.CanonicalFixedSizedPod.kind g.T.CanonicalFixedSizedPod.fixed g.T.CanonicalFixedSizedPod.SIZE l.at l.value-index l.block l.values
+invariant-loop-value g l =
+    IsFilled g.T.CanonicalFixedSizedPod.kind g.T.CanonicalFixedSizedPod.fixed
+    g.T.CanonicalFixedSizedPod.SIZE l.at l.value-index l.block l.values

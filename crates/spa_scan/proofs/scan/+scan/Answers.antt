@@ -1,7 +1,7 @@
 use Rattle.std.proofs.Common.{◌≡◌, refl, sym, ap, ◌∙◌, subst, arith, rules}
 use Rattle.std.proofs.lemmas.Bool.{eqb-true}
 use Rattle.spa_format.specs.Typed.{IsBytes}
-use Rattle.spa_format.specs.Tree.{bytes, string, struct}
+use Rattle.spa_format.specs.Tree.{bitmap, bytes, string, struct}
 use Rattle.spa_format.proofs.WordLemmas.{IsBytes-drop}
 use Rattle.spa_scan.specs.Canonical.{AreCanonical, IsCanonicalBody}
 use Rattle.spa_scan.proofs.Frames.{canonical_front, none_left, none_left_either, none_of, object_of, one_more, one_more_property, pointer_of, rest_bytes, struct_last}
@@ -69,6 +69,10 @@ is_body-returns-in-String t c = λ e.
 pub is_body-returns-in-Bytes : goal.is_body-returns-in-Bytes
 is_body-returns-in-Bytes t c = λ _.
     record { value = bytes c.args.body.now; its_type = sym (let is : c.args.type_ ≡ 9 = search rules in is); its_body = refl; same = refl }
+
+pub is_body-returns-in-Bitmap : goal.is_body-returns-in-Bitmap
+is_body-returns-in-Bitmap t c = λ _.
+    record { value = bitmap c.args.body.now; its_type = sym (let is : c.args.type_ ≡ 12 = search rules in is); its_body = refl; same = refl }
 
 pub is_body-returns-in-Array : goal.is_body-returns-in-Array
 is_body-returns-in-Array t c = λ e.

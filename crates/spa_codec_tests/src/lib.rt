@@ -2,7 +2,7 @@
 #![tactic(auto)]
 
 #[cfg(test)]
-mod bytes;
+mod equality;
 #[cfg(test)]
 mod compare;
 #[cfg(test)]

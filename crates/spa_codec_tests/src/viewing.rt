@@ -1,6 +1,6 @@
 //! The worked rows of views and fixation, and each public call. A table is a text with a row a line, so that it is data.
-use crate::bytes::bytes_spelled;
 use crate::compare::{assert_bytes, assert_holds, assert_said};
+use spa_spelling::bytes_spelled;
 use bitflags::Flags;
 use spa_utils::{Errno, Id};
 use spa_view::{Pod, PodObject, PodObjectIter, PodProp, PodPropFlags, PodStruct, PodStructIter};
@@ -29,7 +29,8 @@ const READ: &str = r#"0 1 | 1 |
 0 9 | 9 | 9 []
 8 10 31 14 | 10 | 10 Rectangle { width: 31, height: 14 }
 8 11 16 9 | 11 | 11 Fraction { num: 16, denom: 9 }
-0 12 | 12 |
+3 12 197121 0 | 12 | 12 [1, 2, 3]
+0 12 | 12 | 12 []
 8 13 0 1 | 13 |
 20 13 4 4 10 15 19 0 | 13 |
 0 14 | 14 |
@@ -147,6 +148,7 @@ fn push_said(said: &mut String, pod: &Pod, number: u32) -> Result<(), AllocError
         9 => push_shown(said, number, pod.get_bytes()),
         10 => push_shown(said, number, pod.get_rectangle()),
         11 => push_shown(said, number, pod.get_fraction()),
+        12 => push_shown(said, number, pod.get_bitmap()),
         17 => push_shown(said, number, pod.get_pointer()),
         18 => push_shown(said, number, pod.get_fd()),
         _ => Ok(()),

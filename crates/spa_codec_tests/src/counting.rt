@@ -1,5 +1,5 @@
 //! How many pod headers a read opens, and pods that stand deep in one another.
-use crate::bytes::bytes_of;
+use spa_spelling::bytes_of;
 use spa_fixed::DeserializeError;
 use spa_read::PodDeserializer;
 use spa_value::{Value, discard};

@@ -1,6 +1,6 @@
 //! Worked examples, and each call once.
-use crate::bytes::bytes_of;
 use crate::compare::assert_said;
+use spa_spelling::bytes_of;
 use spa_fixed::{DeserializeError, Fault};
 use spa_read::{DeserializeSuccess, PodDeserialize, PodDeserializer};
 use spa_value::Value;
@@ -26,6 +26,11 @@ const ROWS: &[(&[u32], &str)] = &[
     ),
     (&[1, 8, 0, 0], "String(\"\"), 0 left"),
     (&[3, 9, 0xff030201, 0xffffffff], "Bytes([1, 2, 3]), 0 left"),
+    (
+        &[3, 12, 0xff030201, 0xffffffff],
+        "Bitmap([1, 2, 3]), 0 left",
+    ),
+    (&[0, 12], "Bitmap([]), 0 left"),
     (&[16, 14, 4, 4, 3, 0], "Struct([Int(3)]), 0 left"),
     (&[0, 14], "Struct([]), 0 left"),
     (
@@ -81,6 +86,7 @@ const ROWS: &[(&[u32], &str)] = &[
     (&[0, 16], "InvalidType"),
     (&[0, 20], "InvalidType"),
     (&[0, 21], "InvalidType"),
+    (&[12, 13, 4, 12, 7, 0], "InvalidType"),
     (&[20, 19, 5, 0, 4, 4, 7, 0], "InvalidChoiceType"),
     (&[24, 19, 1, 0, 4, 4, 5, 2], "MissingChoiceValues"),
     (&[8, 4, 3, 0], "WrongSize"),

@@ -1,12 +1,14 @@
 //! Values with their encodings, from outside, and each call once.
-use crate::bytes::bytes_spelled;
 use crate::compare::{assert_bytes, assert_holds};
+use spa_spelling::bytes_spelled;
 use arrayvec::ArrayVec;
 use bitflags::Flags;
 use spa_sink::GenError;
 use spa_utils::{Choice, ChoiceEnum, ChoiceFlags, Fd, Float32, Float64, Fraction, Id, Rectangle};
 use spa_value::{ChoiceValue, Object, Property, PropertyFlags, Value, ValueArray};
-use spa_write::{PodSerializer, laws, put_bytes, put_leaf, put_pointer, put_text, write_value};
+use spa_write::{
+    PodSerializer, laws, put_bitmap, put_bytes, put_leaf, put_pointer, put_text, write_value,
+};
 use std::alloc::{AllocError, Global};
 use std::process::Abort;
 use std::test::Fail;
@@ -30,6 +32,8 @@ enum Example {
     Foo,
     Bytes,
     NoBytes,
+    Bitmap,
+    BitmapInStruct,
     Units,
     Ids,
     Fractions,
@@ -60,6 +64,8 @@ const ROWS: &[(Example, &str)] = &[
     (Example::Foo, "4 8 7303014 0"),
     (Example::Bytes, "5 9 50462976 255"),
     (Example::NoBytes, "0 9"),
+    (Example::Bitmap, "3 12 197121 0"),
+    (Example::BitmapInStruct, "16 14 3 12 197121 0"),
     (Example::Units, "8 13 0 1"),
     (Example::Ids, "20 13 4 3 3 4 6 0"),
     (Example::Fractions, "24 13 8 11 1 2 30 1"),
@@ -90,6 +96,8 @@ fn value_of(alloc: Global, example: Example) -> Result<Value, AllocError> {
         Example::Foo => text(alloc, "foo"),
         Example::Bytes => bytes(alloc, &[0, 1, 2, 3, 255]),
         Example::NoBytes => bytes(alloc, &[]),
+        Example::Bitmap => bitmap(alloc),
+        Example::BitmapInStruct => struct_of(alloc, bitmap(alloc)?),
         Example::Units => units(alloc),
         Example::Ids => ids(alloc),
         Example::Fractions => fractions(alloc),
@@ -134,6 +142,10 @@ fn text(alloc: Global, text: &str) -> Result<Value, AllocError> {
 
 fn bytes(alloc: Global, bytes: &[u8]) -> Result<Value, AllocError> {
     Ok(Value::Bytes(Vec::from_slice(alloc, bytes)?))
+}
+
+fn bitmap(alloc: Global) -> Result<Value, AllocError> {
+    Ok(Value::Bitmap(Vec::from_slice(alloc, &[1, 2, 3])?))
 }
 
 fn units(alloc: Global) -> Result<Value, AllocError> {
@@ -354,13 +366,14 @@ fn parts(alloc: Global) -> Result<Vec<u8>, GenError> {
     let mut out = Vec::new(alloc);
     put_pointer(&mut out, 7, 4096)?;
     put_bytes(&mut out, &[1, 2, 3])?;
+    put_bitmap(&mut out, &[1, 2, 3])?;
     put_true(&mut out)?;
     put_struct(&mut out, alloc)?;
     Ok(out)
 }
 
 /// The words of what they append.
-const PARTS: &str = "16 17 7 0 4096 0 3 9 197121 0 4 2 1 0 16 14 4 4 3 0";
+const PARTS: &str = "16 17 7 0 4096 0 3 9 197121 0 3 12 197121 0 4 2 1 0 16 14 4 4 3 0";
 
 #[test]
 fn parts_are_appended_in_place(rt: HostRuntime) -> Result<(), Fail> {

@@ -1,0 +1,56 @@
+-- The grammar of the version before, which had no bitmaps, beside the one of today: docs/FORMAT.md, "The version before".
+use Rattle.std.specs.Prelude.{◌≡◌, ℕ, ◌≤◌, ◌⊎◌, ⊤, List, [], ◌∷◌, ◌++◌, length, drop}
+use Rattle.spa_format.specs.Words.{word_at, header_size}
+use Rattle.spa_format.specs.Kind.{kind_of, IsFixedBody}
+use Rattle.spa_format.specs.Tree.{Tree, fixed, string, bytes, bitmap, array, choice, pointer, struct, object, Trees, no_trees, member, Properties, no_properties, property, type_of}
+use Rattle.spa_format.specs.Pod.{IsText, IsArray, IsChoice, IsPointer, IsWhole}
+
+abbrev mutual
+  -- this body said this value; there was no type of bitmaps
+  pub IsBodyBefore : Tree → List ℕ → Type 0
+  IsBodyBefore (fixed x) b = IsFixedBody (kind_of x) b x
+  IsBodyBefore (string s) b = IsText s × (b ≡ s ++ 0 ∷ [])
+  IsBodyBefore (bytes s) b = b ≡ s
+  IsBodyBefore (bitmap s) b = ⊥
+  IsBodyBefore (array k xs) b = IsArray k xs b
+  IsBodyBefore (choice s f k x xs) b = IsChoice s f k x xs b
+  IsBodyBefore (pointer t a) b = IsPointer t a b
+  IsBodyBefore (struct vs) b = WereMembers vs b
+  IsBodyBefore (object t i ps) b = (header_size ≤ length b) × (t ≡ word_at b 0) × (i ≡ word_at b 4) × WereProperties ps (drop header_size b)
+
+  -- whole pods of these values one after another, and nothing else
+  pub WereMembers : Trees → List ℕ → Type 0
+  WereMembers no_trees b = b ≡ []
+  WereMembers (member v vs) b = (first : List ℕ) × (others : List ℕ) × (b ≡ first ++ others) × IsWhole first (type_of v) (IsBodyBefore v) × WereMembers vs others
+
+  -- the same, with the key word and the flags word before each pod
+  pub WereProperties : Properties → List ℕ → Type 0
+  WereProperties no_properties b = b ≡ []
+  WereProperties (property key flags v ps) b =
+      (header_size ≤ length b) × (key ≡ word_at b 0) × (flags ≡ word_at b 4)
+      × (first : List ℕ) × (others : List ℕ) × (drop header_size b ≡ first ++ others) × IsWhole first (type_of v) (IsBodyBefore v) × WereProperties ps others
+
+-- these bytes were a pod of this value
+abbrev pub WasPod : List ℕ → Tree → Type 0
+WasPod b v = IsWhole b (type_of v) (IsBodyBefore v)
+
+-- a bitmap stands in the value
+abbrev mutual
+  pub HasBitmap : Tree → Type 0
+  HasBitmap (fixed x) = ⊥
+  HasBitmap (string s) = ⊥
+  HasBitmap (bytes s) = ⊥
+  HasBitmap (bitmap s) = ⊤
+  HasBitmap (array k xs) = ⊥
+  HasBitmap (choice s f k x xs) = ⊥
+  HasBitmap (pointer t a) = ⊥
+  HasBitmap (struct vs) = SomeHasBitmap vs
+  HasBitmap (object t i ps) = SomeValueHasBitmap ps
+
+  pub SomeHasBitmap : Trees → Type 0
+  SomeHasBitmap no_trees = ⊥
+  SomeHasBitmap (member v vs) = HasBitmap v ⊎ SomeHasBitmap vs
+
+  pub SomeValueHasBitmap : Properties → Type 0
+  SomeValueHasBitmap no_properties = ⊥
+  SomeValueHasBitmap (property key flags v ps) = HasBitmap v ⊎ SomeValueHasBitmap ps

@@ -33,6 +33,7 @@ pub mod pod {
     pub use spa_fixed::{CanonicalFixedSizedPod, ChoiceElement, FixedSizedPod};
     pub use spa_format::{laws, view_laws};
     pub use spa_rewrite::{accept_all, rewrite, rewrite_all, rewrite_in_parts};
+    pub use spa_utils::Frame;
     pub use spa_value::{
         Bitmap, ChoiceValue, Object, Property, PropertyFlags, Value, ValueArray, discard,
         laws as value_laws,
@@ -52,5 +53,10 @@ pub mod pod {
     pub mod deserialize {
         pub use spa_fixed::{DeserializeError, Fault, FaultKind};
         pub use spa_read::{DeserializeSuccess, PodDeserialize, PodDeserializer};
+    }
+
+    /// Taking pods one by one.
+    pub mod parser {
+        pub use spa_parser::{Parser, laws, parser_get};
     }
 }

@@ -5,7 +5,7 @@ ghost use Rattle.spa_utils.specs.Copies.{IsChoiceCopyOf};
 ghost use Rattle.spa_utils.specs.Equality.{shape_of, values_of};
 
 use crate::{
-    Choice, ChoiceEnum, ChoiceFlags, Direction, Errno, Fd, Float32, Float64, Fraction, Id,
+    Choice, ChoiceEnum, ChoiceFlags, Direction, Errno, Fd, Float32, Float64, Fraction, Frame, Id,
     Rectangle, SpaTypes,
 };
 use std::alloc::AllocError;
@@ -42,6 +42,12 @@ fn same_rectangle(a: Rectangle, b: Rectangle) -> bool
 
 fn same_fraction(a: Fraction, b: Fraction) -> bool
     ensures { IsTrue result ↔ (a.num ≡ b.num) × (a.denom ≡ b.denom) }
+{
+    a == b
+}
+
+fn same_frame(a: Frame, b: Frame) -> bool
+    ensures { IsTrue result ↔ a.0 ≡ b.0 }
 {
     a == b
 }

@@ -1,0 +1,3 @@
+pub mod NextPods
+pub mod AcceptedPods
+pub mod WorkedRows

@@ -1,0 +1,201 @@
+//! What a parser gets. Each call asks for the next pod by its type and its size, and moves past it.
+ghost use Rattle.std.specs.Prelude.{◌≡◌, Bool, IfErr, IfOk, IsOkAnd, List, None, Ok, OnErr, OnOk, Some, ℕ, ℤ};
+ghost use Rattle.spa_format.specs.Kind as k;
+ghost use Rattle.spa_format.specs.Pod.{IsPod};
+ghost use Rattle.spa_format.specs.Tree.{Tree, bytes, fixed, pointer, string};
+ghost use Rattle.spa_parser.specs.State.{state_behind, next_pod};
+ghost use Rattle.spa_parser.specs.Steps.{NextIs, NextPasses, RefusesGet, Says, SaysBytes, SaysPointer, SaysString};
+ghost use Rattle.spa_view.specs.Tests as t;
+
+use crate::parser::Parser;
+use spa_utils::{Errno, Float32, Float64, Fraction, Id, Rectangle};
+use spa_view::Pod;
+
+#[tactic(auto, using(crate::proofs::AcceptedPods::accepted_fixed))]
+impl<'d> Parser<'d> {
+    /// The truth value: any word but 0 is true. INVAL where the next pod isn't a Bool of its size.
+    pub fn get_bool(&mut self) -> Result<bool, Errno>
+        ensures said { IfOk result (λ x. NextPasses (Says (k.bool x)) self.old) }
+        ensures moved { OnOk result (self.new ≡ state_behind self.old) }
+        ensures accepted { (n : Bool) → NextIs (fixed (k.bool n)) self.old → result ≡ Ok n }
+        ensures refused { IfErr result (RefusesGet (t.IsOfKind k.bool_kind) self.old) }
+        ensures unchanged { OnErr result (self.new ≡ self.old) }
+    {
+        let (pod, left) = self.innermost.next()?;
+        let value = pod.get_bool()?;
+        self.innermost.bytes = left;
+        Ok(value)
+    }
+
+    /// The id. INVAL where the next pod isn't an Id of its size.
+    pub fn get_id(&mut self) -> Result<Id, Errno>
+        ensures said { IfOk result (λ x. NextPasses (Says (k.id x.0)) self.old) }
+        ensures moved { OnOk result (self.new ≡ state_behind self.old) }
+        ensures accepted { (n : ℕ) → NextIs (fixed (k.id n)) self.old → IsOkAnd result (λ x. x.0 ≡ n) }
+        ensures refused { IfErr result (RefusesGet (t.IsOfKind k.id_kind) self.old) }
+        ensures unchanged { OnErr result (self.new ≡ self.old) }
+    {
+        let (pod, left) = self.innermost.next()?;
+        let value = pod.get_id()?;
+        self.innermost.bytes = left;
+        Ok(value)
+    }
+
+    /// The number. INVAL where the next pod isn't an Int of its size.
+    pub fn get_int(&mut self) -> Result<i32, Errno>
+        ensures said { IfOk result (λ x. NextPasses (Says (k.int x)) self.old) }
+        ensures moved { OnOk result (self.new ≡ state_behind self.old) }
+        ensures accepted { (n : ℤ) → NextIs (fixed (k.int n)) self.old → result ≡ Ok n }
+        ensures refused { IfErr result (RefusesGet (t.IsOfKind k.int_kind) self.old) }
+        ensures unchanged { OnErr result (self.new ≡ self.old) }
+    {
+        let (pod, left) = self.innermost.next()?;
+        let value = pod.get_int()?;
+        self.innermost.bytes = left;
+        Ok(value)
+    }
+
+    /// The number. INVAL where the next pod isn't a Long of its size.
+    pub fn get_long(&mut self) -> Result<i64, Errno>
+        ensures said { IfOk result (λ x. NextPasses (Says (k.long x)) self.old) }
+        ensures moved { OnOk result (self.new ≡ state_behind self.old) }
+        ensures accepted { (n : ℤ) → NextIs (fixed (k.long n)) self.old → result ≡ Ok n }
+        ensures refused { IfErr result (RefusesGet (t.IsOfKind k.long_kind) self.old) }
+        ensures unchanged { OnErr result (self.new ≡ self.old) }
+    {
+        let (pod, left) = self.innermost.next()?;
+        let value = pod.get_long()?;
+        self.innermost.bytes = left;
+        Ok(value)
+    }
+
+    /// The bits of the float. INVAL where the next pod isn't a Float of its size.
+    pub fn get_float(&mut self) -> Result<Float32, Errno>
+        ensures said { IfOk result (λ x. NextPasses (Says (k.float x.0)) self.old) }
+        ensures moved { OnOk result (self.new ≡ state_behind self.old) }
+        ensures accepted { (n : ℕ) → NextIs (fixed (k.float n)) self.old → IsOkAnd result (λ x. x.0 ≡ n) }
+        ensures refused { IfErr result (RefusesGet (t.IsOfKind k.float_kind) self.old) }
+        ensures unchanged { OnErr result (self.new ≡ self.old) }
+    {
+        let (pod, left) = self.innermost.next()?;
+        let value = pod.get_float()?;
+        self.innermost.bytes = left;
+        Ok(value)
+    }
+
+    /// The bits of the float. INVAL where the next pod isn't a Double of its size.
+    pub fn get_double(&mut self) -> Result<Float64, Errno>
+        ensures said { IfOk result (λ x. NextPasses (Says (k.double x.0)) self.old) }
+        ensures moved { OnOk result (self.new ≡ state_behind self.old) }
+        ensures accepted { (n : ℕ) → NextIs (fixed (k.double n)) self.old → IsOkAnd result (λ x. x.0 ≡ n) }
+        ensures refused { IfErr result (RefusesGet (t.IsOfKind k.double_kind) self.old) }
+        ensures unchanged { OnErr result (self.new ≡ self.old) }
+    {
+        let (pod, left) = self.innermost.next()?;
+        let value = pod.get_double()?;
+        self.innermost.bytes = left;
+        Ok(value)
+    }
+
+    /// The number of the file descriptor. INVAL where the next pod isn't a Fd of its size.
+    pub fn get_fd(&mut self) -> Result<i64, Errno>
+        ensures said { IfOk result (λ x. NextPasses (Says (k.fd x)) self.old) }
+        ensures moved { OnOk result (self.new ≡ state_behind self.old) }
+        ensures accepted { (n : ℤ) → NextIs (fixed (k.fd n)) self.old → result ≡ Ok n }
+        ensures refused { IfErr result (RefusesGet (t.IsOfKind k.fd_kind) self.old) }
+        ensures unchanged { OnErr result (self.new ≡ self.old) }
+    {
+        let (pod, left) = self.innermost.next()?;
+        let value = pod.get_fd()?;
+        self.innermost.bytes = left;
+        Ok(value)
+    }
+
+    /// The rectangle. INVAL where the next pod isn't a Rectangle of its size.
+    pub fn get_rectangle(&mut self) -> Result<Rectangle, Errno>
+        ensures said { IfOk result (λ x. NextPasses (Says (k.rectangle x.width x.height)) self.old) }
+        ensures moved { OnOk result (self.new ≡ state_behind self.old) }
+        ensures accepted { (w h : ℕ) → NextIs (fixed (k.rectangle w h)) self.old → IsOkAnd result (λ x. (x.width ≡ w) × (x.height ≡ h)) }
+        ensures refused { IfErr result (RefusesGet (t.IsOfKind k.rectangle_kind) self.old) }
+        ensures unchanged { OnErr result (self.new ≡ self.old) }
+    {
+        let (pod, left) = self.innermost.next()?;
+        let value = pod.get_rectangle()?;
+        self.innermost.bytes = left;
+        Ok(value)
+    }
+
+    /// The fraction. INVAL where the next pod isn't a Fraction of its size.
+    pub fn get_fraction(&mut self) -> Result<Fraction, Errno>
+        ensures said { IfOk result (λ x. NextPasses (Says (k.fraction x.num x.denom)) self.old) }
+        ensures moved { OnOk result (self.new ≡ state_behind self.old) }
+        ensures accepted { (n d : ℕ) → NextIs (fixed (k.fraction n d)) self.old → IsOkAnd result (λ x. (x.num ≡ n) × (x.denom ≡ d)) }
+        ensures refused { IfErr result (RefusesGet (t.IsOfKind k.fraction_kind) self.old) }
+        ensures unchanged { OnErr result (self.new ≡ self.old) }
+    {
+        let (pod, left) = self.innermost.next()?;
+        let value = pod.get_fraction()?;
+        self.innermost.bytes = left;
+        Ok(value)
+    }
+}
+
+#[tactic(auto, using(crate::proofs::AcceptedPods::accepted_others))]
+impl<'d> Parser<'d> {
+    ghost use Rattle.spa_view.specs.View.{pod_bytes};
+
+    /// The address, and the type of what it points to. INVAL where the next pod isn't a Pointer of 12 or 16 bytes.
+    pub fn get_pointer(&mut self) -> Result<(u64, Id), Errno>
+        ensures said { IfOk result (λ x. NextPasses (SaysPointer x.1.0 x.0) self.old) }
+        ensures moved { OnOk result (self.new ≡ state_behind self.old) }
+        ensures accepted { (type address : ℕ) → NextIs (pointer type address) self.old → IsOkAnd result (λ x. (x.0 ≡ address) × (x.1.0 ≡ type)) }
+        ensures refused { IfErr result (RefusesGet t.IsPointerPod self.old) }
+        ensures unchanged { OnErr result (self.new ≡ self.old) }
+    {
+        let (pod, left) = self.innermost.next()?;
+        let value = pod.get_pointer()?;
+        self.innermost.bytes = left;
+        Ok(value)
+    }
+
+    /// The bytes before the first NUL of a String. INVAL where the next pod isn't one, or doesn't end in NUL.
+    pub fn get_string_raw(&mut self) -> Result<&'d [u8], Errno>
+        ensures said { IfOk result (λ x. NextPasses (SaysString x.now) self.old) }
+        ensures moved { OnOk result (self.new ≡ state_behind self.old) }
+        ensures accepted { (s : List ℕ) → NextIs (string s) self.old → IsOkAnd result (λ x. x.now ≡ s) }
+        ensures refused { IfErr result (RefusesGet t.IsNulEnded self.old) }
+        ensures unchanged { OnErr result (self.new ≡ self.old) }
+    {
+        let (pod, left) = self.innermost.next()?;
+        let value = pod.get_string_raw()?;
+        self.innermost.bytes = left;
+        Ok(value)
+    }
+
+    /// The bytes of a Bytes. INVAL where the next pod isn't one.
+    pub fn get_bytes(&mut self) -> Result<&'d [u8], Errno>
+        ensures said { IfOk result (λ x. NextPasses (SaysBytes x.now) self.old) }
+        ensures moved { OnOk result (self.new ≡ state_behind self.old) }
+        ensures accepted { (s : List ℕ) → NextIs (bytes s) self.old → IsOkAnd result (λ x. x.now ≡ s) }
+        ensures refused { IfErr result (RefusesGet t.IsBytesPod self.old) }
+        ensures unchanged { OnErr result (self.new ≡ self.old) }
+    {
+        let (pod, left) = self.innermost.next()?;
+        let value = pod.get_bytes()?;
+        self.innermost.bytes = left;
+        Ok(value)
+    }
+
+    /// The view of the next pod, whatever it is.
+    pub fn get_pod(&mut self) -> Result<Pod<'d>, Errno>
+        ensures pod { IfOk result (λ pod. next_pod self.old ≡ Some (pod_bytes pod)) }
+        ensures moved { OnOk result (self.new ≡ state_behind self.old) }
+        ensures accepted { (v : Tree) → NextIs v self.old → IsOkAnd result (λ pod. IsPod (pod_bytes pod) v) }
+        ensures refused { IfErr result (λ e. (next_pod self.old ≡ None) × (e ≡ Errno.PIPE)) }
+        ensures unchanged { OnErr result (self.new ≡ self.old) }
+    {
+        let (pod, left) = self.innermost.next()?;
+        self.innermost.bytes = left;
+        Ok(pod)
+    }
+}

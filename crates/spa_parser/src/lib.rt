@@ -1,0 +1,10 @@
+//! A parser that takes an input apart pod by pod, opens structs and objects on the way, and never looks behind it.
+#![tactic(auto)]
+
+mod gets;
+pub mod laws;
+mod macros;
+mod parser;
+
+pub use parser::Parser;
+pub use spa_utils::{Errno, Frame};

@@ -23,8 +23,11 @@ const MISUSED: u8 = 2;
 pub enum Failure {
     /// The name of a refusal, and the byte of the input where the refused top-level pod begins.
     Pod { place: usize, kind: &'static str },
+    /// A growth was refused.
     OutOfMemory,
+    /// The standard input couldn't be read.
     ReadFailed,
+    /// The answer couldn't be written.
     WriteFailed,
 }
 

@@ -99,12 +99,19 @@ impl<I> From<AllocError> for DeserializeError<I> {
 /// Why an untyped read refuses, without a place: what the readers of bodies answer to the readers of pods.
 #[derive(Clone, Copy, PartialEq, Eq, Debug)]
 pub enum Refusal {
+    /// Fewer bytes are there than a header, the header's size word, or a property's key and flags need.
     Short,
+    /// A string's body is no text with one NUL behind it.
     Text,
+    /// The type number is none that is read there.
     InvalidType,
+    /// A choice's shape word is above 4.
     InvalidChoiceType,
+    /// A choice has fewer values than its shape needs.
     MissingChoiceValues,
+    /// A body isn't as long as its type's bodies are, or isn't made of whole elements.
     WrongSize,
+    /// A growth was refused.
     OutOfMemory,
 }
 

@@ -3,7 +3,7 @@ use Rattle.std.proofs.Common.{◌≡◌, ◌↔◌, ℕ, List, drop, ap, inl, in
 use Rattle.spa_format.specs.Words.{body_of}
 use Rattle.spa_format.specs.Tree.{Tree, fixed, string, bytes, bitmap, array, choice, pointer, struct, object, Trees, no_trees, member, Properties, no_properties, property}
 use Rattle.spa_format.specs.Pod.{IsWhole, IsBody, AreMembers, AreProperties, IsPod}
-use Rattle.spa_format.specs.Before.{IsBodyBefore, WereMembers, WereProperties, WasPod, HasBitmap, SomeHasBitmap, SomeValueHasBitmap}
+use Rattle.spa_format.specs.Before.{WasBody, WereMembers, WereProperties, WasPod, HasBitmap, SomeHasBitmap, SomeValueHasBitmap}
 use Rattle.spa_format.specs.Encoding.{encoding_of}
 use Rattle.spa_format.proofs.Unique.{one_value}
 
@@ -12,7 +12,7 @@ whole_as : (b : List ℕ) (t : ℕ) (P Q : List ℕ → Type 0) → (P (body_of 
 whole_as b t P Q f h = record { whole = h.whole; its_type = h.its_type; content = f h.content }
 
 mutual
-  still_body : (v : Tree) (b : List ℕ) → IsBodyBefore v b → IsBody v b
+  still_body : (v : Tree) (b : List ℕ) → WasBody v b → IsBody v b
   still_body (fixed x) b h = h
   still_body (string s) b h = h
   still_body (bytes s) b h = h
@@ -34,7 +34,7 @@ mutual
       (h.0, h.1, h.2, h.3, h.4, h.5, whole_as h.3 _ _ _ (still_body v (body_of h.3)) h.6, still_properties ps h.4 h.7)
 
 mutual
-  body_without : (v : Tree) (b : List ℕ) → IsBodyBefore v b → ¬ (HasBitmap v)
+  body_without : (v : Tree) (b : List ℕ) → WasBody v b → ¬ (HasBitmap v)
   body_without (fixed x) b h n = n
   body_without (string s) b h n = n
   body_without (bytes s) b h n = n
@@ -55,7 +55,7 @@ mutual
       ⊎_elim (body_without v (body_of h.3) h.6.content) (properties_without ps h.4 h.7) n
 
 mutual
-  body_before : (v : Tree) (b : List ℕ) → ¬ (HasBitmap v) → IsBody v b → IsBodyBefore v b
+  body_before : (v : Tree) (b : List ℕ) → ¬ (HasBitmap v) → IsBody v b → WasBody v b
   body_before (fixed x) b n h = h
   body_before (string s) b n h = h
   body_before (bytes s) b n h = h

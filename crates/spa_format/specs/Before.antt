@@ -7,32 +7,32 @@ use Rattle.spa_format.specs.Pod.{IsText, IsArray, IsChoice, IsPointer, IsWhole}
 
 abbrev mutual
   -- this body said this value; there was no type of bitmaps
-  pub IsBodyBefore : Tree → List ℕ → Type 0
-  IsBodyBefore (fixed x) b = IsFixedBody (kind_of x) b x
-  IsBodyBefore (string s) b = IsText s × (b ≡ s ++ 0 ∷ [])
-  IsBodyBefore (bytes s) b = b ≡ s
-  IsBodyBefore (bitmap s) b = ⊥
-  IsBodyBefore (array k xs) b = IsArray k xs b
-  IsBodyBefore (choice s f k x xs) b = IsChoice s f k x xs b
-  IsBodyBefore (pointer t a) b = IsPointer t a b
-  IsBodyBefore (struct vs) b = WereMembers vs b
-  IsBodyBefore (object t i ps) b = (header_size ≤ length b) × (t ≡ word_at b 0) × (i ≡ word_at b 4) × WereProperties ps (drop header_size b)
+  pub WasBody : Tree → List ℕ → Type 0
+  WasBody (fixed x) b = IsFixedBody (kind_of x) b x
+  WasBody (string s) b = IsText s × (b ≡ s ++ 0 ∷ [])
+  WasBody (bytes s) b = b ≡ s
+  WasBody (bitmap s) b = ⊥
+  WasBody (array k xs) b = IsArray k xs b
+  WasBody (choice s f k x xs) b = IsChoice s f k x xs b
+  WasBody (pointer t a) b = IsPointer t a b
+  WasBody (struct vs) b = WereMembers vs b
+  WasBody (object t i ps) b = (header_size ≤ length b) × (t ≡ word_at b 0) × (i ≡ word_at b 4) × WereProperties ps (drop header_size b)
 
   -- whole pods of these values one after another, and nothing else
   pub WereMembers : Trees → List ℕ → Type 0
   WereMembers no_trees b = b ≡ []
-  WereMembers (member v vs) b = (first : List ℕ) × (others : List ℕ) × (b ≡ first ++ others) × IsWhole first (type_of v) (IsBodyBefore v) × WereMembers vs others
+  WereMembers (member v vs) b = (first : List ℕ) × (others : List ℕ) × (b ≡ first ++ others) × IsWhole first (type_of v) (WasBody v) × WereMembers vs others
 
   -- the same, with the key word and the flags word before each pod
   pub WereProperties : Properties → List ℕ → Type 0
   WereProperties no_properties b = b ≡ []
   WereProperties (property key flags v ps) b =
       (header_size ≤ length b) × (key ≡ word_at b 0) × (flags ≡ word_at b 4)
-      × (first : List ℕ) × (others : List ℕ) × (drop header_size b ≡ first ++ others) × IsWhole first (type_of v) (IsBodyBefore v) × WereProperties ps others
+      × (first : List ℕ) × (others : List ℕ) × (drop header_size b ≡ first ++ others) × IsWhole first (type_of v) (WasBody v) × WereProperties ps others
 
 -- these bytes were a pod of this value
 abbrev pub WasPod : List ℕ → Tree → Type 0
-WasPod b v = IsWhole b (type_of v) (IsBodyBefore v)
+WasPod b v = IsWhole b (type_of v) (WasBody v)
 
 -- a bitmap stands in the value
 abbrev mutual

@@ -6,11 +6,7 @@ use Rattle.std.proofs.lemmas.List.{append-nil}
 use Rattle.std.proofs.lemmas.List.Elements.{filter-append}
 use Rattle.spa_format.specs.Tree.{Tree, Properties, no_properties, property, join_properties}
 use Rattle.spa_negotiate.specs.Keys.{value_at, key_list, distinct_of}
-
--- whether the number is among these
-abbrev pub contains : ℕ → List ℕ → Bool
-contains k [] = false
-contains k (j ∷ js) = if j == k then true else contains k js
+use Rattle.spa_negotiate.specs.PropertyLists.{contains}
 
 -- these numbers without one
 abbrev without : ℕ → List ℕ → List ℕ
@@ -31,13 +27,6 @@ test-flipped_by m n false e h = e
 test-flipped : (m n : ℕ) → (m == n) ≡ false → (n == m) ≡ false
 test-flipped m n h = test-flipped_by m n (n == m) refl h
 
-test-false_by : (m n : ℕ) (b : Bool) → (m == n) ≡ b → ¬ (m ≡ n) → (m == n) ≡ false
-test-false_by m n true e h = absurd (h (test-true m n e))
-test-false_by m n false e h = e
-
-test-false : (m n : ℕ) → ¬ (m ≡ n) → (m == n) ≡ false
-test-false m n h = test-false_by m n (m == n) refl h
-
 -- where k isn't among j and ks, it isn't j, and isn't among ks
 absent_first : (b c : Bool) → (if b then true else c) ≡ false → b ≡ false
 absent_first true c h = absurd (true≢false h)
@@ -46,34 +35,6 @@ absent_first false c h = refl
 absent_rest : (b c : Bool) → (if b then true else c) ≡ false → c ≡ false
 absent_rest true c h = absurd (true≢false h)
 absent_rest false c h = h
-
--- without j, another number k is among as many
-contains-without_by : (i j k : ℕ) (ks : List ℕ) (b : Bool) → (i == j) ≡ b → (j == k) ≡ false →
-    contains k (without j ks) ≡ contains k ks →
-    contains k (cond (not b) (i ∷ without j ks) (without j ks)) ≡ contains k (i ∷ ks)
-contains-without_by i j k ks true e n h =
-    let other = ap (λ x. x == k) (test-true i j e) ∙ n in
-    h ∙ sym (ap (λ b. if b then true else contains k ks) other)
-contains-without_by i j k ks false e n h = ap (λ c. if i == k then true else c) h
-
-contains-without : (j k : ℕ) → (j == k) ≡ false → (ks : List ℕ) →
-    contains k (without j ks) ≡ contains k ks
-contains-without j k n [] = refl
-contains-without j k n (i ∷ ks) =
-    contains-without_by i j k ks (i == j) refl n (contains-without j k n ks)
-
-contains-distinct_of_by : (j k : ℕ) (ks : List ℕ) (b : Bool) → (j == k) ≡ b →
-    contains k (distinct_of ks) ≡ contains k ks →
-    (if b then true else contains k (without j (distinct_of ks)))
-    ≡ (if b then true else contains k ks)
-contains-distinct_of_by j k ks true e h = refl
-contains-distinct_of_by j k ks false e h = contains-without j k e (distinct_of ks) ∙ h
-
--- a number is among the distinct ones where it is among all
-pub contains-distinct_of : (k : ℕ) (ks : List ℕ) → contains k (distinct_of ks) ≡ contains k ks
-contains-distinct_of k [] = refl
-contains-distinct_of k (j ∷ ks) =
-    contains-distinct_of_by j k ks (j == k) refl (contains-distinct_of k ks)
 
 without-other : (j k : ℕ) (ks : List ℕ) → (k == j) ≡ false → without j (k ∷ ks) ≡ k ∷ without j ks
 without-other j k ks n = ap (λ b. cond (not b) (k ∷ without j ks) (without j ks)) n
@@ -132,35 +93,7 @@ pub key_list-join : (ps qs : Properties) →
 key_list-join no_properties qs = refl
 key_list-join (property k f v ps) qs = ap (λ ks. k ∷ ks) (key_list-join ps qs)
 
--- a key without a value isn't among the keys,
-contains-absent_by : (k : ℕ) (v : Tree) (ps : Properties) (b : Bool) →
-    (value_at k ps ≡ None → contains k (key_list ps) ≡ false) →
-    (if b then Some v else value_at k ps) ≡ None →
-    (if b then true else contains k (key_list ps)) ≡ false
-contains-absent_by k v ps true more h = cc
-contains-absent_by k v ps false more h = more h
-
-pub contains-absent : (k : ℕ) (ps : Properties) → value_at k ps ≡ None →
-    contains k (key_list ps) ≡ false
-contains-absent k no_properties h = refl
-contains-absent k (property j f v ps) h =
-    contains-absent_by k v ps (j == k) (contains-absent k ps) h
-
--- one with a value is,
-contains-found_by : (k : ℕ) (v x : Tree) (ps : Properties) (b : Bool) →
-    (value_at k ps ≡ Some x → contains k (key_list ps) ≡ true) →
-    (if b then Some v else value_at k ps) ≡ Some x →
-    (if b then true else contains k (key_list ps)) ≡ true
-contains-found_by k v x ps true more h = refl
-contains-found_by k v x ps false more h = more h
-
-pub contains-found : (k : ℕ) (x : Tree) (ps : Properties) → value_at k ps ≡ Some x →
-    contains k (key_list ps) ≡ true
-contains-found k x no_properties h = cc
-contains-found k x (property j f v ps) h =
-    contains-found_by k v x ps (j == k) (contains-found k x ps) h
-
--- and one that isn't among the keys has no value
+-- a key that isn't among those of the properties has no value
 value_at-absent_by : (k : ℕ) (v : Tree) (ps : Properties) (b : Bool) →
     (contains k (key_list ps) ≡ false → value_at k ps ≡ None) →
     (if b then true else contains k (key_list ps)) ≡ false →
@@ -213,11 +146,22 @@ pub value_at-joined : (k f : ℕ) (v : Tree) (ss ts ps : Properties) →
 value_at-joined k f v ss ts ps at gone =
     ap (value_at k) at ∙ value_at-behind k ss (property k f v ts) gone ∙ value_at-first k f v ts
 
-pub value_at-same : (j k f : ℕ) (v : Tree) (ps : Properties) → j ≡ k →
-    value_at k (property j f v ps) ≡ Some v
-value_at-same j k f v ps e = ap (λ n. value_at k (property n f v ps)) e ∙ value_at-first k f v ps
+contains-push_by : (k j i : ℕ) (ks : List ℕ) (b c : Bool) →
+    contains k (ks ++ j ∷ []) ≡ (if c then true else contains k ks) →
+    (if b then true else contains k (ks ++ j ∷ [])) ≡ (if c then true else if b then true else contains k ks)
+contains-push_by k j i ks true true h = refl
+contains-push_by k j i ks true false h = refl
+contains-push_by k j i ks false c h = h
 
--- one property has no value under another key
-pub value_at-other : (j k f : ℕ) (v : Tree) → ¬ (j ≡ k) →
-    value_at k (property j f v no_properties) ≡ None
-value_at-other j k f v h = ap (λ b. if b then Some v else None) (test-false j k h)
+-- what is among some numbers and one more
+contains-push : (k j : ℕ) (ks : List ℕ) →
+    contains k (ks ++ j ∷ []) ≡ (if j == k then true else contains k ks)
+contains-push k j [] = refl
+contains-push k j (i ∷ ks) = contains-push_by k j i ks (i == k) (j == k) (contains-push k j ks)
+
+-- the keys of some properties and of one more
+pub contains-key_list : (k j f : ℕ) (v : Tree) (ps : Properties) →
+    contains k (key_list (join_properties ps (property j f v no_properties)))
+    ≡ (if j == k then true else contains k (key_list ps))
+contains-key_list k j f v ps =
+    ap (contains k) (key_list-join ps (property j f v no_properties)) ∙ contains-push k j (key_list ps)

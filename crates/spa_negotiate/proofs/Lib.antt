@@ -7,4 +7,7 @@ pub mod Settling
 pub mod Sharing
 pub mod Refusing
 pub mod Steps
+pub mod Places
 pub mod Objects
+pub mod Values
+pub mod Fronts

@@ -1,72 +1,44 @@
 -- Values that aren't choices, and values that stand in no order.
-use Rattle.std.proofs.Common.{◌≡◌, ◌≢◌, ℕ, List, [], refl}
+use Rattle.std.proofs.Common.{◌≡◌, ◌≢◌, ◌<◌, ◌≤◌, ℕ, [], refl, sym, ◌∙◌, arith}
 use Rattle.std.specs.Prelude.{ℤ}
-use Rattle.spa_format.specs.Kind.{Kind, kind_of, Fixed, id, int, long}
-use Rattle.spa_format.specs.Tree.{Shape, Tree, fixed, array, choice, object, Properties}
-use Rattle.spa_fixed.specs.Choices.{choice_enum_tree}
-use Rattle.spa_utils.specs.declared.choice.ChoiceEnum.{ChoiceEnum}
-use Rattle.spa_utils.specs.declared.choice.ChoiceEnum.TheVariants as E
-use Rattle.spa_value.specs.declared.array.ValueArray.{ValueArray}
-use Rattle.spa_value.specs.declared.array.ValueArray.TheVariants as A
-use Rattle.spa_value.specs.declared.choice_value.ChoiceValue.{ChoiceValue}
-use Rattle.spa_value.specs.declared.choice_value.ChoiceValue.TheVariants as C
-use Rattle.spa_value.specs.declared.object.Object.{Object, Object'}
+use Rattle.spa_format.specs.Kind.{Kind, id_kind, int_kind, long_kind, type_number, kind_of, Fixed, id, int, long}
+use Rattle.spa_format.specs.Tree.{Tree, fixed, choice, object, type_of, array_type, choice_type, object_type}
 use Rattle.spa_value.specs.declared.value.Value.{Value}
 use Rattle.spa_value.specs.declared.value.Value.TheVariants as V
+use Rattle.spa_value.proofs.TypeLaws.{type_of-array_view, type_of-choice_view, type_of-object_view}
 use Rattle.spa_value.specs.View.{view, array_view, choice_view, object_view}
 use Rattle.spa_negotiate.specs.declared.offer.Rule.TheVariants.{Only}
 use Rattle.spa_negotiate.specs.Admits.{IsPlain, IsOrderedKind, IsAtMostFixed, IsAtMost, plain_of}
+use Rattle.spa_negotiate.specs.Fronts.{IsObject}
 use Rattle.spa_negotiate.specs.Offers.{further_values_of, rule_of}
 
--- what holds of each array holds of an array's tree,
-array_all : (P : Tree → Type 0) → ((k : Kind) (xs : List Fixed) → P (array k xs)) →
-    (a : ValueArray) → P (array_view a)
-array_all P h (A.None xs) = h _ _
-array_all P h (A.Bool xs) = h _ _
-array_all P h (A.Id xs) = h _ _
-array_all P h (A.Int xs) = h _ _
-array_all P h (A.Long xs) = h _ _
-array_all P h (A.Float xs) = h _ _
-array_all P h (A.Double xs) = h _ _
-array_all P h (A.Rectangle xs) = h _ _
-array_all P h (A.Fraction xs) = h _ _
-array_all P h (A.Fd xs) = h _ _
+-- a tree of another type than a choice's is plain,
+IsPlain-type_of : (t : Tree) → type_of t ≢ choice_type → IsPlain t
+IsPlain-type_of (choice s f k d vs) n = absurd (n refl)
+IsPlain-type_of _ n = tt
 
--- what holds of each object of an object's,
-object_all : (P : Tree → Type 0) → ((t i : ℕ) (ps : Properties) → P (object t i ps)) →
-    (o : Object) → P (object_view o)
-object_all P h (Object' t i s r) = h _ _ _
+-- and one of another type than an object's is none
+no_object-type_of : (t : Tree) → type_of t ≢ object_type → ¬ (IsObject t)
+no_object-type_of (object t i ps) n = λ h. n refl
+no_object-type_of _ n = λ h. h
 
--- and what holds of each choice of a choice's
-enum_all : (P : Tree → Type 0) →
-    ((s : Shape) (f : ℕ) (k : Kind) (d : Fixed) (vs : List Fixed) → P (choice s f k d vs)) →
-    {T : Type 0} (k : Kind) (g : T → Fixed) (n : ℕ) (c : ChoiceEnum T) →
-    P (choice_enum_tree k g n c)
-enum_all P h k g n (E.None x) = h _ _ _ _ _
-enum_all P h k g n (E.Range x a b) = h _ _ _ _ _
-enum_all P h k g n (E.Step x a b s) = h _ _ _ _ _
-enum_all P h k g n (E.Enum x xs) = h _ _ _ _ _
-enum_all P h k g n (E.Flags x xs) = h _ _ _ _ _
-
-choice_all : (P : Tree → Type 0) →
-    ((s : Shape) (f : ℕ) (k : Kind) (d : Fixed) (vs : List Fixed) → P (choice s f k d vs)) →
-    (c : ChoiceValue) → P (choice_view c)
-choice_all P h (C.Bool c) = enum_all P h _ _ _ c.1
-choice_all P h (C.Id c) = enum_all P h _ _ _ c.1
-choice_all P h (C.Int c) = enum_all P h _ _ _ c.1
-choice_all P h (C.Long c) = enum_all P h _ _ _ c.1
-choice_all P h (C.Float c) = enum_all P h _ _ _ c.1
-choice_all P h (C.Double c) = enum_all P h _ _ _ c.1
-choice_all P h (C.Rectangle c) = enum_all P h _ _ _ c.1
-choice_all P h (C.Fraction c) = enum_all P h _ _ _ c.1
-choice_all P h (C.Fd c) = enum_all P h _ _ _ c.1
-
--- a value of another variant than a choice is plain
+-- a value of another variant than a choice is plain,
 pub IsPlain-view : (v : Value) → ((c : _) → v ≢ V.Choice c) → IsPlain (view v)
 IsPlain-view (V.Choice c) n = absurd (n c refl)
-IsPlain-view (V.ValueArray a) n = array_all IsPlain (λ _ _. tt) a
-IsPlain-view (V.Object o) n = object_all IsPlain (λ _ _ _. tt) o
+IsPlain-view (V.ValueArray a) n =
+    IsPlain-type_of (view (V.ValueArray a)) (λ e. omega (arith, sym (type_of-array_view a) ∙ e))
+IsPlain-view (V.Object o) n =
+    IsPlain-type_of (view (V.Object o)) (λ e. omega (arith, sym (type_of-object_view o) ∙ e))
 IsPlain-view _ n = tt
+
+-- and one of another variant than an object is no object
+pub not_object : (v : Value) → ((o : _) → v ≢ V.Object o) → ¬ (IsObject (view v))
+not_object (V.Object o) n = absurd (n o refl)
+not_object (V.ValueArray a) n =
+    no_object-type_of (view (V.ValueArray a)) (λ e. omega (arith, sym (type_of-array_view a) ∙ e))
+not_object (V.Choice c) n =
+    no_object-type_of (view (V.Choice c)) (λ e. omega (arith, sym (type_of-choice_view c) ∙ e))
+not_object _ n = λ h. h
 
 -- a plain value offers itself
 pub rule_of-plain : (t : Tree) → IsPlain t → Only ≡ rule_of t
@@ -91,25 +63,64 @@ abbrev IsOrdered : Tree → Type 0
 IsOrdered (fixed x) = IsOrderedKind (kind_of x)
 IsOrdered _ = ⊥
 
+type_number-ordered : (k : Kind) → IsOrderedKind k → type_number k < array_type
+type_number-ordered id_kind h = omega arith
+type_number-ordered int_kind h = omega arith
+type_number-ordered long_kind h = omega arith
+type_number-ordered _ h = absurd h
+
+-- and so of a lower type than arrays, objects and choices
+type_of-ordered : (t : Tree) → IsOrdered t → type_of t < array_type
+type_of-ordered (fixed x) h = type_number-ordered (kind_of x) h
+type_of-ordered _ h = absurd h
+
+not_ordered-type_of : (t : Tree) (n : ℕ) → type_of t ≡ n → array_type ≤ n → ¬ (IsOrdered t)
+not_ordered-type_of t n e l h = let below = type_of-ordered t h in omega (arith, below, e, l)
+
+not_ordered-array : (a : _) → ¬ (IsOrdered (array_view a))
+not_ordered-array a = not_ordered-type_of _ array_type (type_of-array_view a) (omega arith)
+
+not_ordered-object : (o : _) → ¬ (IsOrdered (object_view o))
+not_ordered-object o = not_ordered-type_of _ object_type (type_of-object_view o) (omega arith)
+
+not_ordered-choice : (c : _) → ¬ (IsOrdered (choice_view c))
+not_ordered-choice c = not_ordered-type_of _ choice_type (type_of-choice_view c) (omega arith)
+
 IsOrderedKind-below : (x y : Fixed) → IsAtMostFixed x y → IsOrderedKind (kind_of x)
 IsOrderedKind-below (id x) y h = tt
 IsOrderedKind-below (int x) y h = tt
 IsOrderedKind-below (long x) y h = tt
 IsOrderedKind-below _ y h = h
 
+-- what is at most another value is ordered,
 IsOrdered-below : (v w : Tree) → IsAtMost v w → IsOrdered v
 IsOrdered-below (fixed x) (fixed y) h = IsOrderedKind-below x y h
 IsOrdered-below (fixed x) _ h = absurd h
 IsOrdered-below _ _ h = h
+
+IsOrderedKind-above : (x y : Fixed) → IsAtMostFixed x y → IsOrderedKind (kind_of y)
+IsOrderedKind-above (id x) (id y) h = tt
+IsOrderedKind-above (id x) y h = absurd h
+IsOrderedKind-above (int x) (int y) h = tt
+IsOrderedKind-above (int x) y h = absurd h
+IsOrderedKind-above (long x) (long y) h = tt
+IsOrderedKind-above (long x) y h = absurd h
+IsOrderedKind-above _ y h = absurd h
+
+-- and so is what is at least one
+IsOrdered-above : (v w : Tree) → IsAtMost v w → IsOrdered w
+IsOrdered-above (fixed x) (fixed y) h = IsOrderedKind-above x y h
+IsOrdered-above (fixed x) _ h = absurd h
+IsOrdered-above _ _ h = absurd h
 
 not_ordered : (v : Value) → ((x : _) → v ≢ V.Id x) → ((x : _) → v ≢ V.Int x) →
     ((x : _) → v ≢ V.Long x) → ¬ (IsOrdered (view v))
 not_ordered (V.Id x) a b c = absurd (a x refl)
 not_ordered (V.Int x) a b c = absurd (b x refl)
 not_ordered (V.Long x) a b c = absurd (c x refl)
-not_ordered (V.ValueArray x) a b c = array_all (λ t. ¬ (IsOrdered t)) (λ _ _ h. h) x
-not_ordered (V.Object x) a b c = object_all (λ t. ¬ (IsOrdered t)) (λ _ _ _ h. h) x
-not_ordered (V.Choice x) a b c = choice_all (λ t. ¬ (IsOrdered t)) (λ _ _ _ _ _ h. h) x
+not_ordered (V.ValueArray x) a b c = not_ordered-array x
+not_ordered (V.Object x) a b c = not_ordered-object x
+not_ordered (V.Choice x) a b c = not_ordered-choice x
 not_ordered _ a b c = λ h. h
 
 -- a value that is no id, int or long is at most no other
@@ -117,33 +128,38 @@ pub not_below : (v : Value) (t : Tree) → ((x : _) → v ≢ V.Id x) → ((x : 
     ((x : _) → v ≢ V.Long x) → ¬ (IsAtMost (view v) t)
 not_below v t a b c h = not_ordered v a b c (IsOrdered-below (view v) t h)
 
--- the tree isn't at least this value
-abbrev NotAbove : Fixed → Tree → Type 0
-NotAbove x t = ¬ (IsAtMost (fixed x) t)
-
 -- no value but an id is at least an id,
 pub not_above_id : (m : ℕ) (v : Value) → ((x : _) → v ≢ V.Id x) →
     ¬ (IsAtMost (fixed (id m)) (view v))
 not_above_id m (V.Id x) a = absurd (a x refl)
-not_above_id m (V.ValueArray x) a = array_all (NotAbove (id m)) (λ _ _ h. h) x
-not_above_id m (V.Object x) a = object_all (NotAbove (id m)) (λ _ _ _ h. h) x
-not_above_id m (V.Choice x) a = choice_all (NotAbove (id m)) (λ _ _ _ _ _ h. h) x
+not_above_id m (V.ValueArray x) a =
+    λ h. not_ordered-array x (IsOrdered-above (fixed (id m)) (array_view x) h)
+not_above_id m (V.Object x) a =
+    λ h. not_ordered-object x (IsOrdered-above (fixed (id m)) (object_view x) h)
+not_above_id m (V.Choice x) a =
+    λ h. not_ordered-choice x (IsOrdered-above (fixed (id m)) (choice_view x) h)
 not_above_id m _ a = λ h. h
 
 -- none but an int at least an int,
 pub not_above_int : (m : ℤ) (v : Value) → ((x : _) → v ≢ V.Int x) →
     ¬ (IsAtMost (fixed (int m)) (view v))
 not_above_int m (V.Int x) a = absurd (a x refl)
-not_above_int m (V.ValueArray x) a = array_all (NotAbove (int m)) (λ _ _ h. h) x
-not_above_int m (V.Object x) a = object_all (NotAbove (int m)) (λ _ _ _ h. h) x
-not_above_int m (V.Choice x) a = choice_all (NotAbove (int m)) (λ _ _ _ _ _ h. h) x
+not_above_int m (V.ValueArray x) a =
+    λ h. not_ordered-array x (IsOrdered-above (fixed (int m)) (array_view x) h)
+not_above_int m (V.Object x) a =
+    λ h. not_ordered-object x (IsOrdered-above (fixed (int m)) (object_view x) h)
+not_above_int m (V.Choice x) a =
+    λ h. not_ordered-choice x (IsOrdered-above (fixed (int m)) (choice_view x) h)
 not_above_int m _ a = λ h. h
 
 -- and none but a long at least a long
 pub not_above_long : (m : ℤ) (v : Value) → ((x : _) → v ≢ V.Long x) →
     ¬ (IsAtMost (fixed (long m)) (view v))
 not_above_long m (V.Long x) a = absurd (a x refl)
-not_above_long m (V.ValueArray x) a = array_all (NotAbove (long m)) (λ _ _ h. h) x
-not_above_long m (V.Object x) a = object_all (NotAbove (long m)) (λ _ _ _ h. h) x
-not_above_long m (V.Choice x) a = choice_all (NotAbove (long m)) (λ _ _ _ _ _ h. h) x
+not_above_long m (V.ValueArray x) a =
+    λ h. not_ordered-array x (IsOrdered-above (fixed (long m)) (array_view x) h)
+not_above_long m (V.Object x) a =
+    λ h. not_ordered-object x (IsOrdered-above (fixed (long m)) (object_view x) h)
+not_above_long m (V.Choice x) a =
+    λ h. not_ordered-choice x (IsOrdered-above (fixed (long m)) (choice_view x) h)
 not_above_long m _ a = λ h. h

@@ -1,19 +1,20 @@
 -- What is refused under a key, of the properties, and of two objects that can't meet.
-use Rattle.std.proofs.Common.{◌≡◌, ℕ, ◌∷◌, refl, sym, subst, arith, Option, Some, None}
+use Rattle.std.proofs.Common.{◌≡◌, ℕ, ◌∷◌, false, refl, sym, subst, arith, Option, Some, None}
 use Rattle.std.specs.List.{All, Contains}
 use Rattle.std.proofs.lemmas.List.Elements.{All-contains, Contains-append_right}
 use Rattle.spa_format.specs.Tree.{Tree, object, Properties, property, join_properties}
 use Rattle.spa_negotiate.specs.declared.error.NegotiateError.{NegotiateError}
 use Rattle.spa_negotiate.specs.declared.error.NegotiateError.TheVariants.{TypeMismatch, Unsupported, Disjoint, OutOfMemory}
-use Rattle.spa_negotiate.specs.Keys.{value_at, keys_of}
+use Rattle.spa_negotiate.specs.Keys.{value_at, key_list, keys_of}
 use Rattle.spa_negotiate.specs.Meeting.{SettlesKeys, Agree, AgreeAt, CanMeet}
+use Rattle.spa_negotiate.specs.PropertyLists.{contains}
 use Rattle.spa_negotiate.specs.Refusals.{AreUnsupported, AreDisjoint, IsRefusedAt, IsKeyRefusal, IsRefusal, AreRefused, OnDisagreement}
 use Rattle.spa_negotiate.proofs.Settling.{IsRefusedAt-first}
 
 -- a refusal under a key that isn't settled yet
 pub IsRefusal-first : (ps qs ss rs ts : Properties) (k f : ℕ) (v : Tree) (e : NegotiateError) →
-    ps ≡ join_properties ss (property k f v ts) → SettlesKeys ps qs ss rs → value_at k rs ≡ None →
-    IsKeyRefusal k (Some v) (value_at k qs) e → IsRefusal ps qs e
+    ps ≡ join_properties ss (property k f v ts) → SettlesKeys ps qs ss rs →
+    contains k (key_list ss) ≡ false → IsKeyRefusal k (Some v) (value_at k qs) e → IsRefusal ps qs e
 IsRefusal-first ps qs ss rs ts k f v (Unsupported j) at h n r =
     subst (λ m. IsRefusedAt AreUnsupported ps qs m) (sym r.0)
     (IsRefusedAt-first AreUnsupported ps qs ss rs ts k f v at h n r.1)
@@ -61,5 +62,6 @@ cannot_meet (object t i ps) (object u j qs) (Unsupported k) h =
 cannot_meet (object t i ps) (object u j qs) (Disjoint k) h =
     λ can. none_agree AreDisjoint Agree-disjoint ps qs k h.1 can.1
 cannot_meet (object t i ps) (object u j qs) OutOfMemory h = tt
+cannot_meet (object t i ps) (object u j qs) _ h = absurd h.1
 cannot_meet (object t i ps) _ e h = absurd h
 cannot_meet _ w e h = absurd h

@@ -4,8 +4,11 @@
 mod admission;
 mod element;
 mod error;
+mod keyed;
 mod negotiation;
 mod offer;
+mod pods;
 
-pub use error::NegotiateError;
+pub use error::{NegotiateError, Side};
 pub use negotiation::negotiate;
+pub use pods::negotiate_pods;

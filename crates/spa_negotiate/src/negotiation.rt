@@ -1,19 +1,21 @@
 //! Two objects meet.
-ghost use Rattle.std.specs.Prelude.{◌≡◌, IfErr, IfOk, MatchOption, None, OnOk, Some};
+ghost use Rattle.std.specs.Prelude.{IfErr, IfOk, OnOk, Some};
 ghost use Rattle.spa_format.specs.Tree.{join_properties};
 ghost use Rattle.spa_value.specs.View.{object_view, view};
 ghost use Rattle.spa_value.specs.Views.{property_views};
 ghost use Rattle.spa_negotiate.specs.Admits.{IsCommon, IsPlain};
 ghost use Rattle.spa_negotiate.specs.Meeting.{CanMeet, Meet, Settles};
 ghost use Rattle.spa_negotiate.specs.Offers.{BothAdmit, IsOfferRefusal};
-ghost use Rattle.spa_negotiate.specs.PropertyLists.{IsPushed, SettlesListed, found_at};
+ghost use Rattle.spa_negotiate.specs.PropertyLists.{HasPlaces, IsPushed, IsSettled, SettlesListed, found_at};
 ghost use Rattle.spa_negotiate.specs.Refusals.{AreRefused, IsKeyRefusal, IsRefusal, OnDisagreement};
 
 use crate::admission::first_common;
 use crate::error::NegotiateError;
+use crate::keyed::{Keyed, add_key};
 use crate::offer::{Offer, offer_of, settled};
 use spa_value::{Object, Property, Value};
 use std::alloc::{AllocError, Global};
+use std::collections::BTreeSet;
 
 /// The object in which two objects meet.
 ///
@@ -28,7 +30,8 @@ use std::alloc::{AllocError, Global};
 /// The refusals: `TypeMismatch`, before any other; then, at the first of a's keys under which the two don't agree,
 /// `Unsupported`, before `Disjoint`. `OutOfMemory` is answered only for two objects of one type.
 ///
-/// The time grows with the square of the number of properties, since a key is looked for along a list.
+/// A key is looked for in a tree of keys, so the time grows with n log n for n properties, their values aside. Under a key
+/// of both each alternative of one Enum is looked for along those of the other.
 pub fn negotiate(alloc: Global, a: &Object, b: &Object) -> Result<Object, NegotiateError>
     // Unless memory runs out, this succeeds exactly where the two can meet,
     ensures accepted { OnOk result (CanMeet (object_view a.now) (object_view b.now)) }
@@ -43,7 +46,8 @@ pub fn negotiate(alloc: Global, a: &Object, b: &Object) -> Result<Object, Negoti
     }
     let ours = a.properties.as_slice();
     let theirs = b.properties.as_slice();
-    let first = settle_first(alloc, ours, theirs)?;
+    let others = Keyed::new(alloc, theirs)?;
+    let first = settle_first(alloc, ours, &others)?;
     let properties = settle_others(first, ours, theirs)?;
     Ok(Object {
         type_: a.type_,
@@ -52,58 +56,58 @@ pub fn negotiate(alloc: Global, a: &Object, b: &Object) -> Result<Object, Negoti
     })
 }
 
+/// Settled properties, and the keys that were settled.
+#[derive(Drop)]
+struct Settled {
+    met: Vec<Property>,
+    keys: BTreeSet<u32>,
+}
+
 /// The settled properties of the first side.
-fn settle_first(
-    alloc: Global,
-    a: &[Property],
-    b: &[Property],
-) -> Result<Vec<Property>, NegotiateError>
-    ensures settled { IfOk result (λ met. SettlesListed a.now b.now (property_views a.now) met.items) }
-    ensures cause { IfErr result (IsRefusal (property_views a.now) (property_views b.now)) }
+fn settle_first(alloc: Global, a: &[Property], b: &Keyed<'_>) -> Result<Settled, NegotiateError>
+    requires { HasPlaces b.now.places b.now.properties.now }
+    ensures settled { IfOk result (IsSettled a.now b.now.properties.now (property_views a.now)) }
+    ensures cause { IfErr result (IsRefusal (property_views a.now) (property_views b.now.properties.now)) }
 {
     let mut met = Vec::new(alloc);
+    let mut keys = BTreeSet::new(alloc);
     for property in a {
-        match find(met.as_slice(), property.key) {
-            Some(_) => {}
-            None => {
-                let value = settle(alloc, property, b)?;
-                push(&mut met, property.key, value)?;
-            }
+        if add_key(&mut keys, property.key)? {
+            let value = settle(alloc, property, b)?;
+            push(&mut met, property.key, value)?;
         }
     }
-    Ok(met)
+    Ok(Settled { met, keys })
 }
 
 /// The settled properties of the first side, and behind them those that the second side alone has. `a` stands in the
 /// contract alone.
 fn settle_others(
-    first: Vec<Property>,
+    first: Settled,
     a: &[Property],
     b: &[Property],
 ) -> Result<Vec<Property>, AllocError>
-    requires { SettlesListed a.now b.now (property_views a.now) first.items }
+    requires { IsSettled a.now b.now (property_views a.now) first }
     ensures { IfOk result (λ met. SettlesListed a.now b.now (join_properties (property_views a.now) (property_views b.now)) met.items) }
 {
-    let mut met = first;
+    let Settled { mut met, mut keys } = first;
     for property in b {
-        match find(met.as_slice(), property.key) {
-            Some(_) => {}
-            None => {
-                let value = settled(&property.value)?;
-                push(&mut met, property.key, value)?;
-            }
+        if add_key(&mut keys, property.key)? {
+            let value = settled(&property.value)?;
+            push(&mut met, property.key, value)?;
         }
     }
     Ok(met)
 }
 
 /// A plain value that settles the key of a property of the first side, where the second side has these.
-fn settle(alloc: Global, property: &Property, others: &[Property]) -> Result<Value, NegotiateError>
+fn settle(alloc: Global, property: &Property, others: &Keyed<'_>) -> Result<Value, NegotiateError>
+    requires { HasPlaces others.now.places others.now.properties.now }
     ensures plain { IfOk result (λ x. IsPlain (view x)) }
-    ensures settles { IfOk result (λ x. Settles (Some (view property.now.value)) (found_at property.now.key others.now) (view x)) }
-    ensures cause { IfErr result (IsKeyRefusal property.now.key (Some (view property.now.value)) (found_at property.now.key others.now)) }
+    ensures settles { IfOk result (λ x. Settles (Some (view property.now.value)) (found_at property.now.key others.now.properties.now) (view x)) }
+    ensures cause { IfErr result (IsKeyRefusal property.now.key (Some (view property.now.value)) (found_at property.now.key others.now.properties.now)) }
 {
-    match find(others, property.key) {
+    match others.find(property.key) {
         Some(other) => common(alloc, property.key, &property.value, other),
         None => Ok(settled(&property.value)?),
     }
@@ -132,18 +136,6 @@ fn common_of(key: u32, first: &Offer, second: &Offer) -> Result<Value, Negotiate
         Some(value) => Ok(value),
         None => Err(NegotiateError::Disjoint(key)),
     }
-}
-
-/// The value of the first property with this key.
-fn find(properties: &[Property], key: u32) -> Option<&Value>
-    ensures { MatchOption result (found_at key properties.now ≡ None) (λ value. found_at key properties.now ≡ Some (view value.now)) }
-{
-    for property in properties {
-        if property.key == key {
-            return Some(&property.value);
-        }
-    }
-    None
 }
 
 /// Appends a property with empty flags.

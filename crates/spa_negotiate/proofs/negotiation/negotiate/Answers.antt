@@ -1,5 +1,7 @@
+use Rattle.std.proofs.Common.{◌∙◌, subst}
 use Rattle.spa_value.specs.Views.{property_views}
 use Rattle.spa_negotiate.specs.declared.error.NegotiateError.TheVariants.{TypeMismatch, OutOfMemory}
+use Rattle.spa_negotiate.specs.PropertyLists.{IsSettled}
 use Rattle.spa_negotiate.proofs.Sharing.{passed_on}
 use Rattle.spa_negotiate.proofs.Refusing.{cannot_meet}
 use Rattle.spa_negotiate.proofs.Objects.{mismatch, objects_refused, objects_meet, objects_can}
@@ -12,20 +14,32 @@ returns-then-a-b-clause-refused c =
 pub returns-then-a-b-clause-cause : goal.returns-then-a-b-clause-cause
 returns-then-a-b-clause-cause c = mismatch c.args.a.now c.args.b.now c.if-a-b.true
 
+pub returns-in_err-others-clause-cause : goal.returns-in_err-others-clause-cause
+returns-in_err-others-clause-cause c =
+    passed_on _ OutOfMemory _ c.from_residual.ensures.1
+    (objects_refused c.args.a.now c.args.b.now _ _
+    c.as_slice-ours.ensures.value c.as_slice-theirs.ensures.value c.if-a-b.false OutOfMemory tt)
+
 pub returns-in_err-first-clause-refused : goal.returns-in_err-first-clause-refused
 returns-in_err-first-clause-refused c =
-    passed_on _ _ _ c.from_residual.ensures.1
+    passed_on _ _ _ c.from_residual-in_err-first.ensures.1
     (cannot_meet _ _ _
-    (objects_refused c.args.a.now c.args.b.now _ _
-    c.as_slice-ours.ensures.value c.as_slice-theirs.ensures.value c.if-a-b.false
+    (objects_refused c.args.a.now c.args.b.now _ _ c.as_slice-ours.ensures.value
+    (c.in_ok-others.ensures.properties ∙ c.as_slice-theirs.ensures.value) c.if-a-b.false
     _ c.in_err-first.ensures.cause))
 
 pub returns-in_err-first-clause-cause : goal.returns-in_err-first-clause-cause
 returns-in_err-first-clause-cause c =
-    passed_on _ _ _ c.from_residual.ensures.1
-    (objects_refused c.args.a.now c.args.b.now _ _
-    c.as_slice-ours.ensures.value c.as_slice-theirs.ensures.value c.if-a-b.false
+    passed_on _ _ _ c.from_residual-in_err-first.ensures.1
+    (objects_refused c.args.a.now c.args.b.now _ _ c.as_slice-ours.ensures.value
+    (c.in_ok-others.ensures.properties ∙ c.as_slice-theirs.ensures.value) c.if-a-b.false
     _ c.in_err-first.ensures.cause)
+
+pub settle_others-requires : goal.settle_others-requires
+settle_others-requires c =
+    let ours = c.as_slice-ours.result.now in
+    subst (λ ys. IsSettled ours ys (property_views ours) c.in_ok-first.first)
+    c.in_ok-others.ensures.properties c.in_ok-first.ensures.settled
 
 pub returns-in_err-properties-clause-cause : goal.returns-in_err-properties-clause-cause
 returns-in_err-properties-clause-cause c =
@@ -41,7 +55,7 @@ returns-clause-value c =
 
 pub returns-clause-accepted : goal.returns-clause-accepted
 returns-clause-accepted c =
-    let met = c.in_ok-first in
-    objects_can c.args.a.now c.args.b.now _ _
-    c.as_slice-ours.ensures.value c.as_slice-theirs.ensures.value c.if-a-b.false
-    (property_views met.first.items) met.ensures.settled
+    let first = c.in_ok-first in
+    objects_can c.args.a.now c.args.b.now _ _ c.as_slice-ours.ensures.value
+    (c.in_ok-others.ensures.properties ∙ c.as_slice-theirs.ensures.value) c.if-a-b.false
+    (property_views first.first.met.items) first.ensures.settled.settles

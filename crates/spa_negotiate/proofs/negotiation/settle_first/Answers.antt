@@ -1,37 +1,49 @@
-use Rattle.std.proofs.Common.{ap, ◌∙◌}
+use Rattle.std.proofs.Common.{◌+◌, sym, ap, ◌∙◌, subst}
 use Rattle.spa_value.specs.View.{view}
 use Rattle.spa_value.specs.Views.{property_views}
+use Rattle.spa_negotiate.specs.declared.negotiation.Settled.{Settled}
+use Rattle.spa_negotiate.specs.PropertyLists.{SettlesListed}
 use Rattle.spa_negotiate.proofs.Sharing.{passed_on}
-use Rattle.spa_negotiate.proofs.Steps.{first_seen, first_new, first_refused}
-use Rattle.spa_negotiate.proofs.negotiation.settle_first.Goals.{in-Some, in-None+in_ok-value-in-None+in_ok-push-in-None}
+use Rattle.spa_negotiate.proofs.Steps.{firsts, first_seen, first_new, first_keys, first_refused}
+use Rattle.spa_negotiate.proofs.negotiation.settle_first.Goals.{then-branch+in_ok-value+in_ok-push, else-branch}
 use Rattle.spa_negotiate.proofs.negotiation.settle_first.Goals as goal
 
-pub returns-in_err-value-in-None-clause-cause : goal.returns-in_err-value-in-None-clause-cause
-returns-in_err-value-in-None-clause-cause c =
-    let ours = c.args.a.now in
-    let theirs = c.args.b.now in
+pub returns-in_err-value-clause-cause : goal.returns-in_err-value-clause-cause
+returns-in_err-value-clause-cause c =
     let l = c.loop-property in
-    passed_on _ _ _ c.from_residual.ensures.1
-    (first_refused ours theirs l.property-index c.property-item.result l.met.items _
-    c.as_slice.ensures.value c.loop-property-test.true c.property-item.is l.invariant
-    c.in-None.ensures _ c.in_err-value-in-None.ensures.cause)
+    let s : Settled = record { met = l.met; keys = l.keys } in
+    passed_on _ _ _ c.from_residual-in_err-value.ensures.1
+    (first_refused c.args.a.now c.args.b.now.properties.now l.property-index c.property-item.result s
+    _ _ c.in_ok-add_key.ensures c.loop-property-test.true c.property-item.is l.invariant
+    c.if-branch.true _ c.in_err-value.ensures.cause)
 
 pub loop-property-preserved : goal.loop-property-preserved
 loop-property-preserved c =
     let ours = c.args.a.now in
-    let theirs = c.args.b.now in
+    let theirs = c.args.b.now.properties.now in
     let l = c.loop-property in
+    let i = l.property-index in
+    let p = c.property-item.result in
+    let s : Settled = record { met = l.met; keys = l.keys } in
+    let added = c.in_ok-add_key.ensures in
     let more = c.loop-property-test.true in
-    let now = c.match-find.met.items in
-    elim c.match-find.branch [
-      | in-Some w ↦
-          first_seen ours theirs l.property-index c.property-item.result l.met.items _
-          c.as_slice.ensures.value more c.property-item.is l.invariant
-          now (ap (λ v. v.items) w.met-is) _ w.in-Some.ensures
-      | in-None+in_ok-value-in-None+in_ok-push-in-None w ↦
-          let x = w.in_ok-value-in-None in
-          first_new ours theirs l.property-index c.property-item.result l.met.items _
-          c.as_slice.ensures.value more c.property-item.is l.invariant now (view x.value)
-          (ap (λ v. property_views v.items) w.met-is ∙ w.in_ok-push-in-None.ensures)
-          w.in-None.ensures x.ensures.plain x.ensures.settles
+    let is = c.property-item.is in
+    let keys = first_keys ours theirs i p s _ _ added more is l.invariant in
+    elim c.if-branch.branch [
+      | then-branch+in_ok-value+in_ok-push w ↦
+          let x = w.in_ok-value in
+          let pushed = ap (λ v. property_views v.items) w.met-is ∙ w.in_ok-push.ensures in
+          record {
+            settles =
+                first_new ours theirs i p s _ _ added more is l.invariant w.if-branch.true
+                c.if-branch.met.items (view x.value) pushed x.ensures.plain x.ensures.settles;
+            keys = keys;
+          }
+      | else-branch w ↦
+          let seen = first_seen ours theirs i p s _ _ added more is l.invariant w.if-branch.false in
+          record {
+            settles =
+                subst (λ v. SettlesListed ours theirs (firsts ours (i + 1)) v.items) (sym w.met-is) seen;
+            keys = keys;
+          }
     ]

@@ -1,16 +1,17 @@
-use Rattle.std.proofs.Common.{sym, ap, ◌∙◌, subst}
+use Rattle.std.proofs.Common.{◌+◌, sym, ap, ◌∙◌, subst}
 use Rattle.spa_value.specs.View.{view}
 use Rattle.spa_value.specs.Views.{property_views}
-use Rattle.spa_negotiate.specs.PropertyLists.{SettlesListed}
-use Rattle.spa_negotiate.proofs.Steps.{join_properties-none, other_seen, other_new}
-use Rattle.spa_negotiate.proofs.negotiation.settle_others.Goals.{in-Some, in-None+in_ok-value-in-None+in_ok-push-in-None}
+use Rattle.spa_negotiate.specs.declared.negotiation.Settled.{Settled}
+use Rattle.spa_negotiate.specs.PropertyLists.{SettlesListed, IsSettled}
+use Rattle.spa_negotiate.proofs.Steps.{join_properties-none, others, other_seen, other_new, other_keys}
+use Rattle.spa_negotiate.proofs.negotiation.settle_others.Goals.{then-branch+in_ok-value+in_ok-push, else-branch}
 use Rattle.spa_negotiate.proofs.negotiation.settle_others.Goals as goal
 
 pub loop-property-init : goal.loop-property-init
 loop-property-init c =
     let ours = c.args.a.now in
     let theirs = c.args.b.now in
-    subst (λ ss. SettlesListed ours theirs ss c.args.first.items)
+    subst (λ these. IsSettled ours theirs these c.args.first)
     (sym (join_properties-none (property_views ours))) c.requires
 
 pub loop-property-preserved : goal.loop-property-preserved
@@ -18,17 +19,29 @@ loop-property-preserved c =
     let ours = c.args.a.now in
     let theirs = c.args.b.now in
     let l = c.loop-property in
+    let i = l.property-index in
+    let p = c.property-item.result in
+    let s : Settled = record { met = l.met; keys = l.keys } in
+    let added = c.in_ok-add_key.ensures in
     let more = c.loop-property-test.true in
-    let now = c.match-find.met.items in
-    elim c.match-find.branch [
-      | in-Some w ↦
-          other_seen ours theirs l.property-index c.property-item.result l.met.items _
-          c.as_slice.ensures.value more c.property-item.is l.invariant
-          now (ap (λ v. v.items) w.met-is) _ w.in-Some.ensures
-      | in-None+in_ok-value-in-None+in_ok-push-in-None w ↦
-          let x = w.in_ok-value-in-None in
-          other_new ours theirs l.property-index c.property-item.result l.met.items _
-          c.as_slice.ensures.value more c.property-item.is l.invariant now (view x.value)
-          (ap (λ v. property_views v.items) w.met-is ∙ w.in_ok-push-in-None.ensures)
-          w.in-None.ensures x.ensures.plain x.ensures.settled
+    let is = c.property-item.is in
+    let keys = other_keys ours theirs i p s _ _ added more is l.invariant in
+    elim c.if-branch.branch [
+      | then-branch+in_ok-value+in_ok-push w ↦
+          let x = w.in_ok-value in
+          let pushed = ap (λ v. property_views v.items) w.met-is ∙ w.in_ok-push.ensures in
+          record {
+            settles =
+                other_new ours theirs i p s _ _ added more is l.invariant w.if-branch.true
+                c.if-branch.met.items (view x.value) pushed x.ensures.plain x.ensures.settled;
+            keys = keys;
+          }
+      | else-branch w ↦
+          let seen = other_seen ours theirs i p s _ _ added more is l.invariant w.if-branch.false in
+          record {
+            settles =
+                subst (λ v. SettlesListed ours theirs (others ours theirs (i + 1)) v.items) (sym w.met-is)
+                seen;
+            keys = keys;
+          }
     ]

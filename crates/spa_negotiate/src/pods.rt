@@ -1,0 +1,94 @@
+//! The objects of two pods meet.
+ghost use Rattle.std.specs.Prelude.{◌≡◌, IfErr, IfOk, IsTrue, MatchOption, OnOk};
+ghost use Rattle.spa_format.specs.Encoding.{encoding_of};
+ghost use Rattle.spa_format.specs.Fixation.{all_settled};
+ghost use Rattle.spa_format.specs.Front.{Begins};
+ghost use Rattle.spa_format.specs.Pod.{IsPod};
+ghost use Rattle.spa_format.specs.Walk.{properties_of, property_walk};
+ghost use Rattle.spa_value.specs.View.{object_view, view};
+ghost use Rattle.spa_negotiate.specs.Fronts.{AreFrontsRefused, BeginBoth, IsFrontRefused, IsObject, IsWriteRefused, MeetIn, OnNoMeeting, ReadsBack};
+ghost use Rattle.spa_negotiate.specs.Meeting.{CanMeet};
+
+use crate::error::{NegotiateError, Side};
+use crate::negotiation::negotiate;
+use spa_fixed::DeserializeError;
+use spa_sink::GenError;
+use spa_format::laws::{pods_have_one_value, readings_are_normal};
+use spa_format::view_laws::{settled_properties_are_settled, walks_find_members};
+use spa_read::PodDeserializer;
+use spa_value::{Object, Value, discard};
+use spa_write::PodSerializer;
+use std::alloc::Global;
+
+/// The encoding of the object in which the objects at the fronts of two inputs meet, by the rules of `negotiate`. What follows
+/// the two fronts doesn't count.
+///
+/// The answer is one whole pod, and no property's value in it is a choice of another shape than None: `is_fixated` of a view of
+/// it is true.
+///
+/// The refusals: `Unread` and `NotObject`, of the first side before the second; then those of `negotiate`; then `TooLarge`.
+pub fn negotiate_pods(alloc: Global, a: &[u8], b: &[u8]) -> Result<Vec<u8>, NegotiateError>
+    // Unless memory runs out or the answer is too large, this succeeds exactly where both fronts are pods of objects that can
+    // meet,
+    ensures accepted { OnOk result (BeginBoth a.now b.now CanMeet) }
+    ensures refused { IfErr result (OnNoMeeting (¬ (BeginBoth a.now b.now CanMeet))) }
+    // with the encoding of an object in which they meet, a pod of that object,
+    ensures value { IfOk result (λ bytes. BeginBoth a.now b.now (MeetIn bytes.items)) }
+    // and which needs no fixation;
+    ensures fixated { IfOk result (λ bytes. IsTrue (all_settled (property_walk (properties_of bytes.items)))) }
+    // and a refusal is one that stands.
+    ensures cause { IfErr result (AreFrontsRefused a.now b.now) }
+{
+    pods_have_one_value();
+    walks_find_members();
+    settled_properties_are_settled();
+    let first = object_at(alloc, a, Side::First)?;
+    let second = object_at(alloc, b, Side::Second)?;
+    let met = negotiate(alloc, &first, &second)?;
+    encoded(alloc, met)
+}
+
+/// The object at the front of a side's bytes.
+fn object_at(alloc: Global, bytes: &[u8], side: Side) -> Result<Object, NegotiateError>
+    ensures value { IfOk result (λ object. Begins bytes.now (object_view object)) }
+    ensures back { IfOk result (λ object. ReadsBack (object_view object)) }
+    ensures cause { IfErr result (IsFrontRefused side bytes.now) }
+{
+    readings_are_normal();
+    match PodDeserializer::deserialize_any_from(alloc, bytes) {
+        Ok((_rest, value)) => match object_of(value) {
+            Some(object) => Ok(object),
+            None => Err(NegotiateError::NotObject(side)),
+        },
+        Err(DeserializeError::OutOfMemory) => Err(NegotiateError::OutOfMemory),
+        Err(_) => Err(NegotiateError::Unread(side)),
+    }
+}
+
+/// The object that the value is, where it is one.
+fn object_of(value: Value) -> Option<Object>
+    ensures { MatchOption result (¬ (IsObject (view value))) (λ object. view value ≡ object_view object) }
+{
+    match value {
+        Value::Object(object) => Some(object),
+        other => {
+            discard(other);
+            None
+        }
+    }
+}
+
+/// The encoding of an object.
+fn encoded(alloc: Global, object: Object) -> Result<Vec<u8>, NegotiateError>
+    requires { ReadsBack (object_view object) }
+    ensures encoding { IfOk result (λ bytes. bytes.items ≡ encoding_of (object_view object)) }
+    ensures pod { IfOk result (λ bytes. IsPod bytes.items (object_view object)) }
+    ensures cause { IfErr result (IsWriteRefused (object_view object)) }
+{
+    match PodSerializer::serialize(Vec::new(alloc), &Value::Object(object)) {
+        Ok((bytes, _len)) => Ok(bytes),
+        Err(GenError::TooLarge) => Err(NegotiateError::TooLarge),
+        Err(GenError::OutOfMemory) => Err(NegotiateError::OutOfMemory),
+        Err(_) => unreachable!(),
+    }
+}

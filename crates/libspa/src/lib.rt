@@ -36,12 +36,17 @@ pub mod pod {
     pub use spa_utils::Frame;
     pub use spa_value::{
         Bitmap, ChoiceValue, Object, Property, PropertyFlags, Value, ValueArray, discard,
-        laws as value_laws,
+        laws as value_laws, object, property,
     };
     pub use spa_view::{
         Pod, PodObject, PodObjectIter, PodProp, PodPropFlags, PodStruct, PodStructIter,
         laws as getter_laws,
     };
+
+    /// Building pods call by call.
+    pub mod builder {
+        pub use spa_builder::{BuildCall, Builder, builder_add, replay};
+    }
 
     /// Writing values.
     pub mod serialize {

@@ -2,11 +2,11 @@
 #![tactic(auto)]
 
 #[cfg(test)]
-mod equality;
-#[cfg(test)]
 mod compare;
 #[cfg(test)]
 mod counting;
+#[cfg(test)]
+mod equality;
 #[cfg(test)]
 mod reading;
 #[cfg(test)]

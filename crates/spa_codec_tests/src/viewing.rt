@@ -1,7 +1,7 @@
 //! The worked rows of views and fixation, and each public call. A table is a text with a row a line, so that it is data.
 use crate::compare::{assert_bytes, assert_holds, assert_said};
-use spa_spelling::bytes_spelled;
 use bitflags::Flags;
+use spa_spelling::bytes_spelled;
 use spa_utils::{Errno, Id};
 use spa_view::{Pod, PodObject, PodObjectIter, PodProp, PodPropFlags, PodStruct, PodStructIter};
 use std::alloc::{AllocError, Global};

@@ -1,9 +1,9 @@
 //! Values with their encodings, from outside, and each call once.
 use crate::compare::{assert_bytes, assert_holds};
-use spa_spelling::bytes_spelled;
 use arrayvec::ArrayVec;
 use bitflags::Flags;
 use spa_sink::GenError;
+use spa_spelling::bytes_spelled;
 use spa_utils::{Choice, ChoiceEnum, ChoiceFlags, Fd, Float32, Float64, Fraction, Id, Rectangle};
 use spa_value::{ChoiceValue, Object, Property, PropertyFlags, Value, ValueArray};
 use spa_write::{

@@ -22,9 +22,9 @@ pub array_encoding : (k : Kind) (xs : List Fixed) (header : List ℕ) (n s t : �
 array_encoding k xs header n s t e en es et =
     ap (λ l. l ++ (fixed_bodies xs ++ padding n)) e
     ∙ ap (λ x. ((word_bytes n ++ word_bytes array_type) ++ (word_bytes x ++ word_bytes t)) ++
-        (fixed_bodies xs ++ padding n)) es
+    (fixed_bodies xs ++ padding n)) es
     ∙ ap (λ x. ((word_bytes n ++ word_bytes array_type) ++ (word_bytes
-        (body_size k) ++ word_bytes x)) ++ (fixed_bodies xs ++ padding n)) et
+    (body_size k) ++ word_bytes x)) ++ (fixed_bodies xs ++ padding n)) et
     ∙ ap (λ x. ((word_bytes x ++ word_bytes array_type) ++ (word_bytes
-        (body_size k) ++ word_bytes (type_number k))) ++ (fixed_bodies xs ++ padding x)) en
+    (body_size k) ++ word_bytes (type_number k))) ++ (fixed_bodies xs ++ padding x)) en
     ∙ simp append_assoc

@@ -43,9 +43,16 @@ lacks h k s elements b o z e l =
     let d = ap length o.behind ∙ length-drop 16 b in
     let n = o.header in
     let l' : length elements < least_count h * body_size k =
-        subst (λ x. length elements < least_count h * x) z l in
-    record { header = o.header; shape = h; kind = k; its_shape = e; child_size = o.child_size;
-        child_type = o.child_type; few = omega arith }
+    subst (λ x. length elements < least_count h * x) z l in
+    record {
+      header = o.header;
+      shape = h;
+      kind = k;
+      its_shape = e;
+      child_size = o.child_size;
+      child_type = o.child_type;
+      few = omega arith;
+    }
 
 -- a refusal of the values is one of the choice
 pub refused_values : (h : Shape) (k : Kind) (s : ℕ) (elements b : List ℕ) → IsOpened k elements b →
@@ -62,8 +69,11 @@ refused_values h k s elements b o z w OutOfMemory r = r
 pub whole_behind : (s : ℕ) (b after : List ℕ) → 0 < s → AreWhole s b → s ≤ length b →
     after ≡ drop s b → AreWhole s after
 whole_behind s b after p w l e =
-    record { many = w.many - 1; count = ap length e ∙ length-drop s b ∙ one_less w.many s
-    (length b) w.count l p }
+    record {
+      many = w.many - 1;
+      count = ap length e ∙ length-drop s b ∙ one_less w.many s
+          (length b) w.count l p;
+    }
 
 -- an element before others
 pub before : (k : Kind) (s : ℕ) (x : Fixed) (xs : List Fixed) (b after : List ℕ) → s ≡ body_size k →
@@ -83,10 +93,11 @@ surplus k (suc m) b p e =
     let l : body_size k ≤ length b = grind arith in
     let d = length-drop (body_size k) b in
     let r =
-        surplus k m (drop (body_size k) b) p (let q : length
-        (drop (body_size k) b) ≡ m * body_size k = grind arith in q) in
-    (content k (take (body_size k) b) ∷ r.0,
-        (p, record { whole = length-take-le (body_size k) b l; says = refl }, r.1))
+    surplus k m (drop (body_size k) b) p (let q : length
+    (drop (body_size k) b) ≡ m * body_size k = grind arith in q) in (
+      content k (take (body_size k) b) ∷ r.0,
+      (p, record { whole = length-take-le (body_size k) b l; says = refl }, r.1),
+    )
 
 pub left_over : (k : Kind) (s : ℕ) (b : List ℕ) → s ≡ body_size k → 0 < s → AreWhole s b →
     (xs : List Fixed) × AreElements k xs b
@@ -121,24 +132,30 @@ pub none_reads :
     {T : Type 0} (k : Kind) (f : T → Fixed) (x : T) (all : List Fixed) (elements : List ℕ) →
     AreElements k (f x ∷ all) elements → ReadsAs none_choice k f elements (E.None x)
 none_reads k f x all elements r =
-    record { says = λ b flags o w e. chosen none_choice flags k (f x) [] all elements b o w e r
-    (omega arith) refl }
+    record {
+      says = λ b flags o w e. chosen none_choice flags k (f x) [] all elements b o w e r
+          (omega arith) refl;
+    }
 
 pub range_reads :
     {T : Type 0} (k : Kind) (f : T → Fixed) (x a b : T) (all : List Fixed) (elements : List ℕ) →
     AreElements k (f x ∷ f a ∷ f b ∷ all) elements →
     ReadsAs range_choice k f elements (E.Range x a b)
 range_reads k f x a c all elements r =
-    record { says = λ b flags o w e. chosen range_choice flags k (f x) (f a ∷ f c ∷ [])
-    (f a ∷ f c ∷ all) elements b o w e r (omega arith) refl }
+    record {
+      says = λ b flags o w e. chosen range_choice flags k (f x) (f a ∷ f c ∷ [])
+          (f a ∷ f c ∷ all) elements b o w e r (omega arith) refl;
+    }
 
 pub step_reads :
     {T : Type 0} (k : Kind) (f : T → Fixed) (x a b s : T) (all : List Fixed) (elements : List ℕ) →
     AreElements k (f x ∷ f a ∷ f b ∷ f s ∷ all) elements →
     ReadsAs step_choice k f elements (E.Step x a b s)
 step_reads k f x a c s all elements r =
-    record { says = λ b flags o w e. chosen step_choice flags k (f x) (f a ∷ f c ∷ f s ∷ [])
-    (f a ∷ f c ∷ f s ∷ all) elements b o w e r (omega arith) refl }
+    record {
+      says = λ b flags o w e. chosen step_choice flags k (f x) (f a ∷ f c ∷ f s ∷ [])
+          (f a ∷ f c ∷ f s ∷ all) elements b o w e r (omega arith) refl;
+    }
 
 -- three elements before others
 pub three_before : (k : Kind) (s : ℕ) (x y z : Fixed) (all : List Fixed) (b b1 b2 b3 : List ℕ) →
@@ -147,7 +164,7 @@ pub three_before : (k : Kind) (s : ℕ) (x y z : Fixed) (all : List Fixed) (b b1
     AreElements k all b3 → AreElements k (x ∷ y ∷ z ∷ all) b
 three_before k s x y z all b b1 b2 b3 e p h0 d0 h1 d1 h2 d2 r =
     before k s x (y ∷ z ∷ all) b b1 e p h0 d0 (before k s y (z ∷ all)
-        b1 b2 e p h1 d1 (before k s z all b2 b3 e p h2 d2 r))
+    b1 b2 e p h1 d1 (before k s z all b2 b3 e p h2 d2 r))
 
 -- behind which the others are whole
 pub three_whole : (s n : ℕ) (b b1 b2 b3 : List ℕ) → 0 < s → AreWhole s b → 3 * s + n ≤ length b →
@@ -168,12 +185,16 @@ pub enum_reads :
     {T : Type 0} (k : Kind) (f : T → Fixed) (x : T) (xs : Vec T Global) (elements : List ℕ) →
     AreElements k (f x ∷ map f xs.items) elements → ReadsAs enum_choice k f elements (E.Enum x xs)
 enum_reads k f x xs elements r =
-    record { says = λ b flags o w e. chosen enum_choice flags k (f x) (map f xs.items)
-    (map f xs.items) elements b o w e r (omega arith) refl }
+    record {
+      says = λ b flags o w e. chosen enum_choice flags k (f x) (map f xs.items)
+          (map f xs.items) elements b o w e r (omega arith) refl;
+    }
 
 pub flags_reads :
     {T : Type 0} (k : Kind) (f : T → Fixed) (x : T) (xs : Vec T Global) (elements : List ℕ) →
     AreElements k (f x ∷ map f xs.items) elements → ReadsAs flags_choice k f elements (E.Flags x xs)
 flags_reads k f x xs elements r =
-    record { says = λ b flags o w e. chosen flags_choice flags k (f x) (map f xs.items)
-    (map f xs.items) elements b o w e r (omega arith) refl }
+    record {
+      says = λ b flags o w e. chosen flags_choice flags k (f x) (map f xs.items)
+          (map f xs.items) elements b o w e r (omega arith) refl;
+    }

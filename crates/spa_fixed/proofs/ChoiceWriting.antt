@@ -19,15 +19,15 @@ pub length-choice_body : {A : Type 0} {B : Type 0} (shape flags : ℕ) (k : Kind
     length (choice_body shape flags k (map e xs ++ map f ys)) ≡ 16 + length xs * s + length ys * s
 length-choice_body shape flags k e f s xs ys t u z =
     let l0 =
-        length-append (word_bytes shape) (word_bytes flags ++ array_body k (map e xs ++ map f ys))
-        in
+    length-append (word_bytes shape) (word_bytes flags ++ array_body k (map e xs ++ map f ys))
+    in
     let l1 = length-append (word_bytes flags) (array_body k (map e xs ++ map f ys)) in
     let l2 = length-word_bytes shape in
     let l3 = length-word_bytes flags in
     let l4 = array_length k (map e xs ++ map f ys) in
     let l5 =
-        ap length (fixed_bodies-append (map e xs) (map f ys)) ∙ length-append
-        (fixed_bodies (map e xs)) (fixed_bodies (map f ys)) in
+    ap length (fixed_bodies-append (map e xs) (map f ys)) ∙ length-append
+    (fixed_bodies (map e xs)) (fixed_bodies (map f ys)) in
     let l6 = bodies_length k e s xs t z in
     let l7 = bodies_length k f s ys u z in
     omega arith
@@ -48,32 +48,32 @@ pub choice_encoding : (k : Kind) (xs ys : List Fixed) (pod choice child bodies s
 choice_encoding k xs ys pod choice child bodies start n shape flags s t m e b p c h en es et =
     let head : List ℕ = (pod ++ choice) ++ child in
     let spelt : head ≡ ((word_bytes n ++ word_bytes choice_type) ++
-        (word_bytes shape ++ word_bytes flags)) ++ (word_bytes
-        (body_size k) ++ word_bytes (type_number k)) =
-        cc in
+    (word_bytes shape ++ word_bytes flags)) ++ (word_bytes
+    (body_size k) ++ word_bytes (type_number k)) =
+    cc in
     let l0 = ap length spelt in
     let l1 =
-        length-append ((word_bytes n ++ word_bytes choice_type) ++
-        (word_bytes shape ++ word_bytes flags)) (word_bytes (body_size k)
-        ++ word_bytes (type_number k)) in
+    length-append ((word_bytes n ++ word_bytes choice_type) ++
+    (word_bytes shape ++ word_bytes flags)) (word_bytes (body_size k)
+    ++ word_bytes (type_number k)) in
     let l2 =
-        length-append (word_bytes n ++ word_bytes choice_type)
-        (word_bytes shape ++ word_bytes flags) in
+    length-append (word_bytes n ++ word_bytes choice_type)
+    (word_bytes shape ++ word_bytes flags) in
     let l3 = length-two_words n choice_type in
     let l4 = length-two_words shape flags in
     let l5 = length-two_words (body_size k) (type_number k) in
     let l : length head ≡ 24 = omega arith in
     let first : take (24 + m) start ≡ head ++ fixed_bodies xs =
-        ap (take (24 + m)) e ∙ ap (λ i. take (i + m) (head ++ bodies)) (sym l) ∙ take-append-add
-        head bodies m ∙ ap (λ x. head ++ x) b in
+    ap (take (24 + m)) e ∙ ap (λ i. take (i + m) (head ++ bodies)) (sym l) ∙ take-append-add
+    head bodies m ∙ ap (λ x. head ++ x) b in
     ap (λ x. x ++ (fixed_bodies ys ++ padding n)) (first ∙ ap (λ x. x ++ fixed_bodies xs) spelt)
     ∙ regroup (word_bytes n) (word_bytes choice_type) (word_bytes shape) (word_bytes flags)
-        (word_bytes (body_size k)) (word_bytes (type_number k)) (fixed_bodies xs) (fixed_bodies ys)
-        (padding n)
+    (word_bytes (body_size k)) (word_bytes (type_number k)) (fixed_bodies xs) (fixed_bodies ys)
+    (padding n)
     ∙ ap (λ x. word_bytes n ++
-        (word_bytes choice_type ++
-        ((word_bytes shape ++
-        (word_bytes flags ++ (word_bytes (body_size k) ++ (word_bytes (type_number k) ++ x)))) ++
-        padding n))) (sym (fixed_bodies-append xs ys))
+    (word_bytes choice_type ++
+    ((word_bytes shape ++
+    (word_bytes flags ++ (word_bytes (body_size k) ++ (word_bytes (type_number k) ++ x)))) ++
+    padding n))) (sym (fixed_bodies-append xs ys))
     ∙ ap (λ i. word_bytes i ++
-        (word_bytes choice_type ++ (choice_body shape flags k (xs ++ ys) ++ padding i))) en
+    (word_bytes choice_type ++ (choice_body shape flags k (xs ++ ys) ++ padding i))) en

@@ -42,7 +42,7 @@ all_say k s n b xs z m p w e =
     let q : 0 < body_size k = subst (λ i. 0 < i) size p in
     let c : length b ≡ w.many * body_size k = w.count ∙ ap (λ i. w.many * i) z in
     let l : length b ≡ length b / body_size k * body_size k =
-        many_of w.many (body_size k) (length b) q c in
+    many_of w.many (body_size k) (length b) q c in
     subst (λ ys. AreElements k ys b)
-        (sym (e ∙ ap (λ i. map (content k) (first_chunks i (length b / i) b)) size))
-        (chunks_say k q (length b / body_size k) b l)
+    (sym (e ∙ ap (λ i. map (content k) (first_chunks i (length b / i) b)) size))
+    (chunks_say k q (length b / body_size k) b l)

@@ -62,9 +62,9 @@ pub filled_more : {T : Type 0} (k : Kind) (f : T → Fixed) (s size at i : ℕ)
     IsTypedFixed (f v) → IsFilled k f s (at + size) (i + 1) after vs
 filled_more k f s size at i block after piece vs v h l e t z p q y =
     let here : take (i + 1) vs ≡ take i vs ++ v ∷ [] =
-        take_more vs i v l ∙ ap (λ x. take i vs ++ x ∷ []) (sym e) in
+    take_more vs i v l ∙ ap (λ x. take i vs ++ x ∷ []) (sym e) in
     let m : map f (take (i + 1) vs) ≡ map f (take i vs) ++ f v ∷ [] =
-        ap (map f) here ∙ map-append f (take i vs) (v ∷ []) in
+    ap (map f) here ∙ map-append f (take i vs) (v ∷ []) in
     let pl = h.place in
     record {
       place = grind arith;
@@ -89,8 +89,8 @@ pub sent_more : {S : Type 0} {T : Type 0} {appends : S → List ℕ → S → Ty
     bytes ≡ fixed_bodies (map f chunk) → AreOf k (map f chunk) → IsSent appends k f old new vs rest
 sent_more {appends = appends} law k f old mid new vs left chunk rest n bytes h c r a b t =
     let whole : left ≡ chunk ++ rest =
-        sym (take-append-drop n left) ∙ ap (λ x. x ++ drop n left) (sym c) ∙ ap (λ x. chunk ++ x)
-        (sym r) in
+    sym (take-append-drop n left) ∙ ap (λ x. x ++ drop n left) (sym c) ∙ ap (λ x. chunk ++ x)
+    (sym r) in
     record {
       first = h.first ++ chunk;
       parts = h.parts ∙ ap (λ x. h.first ++ x) whole ∙ sym (append_assoc h.first chunk rest);
@@ -113,18 +113,18 @@ pub sent_refused : {S : Type 0} {T : Type 0} {appends : S → List ℕ → S →
 sent_refused after longer k f old mid new vs left chunk n bytes e h c b r =
     let first = fixed_bodies (map f h.first) in
     let whole : left ≡ chunk ++ drop n left =
-        sym (take-append-drop n left) ∙ ap (λ x. x ++ drop n left) (sym c) in
+    sym (take-append-drop n left) ∙ ap (λ x. x ++ drop n left) (sym c) in
     let all =
-        ap (λ x. fixed_bodies (map f x)) (h.parts ∙ ap (λ x. h.first ++ x) whole) ∙ bodies_of_parts
-        f h.first (chunk ++ drop n left) ∙ ap (λ x. first ++ x)
-        (bodies_of_parts f chunk (drop n left)) in
+    ap (λ x. fixed_bodies (map f x)) (h.parts ∙ ap (λ x. h.first ++ x) whole) ∙ bodies_of_parts
+    f h.first (chunk ++ drop n left) ∙ ap (λ x. first ++ x)
+    (bodies_of_parts f chunk (drop n left)) in
     let e0 = ap length all in
     let e1 =
-        length-append first (fixed_bodies (map f chunk) ++ fixed_bodies (map f (drop n left))) in
+    length-append first (fixed_bodies (map f chunk) ++ fixed_bodies (map f (drop n left))) in
     let e2 = length-append (fixed_bodies (map f chunk)) (fixed_bodies (map f (drop n left))) in
     let e3 = ap length b in
     longer old new (length first + length bytes) (length (fixed_bodies (map f vs))) e (omega arith)
-        (refused_behind after old mid new first (length bytes) e h.sent r)
+    (refused_behind after old mid new first (length bytes) e h.sent r)
 
 -- a value of a kind without bytes is typed
 units_typed : (x : Fixed) → body_size (kind_of x) ≡ 0 → IsTypedFixed x

@@ -32,7 +32,7 @@ pub encoding_of_fixed : (size type : ℕ) (b header padded : List ℕ) → lengt
 encoding_of_fixed zero type b header padded l w t d e =
     let n = nothing b l in
     ap (take 8) (ap (λ x. x ++ padded) e) ∙ take_at (word_bytes 0 ++ word_bytes type) padded 8
-        (length-two_words 0 type)
+    (length-two_words 0 type)
     ∙ ap (λ x. word_bytes 0 ++ x) (sym (append-nil (word_bytes type)))
     ∙ ap (framed type) (sym n)
 encoding_of_fixed (suc m) type b header padded l w t d e =
@@ -40,10 +40,10 @@ encoding_of_fixed (suc m) type b header padded l w t d e =
     let p : padded_size size ≡ 8 = omega arith in
     let zeros : drop size padded ≡ padding size = d ∙ ap (λ n. replicate (n - size) 0) (sym p) in
     let whole : padded ≡ b ++ padding size =
-        sym (take-append-drop size padded) ∙ ap (λ x. x ++ drop size padded) t ∙ ap (λ x. b ++ x)
-        zeros in
+    sym (take-append-drop size padded) ∙ ap (λ x. x ++ drop size padded) t ∙ ap (λ x. b ++ x)
+    zeros in
     let lz : length (padding size) ≡ 8 - size =
-        length-replicate {A = ℕ} (padded_size size - size) 0 ∙ ap (λ n. n - size) p in
+    length-replicate {A = ℕ} (padded_size size - size) 0 ∙ ap (λ n. n - size) p in
     let lp : length padded ≡ 8 = ap length whole ∙ length-append b (padding size) ∙ omega arith in
     let lh : length header ≡ 8 = ap length e ∙ length-two_words size type in
     let la = length-append header padded in

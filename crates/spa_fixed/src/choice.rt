@@ -15,9 +15,9 @@ use crate::array::{next_element, open_array, read_elements};
 use crate::elements::{body_len, put_parts};
 use crate::fault::Refusal;
 use crate::fixed::{CanonicalFixedSizedPod, ChoiceElement};
+use bitflags::Flags;
 use spa_bytes::{HEADER_LEN, joined, two_words, u32_at};
 use spa_sink::{GenError, PodSink};
-use bitflags::Flags;
 use spa_utils::{Choice, ChoiceEnum, ChoiceFlags, SpaTypes};
 use std::alloc::Global;
 

@@ -9,87 +9,87 @@ use Rattle.spa_format.specs.Front.{HasFront, front_of, Begins}
 use Rattle.spa_format.proofs.Fronts.{front_of_whole}
 use Rattle.spa_view.specs.Tests as t
 use Rattle.spa_view.proofs.ViewedPods as views
-use Rattle.spa_parser.specs.State.{State, next_pod, state_behind}
+use Rattle.spa_parser.specs.State.{ParserState, next_pod, state_behind}
 use Rattle.spa_parser.specs.Steps.{NextIs, HoldsMembers}
 use Rattle.spa_parser.proofs.NextPods.{next_of-there, next_of-end}
 
-pub next_is_there : (s : State) (v : Tree) → next_pod s ≡ None → NextIs v s → ⊥
+pub next_is_there : (s : ParserState) (v : Tree) → next_pod s ≡ None → NextIs v s → ⊥
 next_is_there s v e h = subst (λ o. IsSomeAnd o (λ pod. IsPod pod v)) e h
 
-pub next_is : (s : State) (pod : List ℕ) (v : Tree) → next_pod s ≡ Some pod → NextIs v s → IsPod pod v
+pub next_is : (s : ParserState) (pod : List ℕ) (v : Tree) → next_pod s ≡ Some pod → NextIs v s → IsPod pod v
 next_is s pod v e h = subst (λ o. IsSomeAnd o (λ p. IsPod p v)) e h
 
-pub fixed_passes : (s : State) (pod : List ℕ) (x : Fixed) → next_pod s ≡ Some pod → NextIs (fixed x) s →
+pub fixed_passes : (s : ParserState) (pod : List ℕ) (x : Fixed) → next_pod s ≡ Some pod → NextIs (fixed x) s →
     t.IsOfKind (kind_of x) pod
 fixed_passes s pod x e h = views.fixed_test pod x (next_is s pod (fixed x) e h)
 
-pub fixed_is : (s : State) (pod : List ℕ) (x : Fixed) → next_pod s ≡ Some pod → NextIs (fixed x) s →
+pub fixed_is : (s : ParserState) (pod : List ℕ) (x : Fixed) → next_pod s ≡ Some pod → NextIs (fixed x) s →
     content (kind_of x) (body_of pod) ≡ x
 fixed_is s pod x e h = views.fixed_value pod x (next_is s pod (fixed x) e h)
 
-pub string_passes : (s : State) (pod b : List ℕ) → next_pod s ≡ Some pod → NextIs (string b) s → t.IsNulEnded pod
+pub string_passes : (s : ParserState) (pod b : List ℕ) → next_pod s ≡ Some pod → NextIs (string b) s → t.IsNulEnded pod
 string_passes s pod b e h = views.string_test pod b (next_is s pod (string b) e h)
 
-pub string_is : (s : State) (pod b : List ℕ) → next_pod s ≡ Some pod → NextIs (string b) s →
+pub string_is : (s : ParserState) (pod b : List ℕ) → next_pod s ≡ Some pod → NextIs (string b) s →
     t.before_nul (body_of pod) ≡ b
 string_is s pod b e h = views.string_value pod b (next_is s pod (string b) e h)
 
-pub bytes_pass : (s : State) (pod b : List ℕ) → next_pod s ≡ Some pod → NextIs (bytes b) s → t.IsBytesPod pod
+pub bytes_pass : (s : ParserState) (pod b : List ℕ) → next_pod s ≡ Some pod → NextIs (bytes b) s → t.IsBytesPod pod
 bytes_pass s pod b e h = views.bytes_test pod b (next_is s pod (bytes b) e h)
 
-pub bytes_are : (s : State) (pod b : List ℕ) → next_pod s ≡ Some pod → NextIs (bytes b) s → body_of pod ≡ b
+pub bytes_are : (s : ParserState) (pod b : List ℕ) → next_pod s ≡ Some pod → NextIs (bytes b) s → body_of pod ≡ b
 bytes_are s pod b e h = views.bytes_value pod b (next_is s pod (bytes b) e h)
 
-pub pointer_passes : (s : State) (pod : List ℕ) (type a : ℕ) → next_pod s ≡ Some pod → NextIs (pointer type a) s →
+pub pointer_passes : (s : ParserState) (pod : List ℕ) (type a : ℕ) → next_pod s ≡ Some pod → NextIs (pointer type a) s →
     t.IsPointerPod pod
 pointer_passes s pod type a e h = views.pointer_test pod type a (next_is s pod (pointer type a) e h)
 
-pub pointer_type_is : (s : State) (pod : List ℕ) (type a : ℕ) → next_pod s ≡ Some pod → NextIs (pointer type a) s →
+pub pointer_type_is : (s : ParserState) (pod : List ℕ) (type a : ℕ) → next_pod s ≡ Some pod → NextIs (pointer type a) s →
     word_at (body_of pod) 0 ≡ type
 pointer_type_is s pod type a e h = views.pointer_type pod type a (next_is s pod (pointer type a) e h)
 
-pub address_is : (s : State) (pod : List ℕ) (type a c : ℕ) → next_pod s ≡ Some pod → NextIs (pointer type a) s →
+pub address_is : (s : ParserState) (pod : List ℕ) (type a c : ℕ) → next_pod s ≡ Some pod → NextIs (pointer type a) s →
     t.IsAddress c pod → c ≡ a
 address_is s pod type a c e h = views.pointer_address pod type a c (next_is s pod (pointer type a) e h)
 
-pub struct_passes : (s : State) (pod : List ℕ) (vs : Trees) → next_pod s ≡ Some pod → NextIs (struct vs) s →
+pub struct_passes : (s : ParserState) (pod : List ℕ) (vs : Trees) → next_pod s ≡ Some pod → NextIs (struct vs) s →
     t.IsStructPod pod
 struct_passes s pod vs e h = views.struct_test pod vs (next_is s pod (struct vs) e h)
 
-pub struct_holds : (s : State) (pod : List ℕ) (vs : Trees) → next_pod s ≡ Some pod → NextIs (struct vs) s →
+pub struct_holds : (s : ParserState) (pod : List ℕ) (vs : Trees) → next_pod s ≡ Some pod → NextIs (struct vs) s →
     AreMembers vs (body_of pod)
 struct_holds s pod vs e h = let p = next_is s pod (struct vs) e h in p.content
 
-pub object_passes : (s : State) (pod : List ℕ) (type id : ℕ) (ps : Properties) → next_pod s ≡ Some pod →
+pub object_passes : (s : ParserState) (pod : List ℕ) (type id : ℕ) (ps : Properties) → next_pod s ≡ Some pod →
     NextIs (object type id ps) s → t.IsObjectPod pod
 object_passes s pod type id ps e h = views.object_test pod type id ps (next_is s pod (object type id ps) e h)
 
-pub object_type_is : (s : State) (pod : List ℕ) (type id : ℕ) (ps : Properties) → next_pod s ≡ Some pod →
+pub object_type_is : (s : ParserState) (pod : List ℕ) (type id : ℕ) (ps : Properties) → next_pod s ≡ Some pod →
     NextIs (object type id ps) s → word_at (body_of pod) 0 ≡ type
 object_type_is s pod type id ps e h = views.object_type pod type id ps (next_is s pod (object type id ps) e h)
 
-pub object_id_is : (s : State) (pod : List ℕ) (type id : ℕ) (ps : Properties) → next_pod s ≡ Some pod →
+pub object_id_is : (s : ParserState) (pod : List ℕ) (type id : ℕ) (ps : Properties) → next_pod s ≡ Some pod →
     NextIs (object type id ps) s → word_at (body_of pod) 4 ≡ id
 object_id_is s pod type id ps e h = views.object_id pod type id ps (next_is s pod (object type id ps) e h)
 
 -- the front of what is innermost is the next pod
-pub front_is_next : (s : State) (v : Tree) → s.innermost.of_object ≡ false → Begins s.innermost.bytes v → NextIs v s
+pub front_is_next : (s : ParserState) (v : Tree) → s.innermost.of_object ≡ false → Begins s.innermost.bytes v → NextIs v s
 front_is_next s v o h =
     subst (λ next. IsSomeAnd next (λ pod. IsPod pod v)) (sym (next_of-there s.innermost (front_of s.innermost.bytes) o h.there refl)) h.pod
 
-pub first_is_next : (s : State) (v : Tree) (vs : Trees) → HoldsMembers (member v vs) s → NextIs v s
+pub first_is_next : (s : ParserState) (v : Tree) (vs : Trees) → HoldsMembers (member v vs) s → NextIs v s
 first_is_next s v vs h =
     let m = h.1 in
     let f = front_of_whole s.innermost.bytes m.0 m.1 _ _ m.2 m.3 in
     front_is_next s v h.0 (record { there = f.0; pod = subst (λ b. IsPod b v) f.1 m.3 })
 
-pub others_are_left : (s : State) (v : Tree) (vs : Trees) → HoldsMembers (member v vs) s → HoldsMembers vs (state_behind s)
+pub others_are_left : (s : ParserState) (v : Tree) (vs : Trees) → HoldsMembers (member v vs) s → HoldsMembers vs (state_behind s)
 others_are_left s v vs h =
     let m = h.1 in
     let f = front_of_whole s.innermost.bytes m.0 m.1 _ _ m.2 m.3 in
     (h.0, subst (λ b. AreMembers vs b) f.2 m.4)
 
-pub none_is_left : (s : State) → HoldsMembers no_trees s → next_pod s ≡ None
+pub none_is_left : (s : ParserState) → HoldsMembers no_trees s → next_pod s ≡ None
 none_is_left s h =
     let n = ap length h.1 in
     next_of-end s.innermost h.0 (λ (f : HasFront s.innermost.bytes). let l = f.header in absurd (omega arith))

@@ -4,8 +4,8 @@ use Rattle.std.specs.Prelude.{true, false, pos}
 use Rattle.spa_format.specs.Words.{word_at, word_bytes, body_of}
 use Rattle.spa_format.specs.Kind.{int}
 use Rattle.spa_format.specs.Walk.{walk_behind}
-use Rattle.spa_parser.specs.State.{State, start_of, next_pod, state_behind, state_inside, open_count}
-use Rattle.spa_parser.specs.Steps.{NextPasses, Says, Closes}
+use Rattle.spa_parser.specs.State.{ParserState, start_of, next_pod, state_behind, state_inside, open_count}
+use Rattle.spa_parser.specs.Steps.{NextPasses, SaysFixed, ClosesFrame}
 
 -- words one after another
 words : List ℕ → List ℕ
@@ -16,7 +16,7 @@ a_struct : List ℕ
 a_struct = words (16 ∷ 14 ∷ 4 ∷ 4 ∷ 3 ∷ 0 ∷ [])
 
 -- in the struct
-in_struct : State
+in_struct : ParserState
 in_struct = state_inside a_struct false (start_of a_struct)
 
 struct_is_next : next_pod (start_of a_struct) ≡ Some a_struct
@@ -27,7 +27,7 @@ frame_is_1 : open_count in_struct ≡ 1
 unfolding in_struct
 frame_is_1 = refl
 
-int_is_next : NextPasses (Says (int (pos 3))) in_struct
+int_is_next : NextPasses (SaysFixed (int (pos 3))) in_struct
 unfolding words a_struct in_struct word_bytes word_at walk_behind
 int_is_next = ((refl, refl), refl)
 
@@ -35,7 +35,7 @@ none_is_left : next_pod (state_behind in_struct) ≡ None
 unfolding words a_struct in_struct word_bytes word_at walk_behind
 none_is_left = refl
 
-struct_is_closed : Closes (state_behind in_struct) (state_behind (start_of a_struct))
+struct_is_closed : ClosesFrame (state_behind in_struct) (state_behind (start_of a_struct))
 unfolding in_struct
 struct_is_closed = refl
 

@@ -10,16 +10,16 @@ pub record Remainder : Type 0 where
   pub of_object : Bool
 
 -- the innermost remainder, then those round it; the input's own is the last
-pub record State : Type 0 where
+pub record ParserState : Type 0 where
   pub innermost : Remainder
   pub outer : List Remainder
 
 -- at the front of an input, with nothing open
-abbrev pub start_of : List ℕ → State
+abbrev pub start_of : List ℕ → ParserState
 start_of input = record { innermost = record { bytes = input; of_object = false }; outer = [] }
 
 -- how many frames are open
-abbrev pub open_count : State → ℕ
+abbrev pub open_count : ParserState → ℕ
 open_count s = length s.outer
 
 -- the first of the walk over what is left, and none inside an object
@@ -31,15 +31,15 @@ abbrev pub behind_next : Remainder → Remainder
 behind_next r = record r { bytes = rest_of r.bytes }
 
 -- the pod that a call takes
-abbrev pub next_pod : State → Option (List ℕ)
+abbrev pub next_pod : ParserState → Option (List ℕ)
 next_pod s = next_of s.innermost
 
 -- the state behind the next pod
-abbrev pub state_behind : State → State
+abbrev pub state_behind : ParserState → ParserState
 state_behind s = record s { innermost = behind_next s.innermost }
 
 -- the state inside that pod: its body is innermost, and round it is left what follows the pod
-abbrev pub state_inside : List ℕ → (is_object : Bool) → State → State
+abbrev pub state_inside : List ℕ → (is_object : Bool) → ParserState → ParserState
 state_inside pod is_object s = record {
   innermost = record { bytes = body_of pod; of_object = is_object };
   outer = behind_next s.innermost ∷ s.outer;

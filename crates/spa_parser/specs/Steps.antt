@@ -7,23 +7,23 @@ use Rattle.spa_format.specs.Pod.{IsPod, AreMembers}
 use Rattle.spa_utils.specs.declared.errno.Errno.{Errno}
 use Rattle.spa_utils.specs.declared.errno.TheConstants.Errno.{NOMEM, INVAL, PIPE, PROTO}
 use Rattle.spa_view.specs.Tests.{IsOfKind, IsNulEnded, before_nul, IsBytesPod, IsPointerPod, IsAddress, IsStructPod, IsObjectPod}
-use Rattle.spa_parser.specs.State.{State, next_pod}
+use Rattle.spa_parser.specs.State.{ParserState, next_pod}
 
 -- there is a next pod, and it passes the test
-abbrev pub NextPasses : (List ℕ → Type 0) → State → Type 0
+abbrev pub NextPasses : (List ℕ → Type 0) → ParserState → Type 0
 NextPasses Passes s = IsSomeAnd (next_pod s) Passes
 
 -- the next pod is of this value, as a reader reads it
-abbrev pub NextIs : Tree → State → Type 0
+abbrev pub NextIs : Tree → ParserState → Type 0
 NextIs v = NextPasses (λ pod. IsPod pod v)
 
 -- what is innermost are pods of these values and nothing else
-abbrev pub HoldsMembers : Trees → State → Type 0
+abbrev pub HoldsMembers : Trees → ParserState → Type 0
 HoldsMembers vs s = (s.innermost.of_object ≡ false) × AreMembers vs s.innermost.bytes
 
 -- a pod of fixed size, of the value's kind and with its content
-abbrev pub Says : Fixed → List ℕ → Type 0
-Says x pod = IsOfKind (kind_of x) pod × (x ≡ content (kind_of x) (body_of pod))
+abbrev pub SaysFixed : Fixed → List ℕ → Type 0
+SaysFixed x pod = IsOfKind (kind_of x) pod × (x ≡ content (kind_of x) (body_of pod))
 
 -- a string's pod, which ends in NUL and has this before its first one
 abbrev pub SaysString : List ℕ → List ℕ → Type 0
@@ -42,21 +42,21 @@ abbrev pub IsObjectOf : ℕ → List ℕ → Type 0
 IsObjectOf type pod = IsObjectPod pod × (word_at (body_of pod) 0 ≡ type)
 
 -- why a get with this test is refused: PIPE where no pod is next, else INVAL where the next one doesn't pass
-abbrev pub RefusesGet : (List ℕ → Type 0) → State → Errno → Type 0
+abbrev pub RefusesGet : (List ℕ → Type 0) → ParserState → Errno → Type 0
 RefusesGet Passes s e = MatchOption (next_pod s) (e ≡ PIPE) (λ pod. (¬ (Passes pod)) × (e ≡ INVAL))
 
 -- why a push of a struct is refused: the same, and else memory may be lacking
-abbrev pub RefusesStruct : State → Errno → Type 0
+abbrev pub RefusesStruct : ParserState → Errno → Type 0
 RefusesStruct s e = MatchOption (next_pod s) (e ≡ PIPE) (λ pod.
     ((¬ (IsStructPod pod)) × (e ≡ INVAL)) ⊎ (IsStructPod pod × (e ≡ NOMEM)))
 
 -- why a push of an object is refused: the same, but that PROTO goes before memory, for another type
-abbrev pub RefusesObject : ℕ → State → Errno → Type 0
+abbrev pub RefusesObject : ℕ → ParserState → Errno → Type 0
 RefusesObject type s e = MatchOption (next_pod s) (e ≡ PIPE) (λ pod.
     ((¬ (IsObjectPod pod)) × (e ≡ INVAL))
     ⊎ (IsObjectPod pod × (word_at (body_of pod) 0 ≢ type) × (e ≡ PROTO))
     ⊎ (IsObjectOf type pod × (e ≡ NOMEM)))
 
 -- the innermost frame is closed, and what is left of it is skipped
-abbrev pub Closes : State → State → Type 0
-Closes old new = old.outer ≡ new.innermost ∷ new.outer
+abbrev pub ClosesFrame : ParserState → ParserState → Type 0
+ClosesFrame old new = old.outer ≡ new.innermost ∷ new.outer

@@ -4,7 +4,7 @@ ghost use Rattle.spa_format.specs.Kind as k;
 ghost use Rattle.spa_format.specs.Pod.{IsPod};
 ghost use Rattle.spa_format.specs.Tree.{Tree, bytes, fixed, pointer, string};
 ghost use Rattle.spa_parser.specs.State.{state_behind, next_pod};
-ghost use Rattle.spa_parser.specs.Steps.{NextIs, NextPasses, RefusesGet, Says, SaysBytes, SaysPointer, SaysString};
+ghost use Rattle.spa_parser.specs.Steps.{NextIs, NextPasses, RefusesGet, SaysFixed, SaysBytes, SaysPointer, SaysString};
 ghost use Rattle.spa_view.specs.Tests as t;
 
 use crate::parser::Parser;
@@ -15,7 +15,7 @@ use spa_view::Pod;
 impl<'d> Parser<'d> {
     /// The truth value: any word but 0 is true. INVAL where the next pod isn't a Bool of its size.
     pub fn get_bool(&mut self) -> Result<bool, Errno>
-        ensures said { IfOk result (λ x. NextPasses (Says (k.bool x)) self.old) }
+        ensures said { IfOk result (λ x. NextPasses (SaysFixed (k.bool x)) self.old) }
         ensures moved { OnOk result (self.new ≡ state_behind self.old) }
         ensures accepted { (n : Bool) → NextIs (fixed (k.bool n)) self.old → result ≡ Ok n }
         ensures refused { IfErr result (RefusesGet (t.IsOfKind k.bool_kind) self.old) }
@@ -29,7 +29,7 @@ impl<'d> Parser<'d> {
 
     /// The id. INVAL where the next pod isn't an Id of its size.
     pub fn get_id(&mut self) -> Result<Id, Errno>
-        ensures said { IfOk result (λ x. NextPasses (Says (k.id x.0)) self.old) }
+        ensures said { IfOk result (λ x. NextPasses (SaysFixed (k.id x.0)) self.old) }
         ensures moved { OnOk result (self.new ≡ state_behind self.old) }
         ensures accepted { (n : ℕ) → NextIs (fixed (k.id n)) self.old → IsOkAnd result (λ x. x.0 ≡ n) }
         ensures refused { IfErr result (RefusesGet (t.IsOfKind k.id_kind) self.old) }
@@ -43,7 +43,7 @@ impl<'d> Parser<'d> {
 
     /// The number. INVAL where the next pod isn't an Int of its size.
     pub fn get_int(&mut self) -> Result<i32, Errno>
-        ensures said { IfOk result (λ x. NextPasses (Says (k.int x)) self.old) }
+        ensures said { IfOk result (λ x. NextPasses (SaysFixed (k.int x)) self.old) }
         ensures moved { OnOk result (self.new ≡ state_behind self.old) }
         ensures accepted { (n : ℤ) → NextIs (fixed (k.int n)) self.old → result ≡ Ok n }
         ensures refused { IfErr result (RefusesGet (t.IsOfKind k.int_kind) self.old) }
@@ -57,7 +57,7 @@ impl<'d> Parser<'d> {
 
     /// The number. INVAL where the next pod isn't a Long of its size.
     pub fn get_long(&mut self) -> Result<i64, Errno>
-        ensures said { IfOk result (λ x. NextPasses (Says (k.long x)) self.old) }
+        ensures said { IfOk result (λ x. NextPasses (SaysFixed (k.long x)) self.old) }
         ensures moved { OnOk result (self.new ≡ state_behind self.old) }
         ensures accepted { (n : ℤ) → NextIs (fixed (k.long n)) self.old → result ≡ Ok n }
         ensures refused { IfErr result (RefusesGet (t.IsOfKind k.long_kind) self.old) }
@@ -71,7 +71,7 @@ impl<'d> Parser<'d> {
 
     /// The bits of the float. INVAL where the next pod isn't a Float of its size.
     pub fn get_float(&mut self) -> Result<Float32, Errno>
-        ensures said { IfOk result (λ x. NextPasses (Says (k.float x.0)) self.old) }
+        ensures said { IfOk result (λ x. NextPasses (SaysFixed (k.float x.0)) self.old) }
         ensures moved { OnOk result (self.new ≡ state_behind self.old) }
         ensures accepted { (n : ℕ) → NextIs (fixed (k.float n)) self.old → IsOkAnd result (λ x. x.0 ≡ n) }
         ensures refused { IfErr result (RefusesGet (t.IsOfKind k.float_kind) self.old) }
@@ -85,7 +85,7 @@ impl<'d> Parser<'d> {
 
     /// The bits of the float. INVAL where the next pod isn't a Double of its size.
     pub fn get_double(&mut self) -> Result<Float64, Errno>
-        ensures said { IfOk result (λ x. NextPasses (Says (k.double x.0)) self.old) }
+        ensures said { IfOk result (λ x. NextPasses (SaysFixed (k.double x.0)) self.old) }
         ensures moved { OnOk result (self.new ≡ state_behind self.old) }
         ensures accepted { (n : ℕ) → NextIs (fixed (k.double n)) self.old → IsOkAnd result (λ x. x.0 ≡ n) }
         ensures refused { IfErr result (RefusesGet (t.IsOfKind k.double_kind) self.old) }
@@ -99,7 +99,7 @@ impl<'d> Parser<'d> {
 
     /// The number of the file descriptor. INVAL where the next pod isn't a Fd of its size.
     pub fn get_fd(&mut self) -> Result<i64, Errno>
-        ensures said { IfOk result (λ x. NextPasses (Says (k.fd x)) self.old) }
+        ensures said { IfOk result (λ x. NextPasses (SaysFixed (k.fd x)) self.old) }
         ensures moved { OnOk result (self.new ≡ state_behind self.old) }
         ensures accepted { (n : ℤ) → NextIs (fixed (k.fd n)) self.old → result ≡ Ok n }
         ensures refused { IfErr result (RefusesGet (t.IsOfKind k.fd_kind) self.old) }
@@ -113,7 +113,7 @@ impl<'d> Parser<'d> {
 
     /// The rectangle. INVAL where the next pod isn't a Rectangle of its size.
     pub fn get_rectangle(&mut self) -> Result<Rectangle, Errno>
-        ensures said { IfOk result (λ x. NextPasses (Says (k.rectangle x.width x.height)) self.old) }
+        ensures said { IfOk result (λ x. NextPasses (SaysFixed (k.rectangle x.width x.height)) self.old) }
         ensures moved { OnOk result (self.new ≡ state_behind self.old) }
         ensures accepted { (w h : ℕ) → NextIs (fixed (k.rectangle w h)) self.old → IsOkAnd result (λ x. (x.width ≡ w) × (x.height ≡ h)) }
         ensures refused { IfErr result (RefusesGet (t.IsOfKind k.rectangle_kind) self.old) }
@@ -127,7 +127,7 @@ impl<'d> Parser<'d> {
 
     /// The fraction. INVAL where the next pod isn't a Fraction of its size.
     pub fn get_fraction(&mut self) -> Result<Fraction, Errno>
-        ensures said { IfOk result (λ x. NextPasses (Says (k.fraction x.num x.denom)) self.old) }
+        ensures said { IfOk result (λ x. NextPasses (SaysFixed (k.fraction x.num x.denom)) self.old) }
         ensures moved { OnOk result (self.new ≡ state_behind self.old) }
         ensures accepted { (n d : ℕ) → NextIs (fixed (k.fraction n d)) self.old → IsOkAnd result (λ x. (x.num ≡ n) × (x.denom ≡ d)) }
         ensures refused { IfErr result (RefusesGet (t.IsOfKind k.fraction_kind) self.old) }

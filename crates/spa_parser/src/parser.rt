@@ -4,7 +4,7 @@ ghost use Rattle.spa_format.specs.Front.{Begins};
 ghost use Rattle.spa_format.specs.Pod.{IsPod};
 ghost use Rattle.spa_format.specs.Tree.{Properties, Tree, Trees, object, struct};
 ghost use Rattle.spa_parser.specs.State.{next_pod, open_count, state_inside, start_of};
-ghost use Rattle.spa_parser.specs.Steps.{Closes, HoldsMembers, IsObjectOf, NextIs, NextPasses, RefusesObject, RefusesStruct};
+ghost use Rattle.spa_parser.specs.Steps.{ClosesFrame, HoldsMembers, IsObjectOf, NextIs, NextPasses, RefusesObject, RefusesStruct};
 ghost use Rattle.spa_view.specs.Tests as t;
 
 use spa_utils::{Errno, Frame, Id};
@@ -65,7 +65,7 @@ impl<'d> Model for Parser<'d> {
     ghost use Rattle.std.specs.Prelude.{reverse};
     ghost use Rattle.spa_parser.specs.State as state;
 
-    ghost Value = { state.State };
+    ghost Value = { state.ParserState };
 
     ghost view = { λ p. record { innermost = p.innermost; outer = reverse p.outer.items } };
 }
@@ -159,10 +159,10 @@ impl<'d> Parser<'d> {
         Ok(Frame(self.outer.len()))
     }
 
-    /// Closes the innermost frame, and skips what is left in it. INVAL where the frame is another one, or none is open.
+    /// ClosesFrame the innermost frame, and skips what is left in it. INVAL where the frame is another one, or none is open.
     pub fn pop(&mut self, frame: Frame) -> Result<(), Errno>
         ensures innermost { OnOk result (frame.0 ≡ open_count self.old) }
-        ensures closed { OnOk result (Closes self.old self.new) }
+        ensures closed { OnOk result (ClosesFrame self.old self.new) }
         ensures refused { IfErr result (λ e. ((frame.0 ≢ open_count self.old) ⊎ (open_count self.old ≡ 0)) × (e ≡ Errno.INVAL)) }
         ensures unchanged { OnErr result (self.new ≡ self.old) }
     {

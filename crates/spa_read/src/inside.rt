@@ -6,15 +6,15 @@ ghost use Rattle.spa_read.specs.declared.inside.Inside.{Inside};
 ghost use Rattle.spa_read.specs.declared.inside.Inside.TheVariants as inside_variant;
 ghost use Rattle.spa_value.specs.View.{view};
 
-use spa_bytes::{Front, HEADER_LEN, SECOND_WORD, u32_at};
 use crate::front::open_counted;
 use crate::plain::put_plain;
 use crate::refused::Refused;
 use crate::taking::Takes;
 use bitflags::Flags;
+use spa_bytes::{Front, HEADER_LEN, SECOND_WORD, u32_at};
 use spa_fixed::Refusal;
-use spa_value::{Object, Property, PropertyFlags, Value};
 use spa_utils::SpaTypes;
+use spa_value::{Object, Property, PropertyFlags, Value};
 use std::alloc::{AllocError, Global};
 
 /// What is read of a body so far.

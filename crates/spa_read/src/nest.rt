@@ -6,13 +6,13 @@ ghost use Rattle.spa_format.specs.Words.{header_size};
 ghost use Rattle.spa_read.specs.Nesting.{EndsInner, IsBegunAs, IsUnderWay, RefusesAt, Steps, ahead, around, so_far};
 ghost use Rattle.spa_value.specs.View.{view};
 
-use spa_bytes::{Front, HEADER_LEN, SECOND_WORD, u32_at};
 use crate::inside::{Inside, OpenObject};
 use crate::refused::Refused;
 use bitflags::Flags;
+use spa_bytes::{Front, HEADER_LEN, SECOND_WORD, u32_at};
 use spa_fixed::Refusal;
-use spa_value::{PropertyFlags, Value, discard};
 use spa_utils::SpaTypes;
+use spa_value::{PropertyFlags, Value, discard};
 use std::alloc::{AllocError, Global};
 use std::mem;
 

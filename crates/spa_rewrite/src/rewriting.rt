@@ -11,9 +11,9 @@ ghost use Rattle.spa_rewrite.specs.Tails.{KeepsStart};
 use crate::pod::rewrite_pod;
 use crate::tail::Tail;
 use spa_fixed::{DeserializeError, Refusal};
-use spa_sink::PodSink;
 use spa_read::error_at;
 use spa_scan::canonical_stretch;
+use spa_sink::PodSink;
 use std::alloc::Global;
 use std::mem;
 

@@ -67,7 +67,7 @@ pub parts_sent : {S : Type 0} {appends : S → List ℕ → S → Type 0} (law :
     appends a (h ++ (xs ++ zs)) d
 parts_sent {appends = appends} law a b c d h xs zs p q t =
     subst (λ l. appends a l d) (append_assoc h xs zs) (law a
-        c d (h ++ xs) zs (sent_behind law a b c h xs p q) t)
+    c d (h ++ xs) zs (sent_behind law a b c h xs p q) t)
 
 parts_length : (h xs zs : List ℕ) → length (h ++ (xs ++ zs)) ≡ length h + length xs + length zs
 parts_length h xs zs =
@@ -82,7 +82,7 @@ pub parts_refused : {S : Type 0} {appends : S → List ℕ → S → Type 0}
 parts_refused after longer a b c h xs zs x p r =
     let e = parts_length h xs zs in
     longer a c (length h + length xs) (length (h ++ (xs ++ zs))) x (omega arith)
-        (after a b c h (length xs) x p r)
+    (after a b c h (length xs) x p r)
 
 pub last_refused : {S : Type 0} {appends : S → List ℕ → S → Type 0}
     {refuses : S → ℕ → S → GenError → Type 0} (law : AppendsMore appends)
@@ -93,7 +93,7 @@ last_refused law after longer a b c d h xs zs x p q r =
     let e = parts_length h xs zs in
     let l = length-append h xs in
     longer a d (length (h ++ xs) + length zs) (length (h ++ (xs ++ zs))) x (omega arith)
-        (after a c d (h ++ xs) (length zs) x (sent_behind law a b c h xs p q) r)
+    (after a c d (h ++ xs) (length zs) x (sent_behind law a b c h xs p q) r)
 
 -- a refusal of one encoding is one of the same encoding
 pub refused_encoding : {S : Type 0} (refuses : S → ℕ → S → GenError → Type 0) (a b : S)

@@ -8,8 +8,8 @@ use crate::readme::read::count;
 use crate::readme::result_codes::told;
 use crate::readme::rewrite::{all_rewritten, say_the_same};
 use crate::readme::write::{encoded_int, encoded_pair};
-use spa_spelling::bytes_spelled;
 use libspa::utils::Id;
+use spa_spelling::bytes_spelled;
 use std::alloc::Global;
 use std::test::Fail;
 

@@ -12,8 +12,8 @@ ghost use Rattle.spa_format.specs.Writable.{HasNul, IsTooLarge, IsWritable};
 ghost use Rattle.spa_value.specs.View.{view};
 
 use crate::value::write_value;
-use spa_sink::{GenError, PodOutput};
 use spa_format::laws::encodings_read_back;
+use spa_sink::{GenError, PodOutput};
 use spa_value::Value;
 use std::marker::Model;
 

@@ -1,13 +1,13 @@
 //! Calls that a user makes one after the other: a value written, read back and rewritten; an object fixated and looked at.
 use crate::answers::{after_of, assert_own_rewriting, value_of, write};
 use crate::bytes::{assert_bytes, assert_holds};
-use spa_spelling::bytes_spelled;
 use bitflags::Flags;
 use libspa::pod::serialize::GenError;
 use libspa::pod::{Pod, PodObject, Value, rewrite_all};
 use libspa::utils::Id;
 use libspa::utils::dict::{DictRef, Flags as DictFlags};
 use libspa::utils::result::{SpaResult, SpaSuccess};
+use spa_spelling::bytes_spelled;
 use std::alloc::{AllocError, Global};
 use std::process::Abort;
 use std::test::Fail;

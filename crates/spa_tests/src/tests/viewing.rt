@@ -2,10 +2,10 @@
 use crate::answers::{after_of, object_of, value_of, verdict_of, view_of};
 use crate::bytes::{assert_holds, assert_holds_at};
 use crate::tables::{lines_of_built, lines_of_read_rows};
-use spa_spelling::bytes_spelled;
 use bitflags::Flags;
 use libspa::pod::{Object, Pod, PodObject, PodProp, PodStruct, Property, Value};
 use libspa::utils::{Errno, Id};
+use spa_spelling::bytes_spelled;
 use std::alloc::Global;
 use std::process::Abort;
 use std::test::Fail;

@@ -1,12 +1,12 @@
 //! Writing values, on worked examples.
 use crate::answers::write;
 use crate::bytes::{assert_holds, assert_spelt};
-use spa_spelling::bytes_spelled;
 use arrayvec::ArrayVec;
 use bitflags::Flags;
 use libspa::pod::serialize::{GenError, PodSerializer};
 use libspa::pod::{ChoiceValue, Object, Property, PropertyFlags, Value, ValueArray};
 use libspa::utils::{Choice, ChoiceEnum, ChoiceFlags, Float32, Rectangle};
+use spa_spelling::bytes_spelled;
 use std::alloc::{AllocError, Global};
 use std::process::Abort;
 use std::test::Fail;

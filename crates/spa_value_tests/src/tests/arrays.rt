@@ -1,9 +1,9 @@
 //! Bodies of arrays, read and written, with bytes from outside.
 use crate::bytes::{assert_words, cut_bytes};
-use spa_spelling::bytes_of;
 use spa_bytes::{HEADER_LEN, u32_at};
 use spa_fixed::{CanonicalFixedSizedPod, Refusal, next_element, open_array, put_array, read_array};
 use spa_sink::GenError;
+use spa_spelling::bytes_of;
 use spa_utils::{Fraction, Id};
 use std::alloc::{AllocError, Global};
 use std::test::Fail;

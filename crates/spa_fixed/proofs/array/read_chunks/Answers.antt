@@ -12,8 +12,8 @@ returns g c =
     let s = g.T.CanonicalFixedSizedPod.SIZE in
     IfOk-weaker c.collect.result _ _
     (λ v e. all_say k s g.row.N c.args.elements.now (map f v.items)
-        g.met.T.CanonicalFixedSizedPod.its_size c.requires.size c.requires.sized c.requires.whole
-        (e ∙ ap (map (content k)) c.as_chunks.ensures.front))
+    g.met.T.CanonicalFixedSizedPod.its_size c.requires.size c.requires.sized c.requires.whole
+    (e ∙ ap (map (content k)) c.as_chunks.ensures.front))
     (values_from_collect _ c.collect.ensures.ran (YieldsList-from_map_by
-        _ f (content k) (YieldsList-from_slice c.as_chunks.result.0.now cc) c.map.ensures.closure
-        (λ x r q h. search rules)))
+    _ f (content k) (YieldsList-from_slice c.as_chunks.result.0.now cc) c.map.ensures.closure
+    (λ x r q h. search rules)))

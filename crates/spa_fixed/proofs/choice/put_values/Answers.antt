@@ -14,16 +14,16 @@ pub returns-in_default-clause-refused : goal.returns-in_default-clause-refused
 returns-in_default-clause-refused g c =
     let met = g.met.T.CanonicalFixedSizedPod in
     let l =
-        length-choice_body c.args.shape c.args.flags g.T.CanonicalFixedSizedPod.kind
-        (λ r. g.T.CanonicalFixedSizedPod.fixed r.now) g.T.CanonicalFixedSizedPod.fixed
-        g.T.CanonicalFixedSizedPod.SIZE c.args.first.now c.args.more.now (λ r. met.its_kind r.now)
-        met.its_kind met.its_size in
+    length-choice_body c.args.shape c.args.flags g.T.CanonicalFixedSizedPod.kind
+    (λ r. g.T.CanonicalFixedSizedPod.fixed r.now) g.T.CanonicalFixedSizedPod.fixed
+    g.T.CanonicalFixedSizedPod.SIZE c.args.first.now c.args.more.now (λ r. met.its_kind r.now)
+    met.its_kind met.its_size in
     let z : length c.args.first.now * c.SIZE.result ≡ length c.args.first.now *
-        g.T.CanonicalFixedSizedPod.SIZE =
-        ap (λ n. length c.args.first.now * n) c.SIZE.ensures in
+    g.T.CanonicalFixedSizedPod.SIZE =
+    ap (λ n. length c.args.first.now * n) c.SIZE.ensures in
     let h : size_limit ≤ 16 + length c.args.first.now * c.SIZE.result + length c.args.more.now *
-        g.T.CanonicalFixedSizedPod.SIZE =
-        c.in_default.ensures.none in
+    g.T.CanonicalFixedSizedPod.SIZE =
+    c.in_default.ensures.none in
     record { cause = (omega (arith, l, z, h), refl) }
 
 pub returns-clause-ok : goal.returns-clause-ok
@@ -32,35 +32,38 @@ returns-clause-ok g c =
     let xs = map (λ r. g.T.CanonicalFixedSizedPod.fixed r.now) c.args.first.now in
     let ys = map g.T.CanonicalFixedSizedPod.fixed c.args.more.now in
     let l =
-        length-choice_body c.args.shape c.args.flags g.T.CanonicalFixedSizedPod.kind
-        (λ r. g.T.CanonicalFixedSizedPod.fixed r.now) g.T.CanonicalFixedSizedPod.fixed
-        g.T.CanonicalFixedSizedPod.SIZE c.args.first.now c.args.more.now (λ r. met.its_kind r.now)
-        met.its_kind met.its_size in
+    length-choice_body c.args.shape c.args.flags g.T.CanonicalFixedSizedPod.kind
+    (λ r. g.T.CanonicalFixedSizedPod.fixed r.now) g.T.CanonicalFixedSizedPod.fixed
+    g.T.CanonicalFixedSizedPod.SIZE c.args.first.now c.args.more.now (λ r. met.its_kind r.now)
+    met.its_kind met.its_size in
     let z : length c.args.first.now * c.SIZE.result ≡ length c.args.first.now *
-        g.T.CanonicalFixedSizedPod.SIZE =
-        ap (λ n. length c.args.first.now * n) c.SIZE.ensures in
+    g.T.CanonicalFixedSizedPod.SIZE =
+    ap (λ n. length c.args.first.now * n) c.SIZE.ensures in
     let en : c.in-Some.size ≡ length (choice_body c.args.shape
-        c.args.flags g.T.CanonicalFixedSizedPod.kind (xs ++ ys)) =
-        (let b = c.in-Some.ensures.some in omega (arith, l, z, b)) in
+    c.args.flags g.T.CanonicalFixedSizedPod.kind (xs ++ ys)) =
+    (let b = c.in-Some.ensures.some in omega (arith, l, z, b)) in
     let bodies = ap (λ n. take n c.first_bodies.result) z ∙ c.first_bodies.ensures.bodies in
     let encoding =
-        choice_encoding g.T.CanonicalFixedSizedPod.kind xs ys c.two_words.result
-        c.two_words-2.result c.two_words-3.result c.first_bodies.result c.start_of-start.result
-        c.in-Some.size c.args.shape c.args.flags c.SIZE-2.result c.TYPE.result
-        (length c.args.first.now * c.SIZE.result) c.start_of-start.ensures bodies
-        c.two_words.ensures c.two_words-2.ensures c.two_words-3.ensures en
-        (c.SIZE-2.ensures ∙ met.its_size) (c.TYPE.ensures ∙ met.its_type) in
+    choice_encoding g.T.CanonicalFixedSizedPod.kind xs ys c.two_words.result
+    c.two_words-2.result c.two_words-3.result c.first_bodies.result c.start_of-start.result
+    c.in-Some.size c.args.shape c.args.flags c.SIZE-2.result c.TYPE.result
+    (length c.args.first.now * c.SIZE.result) c.start_of-start.ensures bodies
+    c.two_words.ensures c.two_words-2.ensures c.two_words-3.ensures en
+    (c.SIZE-2.ensures ∙ met.its_size) (c.TYPE.ensures ∙ met.its_type) in
     on_ok_weaker c.put_parts.result
-        (λ p. subst (λ b. g.S.PodSink.appends c.args.sink.now b c.put_parts.new.sink) encoding p)
-        c.put_parts.ensures.ok
+    (λ p. subst (λ b. g.S.PodSink.appends c.args.sink.now b c.put_parts.new.sink) encoding p)
+    c.put_parts.ensures.ok
 
 pub returns-clause-typed : goal.returns-clause-typed
 returns-clause-typed g c =
     let xs = map (λ r. g.T.CanonicalFixedSizedPod.fixed r.now) c.args.first.now in
     let ys = map g.T.CanonicalFixedSizedPod.fixed c.args.more.now in
     on_ok_weaker c.put_parts.result
-        (λ p. (c.ranges.flags.fits, AreOf-append g.T.CanonicalFixedSizedPod.kind xs ys
-        c.first_bodies.ensures.typed p)) c.put_parts.ensures.typed
+    (λ p. (
+      c.ranges.flags.fits,
+      AreOf-append g.T.CanonicalFixedSizedPod.kind xs ys
+          c.first_bodies.ensures.typed p,
+    )) c.put_parts.ensures.typed
 
 pub returns-clause-fits : goal.returns-clause-fits
 returns-clause-fits g c =
@@ -68,18 +71,18 @@ returns-clause-fits g c =
     let xs = map (λ r. g.T.CanonicalFixedSizedPod.fixed r.now) c.args.first.now in
     let ys = map g.T.CanonicalFixedSizedPod.fixed c.args.more.now in
     let l =
-        length-choice_body c.args.shape c.args.flags g.T.CanonicalFixedSizedPod.kind
-        (λ r. g.T.CanonicalFixedSizedPod.fixed r.now) g.T.CanonicalFixedSizedPod.fixed
-        g.T.CanonicalFixedSizedPod.SIZE c.args.first.now c.args.more.now (λ r. met.its_kind r.now)
-        met.its_kind met.its_size in
+    length-choice_body c.args.shape c.args.flags g.T.CanonicalFixedSizedPod.kind
+    (λ r. g.T.CanonicalFixedSizedPod.fixed r.now) g.T.CanonicalFixedSizedPod.fixed
+    g.T.CanonicalFixedSizedPod.SIZE c.args.first.now c.args.more.now (λ r. met.its_kind r.now)
+    met.its_kind met.its_size in
     let z : length c.args.first.now * c.SIZE.result ≡ length c.args.first.now *
-        g.T.CanonicalFixedSizedPod.SIZE =
-        ap (λ n. length c.args.first.now * n) c.SIZE.ensures in
+    g.T.CanonicalFixedSizedPod.SIZE =
+    ap (λ n. length c.args.first.now * n) c.SIZE.ensures in
     let en : c.in-Some.size ≡ length (choice_body c.args.shape
-        c.args.flags g.T.CanonicalFixedSizedPod.kind (xs ++ ys)) =
-        (let b = c.in-Some.ensures.some in omega (arith, l, z, b)) in
+    c.args.flags g.T.CanonicalFixedSizedPod.kind (xs ++ ys)) =
+    (let b = c.in-Some.ensures.some in omega (arith, l, z, b)) in
     on_ok_weaker c.put_parts.result (λ p. subst (λ n. n < size_limit) en c.in-Some.ensures.fits)
-        c.put_parts.ensures.ok
+    c.put_parts.ensures.ok
 
 pub returns-clause-refused : goal.returns-clause-refused
 returns-clause-refused g c =
@@ -87,27 +90,27 @@ returns-clause-refused g c =
     let xs = map (λ r. g.T.CanonicalFixedSizedPod.fixed r.now) c.args.first.now in
     let ys = map g.T.CanonicalFixedSizedPod.fixed c.args.more.now in
     let l =
-        length-choice_body c.args.shape c.args.flags g.T.CanonicalFixedSizedPod.kind
-        (λ r. g.T.CanonicalFixedSizedPod.fixed r.now) g.T.CanonicalFixedSizedPod.fixed
-        g.T.CanonicalFixedSizedPod.SIZE c.args.first.now c.args.more.now (λ r. met.its_kind r.now)
-        met.its_kind met.its_size in
+    length-choice_body c.args.shape c.args.flags g.T.CanonicalFixedSizedPod.kind
+    (λ r. g.T.CanonicalFixedSizedPod.fixed r.now) g.T.CanonicalFixedSizedPod.fixed
+    g.T.CanonicalFixedSizedPod.SIZE c.args.first.now c.args.more.now (λ r. met.its_kind r.now)
+    met.its_kind met.its_size in
     let z : length c.args.first.now * c.SIZE.result ≡ length c.args.first.now *
-        g.T.CanonicalFixedSizedPod.SIZE =
-        ap (λ n. length c.args.first.now * n) c.SIZE.ensures in
+    g.T.CanonicalFixedSizedPod.SIZE =
+    ap (λ n. length c.args.first.now * n) c.SIZE.ensures in
     let en : c.in-Some.size ≡ length (choice_body c.args.shape
-        c.args.flags g.T.CanonicalFixedSizedPod.kind (xs ++ ys)) =
-        (let b = c.in-Some.ensures.some in omega (arith, l, z, b)) in
+    c.args.flags g.T.CanonicalFixedSizedPod.kind (xs ++ ys)) =
+    (let b = c.in-Some.ensures.some in omega (arith, l, z, b)) in
     let bodies = ap (λ n. take n c.first_bodies.result) z ∙ c.first_bodies.ensures.bodies in
     let encoding =
-        choice_encoding g.T.CanonicalFixedSizedPod.kind xs ys c.two_words.result
-        c.two_words-2.result c.two_words-3.result c.first_bodies.result c.start_of-start.result
-        c.in-Some.size c.args.shape c.args.flags c.SIZE-2.result c.TYPE.result
-        (length c.args.first.now * c.SIZE.result) c.start_of-start.ensures bodies
-        c.two_words.ensures c.two_words-2.ensures c.two_words-3.ensures en
-        (c.SIZE-2.ensures ∙ met.its_size) (c.TYPE.ensures ∙ met.its_type) in
+    choice_encoding g.T.CanonicalFixedSizedPod.kind xs ys c.two_words.result
+    c.two_words-2.result c.two_words-3.result c.first_bodies.result c.start_of-start.result
+    c.in-Some.size c.args.shape c.args.flags c.SIZE-2.result c.TYPE.result
+    (length c.args.first.now * c.SIZE.result) c.start_of-start.ensures bodies
+    c.two_words.ensures c.two_words-2.ensures c.two_words-3.ensures en
+    (c.SIZE-2.ensures ∙ met.its_size) (c.TYPE.ensures ∙ met.its_type) in
     IfErr-weaker c.put_parts.result _ _ (λ e r. by_sink g.S.PodSink.refuses
-        g.met.S.PodSink.never_nul g.met.S.PodSink.never_large c.args.sink.now _
-        (length (framed choice_type (choice_body c.args.shape
-        c.args.flags g.T.CanonicalFixedSizedPod.kind (xs ++ ys)))) e
-        (refused_encoding g.S.PodSink.refuses c.args.sink.now _ _ _ e encoding r))
-        c.put_parts.ensures.cause
+    g.met.S.PodSink.never_nul g.met.S.PodSink.never_large c.args.sink.now _
+    (length (framed choice_type (choice_body c.args.shape
+    c.args.flags g.T.CanonicalFixedSizedPod.kind (xs ++ ys)))) e
+    (refused_encoding g.S.PodSink.refuses c.args.sink.now _ _ _ e encoding r))
+    c.put_parts.ensures.cause

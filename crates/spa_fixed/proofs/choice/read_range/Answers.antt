@@ -13,9 +13,9 @@ returns-clause-read g c =
     let second = c.next_element-min.ensures in
     let third = c.next_element-max.ensures in
     let r : 3 * s ≤ length c.args.elements.now =
-        room 3 c.count.result s (length c.args.elements.now) c.count.ensures (omega arith) in
+    room 3 c.count.result s (length c.args.elements.now) c.count.ensures (omega arith) in
     let w = three_whole s 0 _ _ _ _ p c.requires (omega arith) first.rest second.rest third.rest in
     let more = left_over k s c.next_element-max.result.0.now met.its_size p w.0 in
     range_reads k f _ _ _ more.0 c.args.elements.now (three_before
-        k s _ _ _ more.0 c.args.elements.now _ _ _ met.its_size p first.says first.rest second.says
-        second.rest third.says third.rest more.1)
+    k s _ _ _ more.0 c.args.elements.now _ _ _ met.its_size p first.says first.rest second.says
+    second.rest third.says third.rest more.1)

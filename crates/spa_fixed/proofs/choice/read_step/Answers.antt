@@ -15,15 +15,15 @@ returns-clause-read g c =
     let third = c.next_element-max.ensures in
     let fourth = c.next_element-step.ensures in
     let r : 4 * s ≤ length c.args.elements.now =
-        room 4 c.count.result s (length c.args.elements.now) c.count.ensures (omega arith) in
+    room 4 c.count.result s (length c.args.elements.now) c.count.ensures (omega arith) in
     let w = three_whole s s _ _ _ _ p c.requires (omega arith) first.rest second.rest third.rest in
     let w4 =
-        whole_behind s c.next_element-max.result.0.now c.next_element-step.result.0.now p w.0 w.1
-        fourth.rest in
+    whole_behind s c.next_element-max.result.0.now c.next_element-step.result.0.now p w.0 w.1
+    fourth.rest in
     let more = left_over k s c.next_element-step.result.0.now met.its_size p w4 in
     let last =
-        before k s (f c.next_element-step.result.1) more.0 _ _ met.its_size p fourth.says
-        fourth.rest more.1 in
+    before k s (f c.next_element-step.result.1) more.0 _ _ met.its_size p fourth.says
+    fourth.rest more.1 in
     step_reads k f _ _ _ _ more.0 c.args.elements.now (three_before
-        k s _ _ _ (f c.next_element-step.result.1 ∷ more.0) c.args.elements.now _ _ _ met.its_size
-        p first.says first.rest second.says second.rest third.says third.rest last)
+    k s _ _ _ (f c.next_element-step.result.1 ∷ more.0) c.args.elements.now _ _ _ met.its_size
+    p first.says first.rest second.says second.rest third.says third.rest last)

@@ -10,23 +10,23 @@ pub returns-in_err-put_elements-clause-cause : goal.returns-in_err-put_elements-
 returns-in_err-put_elements-clause-cause g c =
     passed_on _ _ _ c.from_residual-in_err-put_elements.ensures.1
     (parts_refused g.met.S.PodSink.refuses_after g.met.S.PodSink.refuses_longer c.args.sink.now
-        c.append.new.self _ c.args.header.now
-        (fixed_bodies (map g.T.CanonicalFixedSizedPod.fixed c.args.values.now))
-        (padding c.args.size) _ c.in_ok-append.ensures.ok c.in_err-put_elements.ensures.cause)
+    c.append.new.self _ c.args.header.now
+    (fixed_bodies (map g.T.CanonicalFixedSizedPod.fixed c.args.values.now))
+    (padding c.args.size) _ c.in_ok-append.ensures.ok c.in_err-put_elements.ensures.cause)
 
 pub returns-clause-ok : goal.returns-clause-ok
 returns-clause-ok g c =
     on_ok_weaker c.put_padding.result (λ p. parts_sent g.met.S.PodSink.appends_more
-        c.args.sink.now c.append.new.self c.put_elements.new.sink c.put_padding.new.sink
-        c.args.header.now (fixed_bodies (map g.T.CanonicalFixedSizedPod.fixed c.args.values.now))
-        (padding c.args.size) c.in_ok-append.ensures.ok c.in_ok-put_elements.ensures.ok p)
-        c.put_padding.ensures.ok
+    c.args.sink.now c.append.new.self c.put_elements.new.sink c.put_padding.new.sink
+    c.args.header.now (fixed_bodies (map g.T.CanonicalFixedSizedPod.fixed c.args.values.now))
+    (padding c.args.size) c.in_ok-append.ensures.ok c.in_ok-put_elements.ensures.ok p)
+    c.put_padding.ensures.ok
 
 pub returns-clause-cause : goal.returns-clause-cause
 returns-clause-cause g c =
     IfErr-weaker c.put_padding.result _ _ (λ x r. last_refused
-        g.met.S.PodSink.appends_more g.met.S.PodSink.refuses_after g.met.S.PodSink.refuses_longer
-        c.args.sink.now c.append.new.self c.put_elements.new.sink _ c.args.header.now
-        (fixed_bodies (map g.T.CanonicalFixedSizedPod.fixed c.args.values.now))
-        (padding c.args.size) x c.in_ok-append.ensures.ok c.in_ok-put_elements.ensures.ok r)
-        c.put_padding.ensures.cause
+    g.met.S.PodSink.appends_more g.met.S.PodSink.refuses_after g.met.S.PodSink.refuses_longer
+    c.args.sink.now c.append.new.self c.put_elements.new.sink _ c.args.header.now
+    (fixed_bodies (map g.T.CanonicalFixedSizedPod.fixed c.args.values.now))
+    (padding c.args.size) x c.in_ok-append.ensures.ok c.in_ok-put_elements.ensures.ok r)
+    c.put_padding.ensures.cause

@@ -1,0 +1,8 @@
+pub mod Lengths
+pub mod FrameLists
+pub mod Sizes
+pub mod Steps
+pub mod Runs
+pub mod Members
+pub mod Placing
+pub mod Shapes

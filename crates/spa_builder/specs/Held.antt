@@ -1,0 +1,80 @@
+-- How the bytes and the frames of a builder hold a state.
+use Rattle.std.specs.Prelude.{◌≡◌, ℕ, ◌+◌, List, [], ◌∷◌, ◌++◌, length, min, true, false, IsTrue, Option, Some, None}
+use Rattle.spa_format.specs.Words.{word_bytes}
+use Rattle.spa_format.specs.Kind.{none_kind, type_number, Fixed, kind_of}
+use Rattle.spa_format.specs.Tree.{shape_number, Trees, struct_type, object_type, array_type, choice_type}
+use Rattle.spa_format.specs.Encoding.{array_body, fixed_bodies, member_encodings, property_encodings}
+use Rattle.spa_builder.specs.State.{Partial, open_struct, open_object, open_property, open_array, open_choice, State}
+use Rattle.spa_builder.specs.Step.{child_kind, takes_trees, all_fit}
+use Rattle.spa_builder.specs.declared.open.Open.{Open}
+use Rattle.spa_builder.specs.declared.open.What.{What}
+use Rattle.spa_builder.specs.declared.open.What.TheVariants.{Struct, Object, Array, Choice}
+
+-- what a builder holds
+pub record Held : Type 0 where
+  pub bytes : List ℕ
+  pub frames : List Open
+
+abbrev pub held : List ℕ → List Open → Held
+held bytes frames = record { bytes = bytes; frames = frames }
+
+-- the type number of the first element
+abbrev pub first_type : List Fixed → Option ℕ
+first_type [] = None
+first_type (x ∷ xs) = Some (type_number (kind_of x))
+
+-- what the frame of a partial tree says; values of a choice are counted up to four
+abbrev pub what_of : Partial → What
+what_of (open_struct vs) = Struct
+what_of (open_object t i ps) = Object false
+what_of (open_property t i ps k f) = Object true
+what_of (open_array xs) = Array (first_type xs)
+what_of (open_choice h f xs) = Choice (shape_number h) (first_type xs) (min 4 (length xs))
+
+abbrev pub type_of_partial : Partial → ℕ
+type_of_partial (open_struct vs) = struct_type
+type_of_partial (open_object t i ps) = object_type
+type_of_partial (open_property t i ps k f) = object_type
+type_of_partial (open_array xs) = array_type
+type_of_partial (open_choice h f xs) = choice_type
+
+-- the bytes of the body so far
+abbrev pub body_so_far : Partial → List ℕ
+body_so_far (open_struct vs) = member_encodings vs
+body_so_far (open_object t i ps) = word_bytes t ++ (word_bytes i ++ property_encodings ps)
+body_so_far (open_property t i ps k f) = word_bytes t ++ (word_bytes i ++ (property_encodings ps ++ (word_bytes k ++ word_bytes f)))
+body_so_far (open_array xs) = array_body (child_kind xs) xs
+body_so_far (open_choice h f xs) = word_bytes (shape_number h) ++ (word_bytes f ++ array_body (child_kind xs) xs)
+
+-- with its header, whose size word is 0 until it is closed
+abbrev pub so_far : Partial → List ℕ
+so_far p = word_bytes 0 ++ (word_bytes (type_of_partial p) ++ body_so_far p)
+
+abbrev pub all_so_far : List Partial → List ℕ
+all_so_far [] = []
+all_so_far (p ∷ ps) = all_so_far ps ++ so_far p
+
+-- the frames of open trees behind so many bytes, the outermost first
+abbrev pub frames_of : ℕ → List Partial → List Open
+frames_of base [] = []
+frames_of base (p ∷ ps) = frames_of base ps ++ (record { start = base + length (all_so_far ps); what = what_of p }) ∷ []
+
+-- elements of kind None have no bytes
+abbrev pub IsFair : Partial → Type 0
+IsFair (open_array xs) = child_kind xs ≡ none_kind → fixed_bodies xs ≡ []
+IsFair p = Unit {0}
+
+-- trees are open in such trees alone as take any tree
+abbrev pub IsNested : List Partial → Type 0
+IsNested [] = Unit {0}
+IsNested (p ∷ ps) = IsFair p × IsTrue (takes_trees ps) × IsNested ps
+
+-- The bytes are the encodings of the closed values and what there is of each open one, and the frames are theirs.
+pub record IsAt (held : Held) (s : State) : Type 0 where
+  pub bytes : held.bytes ≡ member_encodings s.closed ++ all_so_far s.opened
+  pub frames : held.frames ≡ frames_of (length (member_encodings s.closed)) s.opened
+  pub nested : IsNested s.opened
+  pub fit : IsTrue (all_fit 0 s.opened)
+
+abbrev pub IsHeld : Held → Type 0
+IsHeld held = (s : State) × IsAt held s

@@ -1,0 +1,89 @@
+-- What the innermost open tree takes, and what is there once it took it.
+use Rattle.std.specs.Prelude.{ℕ, ◌+◌, ◌-◌, nat_lt, List, [], ◌∷◌, ◌++◌, length, Bool, true, false, Option, Some, None}
+use Rattle.spa_format.specs.Words.{header_size, size_limit}
+use Rattle.spa_format.specs.Kind.{Fixed}
+use Rattle.spa_format.specs.Tree.{Tree, Trees}
+use Rattle.spa_builder.specs.State.{Partial, open_struct, open_object, open_property, open_array, open_choice, with_tree, with_property}
+use Rattle.spa_builder.specs.Step.{array_takes, choice_takes}
+use Rattle.spa_builder.specs.Held.{all_so_far, what_of}
+use Rattle.spa_builder.specs.declared.open.Open.{Open}
+
+-- the innermost open tree's frame
+abbrev pub innermost_of : ℕ → List Partial → Option Open
+innermost_of base [] = None
+innermost_of base (p ∷ ps) = Some (record { start = base + length (all_so_far ps); what = what_of p })
+
+-- the open trees where the innermost, which takes any tree, got this one
+abbrev pub filled : List Partial → Tree → List Partial
+filled [] v = []
+filled (open_struct vs ∷ ps) v = open_struct (with_tree vs v) ∷ ps
+filled (open_object t i qs ∷ ps) v = open_object t i qs ∷ ps
+filled (open_property t i qs k f ∷ ps) v = open_object t i (with_property qs k f v) ∷ ps
+filled (open_array xs ∷ ps) v = open_array xs ∷ ps
+filled (open_choice h f xs ∷ ps) v = open_choice h f xs ∷ ps
+
+-- the closed values where no tree was open
+abbrev pub closed_with : Trees → List Partial → Tree → Trees
+closed_with closed [] v = with_tree closed v
+closed_with closed (p ∷ ps) v = closed
+
+-- a key waits for its value
+abbrev pub waits : List Partial → Bool
+waits [] = false
+waits (open_struct vs ∷ ps) = false
+waits (open_object t i qs ∷ ps) = false
+waits (open_property t i qs k f ∷ ps) = true
+waits (open_array xs ∷ ps) = false
+waits (open_choice h f xs ∷ ps) = false
+
+-- an object is innermost in which no key waits
+abbrev pub takes_key : List Partial → Bool
+takes_key [] = false
+takes_key (open_struct vs ∷ ps) = false
+takes_key (open_object t i qs ∷ ps) = true
+takes_key (open_property t i qs k f ∷ ps) = false
+takes_key (open_array xs ∷ ps) = false
+takes_key (open_choice h f xs ∷ ps) = false
+
+-- elements of a fixed size stand there
+abbrev pub has_elements : Partial → Bool
+has_elements (open_struct vs) = false
+has_elements (open_object t i qs) = false
+has_elements (open_property t i qs k f) = false
+has_elements (open_array xs) = true
+has_elements (open_choice h f xs) = true
+
+abbrev pub takes_elements : List Partial → Bool
+takes_elements [] = false
+takes_elements (p ∷ ps) = has_elements p
+
+-- the first element is to come
+abbrev pub is_first : Partial → Bool
+is_first (open_struct vs) = false
+is_first (open_object t i qs) = false
+is_first (open_property t i qs k f) = false
+is_first (open_array []) = true
+is_first (open_array (x ∷ xs)) = false
+is_first (open_choice h f []) = true
+is_first (open_choice h f (x ∷ xs)) = false
+
+abbrev pub takes_element : Partial → Fixed → Bool
+takes_element (open_struct vs) x = false
+takes_element (open_object t i qs) x = false
+takes_element (open_property t i qs k f) x = false
+takes_element (open_array xs) x = array_takes xs x
+takes_element (open_choice h f xs) x = choice_takes h xs x
+
+abbrev pub with_element : Partial → Fixed → Partial
+with_element (open_struct vs) x = open_struct vs
+with_element (open_object t i qs) x = open_object t i qs
+with_element (open_property t i qs k f) x = open_property t i qs k f
+with_element (open_array xs) x = open_array (xs ++ x ∷ [])
+with_element (open_choice h f xs) x = open_choice h f (xs ++ x ∷ [])
+
+-- Whether so many bytes more leave the outermost size word within 32 bits. Where a tree is inside it, up to 7 bytes of
+-- padding are still to come.
+abbrev pub has_room_for : ℕ → List Partial → Bool
+has_room_for more [] = true
+has_room_for more (p ∷ []) = nat_lt (length (all_so_far (p ∷ [])) - header_size + more) size_limit
+has_room_for more (p ∷ q ∷ ps) = nat_lt (length (all_so_far (p ∷ q ∷ ps)) - header_size + more) (size_limit - 7)

@@ -1,0 +1,7 @@
+pub mod State
+pub mod Step
+pub mod Held
+pub mod Innermost
+pub mod Answers
+pub mod Growing
+pub mod Replay

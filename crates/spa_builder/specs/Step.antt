@@ -1,0 +1,152 @@
+-- One call of a builder, on trees: the next state, or which refusal: README.md, "The rules".
+use Rattle.std.specs.Prelude.{ℕ, ◌+◌, List, [], ◌∷◌, ◌++◌, length, Bool, true, false, cond, ◌&&◌, not, nat_eq, nat_lt, Option, Some, None}
+use Rattle.std.specs.List.{list_any}
+use Rattle.spa_format.specs.Words.{extent, header_size, size_limit}
+use Rattle.spa_format.specs.Kind.{Kind, none_kind, type_number, Fixed, none, kind_of}
+use Rattle.spa_format.specs.Tree.{Shape, none_choice, range_choice, step_choice, enum_choice, flags_choice, Tree, fixed, string, array, choice, struct, object, Trees, no_trees, no_properties}
+use Rattle.spa_format.specs.Normal.{kept_elements}
+use Rattle.spa_format.specs.Pod.{least_count}
+use Rattle.spa_format.specs.Faults.{choice_header_size}
+use Rattle.spa_format.specs.Encoding.{encoded_body, fixed_bodies}
+use Rattle.spa_builder.specs.State.{Partial, open_struct, open_object, open_property, open_array, open_choice, State, with_tree, with_property}
+
+pub data Call : Type 0 where
+  add : Tree → Call
+  add_prop : (key flags : ℕ) → Call
+  push_struct : Call
+  push_object : (type id : ℕ) → Call
+  push_array : Call
+  -- the shape word of the choice, and its flags
+  push_choice : (shape flags : ℕ) → Call
+  -- the frame is the number of open trees after its push
+  pop : ℕ → Call
+
+pub data Outcome : Type 0 where
+  Accepts : State → Outcome
+  Inval : Outcome
+  Nospc : Outcome
+
+-- the shape with this number
+abbrev pub shape_of : ℕ → Option Shape
+shape_of n = cond (nat_eq n 0) (Some none_choice) (cond (nat_eq n 1) (Some range_choice) (cond (nat_eq n 2) (Some step_choice) (cond (nat_eq n 3) (Some enum_choice) (cond (nat_eq n 4) (Some flags_choice) None))))
+
+abbrev pub is_nul : ℕ → Bool
+is_nul x = nat_eq x 0
+
+-- the value is a text that holds NUL
+abbrev pub has_nul : Tree → Bool
+has_nul (string s) = list_any is_nul s
+has_nul v = false
+
+abbrev pub same_kind : Fixed → Fixed → Bool
+same_kind x y = nat_eq (type_number (kind_of x)) (type_number (kind_of y))
+
+-- an array takes elements of the first one's kind
+abbrev pub array_takes : List Fixed → Fixed → Bool
+array_takes [] x = true
+array_takes (y ∷ ys) x = same_kind y x
+
+-- a choice without alternatives or flags takes no more values than it needs
+abbrev pub has_place : Shape → ℕ → Bool
+has_place none_choice n = nat_lt n (least_count none_choice)
+has_place range_choice n = nat_lt n (least_count range_choice)
+has_place step_choice n = nat_lt n (least_count step_choice)
+has_place enum_choice n = true
+has_place flags_choice n = true
+
+-- a choice takes values of the first one's kind, which isn't None
+abbrev pub choice_takes : Shape → List Fixed → Fixed → Bool
+choice_takes h [] x = not (same_kind none x)
+choice_takes h (y ∷ ys) x = same_kind y x && has_place h (length (y ∷ ys))
+
+-- the partial tree with one value more, where it takes that value
+abbrev pub added : Partial → Tree → Option Partial
+added (open_struct vs) v = Some (open_struct (with_tree vs v))
+added (open_object t i ps) v = None
+added (open_property t i ps k f) v = Some (open_object t i (with_property ps k f v))
+added (open_array xs) (fixed x) = cond (array_takes xs x) (Some (open_array (xs ++ x ∷ []))) None
+added (open_array xs) v = None
+added (open_choice h f xs) (fixed x) = cond (choice_takes h xs x) (Some (open_choice h f (xs ++ x ∷ []))) None
+added (open_choice h f xs) v = None
+
+-- a value goes to the innermost open tree, or to the closed values where none is open
+abbrev pub placed : Trees → List Partial → Tree → Option State
+placed closed [] v = Some (record { closed = with_tree closed v; opened = [] })
+placed closed (p ∷ ps) v = elim (added p v) as (λ _. Option State) [ Some q ↦ Some (record { closed = closed; opened = q ∷ ps }) | None ↦ None ]
+
+-- a key and its flags go to an object in which no key waits
+abbrev pub keyed : Trees → List Partial → ℕ → ℕ → Option State
+keyed closed (open_object t i qs ∷ ps) k f = Some (record { closed = closed; opened = open_property t i qs k f ∷ ps })
+keyed closed ps k f = None
+
+-- a tree of any type may begin here
+abbrev pub takes_trees : List Partial → Bool
+takes_trees [] = true
+takes_trees (open_struct vs ∷ ps) = true
+takes_trees (open_object t i qs ∷ ps) = false
+takes_trees (open_property t i qs k f ∷ ps) = true
+takes_trees (open_array xs ∷ ps) = false
+takes_trees (open_choice h f xs ∷ ps) = false
+
+abbrev pub begun : Partial → State → Option State
+begun p s = cond (takes_trees s.opened) (Some (record { closed = s.closed; opened = p ∷ s.opened })) None
+
+-- the kind of the elements: None where there is none
+abbrev pub child_kind : List Fixed → Kind
+child_kind [] = none_kind
+child_kind (x ∷ xs) = kind_of x
+
+-- An array's tree. Where it is empty or has None elements alone, it is a None array of no units.
+abbrev pub array_of : List Fixed → Tree
+array_of xs = array (child_kind xs) (kept_elements (child_kind xs) xs)
+
+-- a choice's tree, where it has the values that it needs
+abbrev pub choice_of : Shape → ℕ → List Fixed → Option Tree
+choice_of h f [] = None
+choice_of h f (x ∷ xs) = cond (nat_lt (length (x ∷ xs)) (least_count h)) None (Some (choice h f (kind_of x) x xs))
+
+-- the value that an open tree becomes
+abbrev pub finished : Partial → Option Tree
+finished (open_struct vs) = Some (struct vs)
+finished (open_object t i ps) = Some (object t i ps)
+finished (open_property t i ps k f) = None
+finished (open_array xs) = Some (array_of xs)
+finished (open_choice h f xs) = choice_of h f xs
+
+-- the size word that an open tree would have without the trees inside it: a waiting key is 8 bytes
+abbrev pub own_size : Partial → ℕ
+own_size (open_struct vs) = length (encoded_body (struct vs))
+own_size (open_object t i ps) = length (encoded_body (object t i ps))
+own_size (open_property t i ps k f) = length (encoded_body (object t i ps)) + header_size
+own_size (open_array xs) = length (encoded_body (array_of xs))
+own_size (open_choice h f xs) = choice_header_size + length (fixed_bodies xs)
+
+-- Each open tree's size word fits 32 bits, where so many bytes are inside the innermost,
+-- and the trees inside each are counted as closed.
+abbrev pub all_fit : ℕ → List Partial → Bool
+all_fit inside [] = true
+all_fit inside (p ∷ ps) = nat_lt (own_size p + inside) size_limit && all_fit (extent (own_size p + inside)) ps
+
+-- the next state, where there is one and its sizes fit
+abbrev pub sized : Bool → Option State → Outcome
+sized fits None = Inval
+sized fits (Some s) = cond (fits && all_fit 0 s.opened) (Accepts s) Nospc
+
+-- the next state, where there is one
+abbrev pub taken : Option State → Outcome
+taken None = Inval
+taken (Some s) = Accepts s
+
+-- the innermost tree is closed, where the frame is its own
+abbrev pub closes : Trees → List Partial → ℕ → Option State
+closes closed [] frame = None
+closes closed (p ∷ ps) frame = cond (nat_eq frame (length (p ∷ ps))) (elim (finished p) as (λ _. Option State) [ Some v ↦ placed closed ps v | None ↦ None ]) None
+
+abbrev pub step : State → Call → Outcome
+step s (add v) = cond (has_nul v) Inval (sized (nat_lt (length (encoded_body v)) size_limit) (placed s.closed s.opened v))
+step s (add_prop k f) = sized true (keyed s.closed s.opened k f)
+step s push_struct = sized true (begun (open_struct no_trees) s)
+step s (push_object t i) = sized true (begun (open_object t i no_properties) s)
+step s push_array = sized true (begun (open_array []) s)
+step s (push_choice n f) = elim (shape_of n) as (λ _. Outcome) [ Some h ↦ sized true (begun (open_choice h f []) s) | None ↦ Inval ]
+step s (pop frame) = taken (closes s.closed s.opened frame)

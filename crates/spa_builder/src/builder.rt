@@ -1,0 +1,252 @@
+//! The builder.
+ghost use Rattle.std.specs.Prelude.{◌≡◌, ◌+◌, IfOk, length};
+ghost use Rattle.spa_format.specs.Kind.{bool, double, fd, float, fraction, id, int, long, none, rectangle};
+ghost use Rattle.spa_format.specs.Tree.{bytes, fixed, pointer, string};
+ghost use Rattle.spa_value.specs.View.{array_view};
+ghost use Rattle.spa_builder.specs.State.{State, start};
+ghost use Rattle.spa_builder.specs.Step.{add, add_prop, pop, push_array, push_choice, push_object, push_struct, step};
+ghost use Rattle.spa_builder.specs.Held.{IsAt};
+ghost use Rattle.spa_builder.specs.Answers.{Makes, Spells};
+
+use crate::building::{add_elements, add_encoding, add_fixed, add_key, add_pod, begin, close};
+use crate::bytes::pointer_pod;
+use crate::elements::SHAPE_MAX;
+use crate::heads::{array_head, choice_head, object_head, struct_head};
+use crate::open::{Open, What};
+use spa_bytes::POINTER_LEN;
+use spa_utils::{Errno, Fd, Float32, Float64, Fraction, Frame, Id, Rectangle, SpaTypes};
+use spa_value::ValueArray;
+use std::marker::Model;
+
+/// Builds pods call by call, one behind another, at the end of one vector.
+///
+/// A value goes to the innermost pod that is begun, or stands for itself where none is. INVAL answers a call that can't
+/// come there, NOSPC one after which the size of the value or of a pod that is begun would be 4294967296 or more, and
+/// NOMEM one for which there is no memory; in this order. A refused call changes nothing.
+#[derive(Drop)]
+pub struct Builder {
+    bytes: Vec<u8>,
+    frames: Vec<Open>,
+}
+
+impl Model for Builder {
+    ghost use Rattle.spa_builder.specs.Held.{Held, IsHeld, held};
+
+    ghost Value = { Held };
+
+    ghost view = { λ b. held b.bytes.items b.frames.items };
+
+    ghost invariant = { λ b. IsHeld (held b.bytes.items b.frames.items) };
+}
+
+impl Builder {
+    /// A builder over this vector, which is emptied.
+    pub fn new(mut bytes: Vec<u8>) -> Builder
+        ensures { IsAt result start }
+    {
+        bytes.clear();
+        let frames = Vec::new(*bytes.allocator());
+        Builder { bytes, frames }
+    }
+
+    /// What the vector holds: the pods that are closed, and behind them what there is of those that are begun.
+    pub fn as_bytes(&self) -> &[u8]
+        ensures { (s : State) → IsAt self.now s → Spells result.now s }
+    {
+        self.bytes.as_slice()
+    }
+
+    /// The vector.
+    pub fn into_inner(self) -> Vec<u8>
+        ensures { (s : State) → IsAt self s → Spells result.items s }
+    {
+        self.bytes
+    }
+
+    /// Adds a value that says nothing.
+    pub fn add_none(&mut self) -> Result<(), Errno>
+        ensures { (s : State) → IsAt self.old s → Makes (step s (add (fixed none))) self.old self.new result }
+    {
+        add_fixed(&mut self.bytes, &mut self.frames, &())
+    }
+
+    /// Adds a truth value.
+    pub fn add_bool(&mut self, value: bool) -> Result<(), Errno>
+        ensures { (s : State) → IsAt self.old s → Makes (step s (add (fixed (bool value)))) self.old self.new result }
+    {
+        add_fixed(&mut self.bytes, &mut self.frames, &value)
+    }
+
+    /// Adds an id.
+    pub fn add_id(&mut self, value: Id) -> Result<(), Errno>
+        ensures { (s : State) → IsAt self.old s → Makes (step s (add (fixed (id value.0)))) self.old self.new result }
+    {
+        add_fixed(&mut self.bytes, &mut self.frames, &value)
+    }
+
+    /// Adds a signed number of 32 bits.
+    pub fn add_int(&mut self, value: i32) -> Result<(), Errno>
+        ensures { (s : State) → IsAt self.old s → Makes (step s (add (fixed (int value)))) self.old self.new result }
+    {
+        add_fixed(&mut self.bytes, &mut self.frames, &value)
+    }
+
+    /// Adds a signed number of 64 bits.
+    pub fn add_long(&mut self, value: i64) -> Result<(), Errno>
+        ensures { (s : State) → IsAt self.old s → Makes (step s (add (fixed (long value)))) self.old self.new result }
+    {
+        add_fixed(&mut self.bytes, &mut self.frames, &value)
+    }
+
+    /// Adds a float of 32 bits.
+    pub fn add_float(&mut self, value: Float32) -> Result<(), Errno>
+        ensures { (s : State) → IsAt self.old s → Makes (step s (add (fixed (float value.0)))) self.old self.new result }
+    {
+        add_fixed(&mut self.bytes, &mut self.frames, &value)
+    }
+
+    /// Adds a float of 64 bits.
+    pub fn add_double(&mut self, value: Float64) -> Result<(), Errno>
+        ensures { (s : State) → IsAt self.old s → Makes (step s (add (fixed (double value.0)))) self.old self.new result }
+    {
+        add_fixed(&mut self.bytes, &mut self.frames, &value)
+    }
+
+    /// Adds a text. One that holds NUL is INVAL.
+    pub fn add_string(&mut self, value: &str) -> Result<(), Errno>
+        ensures { (s : State) → IsAt self.old s → Makes (step s (add (string value.now))) self.old self.new result }
+    {
+        let text = value.as_bytes();
+        if text.contains(&0) {
+            return Err(Errno::INVAL);
+        }
+        add_pod(
+            &mut self.bytes,
+            &mut self.frames,
+            SpaTypes::String.0,
+            text,
+            &[0],
+        )
+    }
+
+    /// Adds bytes.
+    pub fn add_bytes(&mut self, value: &[u8]) -> Result<(), Errno>
+        ensures { (s : State) → IsAt self.old s → Makes (step s (add (bytes value.now))) self.old self.new result }
+    {
+        add_pod(
+            &mut self.bytes,
+            &mut self.frames,
+            SpaTypes::Bytes.0,
+            value,
+            &[],
+        )
+    }
+
+    /// Adds a pointer: a type number and an address.
+    pub fn add_pointer(&mut self, type_: Id, address: u64) -> Result<(), Errno>
+        ensures { (s : State) → IsAt self.old s → Makes (step s (add (pointer type_.0 address))) self.old self.new result }
+    {
+        let pod = pointer_pod(type_.0, address);
+        add_encoding(&mut self.bytes, &mut self.frames, POINTER_LEN, &pod)
+    }
+
+    /// Adds a file descriptor's number.
+    pub fn add_fd(&mut self, value: i64) -> Result<(), Errno>
+        ensures { (s : State) → IsAt self.old s → Makes (step s (add (fixed (fd value)))) self.old self.new result }
+    {
+        add_fixed(&mut self.bytes, &mut self.frames, &Fd(value))
+    }
+
+    /// Adds a rectangle.
+    pub fn add_rectangle(&mut self, value: Rectangle) -> Result<(), Errno>
+        ensures { (s : State) → IsAt self.old s → Makes (step s (add (fixed (rectangle value.width value.height)))) self.old self.new result }
+    {
+        add_fixed(&mut self.bytes, &mut self.frames, &value)
+    }
+
+    /// Adds a fraction.
+    pub fn add_fraction(&mut self, value: Fraction) -> Result<(), Errno>
+        ensures { (s : State) → IsAt self.old s → Makes (step s (add (fixed (fraction value.num value.denom)))) self.old self.new result }
+    {
+        add_fixed(&mut self.bytes, &mut self.frames, &value)
+    }
+
+    /// Adds a whole array.
+    pub fn add_array(&mut self, values: &ValueArray) -> Result<(), Errno>
+        ensures { (s : State) → IsAt self.old s → Makes (step s (add (array_view values.now))) self.old self.new result }
+    {
+        add_elements(&mut self.bytes, &mut self.frames, values)
+    }
+
+    /// Adds the key and the flags of a property. The next call adds or begins its value.
+    pub fn add_prop(&mut self, key: u32, flags: u32) -> Result<(), Errno>
+        ensures { (s : State) → IsAt self.old s → Makes (step s (add_prop key flags)) self.old self.new result }
+    {
+        add_key(&mut self.bytes, &mut self.frames, key, flags)
+    }
+
+    /// Begins an array. Its elements are of the first one's kind, of fixed size.
+    pub fn push_array(&mut self) -> Result<Frame, Errno>
+        ensures step { (s : State) → IsAt self.old s → Makes (step s push_array) self.old self.new result }
+        ensures frame { (s : State) → IsAt self.old s → IfOk result (λ f. f.0 ≡ length s.opened + 1) }
+    {
+        begin(
+            &mut self.bytes,
+            &mut self.frames,
+            What::Array(None),
+            &array_head(),
+        )
+    }
+
+    /// Begins a choice of this shape: 0 None, 1 Range, 2 Step, 3 Enum, 4 Flags, and any other number is INVAL. Its
+    /// values are of the first one's kind, of fixed size and not None: one at least, of a range default, minimum and
+    /// maximum, of a step that and the step; and no more, but for Enum and Flags.
+    pub fn push_choice(&mut self, shape: u32, flags: u32) -> Result<Frame, Errno>
+        ensures step { (s : State) → IsAt self.old s → Makes (step s (push_choice shape flags)) self.old self.new result }
+        ensures frame { (s : State) → IsAt self.old s → IfOk result (λ f. f.0 ≡ length s.opened + 1) }
+    {
+        if shape > SHAPE_MAX {
+            return Err(Errno::INVAL);
+        }
+        begin(
+            &mut self.bytes,
+            &mut self.frames,
+            What::Choice(shape, None, 0),
+            &choice_head(shape, flags),
+        )
+    }
+
+    /// Begins a struct.
+    pub fn push_struct(&mut self) -> Result<Frame, Errno>
+        ensures step { (s : State) → IsAt self.old s → Makes (step s push_struct) self.old self.new result }
+        ensures frame { (s : State) → IsAt self.old s → IfOk result (λ f. f.0 ≡ length s.opened + 1) }
+    {
+        begin(
+            &mut self.bytes,
+            &mut self.frames,
+            What::Struct,
+            &struct_head(),
+        )
+    }
+
+    /// Begins an object.
+    pub fn push_object(&mut self, type_: u32, id: u32) -> Result<Frame, Errno>
+        ensures step { (s : State) → IsAt self.old s → Makes (step s (push_object type_ id)) self.old self.new result }
+        ensures frame { (s : State) → IsAt self.old s → IfOk result (λ f. f.0 ≡ length s.opened + 1) }
+    {
+        begin(
+            &mut self.bytes,
+            &mut self.frames,
+            What::Object(false),
+            &object_head(type_, id),
+        )
+    }
+
+    /// Closes the innermost pod that is begun, which this frame names. Any other frame is INVAL, and so is an object
+    /// where a key waits for its value, and a choice that lacks values. It is never NOSPC.
+    pub fn pop(&mut self, frame: Frame) -> Result<(), Errno>
+        ensures { (s : State) → IsAt self.old s → Makes (step s (pop frame.0)) self.old self.new result }
+    {
+        close(&mut self.bytes, &mut self.frames, frame.0)
+    }
+}

@@ -1,0 +1,99 @@
+//! Elements of arrays and choices: which may come next.
+ghost use Rattle.std.specs.Prelude.{◌≡◌, List, ℕ, true, is_some};
+ghost use Rattle.spa_format.specs.Kind.{Fixed, kind_of, type_number};
+ghost use Rattle.spa_format.specs.Tree.{Shape, shape_number};
+ghost use Rattle.spa_builder.specs.State.{Partial};
+ghost use Rattle.spa_builder.specs.Step.{finished, has_place};
+ghost use Rattle.spa_builder.specs.Held.{what_of};
+ghost use Rattle.spa_builder.specs.Innermost.{innermost_of, is_first, takes_element, takes_elements, with_element};
+
+use crate::open::{Open, What};
+use spa_utils::SpaTypes;
+
+/// The shape words of choices that take no more values than they need.
+const NONE: u32 = 0;
+
+const RANGE: u32 = 1;
+
+const STEP: u32 = 2;
+
+/// The greatest shape word, that of flags.
+pub const SHAPE_MAX: u32 = 4;
+
+/// The least counts of values of a range and of a step; one is the least for the others.
+const RANGE_COUNT: u32 = 3;
+
+const STEP_COUNT: u32 = 4;
+
+/// Whether elements of a fixed size stand there.
+pub fn takes_elements(innermost: Option<Open>) -> bool
+    ensures { (base : ℕ) (ps : List Partial) → innermost ≡ innermost_of base ps → result ≡ takes_elements ps }
+{
+    match innermost {
+        None => false,
+        Some(open) => matches!(open.what, What::Array(_) | What::Choice(_, _, _)),
+    }
+}
+
+/// Whether the first element is to come.
+pub fn is_first(what: What) -> bool
+    ensures { (p : Partial) → what ≡ what_of p → result ≡ is_first p }
+{
+    matches!(what, What::Array(None) | What::Choice(_, None, _))
+}
+
+/// Whether a choice of this shape with so many values takes one more.
+fn has_place(shape: u32, count: u32) -> bool
+    ensures { (h : Shape) → shape ≡ shape_number h → result ≡ has_place h count }
+{
+    match shape {
+        NONE => count < 1,
+        RANGE => count < RANGE_COUNT,
+        STEP => count < STEP_COUNT,
+        _ => true,
+    }
+}
+
+/// Whether an element of this type may come next.
+pub fn takes_element(what: What, type_: u32) -> bool
+    ensures { (p : Partial) (x : Fixed) → what ≡ what_of p → type_ ≡ type_number (kind_of x) → result ≡ takes_element p x }
+{
+    match what {
+        What::Array(None) => true,
+        What::Array(Some(first)) => first == type_,
+        What::Choice(_, None, _) => type_ != SpaTypes::None.0,
+        What::Choice(shape, Some(first), count) => first == type_ && has_place(shape, count),
+        _ => false,
+    }
+}
+
+/// What the frame says with one element more.
+pub fn with_element(what: What, type_: u32) -> What
+    ensures { (p : Partial) (x : Fixed) → what ≡ what_of p → type_ ≡ type_number (kind_of x) → takes_element p x ≡ true → result ≡ what_of (with_element p x) }
+{
+    match what {
+        What::Array(_) => What::Array(Some(type_)),
+        What::Choice(shape, _, count) => {
+            let more = if count < STEP_COUNT {
+                count + 1
+            } else {
+                STEP_COUNT
+            };
+            What::Choice(shape, Some(type_), more)
+        }
+        _ => what,
+    }
+}
+
+/// Whether a tree of which this is known is a value when it is closed.
+pub fn is_finished(what: What) -> bool
+    ensures { (p : Partial) → what ≡ what_of p → result ≡ is_some (finished p) }
+{
+    match what {
+        What::Object(waits) => !waits,
+        What::Choice(RANGE, _, count) => count >= RANGE_COUNT,
+        What::Choice(STEP, _, count) => count >= STEP_COUNT,
+        What::Choice(_, _, count) => count >= 1,
+        _ => true,
+    }
+}

@@ -1,0 +1,17 @@
+//! Pods built call by call, into one vector.
+#![tactic(auto)]
+
+mod build_call;
+mod builder;
+mod building;
+mod bytes;
+mod calls;
+mod elements;
+mod frames;
+mod heads;
+mod macros;
+mod open;
+
+pub use build_call::BuildCall;
+pub use builder::Builder;
+pub use calls::replay;

@@ -1,0 +1,133 @@
+//! Several calls of a builder in one expression.
+
+/// Adds a value, or a struct or an object with all that is in it, by several calls of the builder:
+///
+/// `None`, `Bool(v)`, `Id(v)`, `Int(v)`, `Long(v)`, `Float(v)`, `Double(v)`, `String(v)`, `Bytes(v)`,
+/// `Pointer(type, v)`, `Fd(v)`, `Rectangle(v)`, `Fraction(v)`, `Struct { .. }` of such forms, and
+/// `Object(type, id) { key => form, .. }`, whose properties have no flags.
+///
+/// It answers `Ok(())`, or the first refusal. Then the calls before the refused one stand, and what was begun is open.
+#[macro_export]
+macro_rules! builder_add {
+    ($builder:expr, None) => {
+        $builder.add_none()
+    };
+    ($builder:expr, Bool($value:expr)) => {
+        $builder.add_bool($value)
+    };
+    ($builder:expr, Id($value:expr)) => {
+        $builder.add_id($value)
+    };
+    ($builder:expr, Int($value:expr)) => {
+        $builder.add_int($value)
+    };
+    ($builder:expr, Long($value:expr)) => {
+        $builder.add_long($value)
+    };
+    ($builder:expr, Float($value:expr)) => {
+        $builder.add_float($value)
+    };
+    ($builder:expr, Double($value:expr)) => {
+        $builder.add_double($value)
+    };
+    ($builder:expr, String($value:expr)) => {
+        $builder.add_string($value)
+    };
+    ($builder:expr, Bytes($value:expr)) => {
+        $builder.add_bytes($value)
+    };
+    ($builder:expr, Pointer($type_:expr, $value:expr)) => {
+        $builder.add_pointer($type_, $value)
+    };
+    ($builder:expr, Fd($value:expr)) => {
+        $builder.add_fd($value)
+    };
+    ($builder:expr, Rectangle($value:expr)) => {
+        $builder.add_rectangle($value)
+    };
+    ($builder:expr, Fraction($value:expr)) => {
+        $builder.add_fraction($value)
+    };
+    ($builder:expr, Struct { $($members:tt)* }) => {
+        match $builder.push_struct() {
+            Ok(frame) => $crate::builder_members!($builder, frame, $($members)*),
+            Err(refusal) => Err(refusal),
+        }
+    };
+    ($builder:expr, Object($type_:expr, $id:expr $(,)?) { $($properties:tt)* }) => {
+        match $builder.push_object($type_, $id) {
+            Ok(frame) => $crate::builder_properties!($builder, frame, $($properties)*),
+            Err(refusal) => Err(refusal),
+        }
+    };
+}
+
+/// The members of a struct one by one, and its pop.
+#[doc(hidden)]
+#[macro_export]
+macro_rules! builder_members {
+    ($builder:expr, $frame:expr,) => {
+        $builder.pop($frame)
+    };
+    ($builder:expr, $frame:expr, None $(, $($rest:tt)*)?) => {
+        match $builder.add_none() {
+            Ok(()) => $crate::builder_members!($builder, $frame, $($($rest)*)?),
+            Err(refusal) => Err(refusal),
+        }
+    };
+    ($builder:expr, $frame:expr, Object $head:tt $body:tt $(, $($rest:tt)*)?) => {
+        match $crate::builder_add!($builder, Object $head $body) {
+            Ok(()) => $crate::builder_members!($builder, $frame, $($($rest)*)?),
+            Err(refusal) => Err(refusal),
+        }
+    };
+    ($builder:expr, $frame:expr, $form:ident $inner:tt $(, $($rest:tt)*)?) => {
+        match $crate::builder_add!($builder, $form $inner) {
+            Ok(()) => $crate::builder_members!($builder, $frame, $($($rest)*)?),
+            Err(refusal) => Err(refusal),
+        }
+    };
+}
+
+/// The properties of an object one by one, and its pop.
+#[doc(hidden)]
+#[macro_export]
+macro_rules! builder_properties {
+    ($builder:expr, $frame:expr,) => {
+        $builder.pop($frame)
+    };
+    ($builder:expr, $frame:expr, $key:expr => None $(, $($rest:tt)*)?) => {
+        match $builder.add_prop($key, 0) {
+            Ok(()) => $crate::builder_property!($builder, $frame, { None }, $($($rest)*)?),
+            Err(refusal) => Err(refusal),
+        }
+    };
+    ($builder:expr, $frame:expr, $key:expr => Object $head:tt $body:tt $(, $($rest:tt)*)?) => {
+        match $builder.add_prop($key, 0) {
+            Ok(()) => {
+                $crate::builder_property!($builder, $frame, { Object $head $body }, $($($rest)*)?)
+            }
+            Err(refusal) => Err(refusal),
+        }
+    };
+    ($builder:expr, $frame:expr, $key:expr => $form:ident $inner:tt $(, $($rest:tt)*)?) => {
+        match $builder.add_prop($key, 0) {
+            Ok(()) => {
+                $crate::builder_property!($builder, $frame, { $form $inner }, $($($rest)*)?)
+            }
+            Err(refusal) => Err(refusal),
+        }
+    };
+}
+
+/// The value of a property, and the properties behind it.
+#[doc(hidden)]
+#[macro_export]
+macro_rules! builder_property {
+    ($builder:expr, $frame:expr, { $($form:tt)* }, $($rest:tt)*) => {
+        match $crate::builder_add!($builder, $($form)*) {
+            Ok(()) => $crate::builder_properties!($builder, $frame, $($rest)*),
+            Err(refusal) => Err(refusal),
+        }
+    };
+}

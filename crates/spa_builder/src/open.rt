@@ -1,0 +1,24 @@
+//! What a builder knows of the pods that are begun.
+
+/// What was begun, and what of its members the builder has to know.
+#[derive(Clone, Copy, Debug)]
+pub enum What {
+    /// A struct.
+    Struct,
+    /// An object, and whether a key waits for its value.
+    Object(bool),
+    /// An array, with the type number of its first element.
+    Array(Option<u32>),
+    /// A choice of this shape, with the type number of its first value, and the number of its values, or four where
+    /// there are more.
+    Choice(u32, Option<u32>, u32),
+}
+
+/// A pod that was begun, and where it begins.
+#[derive(Clone, Copy, Debug)]
+pub struct Open {
+    /// Where its header stands in the vector.
+    pub start: usize,
+    /// What it is.
+    pub what: What,
+}

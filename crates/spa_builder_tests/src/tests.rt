@@ -1,0 +1,5 @@
+//! The tests, by subject.
+mod calls;
+mod forms;
+mod objects;
+mod shown;

@@ -1,0 +1,84 @@
+//! What docs/CALLING.md shows, word for word.
+use crate::bytes::are_words;
+use crate::tests::shown::by_calls::format_pod;
+use crate::tests::shown::by_value::format_object;
+use spa_value::Value;
+use spa_write::PodSerializer;
+use std::alloc::{AllocError, Global};
+use std::test::Fail;
+
+mod by_calls {
+    use spa_builder::{Builder, builder_add};
+    use spa_utils::{Errno, Fraction, Id, Rectangle};
+
+    /// A video format in the vector: of type 262147, for the parameter 4.
+    pub fn format_pod(bytes: Vec<u8>) -> Result<Vec<u8>, Errno> {
+        let size = Rectangle {
+            width: 320,
+            height: 240,
+        };
+        let rate = Fraction { num: 25, denom: 1 };
+        let mut builder = Builder::new(bytes);
+        builder_add!(builder, Object(262147, 4) {
+            1 => Id(Id(2)),
+            2 => Id(Id(1)),
+            131075 => Rectangle(size),
+            131076 => Fraction(rate),
+        })?;
+        Ok(builder.into_inner())
+    }
+}
+
+mod by_value {
+    use spa_utils::{Errno, Fraction, Id, Rectangle, SpaTypes};
+    use spa_value::{Object, object, property};
+    use std::alloc::Global;
+
+    /// The same format as a value.
+    pub fn format_object(alloc: Global) -> Result<Object, Errno> {
+        object!(
+            in alloc;
+            SpaTypes(262147),
+            Id(4),
+            property!(in alloc; Id(1), Id, Id(2))?,
+            property!(in alloc; Id(2), Id, Id(1))?,
+            property!(in alloc; Id(131075), Rectangle, Rectangle { width: 320, height: 240 })?,
+            property!(in alloc; Id(131076), Fraction, Fraction { num: 25, denom: 1 })?,
+        )
+    }
+}
+
+/// The words of the format, by the rules of the format of pods.
+const FORMAT: &[u32] = &[
+    104, 15, 262147, 4, 1, 0, 4, 3, 2, 0, 2, 0, 4, 3, 1, 0, 131075, 0, 8, 10, 320, 240, 131076, 0,
+    8, 11, 25, 1,
+];
+
+/// Whether the value is written as these words.
+fn is_written(alloc: Global) -> Result<bool, AllocError> {
+    let Ok(object) = format_object(alloc) else {
+        return Err(AllocError);
+    };
+    match PodSerializer::serialize(Vec::new(alloc), &Value::Object(object)) {
+        Ok((bytes, _)) => are_words(alloc, bytes.as_slice(), FORMAT),
+        Err(_) => Ok(false),
+    }
+}
+
+#[test]
+fn a_format_by_calls(rt: HostRuntime) -> Result<(), Fail> {
+    let alloc = rt.alloc();
+    let built = match format_pod(Vec::new(alloc)) {
+        Ok(bytes) => are_words(alloc, bytes.as_slice(), FORMAT)?,
+        Err(_) => false,
+    };
+    assert!(rt; built);
+    Ok(())
+}
+
+#[test]
+fn a_format_by_value(rt: HostRuntime) -> Result<(), Fail> {
+    let written = is_written(rt.alloc())?;
+    assert!(rt; written);
+    Ok(())
+}

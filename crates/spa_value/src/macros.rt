@@ -1,0 +1,133 @@
+//! Objects and properties in one expression.
+ghost use Rattle.std.specs.Prelude.{◌≡◌};
+
+use bitflags::Flags;
+use spa_utils::ChoiceFlags;
+
+/// The flags of a choice that a macro makes: none.
+#[doc(hidden)]
+pub fn no_flags() -> ChoiceFlags
+    ensures { result.0 ≡ 0 }
+{
+    ChoiceFlags::empty()
+}
+
+/// A property without flags: `property!(in alloc; key, ..)`, where `alloc` is what a list takes memory from. The key,
+/// and the ids below, have `as_raw`. Behind the key stands
+///
+/// - a value; or
+/// - `Id` and an id; or
+/// - the name of any other variant of `Value` that holds one thing, and what it holds; or
+/// - `Choice`, `Enum` or `Flags`, a variant of `ChoiceValue`, the default, and one or more alternatives or flags, which
+///   in an `Enum` over `Id` have `as_raw`, the default too; or
+/// - `Choice`, `Range`, a variant, default, minimum and maximum; or `Choice`, `Step`, a variant, these and the step.
+///
+/// It answers a `Result`, whose one refusal is NOMEM.
+#[macro_export]
+macro_rules! property {
+    (in $alloc:expr; $key:expr, Id, $value:expr) => {
+        $crate::property!(in $alloc; $key, $crate::Value::Id($crate::Id($value.as_raw())))
+    };
+    (in $alloc:expr; $key:expr, Choice, Enum, Id, $default:expr, $($alternative:expr),+ $(,)?) => {
+        match vec![in $alloc; $($crate::Id($alternative.as_raw())),+] {
+            Ok(alternatives) => $crate::choice_property!(
+                $key,
+                Id,
+                $crate::ChoiceEnum::Enum {
+                    default: $crate::Id($default.as_raw()),
+                    alternatives,
+                }
+            ),
+            Err(_) => Err($crate::Errno::NOMEM),
+        }
+    };
+    (in $alloc:expr; $key:expr, Choice, Enum, $kind:ident, $default:expr, $($alternative:expr),+ $(,)?) => {
+        match vec![in $alloc; $($alternative),+] {
+            Ok(alternatives) => $crate::choice_property!(
+                $key,
+                $kind,
+                $crate::ChoiceEnum::Enum {
+                    default: $default,
+                    alternatives,
+                }
+            ),
+            Err(_) => Err($crate::Errno::NOMEM),
+        }
+    };
+    (in $alloc:expr; $key:expr, Choice, Flags, $kind:ident, $default:expr, $($flag:expr),+ $(,)?) => {
+        match vec![in $alloc; $($flag),+] {
+            Ok(flags) => $crate::choice_property!(
+                $key,
+                $kind,
+                $crate::ChoiceEnum::Flags {
+                    default: $default,
+                    flags,
+                }
+            ),
+            Err(_) => Err($crate::Errno::NOMEM),
+        }
+    };
+    (in $alloc:expr; $key:expr, Choice, Step, $kind:ident, $default:expr, $min:expr, $max:expr, $step:expr) => {
+        $crate::choice_property!(
+            $key,
+            $kind,
+            $crate::ChoiceEnum::Step {
+                default: $default,
+                min: $min,
+                max: $max,
+                step: $step,
+            }
+        )
+    };
+    (in $alloc:expr; $key:expr, Choice, Range, $kind:ident, $default:expr, $min:expr, $max:expr) => {
+        $crate::choice_property!(
+            $key,
+            $kind,
+            $crate::ChoiceEnum::Range {
+                default: $default,
+                min: $min,
+                max: $max,
+            }
+        )
+    };
+    (in $alloc:expr; $key:expr, $form:ident, $value:expr) => {
+        $crate::property!(in $alloc; $key, $crate::Value::$form($value))
+    };
+    (in $alloc:expr; $key:expr, $value:expr) => {
+        Ok::<$crate::Property, $crate::Errno>($crate::Property::new($key.as_raw(), $value))
+    };
+}
+
+/// A property with a choice without flags.
+#[doc(hidden)]
+#[macro_export]
+macro_rules! choice_property {
+    ($key:expr, $kind:ident, $values:expr) => {
+        Ok::<$crate::Property, $crate::Errno>($crate::Property::new(
+            $key.as_raw(),
+            $crate::Value::Choice($crate::ChoiceValue::$kind($crate::Choice(
+                $crate::no_flags(),
+                $values,
+            ))),
+        ))
+    };
+}
+
+/// An object: `object!(in alloc; type, id, properties..)`, where `alloc` is what the list takes memory from. The type
+/// and the id have `as_raw`, and each property, of which there may be none, is a `Property`: behind each `property!`
+/// stands a `?`.
+///
+/// It answers a `Result`, whose one refusal is NOMEM.
+#[macro_export]
+macro_rules! object {
+    (in $alloc:expr; $type_:expr, $id:expr $(, $property:expr)* $(,)?) => {
+        match vec![in $alloc; $($property),*] {
+            Ok(properties) => Ok::<$crate::Object, $crate::Errno>($crate::Object {
+                type_: $type_.as_raw(),
+                id: $id.as_raw(),
+                properties,
+            }),
+            Err(_) => Err($crate::Errno::NOMEM),
+        }
+    };
+}

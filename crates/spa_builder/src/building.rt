@@ -21,7 +21,7 @@ use spa_utils::{Errno, Frame};
 use spa_value::ValueArray;
 
 /// Adds a pod whose body is at hand in two parts, where a tree of any type may stand.
-pub fn add_pod(
+pub(crate) fn add_pod(
     bytes: &mut Vec<u8>,
     frames: &mut Vec<Open>,
     type_: u32,
@@ -42,7 +42,7 @@ pub fn add_pod(
 }
 
 /// Adds a value whose encoding is at hand, with a body of this size, where a tree of any type may stand.
-pub fn add_encoding(
+pub(crate) fn add_encoding(
     bytes: &mut Vec<u8>,
     frames: &mut Vec<Open>,
     size: usize,
@@ -69,7 +69,7 @@ fn array_size<T: CanonicalFixedSizedPod>(count: usize) -> usize
 
 /// Adds an array of these values, where a tree of any type may stand. It is encoded apart first, so that what is wanting
 /// in memory changes nothing.
-pub fn add_values<T: CanonicalFixedSizedPod>(
+pub(crate) fn add_values<T: CanonicalFixedSizedPod>(
     bytes: &mut Vec<u8>,
     frames: &mut Vec<Open>,
     values: &[T],
@@ -93,7 +93,7 @@ pub fn add_values<T: CanonicalFixedSizedPod>(
 }
 
 /// Adds an array, where a tree of any type may stand.
-pub fn add_elements(
+pub(crate) fn add_elements(
     bytes: &mut Vec<u8>,
     frames: &mut Vec<Open>,
     values: &ValueArray,
@@ -117,7 +117,7 @@ pub fn add_elements(
 }
 
 /// Adds a value of fixed size: to an array or a choice as an element, and elsewhere as a pod.
-pub fn add_fixed<T: CanonicalFixedSizedPod>(
+pub(crate) fn add_fixed<T: CanonicalFixedSizedPod>(
     bytes: &mut Vec<u8>,
     frames: &mut Vec<Open>,
     value: &T,
@@ -182,7 +182,7 @@ fn set_child(bytes: &mut Vec<u8>, first: bool, at: usize, size: u32, type_: u32)
 }
 
 /// Adds the key and the flags of a property, whose value is to come.
-pub fn add_key(
+pub(crate) fn add_key(
     bytes: &mut Vec<u8>,
     frames: &mut Vec<Open>,
     key: u32,
@@ -204,7 +204,7 @@ pub fn add_key(
 }
 
 /// Begins a tree with these bytes, which are its header, with the size 0, and what follows it.
-pub fn begin(
+pub(crate) fn begin(
     bytes: &mut Vec<u8>,
     frames: &mut Vec<Open>,
     what: What,
@@ -234,7 +234,7 @@ pub fn begin(
 }
 
 /// Closes the innermost tree.
-pub fn close(bytes: &mut Vec<u8>, frames: &mut Vec<Open>, frame: usize) -> Result<(), Errno>
+pub(crate) fn close(bytes: &mut Vec<u8>, frames: &mut Vec<Open>, frame: usize) -> Result<(), Errno>
     requires { IsHeld (held bytes.old.items frames.old.items) }
     ensures { (s : State) → IsAt (held bytes.old.items frames.old.items) s
         → Makes (taken (closes s.closed s.opened frame)) (held bytes.old.items frames.old.items) (held bytes.new.items frames.new.items) result }

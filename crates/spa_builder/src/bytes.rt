@@ -27,7 +27,7 @@ fn grow(bytes: &mut Vec<u8>, more: usize) -> Result<(), Errno>
 }
 
 /// Appends these bytes.
-pub fn append(bytes: &mut Vec<u8>, piece: &[u8]) -> Result<(), Errno>
+pub(crate) fn append(bytes: &mut Vec<u8>, piece: &[u8]) -> Result<(), Errno>
     ensures ok { OnOk result (bytes.new.items ≡ bytes.old.items ++ piece.now) }
     ensures unchanged { OnErr result (bytes.new.items ≡ bytes.old.items) }
     ensures memory { IfErr result (λ e. e ≡ NOMEM) }
@@ -39,7 +39,7 @@ pub fn append(bytes: &mut Vec<u8>, piece: &[u8]) -> Result<(), Errno>
 }
 
 /// Appends zeros up to a multiple of 8, behind a body of this size.
-pub fn put_padding(bytes: &mut Vec<u8>, size: usize) -> Result<(), Errno>
+pub(crate) fn put_padding(bytes: &mut Vec<u8>, size: usize) -> Result<(), Errno>
     ensures ok { OnOk result (bytes.new.items ≡ bytes.old.items ++ padding size) }
     ensures unchanged { OnErr result (bytes.new.items ≡ bytes.old.items) }
     ensures memory { IfErr result (λ e. e ≡ NOMEM) }
@@ -52,7 +52,7 @@ pub fn put_padding(bytes: &mut Vec<u8>, size: usize) -> Result<(), Errno>
 }
 
 /// Appends the pod of a value of fixed size.
-pub fn put_plain<T: CanonicalFixedSizedPod>(bytes: &mut Vec<u8>, value: &T) -> Result<(), Errno>
+pub(crate) fn put_plain<T: CanonicalFixedSizedPod>(bytes: &mut Vec<u8>, value: &T) -> Result<(), Errno>
     ensures ok { OnOk result (bytes.new.items ≡ bytes.old.items ++ framed T.TYPE (fixed_body (T.fixed value.now))) }
     ensures unchanged { OnErr result (bytes.new.items ≡ bytes.old.items) }
     ensures memory { IfErr result (λ e. e ≡ NOMEM) }
@@ -68,7 +68,7 @@ pub fn put_plain<T: CanonicalFixedSizedPod>(bytes: &mut Vec<u8>, value: &T) -> R
 }
 
 /// Appends a pod whose body is at hand in two parts.
-pub fn put_pod(bytes: &mut Vec<u8>, type_: u32, front: &[u8], back: &[u8]) -> Result<(), Errno>
+pub(crate) fn put_pod(bytes: &mut Vec<u8>, type_: u32, front: &[u8], back: &[u8]) -> Result<(), Errno>
     requires { length front.now + length back.now < size_limit }
     ensures ok { OnOk result (bytes.new.items ≡ bytes.old.items ++ framed type_ (front.now ++ back.now)) }
     ensures unchanged { OnErr result (bytes.new.items ≡ bytes.old.items) }
@@ -100,7 +100,7 @@ fn put_parts(bytes: &mut Vec<u8>, type_: u32, front: &[u8], back: &[u8]) -> Resu
 }
 
 /// The pod of a pointer.
-pub fn pointer_pod(type_: u32, address: u64) -> [u8; POINTER_POD_LEN]
+pub(crate) fn pointer_pod(type_: u32, address: u64) -> [u8; POINTER_POD_LEN]
     ensures { result ≡ encoding_of (pointer type_ address) }
 {
     let mut pod = [0; POINTER_POD_LEN];
@@ -114,7 +114,7 @@ pub fn pointer_pod(type_: u32, address: u64) -> [u8; POINTER_POD_LEN]
 
 /// Writes a word over four bytes.
 #[tactic(auto, unfolding(spa_format::specs::Words::word_bytes))]
-pub fn patch(bytes: &mut Vec<u8>, at: usize, n: u32)
+pub(crate) fn patch(bytes: &mut Vec<u8>, at: usize, n: u32)
     requires { at + 4 ≤ length bytes.old.items }
     ensures { bytes.new.items ≡ take at bytes.old.items ++ (word_bytes n ++ drop (at + 4) bytes.old.items) }
 {

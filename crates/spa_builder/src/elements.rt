@@ -18,7 +18,7 @@ const RANGE: u32 = 1;
 const STEP: u32 = 2;
 
 /// The greatest shape word, that of flags.
-pub const SHAPE_MAX: u32 = 4;
+pub(crate) const SHAPE_MAX: u32 = 4;
 
 /// The least counts of values of a range and of a step; one is the least for the others.
 const RANGE_COUNT: u32 = 3;
@@ -26,7 +26,7 @@ const RANGE_COUNT: u32 = 3;
 const STEP_COUNT: u32 = 4;
 
 /// Whether elements of a fixed size stand there.
-pub fn takes_elements(innermost: Option<Open>) -> bool
+pub(crate) fn takes_elements(innermost: Option<Open>) -> bool
     ensures { (base : ℕ) (ps : List Partial) → innermost ≡ innermost_of base ps → result ≡ takes_elements ps }
 {
     match innermost {
@@ -36,7 +36,7 @@ pub fn takes_elements(innermost: Option<Open>) -> bool
 }
 
 /// Whether the first element is to come.
-pub fn is_first(what: What) -> bool
+pub(crate) fn is_first(what: What) -> bool
     ensures { (p : Partial) → what ≡ what_of p → result ≡ is_first p }
 {
     matches!(what, What::Array(None) | What::Choice(_, None, _))
@@ -55,7 +55,7 @@ fn has_place(shape: u32, count: u32) -> bool
 }
 
 /// Whether an element of this type may come next.
-pub fn takes_element(what: What, type_: u32) -> bool
+pub(crate) fn takes_element(what: What, type_: u32) -> bool
     ensures { (p : Partial) (x : Fixed) → what ≡ what_of p → type_ ≡ type_number (kind_of x) → result ≡ takes_element p x }
 {
     match what {
@@ -68,7 +68,7 @@ pub fn takes_element(what: What, type_: u32) -> bool
 }
 
 /// What the frame says with one element more.
-pub fn with_element(what: What, type_: u32) -> What
+pub(crate) fn with_element(what: What, type_: u32) -> What
     ensures { (p : Partial) (x : Fixed) → what ≡ what_of p → type_ ≡ type_number (kind_of x) → takes_element p x ≡ true → result ≡ what_of (with_element p x) }
 {
     match what {
@@ -86,7 +86,7 @@ pub fn with_element(what: What, type_: u32) -> What
 }
 
 /// Whether a tree of which this is known is a value when it is closed.
-pub fn is_finished(what: What) -> bool
+pub(crate) fn is_finished(what: What) -> bool
     ensures { (p : Partial) → what ≡ what_of p → result ≡ is_some (finished p) }
 {
     match what {

@@ -13,20 +13,20 @@ use spa_bytes::HEADER_LEN;
 use spa_utils::Errno;
 
 /// The numbers that a size word can't hold begin here.
-pub const SIZE_LIMIT: usize = 1 << 32;
+pub(crate) const SIZE_LIMIT: usize = 1 << 32;
 
 /// The most bytes of padding.
 const PADDING_MAX: usize = HEADER_LEN - 1;
 
 /// The innermost frame.
-pub fn innermost(frames: &[Open]) -> Option<Open>
+pub(crate) fn innermost(frames: &[Open]) -> Option<Open>
     ensures { (base : ℕ) (ps : List Partial) → frames.now ≡ frames_of base ps → result ≡ innermost_of base ps }
 {
     frames.last().copied()
 }
 
 /// Whether a tree of any type may begin there.
-pub fn takes_trees(innermost: Option<Open>) -> bool
+pub(crate) fn takes_trees(innermost: Option<Open>) -> bool
     ensures { (base : ℕ) (ps : List Partial) → innermost ≡ innermost_of base ps → result ≡ takes_trees ps }
 {
     match innermost {
@@ -46,7 +46,7 @@ fn waits(innermost: Option<Open>) -> bool
 }
 
 /// Whether an object stands there in which no key waits.
-pub fn takes_key(innermost: Option<Open>) -> bool
+pub(crate) fn takes_key(innermost: Option<Open>) -> bool
     ensures { (base : ℕ) (ps : List Partial) → innermost ≡ innermost_of base ps → result ≡ takes_key ps }
 {
     match innermost {
@@ -57,7 +57,7 @@ pub fn takes_key(innermost: Option<Open>) -> bool
 
 /// Whether so many bytes more leave every size word within 32 bits: the outermost is the greatest. Where a pod is open
 /// inside it, there may be padding to come.
-pub fn has_room(len: usize, frames: &[Open], more: usize) -> bool
+pub(crate) fn has_room(len: usize, frames: &[Open], more: usize) -> bool
     requires within { (base : ℕ) × (ps : List Partial) × (frames.now ≡ frames_of base ps) × (len ≡ base + length (all_so_far ps)) × IsTrue (has_room_for 0 ps) }
     requires more { more < 2 * size_limit }
     ensures { (base : ℕ) (ps : List Partial) → frames.now ≡ frames_of base ps → len ≡ base + length (all_so_far ps) → result ≡ has_room_for more ps }
@@ -75,7 +75,7 @@ pub fn has_room(len: usize, frames: &[Open], more: usize) -> bool
 
 /// Whether a value that isn't an element, with a body of this size, may come next: INVAL where none may, NOSPC where a
 /// size word would be past 32 bits.
-pub fn admit(len: usize, frames: &[Open], size: usize) -> Result<(), Errno>
+pub(crate) fn admit(len: usize, frames: &[Open], size: usize) -> Result<(), Errno>
     requires { (base : ℕ) × (ps : List Partial) × (frames.now ≡ frames_of base ps) × (len ≡ base + length (all_so_far ps)) × IsTrue (has_room_for 0 ps) }
     ensures { (base : ℕ) (ps : List Partial) → frames.now ≡ frames_of base ps → len ≡ base + length (all_so_far ps) → IsAdmitted size ps result }
 {
@@ -92,7 +92,7 @@ pub fn admit(len: usize, frames: &[Open], size: usize) -> Result<(), Errno>
 }
 
 /// Sets what the innermost frame says.
-pub fn set_innermost(frames: &mut Vec<Open>, what: What)
+pub(crate) fn set_innermost(frames: &mut Vec<Open>, what: What)
     ensures some { (base : ℕ) (p q : Partial) (ps : List Partial) → frames.old.items ≡ frames_of base (p ∷ ps) → what ≡ what_of q → frames.new.items ≡ frames_of base (q ∷ ps) }
     ensures none { frames.old.items ≡ [] → frames.new.items ≡ [] }
 {
@@ -103,7 +103,7 @@ pub fn set_innermost(frames: &mut Vec<Open>, what: What)
 }
 
 /// A value came into the innermost tree: a key that waited has it.
-pub fn fill(frames: &mut Vec<Open>)
+pub(crate) fn fill(frames: &mut Vec<Open>)
     ensures { (base : ℕ) (ps : List Partial) (v : Tree) → IsTrue (takes_trees ps) → frames.old.items ≡ frames_of base ps → frames.new.items ≡ frames_of base (filled ps v) }
 {
     if waits(innermost(frames.as_slice())) {

@@ -14,14 +14,14 @@ const LONG_HEAD_LEN: usize = 2 * HEADER_LEN;
 const LONGEST_HEAD_LEN: usize = 3 * HEADER_LEN;
 
 /// The header of a struct whose size isn't known yet.
-pub fn struct_head() -> [u8; HEADER_LEN]
+pub(crate) fn struct_head() -> [u8; HEADER_LEN]
     ensures { result ≡ so_far (open_struct no_trees) }
 {
     two_words(0, SpaTypes::Struct.0)
 }
 
 /// The header of an object whose size isn't known yet, its type and its id.
-pub fn object_head(type_: u32, id: u32) -> [u8; LONG_HEAD_LEN]
+pub(crate) fn object_head(type_: u32, id: u32) -> [u8; LONG_HEAD_LEN]
     ensures { result ≡ so_far (open_object type_ id no_properties) }
 {
     let mut head = [0; LONG_HEAD_LEN];
@@ -32,7 +32,7 @@ pub fn object_head(type_: u32, id: u32) -> [u8; LONG_HEAD_LEN]
 }
 
 /// With the child header of an array without elements.
-pub fn array_head() -> [u8; LONG_HEAD_LEN]
+pub(crate) fn array_head() -> [u8; LONG_HEAD_LEN]
     ensures { result ≡ so_far (open_array []) }
 {
     let mut head = [0; LONG_HEAD_LEN];
@@ -43,7 +43,7 @@ pub fn array_head() -> [u8; LONG_HEAD_LEN]
 }
 
 /// With the child header of a choice without values.
-pub fn choice_head(shape: u32, flags: u32) -> [u8; LONGEST_HEAD_LEN]
+pub(crate) fn choice_head(shape: u32, flags: u32) -> [u8; LONGEST_HEAD_LEN]
     ensures { (h : Shape) → shape ≡ shape_number h → result ≡ so_far (open_choice h flags []) }
 {
     let mut head = [0; LONGEST_HEAD_LEN];

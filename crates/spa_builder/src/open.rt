@@ -2,7 +2,7 @@
 
 /// What was begun, and what of its members the builder has to know.
 #[derive(Clone, Copy, Debug)]
-pub enum What {
+pub(crate) enum What {
     /// A struct.
     Struct,
     /// An object, and whether a key waits for its value.
@@ -16,9 +16,9 @@ pub enum What {
 
 /// A pod that was begun, and where it begins.
 #[derive(Clone, Copy, Debug)]
-pub struct Open {
+pub(crate) struct Open {
     /// Where its header stands in the vector.
-    pub start: usize,
+    pub(crate) start: usize,
     /// What it is.
-    pub what: What,
+    pub(crate) what: What,
 }

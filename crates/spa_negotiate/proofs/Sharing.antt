@@ -1,8 +1,6 @@
 -- From what two offers have in common, or are refused for, to the same of the values that make
 -- them.
 use Rattle.std.proofs.Common.{◌≡◌, ℕ, Some, Result, Ok, Err, IfOk, IfErr}
-use Rattle.std.specs.Result.{IsErrAnd}
-use Rattle.std.proofs.lemmas.Result.{err_from_is_err_and}
 use Rattle.spa_format.specs.Tree.{Tree}
 use Rattle.spa_value.specs.declared.value.Value.{Value}
 use Rattle.spa_value.specs.View.{view}
@@ -42,8 +40,3 @@ module _ (v w : Tree) (a b : Offer) (i : IsOfferOf v a) (j : IsOfferOf w b) wher
       IfErr r (IsOfferRefusal k a b) → IfErr r (IsKeyRefusal k (Some v) (Some w))
   IsKeyRefusal-offers k (Ok x) h = tt
   IsKeyRefusal-offers k (Err e) h = IsKeyRefusal-offer k e h
-
--- a fact of an error that is passed on
-pub passed_on : {T E : Type 0} (r : Result T E) (e : E) (Q : E → Type 0) →
-    IsErrAnd r (λ y. y ≡ e) → Q e → IfErr r Q
-passed_on r e Q h q = let p = err_from_is_err_and r h in rw (p.1, p.2) q

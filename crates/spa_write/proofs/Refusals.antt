@@ -1,16 +1,11 @@
 -- Refusals of a part, as refusals of the whole.
 use Rattle.std.proofs.Common.{◌≡◌, ℕ, ◌+◌, ◌≤◌, List, length, Result}
 use Rattle.std.specs.Prelude.{IfErr, IsErrAnd}
-use Rattle.std.proofs.lemmas.Result.{err_from_is_err_and}
 use Rattle.spa_sink.specs.declared.gen_error.GenError.{GenError}
 use Rattle.spa_sink.specs.declared.gen_error.GenError.TheVariants.{Full, TooLarge, NulInText, WrongCount, Failed, Io, OutOfMemory}
 use Rattle.spa_sink.specs.Writing.{RefusedFor, RefusesWrite}
+use Rattle.spa_sink.proofs.Sending.{by_sink}
 use Rattle.spa_write.specs.Written.{Refusing, Appending}
-
--- what a `?` passes on
-pub passed_on : {T E : Type 0} (r : Result T E) (e : E) (Q : E → Type 0) → IsErrAnd r (λ y. y ≡ e) →
-    Q e → IfErr r Q
-passed_on r e Q h q = let p = err_from_is_err_and r h in rw (p.1, p.2) q
 
 -- what a sink promises of its refusals
 pub record IsSink {S : Type 0} (appends : Appending S) (refuses : Refusing S) : Type 0 where
@@ -36,13 +31,7 @@ refused_through n n' l l' o o' f g h OutOfMemory r = h OutOfMemory r
 pub sink_refused : {S : Type 0} {appends : Appending S} {refuses : Refusing S} →
     IsSink appends refuses → (nul large : Type 0) (a c : S) (n : ℕ) (e : GenError) → refuses a n c e →
     RefusesWrite nul large (refuses a n c) e
-sink_refused s nul large a c n Full r = record { cause = r }
-sink_refused s nul large a c n TooLarge r = absurd (s.no_large a c n r)
-sink_refused s nul large a c n NulInText r = absurd (s.no_nul a c n r)
-sink_refused s nul large a c n WrongCount r = record { cause = r }
-sink_refused s nul large a c n Failed r = record { cause = r }
-sink_refused s nul large a c n Io r = record { cause = r }
-sink_refused s nul large a c n OutOfMemory r = record { cause = r }
+sink_refused {refuses = refuses} s nul large a c n e r = by_sink refuses s.no_nul s.no_large a c n e r
 
 -- the refusal of a part, behind bytes that were written before
 pub part_refused : {S : Type 0} {appends : Appending S} {refuses : Refusing S}

@@ -2,7 +2,7 @@ use Rattle.std.proofs.Common.{◌∙◌, subst}
 use Rattle.spa_value.specs.Views.{property_views}
 use Rattle.spa_negotiate.specs.declared.error.NegotiateError.TheVariants.{TypeMismatch, OutOfMemory}
 use Rattle.spa_negotiate.specs.PropertyLists.{IsSettled}
-use Rattle.spa_negotiate.proofs.Sharing.{passed_on}
+use Rattle.spa_bytes.proofs.Passing.{passed_on}
 use Rattle.spa_negotiate.proofs.Refusing.{cannot_meet}
 use Rattle.spa_negotiate.proofs.Objects.{mismatch, objects_refused, objects_meet, objects_can}
 use Rattle.spa_negotiate.proofs.negotiation.negotiate.Goals as goal

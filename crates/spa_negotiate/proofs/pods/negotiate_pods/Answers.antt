@@ -1,6 +1,6 @@
 use Rattle.spa_value.specs.View.{object_view}
 use Rattle.spa_negotiate.proofs.Fronts.{BeginsObject-read, second_refused, ReadsBack-met, MeetIn-written, settled-written}
-use Rattle.spa_negotiate.proofs.Sharing.{passed_on}
+use Rattle.spa_bytes.proofs.Passing.{passed_on}
 use Rattle.spa_negotiate.proofs.pods.negotiate_pods.Goals as goal
 
 pub returns-in_err-second-clause-cause : goal.returns-in_err-second-clause-cause

@@ -3,7 +3,8 @@ use Rattle.std.proofs.lemmas.Result.{IfErr-weaker}
 use Rattle.spa_format.specs.Tree.{pointer_type}
 use Rattle.spa_format.specs.Words.{word_bytes}
 use Rattle.spa_format.proofs.Encodings.{pointer_encoding_length, two_words_length}
-use Rattle.spa_write.proofs.Refusals.{IsSink, later_refused, passed_on}
+use Rattle.spa_bytes.proofs.Passing.{passed_on}
+use Rattle.spa_write.proofs.Refusals.{IsSink, later_refused}
 use Rattle.spa_write.proofs.text.put_pointer.Given.{Over}
 use Rattle.spa_write.proofs.text.put_pointer.Goals as goal
 

@@ -6,7 +6,8 @@ use Rattle.spa_value.specs.declared.object.Object.{out-Object}
 use Rattle.spa_value.specs.View.{view}
 use Rattle.spa_value.specs.Views.{views, property_views}
 use Rattle.spa_value.proofs.ViewLaws.{view-struct, view-fields}
-use Rattle.spa_write.proofs.Refusals.{IsSink, passed_on}
+use Rattle.spa_bytes.proofs.Passing.{passed_on}
+use Rattle.spa_write.proofs.Refusals.{IsSink}
 use Rattle.spa_write.proofs.Extending.{IsOutput, extended_as, extended_by}
 use Rattle.spa_write.proofs.Structs.{next_refused, next_written, none_written, struct_header_refused, struct_members_refused, struct_room, struct_size_refused, struct_written}
 use Rattle.spa_write.proofs.Objects.{next_key_refused, next_property_written, next_value_refused, no_property_written, object_properties_refused, object_room, object_size_refused, object_words_refused, object_written}

@@ -52,7 +52,10 @@ pub(crate) fn put_padding(bytes: &mut Vec<u8>, size: usize) -> Result<(), Errno>
 }
 
 /// Appends the pod of a value of fixed size.
-pub(crate) fn put_plain<T: CanonicalFixedSizedPod>(bytes: &mut Vec<u8>, value: &T) -> Result<(), Errno>
+pub(crate) fn put_plain<T: CanonicalFixedSizedPod>(
+    bytes: &mut Vec<u8>,
+    value: &T,
+) -> Result<(), Errno>
     ensures ok { OnOk result (bytes.new.items ≡ bytes.old.items ++ framed T.TYPE (fixed_body (T.fixed value.now))) }
     ensures unchanged { OnErr result (bytes.new.items ≡ bytes.old.items) }
     ensures memory { IfErr result (λ e. e ≡ NOMEM) }
@@ -68,7 +71,12 @@ pub(crate) fn put_plain<T: CanonicalFixedSizedPod>(bytes: &mut Vec<u8>, value: &
 }
 
 /// Appends a pod whose body is at hand in two parts.
-pub(crate) fn put_pod(bytes: &mut Vec<u8>, type_: u32, front: &[u8], back: &[u8]) -> Result<(), Errno>
+pub(crate) fn put_pod(
+    bytes: &mut Vec<u8>,
+    type_: u32,
+    front: &[u8],
+    back: &[u8],
+) -> Result<(), Errno>
     requires { length front.now + length back.now < size_limit }
     ensures ok { OnOk result (bytes.new.items ≡ bytes.old.items ++ framed type_ (front.now ++ back.now)) }
     ensures unchanged { OnErr result (bytes.new.items ≡ bytes.old.items) }

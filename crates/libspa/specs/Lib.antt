@@ -11,6 +11,7 @@ pub use Rattle.spa_format.specs.Faults
 pub use Rattle.spa_format.specs.Walk
 pub use Rattle.spa_format.specs.Fixation
 pub use Rattle.spa_sink.specs.Writing
+pub use Rattle.spa_device.specs.Counting
 pub use Rattle.spa_value.specs.View
 pub use Rattle.spa_value.specs.Equality
 pub use Rattle.spa_read.specs.Reading

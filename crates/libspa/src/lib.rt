@@ -50,6 +50,7 @@ pub mod pod {
 
     /// Writing values.
     pub mod serialize {
+        pub use spa_device::IoSink;
         pub use spa_sink::{GenError, PodOutput, PodSink};
         pub use spa_write::{PodSerialize, PodSerializer, SerializeSuccess, laws};
     }

@@ -1,5 +1,6 @@
 use crate::example_pods::EXAMPLES;
 use crate::run::run;
+use spa_spelling::bytes_of;
 use std::alloc::{AllocError, Global};
 use std::io::{self, Error, ErrorKind, Read, Write};
 use std::process::Abort;
@@ -80,15 +81,6 @@ fn broken(bytes: &[u8], refusal: ErrorKind) -> Source<'_> {
         refusal: Some(refusal),
         interrupted: false,
     }
-}
-
-/// The bytes of these words, least byte first.
-fn bytes_of(alloc: Global, words: &[u32]) -> Result<Vec<u8>, AllocError> {
-    let mut bytes = Vec::new(alloc);
-    for word in words {
-        bytes.extend_from_slice(&word.to_le_bytes())?;
-    }
-    Ok(bytes)
 }
 
 /// Room for what is written, and for what is said.

@@ -32,6 +32,16 @@ length-choice_body shape flags k e f s xs ys t u z =
     let l7 = bodies_length k f s ys u z in
     omega arith
 
+-- the size that the code counts, in values of the size that it read
+pub choice_length : {A : Type 0} {B : Type 0} (shape flags : ℕ) (k : Kind) (e : A → Fixed)
+    (f : B → Fixed) (s read : ℕ) (xs : List A) (ys : List B) → ((v : A) → kind_of (e v) ≡ k) →
+    ((v : B) → kind_of (f v) ≡ k) → s ≡ body_size k → read ≡ s →
+    16 + length xs * read + length ys * s ≡
+    length (choice_body shape flags k (map e xs ++ map f ys))
+choice_length shape flags k e f s read xs ys t u z r =
+    ap (λ n. 16 + length xs * n + length ys * s) r
+    ∙ sym (length-choice_body shape flags k e f s xs ys t u z)
+
 regroup : (n c k f s t x y z : List ℕ) →
     ((((n ++ c) ++ (k ++ f)) ++ (s ++ t)) ++ x) ++ (y ++ z) ≡ n ++
     (c ++ ((k ++ (f ++ (s ++ (t ++ (x ++ y))))) ++ z))
@@ -77,3 +87,19 @@ choice_encoding k xs ys pod choice child bodies start n shape flags s t m e b p 
     padding n))) (sym (fixed_bodies-append xs ys))
     ∙ ap (λ i. word_bytes i ++
     (word_bytes choice_type ++ (choice_body shape flags k (xs ++ ys) ++ padding i))) en
+
+-- the same, where the first bodies are those of values of the size that the code read
+pub choice_put : {A : Type 0} {B : Type 0} (k : Kind) (e : A → Fixed) (f : B → Fixed)
+    (xs : List A) (ys : List B) (pod choice child bodies start : List ℕ)
+    (n shape flags s t own read : ℕ) → start ≡ ((pod ++ choice) ++ child) ++ bodies →
+    take (length xs * own) bodies ≡ fixed_bodies (map e xs) → read ≡ own →
+    pod ≡ word_bytes n ++ word_bytes choice_type → choice ≡ word_bytes shape ++ word_bytes flags →
+    child ≡ word_bytes s ++ word_bytes t →
+    n ≡ length (choice_body shape flags k (map e xs ++ map f ys)) → s ≡ body_size k →
+    t ≡ type_number k →
+    take (24 + length xs * read) start ++ (fixed_bodies (map f ys) ++ padding n) ≡
+    framed choice_type (choice_body shape flags k (map e xs ++ map f ys))
+choice_put k e f xs ys pod choice child bodies start n shape flags s t own read st b r p c h en es
+    et =
+    choice_encoding k (map e xs) (map f ys) pod choice child bodies start n shape flags s t
+    (length xs * read) st (ap (λ m. take (length xs * m) bodies) r ∙ b) p c h en es et

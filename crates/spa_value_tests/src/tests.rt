@@ -2,6 +2,7 @@
 mod arrays;
 mod choices;
 mod clones;
+mod devices;
 mod equality;
 mod fixed;
 mod outputs;

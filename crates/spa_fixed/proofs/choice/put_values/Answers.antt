@@ -1,5 +1,4 @@
-use Rattle.std.proofs.Common.{◌≡◌, refl, ◌∙◌, ◌++◌, ◌+◌, ◌*◌, ◌<◌, ◌≤◌, length, map, take, ap}
-use Rattle.std.proofs.Common.{subst, arith}
+use Rattle.std.proofs.Common.{refl, ◌∙◌, ◌++◌, ◌<◌, ◌≤◌, length, map, subst}
 use Rattle.std.proofs.lemmas.Result.{IfErr-weaker, on_ok_weaker}
 use Rattle.spa_format.specs.Words.{size_limit}
 use Rattle.spa_format.specs.Encoding.{framed}
@@ -7,49 +6,38 @@ use Rattle.spa_format.specs.Tree.{choice_type}
 use Rattle.spa_fixed.specs.Choices.{choice_body}
 use Rattle.spa_sink.proofs.Sending.{by_sink, refused_encoding}
 use Rattle.spa_fixed.proofs.ElementWriting.{AreOf-append}
-use Rattle.spa_fixed.proofs.ChoiceWriting.{length-choice_body, choice_encoding}
+use Rattle.spa_fixed.proofs.ChoiceWriting.{choice_length, choice_put}
 use Rattle.spa_fixed.proofs.choice.put_values.Goals as goal
 
 pub returns-in_default-clause-refused : goal.returns-in_default-clause-refused
 returns-in_default-clause-refused g c =
     let met = g.met.T.CanonicalFixedSizedPod in
-    let l =
-    length-choice_body c.args.shape c.args.flags g.T.CanonicalFixedSizedPod.kind
+    let counted =
+    choice_length c.args.shape c.args.flags g.T.CanonicalFixedSizedPod.kind
     (λ r. g.T.CanonicalFixedSizedPod.fixed r.now) g.T.CanonicalFixedSizedPod.fixed
-    g.T.CanonicalFixedSizedPod.SIZE c.args.first.now c.args.more.now (λ r. met.its_kind r.now)
-    met.its_kind met.its_size in
-    let z : length c.args.first.now * c.SIZE.result ≡ length c.args.first.now *
-    g.T.CanonicalFixedSizedPod.SIZE =
-    ap (λ n. length c.args.first.now * n) c.SIZE.ensures in
-    let h : size_limit ≤ 16 + length c.args.first.now * c.SIZE.result + length c.args.more.now *
-    g.T.CanonicalFixedSizedPod.SIZE =
-    c.in_default.ensures.none in
-    record { cause = (omega (arith, l, z, h), refl) }
+    g.T.CanonicalFixedSizedPod.SIZE
+    c.SIZE.result c.args.first.now c.args.more.now (λ r. met.its_kind r.now) met.its_kind
+    met.its_size c.SIZE.ensures in
+    record { cause = (subst (λ n. size_limit ≤ n) counted c.in_default.ensures.none, refl) }
 
 pub returns-clause-ok : goal.returns-clause-ok
 returns-clause-ok g c =
     let met = g.met.T.CanonicalFixedSizedPod in
-    let xs = map (λ r. g.T.CanonicalFixedSizedPod.fixed r.now) c.args.first.now in
-    let ys = map g.T.CanonicalFixedSizedPod.fixed c.args.more.now in
-    let l =
-    length-choice_body c.args.shape c.args.flags g.T.CanonicalFixedSizedPod.kind
+    let size =
+    c.in-Some.ensures.some ∙ choice_length c.args.shape c.args.flags g.T.CanonicalFixedSizedPod.kind
     (λ r. g.T.CanonicalFixedSizedPod.fixed r.now) g.T.CanonicalFixedSizedPod.fixed
-    g.T.CanonicalFixedSizedPod.SIZE c.args.first.now c.args.more.now (λ r. met.its_kind r.now)
-    met.its_kind met.its_size in
-    let z : length c.args.first.now * c.SIZE.result ≡ length c.args.first.now *
-    g.T.CanonicalFixedSizedPod.SIZE =
-    ap (λ n. length c.args.first.now * n) c.SIZE.ensures in
-    let en : c.in-Some.size ≡ length (choice_body c.args.shape
-    c.args.flags g.T.CanonicalFixedSizedPod.kind (xs ++ ys)) =
-    (let b = c.in-Some.ensures.some in omega (arith, l, z, b)) in
-    let bodies = ap (λ n. take n c.first_bodies.result) z ∙ c.first_bodies.ensures.bodies in
+    g.T.CanonicalFixedSizedPod.SIZE
+    c.SIZE.result c.args.first.now c.args.more.now (λ r. met.its_kind r.now) met.its_kind
+    met.its_size c.SIZE.ensures in
     let encoding =
-    choice_encoding g.T.CanonicalFixedSizedPod.kind xs ys c.two_words.result
+    choice_put g.T.CanonicalFixedSizedPod.kind (λ r. g.T.CanonicalFixedSizedPod.fixed r.now)
+    g.T.CanonicalFixedSizedPod.fixed c.args.first.now c.args.more.now c.two_words.result
     c.two_words-2.result c.two_words-3.result c.first_bodies.result c.start_of-start.result
     c.in-Some.size c.args.shape c.args.flags c.SIZE-2.result c.TYPE.result
-    (length c.args.first.now * c.SIZE.result) c.start_of-start.ensures bodies
-    c.two_words.ensures c.two_words-2.ensures c.two_words-3.ensures en
-    (c.SIZE-2.ensures ∙ met.its_size) (c.TYPE.ensures ∙ met.its_type) in
+    g.T.CanonicalFixedSizedPod.SIZE c.SIZE.result
+    c.start_of-start.ensures c.first_bodies.ensures.bodies c.SIZE.ensures c.two_words.ensures
+    c.two_words-2.ensures c.two_words-3.ensures size (c.SIZE-2.ensures ∙ met.its_size)
+    (c.TYPE.ensures ∙ met.its_type) in
     on_ok_weaker c.put_parts.result
     (λ p. subst (λ b. g.S.PodSink.appends c.args.sink.now b c.put_parts.new.sink) encoding p)
     c.put_parts.ensures.ok
@@ -68,20 +56,13 @@ returns-clause-typed g c =
 pub returns-clause-fits : goal.returns-clause-fits
 returns-clause-fits g c =
     let met = g.met.T.CanonicalFixedSizedPod in
-    let xs = map (λ r. g.T.CanonicalFixedSizedPod.fixed r.now) c.args.first.now in
-    let ys = map g.T.CanonicalFixedSizedPod.fixed c.args.more.now in
-    let l =
-    length-choice_body c.args.shape c.args.flags g.T.CanonicalFixedSizedPod.kind
+    let size =
+    c.in-Some.ensures.some ∙ choice_length c.args.shape c.args.flags g.T.CanonicalFixedSizedPod.kind
     (λ r. g.T.CanonicalFixedSizedPod.fixed r.now) g.T.CanonicalFixedSizedPod.fixed
-    g.T.CanonicalFixedSizedPod.SIZE c.args.first.now c.args.more.now (λ r. met.its_kind r.now)
-    met.its_kind met.its_size in
-    let z : length c.args.first.now * c.SIZE.result ≡ length c.args.first.now *
-    g.T.CanonicalFixedSizedPod.SIZE =
-    ap (λ n. length c.args.first.now * n) c.SIZE.ensures in
-    let en : c.in-Some.size ≡ length (choice_body c.args.shape
-    c.args.flags g.T.CanonicalFixedSizedPod.kind (xs ++ ys)) =
-    (let b = c.in-Some.ensures.some in omega (arith, l, z, b)) in
-    on_ok_weaker c.put_parts.result (λ p. subst (λ n. n < size_limit) en c.in-Some.ensures.fits)
+    g.T.CanonicalFixedSizedPod.SIZE
+    c.SIZE.result c.args.first.now c.args.more.now (λ r. met.its_kind r.now) met.its_kind
+    met.its_size c.SIZE.ensures in
+    on_ok_weaker c.put_parts.result (λ p. subst (λ n. n < size_limit) size c.in-Some.ensures.fits)
     c.put_parts.ensures.ok
 
 pub returns-clause-refused : goal.returns-clause-refused
@@ -89,25 +70,21 @@ returns-clause-refused g c =
     let met = g.met.T.CanonicalFixedSizedPod in
     let xs = map (λ r. g.T.CanonicalFixedSizedPod.fixed r.now) c.args.first.now in
     let ys = map g.T.CanonicalFixedSizedPod.fixed c.args.more.now in
-    let l =
-    length-choice_body c.args.shape c.args.flags g.T.CanonicalFixedSizedPod.kind
+    let size =
+    c.in-Some.ensures.some ∙ choice_length c.args.shape c.args.flags g.T.CanonicalFixedSizedPod.kind
     (λ r. g.T.CanonicalFixedSizedPod.fixed r.now) g.T.CanonicalFixedSizedPod.fixed
-    g.T.CanonicalFixedSizedPod.SIZE c.args.first.now c.args.more.now (λ r. met.its_kind r.now)
-    met.its_kind met.its_size in
-    let z : length c.args.first.now * c.SIZE.result ≡ length c.args.first.now *
-    g.T.CanonicalFixedSizedPod.SIZE =
-    ap (λ n. length c.args.first.now * n) c.SIZE.ensures in
-    let en : c.in-Some.size ≡ length (choice_body c.args.shape
-    c.args.flags g.T.CanonicalFixedSizedPod.kind (xs ++ ys)) =
-    (let b = c.in-Some.ensures.some in omega (arith, l, z, b)) in
-    let bodies = ap (λ n. take n c.first_bodies.result) z ∙ c.first_bodies.ensures.bodies in
+    g.T.CanonicalFixedSizedPod.SIZE
+    c.SIZE.result c.args.first.now c.args.more.now (λ r. met.its_kind r.now) met.its_kind
+    met.its_size c.SIZE.ensures in
     let encoding =
-    choice_encoding g.T.CanonicalFixedSizedPod.kind xs ys c.two_words.result
+    choice_put g.T.CanonicalFixedSizedPod.kind (λ r. g.T.CanonicalFixedSizedPod.fixed r.now)
+    g.T.CanonicalFixedSizedPod.fixed c.args.first.now c.args.more.now c.two_words.result
     c.two_words-2.result c.two_words-3.result c.first_bodies.result c.start_of-start.result
     c.in-Some.size c.args.shape c.args.flags c.SIZE-2.result c.TYPE.result
-    (length c.args.first.now * c.SIZE.result) c.start_of-start.ensures bodies
-    c.two_words.ensures c.two_words-2.ensures c.two_words-3.ensures en
-    (c.SIZE-2.ensures ∙ met.its_size) (c.TYPE.ensures ∙ met.its_type) in
+    g.T.CanonicalFixedSizedPod.SIZE c.SIZE.result
+    c.start_of-start.ensures c.first_bodies.ensures.bodies c.SIZE.ensures c.two_words.ensures
+    c.two_words-2.ensures c.two_words-3.ensures size (c.SIZE-2.ensures ∙ met.its_size)
+    (c.TYPE.ensures ∙ met.its_type) in
     IfErr-weaker c.put_parts.result _ _ (λ e r. by_sink g.S.PodSink.refuses
     g.met.S.PodSink.never_nul g.met.S.PodSink.never_large c.args.sink.now _
     (length (framed choice_type (choice_body c.args.shape

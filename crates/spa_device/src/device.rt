@@ -1,0 +1,120 @@
+//! A sink over any writer.
+ghost use Rattle.std.specs.Prelude.{◌≡◌, ◌+◌, ◌≤◌, ℕ, OnErr, OnOk, IfErr, length, take};
+ghost use Rattle.std.specs.Io.KnownBytes.{Appends};
+ghost use Rattle.spa_sink.specs.declared.gen_error.GenError.TheVariants.{Failed, Io, NulInText, TooLarge};
+ghost use Rattle.spa_device.specs.Counting.{RefusesBytes, Took};
+ghost use Rattle.spa_device.specs.CountingLaws.{no_other, refuses_after, refuses_longer, took_more};
+
+use spa_sink::{GenError, PodSink};
+use std::io::Write;
+use std::marker::Model;
+
+/// A sink over a device: a file, a pipe, a terminal, or anything else that is `Write`.
+///
+/// It counts the bytes that the device took, and the writes that failed: those that answered an error, an interruption
+/// among them, or took no byte. A write that fails isn't tried again.
+#[derive(Drop)]
+pub struct IoSink<W: Write + Drop> {
+    device: W,
+    written: u64,
+    failures: u64,
+}
+
+impl<W: Write + Drop> Model for IoSink<W> {
+    ghost use Rattle.spa_device.specs.Counting.{Counted};
+
+    ghost Value = { Counted W };
+
+    ghost view = { λ it. record { device = it.device; written = it.written; failures = it.failures } };
+}
+
+impl<W: Write + Drop> IoSink<W> {
+    /// A sink over this device. Both counts begin at 0.
+    pub fn new(device: W) -> IoSink<W>
+        ensures device { result.device ≡ device }
+        ensures counts { (result.written ≡ 0) × (result.failures ≡ 0) }
+    {
+        IoSink {
+            device,
+            written: 0,
+            failures: 0,
+        }
+    }
+
+    /// The device.
+    pub fn into_inner(self) -> W
+        ensures { result ≡ self.device }
+    {
+        self.device
+    }
+
+    /// How many bytes the device took.
+    pub fn written(&self) -> u64
+        ensures { result ≡ self.now.written }
+    {
+        self.written
+    }
+
+    /// How many writes failed.
+    pub fn failures(&self) -> u64
+        ensures { result ≡ self.now.failures }
+    {
+        self.failures
+    }
+}
+
+/// How many bytes one write takes, none where it fails.
+#[tactic(auto, using(crate::specs::CountingLaws::nothing_taken))]
+fn taken<W: Write>(device: &mut W, bytes: &[u8]) -> usize
+    ensures most { result ≤ length bytes.now }
+    ensures known { Appends (W.contents device.old) (W.contents device.new) (take result bytes.now) }
+{
+    match device.write(bytes) {
+        Ok(count) => count,
+        Err(_) => 0,
+    }
+}
+
+impl<W: Write + Drop> PodSink for IoSink<W> {
+    ghost appends = { Took W.contents };
+
+    ghost refuses = { RefusesBytes };
+
+    ghost appends_more = { λ a b c xs ys p q. took_more xs ys p q };
+
+    ghost refuses_longer = { λ a b m n e h r. refuses_longer a b m n e h r };
+
+    ghost refuses_after = { λ a b c xs n e p r. refuses_after a b c xs n e p r };
+
+    ghost never_nul = { λ a b n r. no_other a b n NulInText r (λ p. Prim.cc (p)) (λ p. Prim.cc (p)) };
+
+    ghost never_large = { λ a b n r. no_other a b n TooLarge r (λ p. Prim.cc (p)) (λ p. Prim.cc (p)) };
+
+    /// Hands the device the bytes until it has taken them all. The first write that fails ends this with `Io`; the device has
+    /// taken a beginning of the bytes then. `Failed` is answered, and nothing is written, where one of the counts has no
+    /// room.
+    fn append(&mut self, bytes: &[u8]) -> Result<(), GenError>
+        ensures ok { OnOk result (Took W.contents self.old bytes.now self.new) }
+        ensures begun { OnErr result ((count : ℕ) × Took W.contents self.old (take count bytes.now) self.new) }
+        ensures cause { IfErr result (λ e. RefusesBytes self.old (length bytes.now) self.new e) }
+        // Where all bytes are taken no write failed, and where it is refused with `Io` one did.
+        ensures all { OnOk result (self.new.failures ≡ self.old.failures) }
+        ensures one { IfErr result (λ e. e ≡ Io → self.new.failures ≡ self.old.failures + 1) }
+        ensures unchanged { IfErr result (λ e. e ≡ Failed → self.new ≡ self.old) }
+    {
+        if self.failures == u64::MAX || bytes.len() as u64 > u64::MAX - self.written {
+            return Err(GenError::Failed);
+        }
+        let mut done = 0;
+        while done < bytes.len() {
+            let count = taken(&mut self.device, &bytes[done..]);
+            if count == 0 {
+                self.failures += 1;
+                return Err(GenError::Io);
+            }
+            done += count;
+            self.written += count as u64;
+        }
+        Ok(())
+    }
+}

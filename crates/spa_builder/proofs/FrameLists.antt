@@ -63,7 +63,7 @@ set_frame frames base p q ps w n o e m g f =
     ∙ set_last base p q ps (length (frames_of base ps)) (length-frames_of base ps)
 
 -- where a key waits, it gets its value; in a struct the frame stays
-pub filled_frames : (old new : List Open) (base : ℕ) (ps : List Partial) (v : Tree) → waits ps ≡ true → old ≡ frames_of base ps → ((b : ℕ) (p q : Partial) (rs : List Partial) → old ≡ frames_of b (p ∷ rs) → Object false ≡ what_of q → new ≡ frames_of b (q ∷ rs)) → new ≡ frames_of base (filled ps v)
+pub filled_frames : (old new : List Open) (base : ℕ) (ps : List Partial) (v : Tree) → waits ps ≡ true → old ≡ frames_of base ps → ((b : ℕ) (p q : Partial) (rs : List Partial) → old ≡ frames_of b (p ∷ rs) → Object ≡ what_of q → new ≡ frames_of b (q ∷ rs)) → new ≡ frames_of base (filled ps v)
 filled_frames old new base [] v h e f = absurd (cc)
 filled_frames old new base (open_struct vs ∷ ps) v h e f = absurd (cc)
 filled_frames old new base (open_object t i qs ∷ ps) v h e f = absurd (cc)

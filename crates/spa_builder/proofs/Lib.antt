@@ -6,3 +6,5 @@ pub mod Runs
 pub mod Members
 pub mod Placing
 pub mod Shapes
+pub mod Pieces
+pub mod Kept

@@ -1,17 +1,17 @@
 -- Elements of arrays and choices.
-use Rattle.std.proofs.Common.{◌≡◌, ℕ, ◌+◌, ◌-◌, ◌≤◌, ◌^◌, List, [], ◌∷◌, ◌++◌, length, take, drop, refl, sym, ap, ◌∙◌, arith, length-append, length-take, length-drop, append_assoc, Bool, true, false}
+use Rattle.std.proofs.Common.{◌≡◌, ℕ, ◌+◌, ◌-◌, ◌≤◌, ◌^◌, List, [], ◌∷◌, ◌++◌, length, take, drop, refl, sym, ap, ◌∙◌, arith, length-append, append_assoc, Bool, true, false}
 use Rattle.std.specs.Prelude.{nat_lt, nat_eq, cond, Option, Some, None}
 use Rattle.std.proofs.lemmas.List.{append-nil, take_at, drop_at}
 use Rattle.std.proofs.lemmas.Bool.Decides.{nat_tests}
 use Rattle.spa_format.specs.Words.{word_bytes}
 use Rattle.spa_format.specs.Kind.{Kind, none_kind, bool_kind, id_kind, int_kind, long_kind, float_kind, double_kind, rectangle_kind, fraction_kind, fd_kind, type_number, body_size, Fixed, none, bool, id, int, long, float, double, rectangle, fraction, fd, kind_of, fixed_body}
-use Rattle.spa_format.specs.Tree.{Shape, shape_number, fixed, Trees, array_type, choice_type}
+use Rattle.spa_format.specs.Tree.{shape_number, fixed, Trees, array_type, choice_type}
 use Rattle.spa_format.specs.Encoding.{array_body, fixed_bodies, member_encodings}
 use Rattle.spa_builder.specs.State.{Partial, open_struct, open_object, open_property, open_array, open_choice, State}
 use Rattle.spa_builder.specs.Step.{all_fit, takes_trees, placed, child_kind, array_takes}
 use Rattle.spa_builder.specs.Held.{Held, IsAt, IsNested, IsFair, so_far, all_so_far, body_so_far, type_of_partial, frames_of}
 use Rattle.spa_builder.specs.Innermost.{has_room_for, has_elements, takes_elements, is_first, takes_element, with_element}
-use Rattle.spa_builder.proofs.Lengths.{length-word_bytes, length-behind_two, length-fixed}
+use Rattle.spa_builder.proofs.Lengths.{length-word_bytes, length-behind_two, length-two}
 use Rattle.spa_builder.proofs.Sizes.{one_size_decides, room_later, length-array_body}
 
 pub bodies_more : (xs : List Fixed) (x : Fixed) → fixed_bodies (xs ++ x ∷ []) ≡ fixed_bodies xs ++ fixed_body x
@@ -103,15 +103,6 @@ element_not closed (open_property a b c d e) ps x h t = absurd (cc)
 element_not closed (open_array xs) ps x h t = ap (λ b. elim (cond b (Some (open_array (xs ++ x ∷ []))) None) as (λ _. Option State) [ Some q ↦ Some (record { closed = closed; opened = q ∷ ps }) | None ↦ None ]) t
 element_not closed (open_choice k f xs) ps x h t = ap (λ b. elim (cond b (Some (open_choice k f (xs ++ x ∷ []))) None) as (λ _. Option State) [ Some q ↦ Some (record { closed = closed; opened = q ∷ ps }) | None ↦ None ]) t
 
--- a word over another
-pub replaced : (front back b : List ℕ) (a n at : ℕ) → at ≡ length front → b ≡ front ++ (word_bytes a ++ back) → take at b ++ (word_bytes n ++ drop (at + 4) b) ≡ front ++ (word_bytes n ++ back)
-replaced front back b a n at s e =
-    let t = ap (take at) e ∙ take_at front (word_bytes a ++ back) at (sym s) in
-    let l = length-append front (word_bytes a) in
-    let l0 = length-word_bytes a in
-    let d = ap (drop (at + 4)) (e ∙ sym (append_assoc front (word_bytes a) back)) ∙ drop_at (front ++ word_bytes a) back (at + 4) (omega arith) in
-    ap (λ x. x ++ (word_bytes n ++ drop (at + 4) b)) t ∙ ap (λ x. front ++ (word_bytes n ++ x)) d
-
 -- behind the first element the bytes only grow
 pub later_bytes : (p : Partial) (x : Fixed) → has_elements p ≡ true → is_first p ≡ false → so_far (with_element p x) ≡ so_far p ++ fixed_body x
 later_bytes (open_struct vs) x h t = absurd (cc)
@@ -162,12 +153,21 @@ no_place closed (open_property a b c d e ∷ ps) x h t = absurd (cc)
 no_place closed (open_array xs ∷ ps) x h t = absurd (cc)
 no_place closed (open_choice k f xs ∷ ps) x h t = absurd (cc)
 
-pub replaced_two : (front back old mid new : List ℕ) (a b n k at : ℕ) → at ≡ length front → old ≡ front ++ (word_bytes a ++ (word_bytes b ++ back)) → mid ≡ take at old ++ (word_bytes n ++ drop (at + 4) old) → new ≡ take (at + 4) mid ++ (word_bytes k ++ drop (at + 4 + 4) mid) → new ≡ front ++ (word_bytes n ++ (word_bytes k ++ back))
-replaced_two front back old mid new a b n k at s e f g =
-    let m : mid ≡ (front ++ word_bytes n) ++ (word_bytes b ++ back) = f ∙ replaced front (word_bytes b ++ back) old a n at s e ∙ sym (append_assoc front (word_bytes n) (word_bytes b ++ back)) in
-    let l = length-append front (word_bytes n) in
-    let l0 = length-word_bytes n in
-    g ∙ replaced (front ++ word_bytes n) back mid b k (at + 4) (omega arith) m ∙ append_assoc front (word_bytes n) (word_bytes k ++ back)
+-- two words over two others
+pub replaced_two : (front back old new : List ℕ) (a b n k at : ℕ) → at ≡ length front → old ≡ front ++ (word_bytes a ++ (word_bytes b ++ back)) → new ≡ take at old ++ ((word_bytes n ++ word_bytes k) ++ drop (at + 8) old) → new ≡ front ++ (word_bytes n ++ (word_bytes k ++ back))
+replaced_two front back old new a b n k at s e f =
+    let two = word_bytes a ++ word_bytes b in
+    let w : old ≡ front ++ (two ++ back) = e ∙ ap (λ l. front ++ l) (sym (append_assoc (word_bytes a) (word_bytes b) back)) in
+    let t = ap (take at) w ∙ take_at front (two ++ back) at (sym s) in
+    let l = length-append front two in
+    let l0 = length-two a b in
+    let d =
+    ap (drop (at + 8)) (w ∙ sym (append_assoc front two back))
+    ∙ drop_at (front ++ two) back (at + 8) (omega arith) in
+    f
+    ∙ ap (λ x. x ++ ((word_bytes n ++ word_bytes k) ++ drop (at + 8) old)) t
+    ∙ ap (λ x. front ++ ((word_bytes n ++ word_bytes k) ++ x)) d
+    ∙ ap (λ l. front ++ l) (append_assoc (word_bytes n) (word_bytes k) back)
 
 pub element_bytes : (p : Partial) (x : Fixed) (front mid new : List ℕ) (at size kind : ℕ) (b : Bool) → kind ≡ type_number (kind_of x) → has_elements p ≡ true → b ≡ is_first p → mid ≡ (front ++ so_far p) ++ fixed_body x → at ≡ length (front ++ so_far p) - 8 → size ≡ body_size (kind_of x) → (b ≡ true → (f k : List ℕ) (a c : ℕ) → at ≡ length f → mid ≡ f ++ (word_bytes a ++ (word_bytes c ++ k)) → new ≡ f ++ (word_bytes size ++ (word_bytes kind ++ k))) → (b ≡ false → new ≡ mid) → new ≡ front ++ so_far (with_element p x)
 element_bytes p x front mid new at size kind true y h i e l s f g =
@@ -188,15 +188,6 @@ element_bytes p x front mid new at size kind true y h i e l s f g =
     ∙ ap (λ y. front ++ y) (sym (first_after p x h (sym i)))
 element_bytes p x front mid new at size kind false y h i e l s f g =
     g refl ∙ e ∙ append_assoc front (so_far p) (fixed_body x) ∙ ap (λ y. front ++ y) (sym (later_bytes p x h (sym i)))
-
-pub length-replaced : (old : List ℕ) (n at : ℕ) → at + 4 ≤ length old → length (take at old ++ (word_bytes n ++ drop (at + 4) old)) ≡ length old
-length-replaced old n at h =
-    let e0 = length-append (take at old) (word_bytes n ++ drop (at + 4) old) in
-    let e1 = length-append (word_bytes n) (drop (at + 4) old) in
-    let e2 = length-word_bytes n in
-    let e3 = length-take at old in
-    let e4 = length-drop (at + 4) old in
-    omega arith
 
 pub small_body : (x : Fixed) (n : ℕ) → length (fixed_body x) ≡ n → n ≤ 8 → nat_lt (length (fixed_body x)) (2 ^ 32) ≡ true
 small_body x n e h = grind (arith, nat_tests)

@@ -8,7 +8,7 @@ use Rattle.spa_format.specs.Encoding.{encoded_body, encoding_of, member_encoding
 use Rattle.spa_builder.specs.State.{State}
 use Rattle.spa_builder.specs.Step.{all_fit, placed, sized, takes_trees}
 use Rattle.spa_builder.specs.Held.{Held, IsAt, frames_of}
-use Rattle.spa_builder.specs.Innermost.{filled, has_room_for}
+use Rattle.spa_builder.specs.Innermost.{filled}
 use Rattle.spa_builder.specs.Answers.{IsAdmitted, Makes}
 use Rattle.spa_utils.specs.declared.errno.Errno.{Errno}
 use Rattle.spa_utils.specs.declared.errno.TheConstants.Errno.{NOMEM}

@@ -1,5 +1,5 @@
 -- One size word decides: the outermost is the greatest.
-use Rattle.std.proofs.Common.{◌≡◌, ◌≢◌, ℕ, ◌+◌, ◌*◌, ◌/◌, ◌-◌, ◌<◌, ◌≤◌, ◌^◌, List, [], ◌∷◌, ◌++◌, length, refl, ap, ◌∙◌, arith, length-append, Bool, true, false, ◌&&◌}
+use Rattle.std.proofs.Common.{◌≡◌, ◌≢◌, ℕ, ◌+◌, ◌*◌, ◌/◌, ◌-◌, ◌<◌, ◌≤◌, ◌^◌, List, [], ◌∷◌, ◌++◌, length, refl, ap, ◌∙◌, arith, length-append, true, ◌&&◌}
 use Rattle.std.specs.Prelude.{nat_lt, IsTrue}
 use Rattle.std.proofs.lemmas.Bool.Decides.{nat_tests}
 use borrow.Author.Tests.{ltb-true}
@@ -83,7 +83,7 @@ both_fit a b c m h e = grind (arith, nat_tests)
 one_fits : (a c m : ℕ) → a ≡ c → (nat_lt a m && true) ≡ nat_lt c m
 one_fits a c m e = grind (arith, nat_tests)
 
-same_test : (a b m n : ℕ) → (a < m → b < n) → (b < n → a < m) → nat_lt a m ≡ nat_lt b n
+pub same_test : (a b m n : ℕ) → (a < m → b < n) → (b < n → a < m) → nat_lt a m ≡ nat_lt b n
 same_test a b m n f g = grind (arith, nat_tests)
 
 pub at_least_8 : (p : Partial) (ps : List Partial) → 8 ≤ length (all_so_far (p ∷ ps))

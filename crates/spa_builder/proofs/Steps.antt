@@ -5,14 +5,14 @@ use Rattle.std.proofs.lemmas.Bool.Decides.{nat_tests}
 use Rattle.std.proofs.lemmas.Result.{err_from_is_err_and}
 use Rattle.std.specs.Prelude.{IsErrAnd}
 use Rattle.std.proofs.lemmas.List.{append-nil, take_at, drop_at}
-use Rattle.spa_format.specs.Words.{word_bytes, extent, padding, size_limit}
+use Rattle.spa_format.specs.Words.{word_bytes, extent, padding}
 use Rattle.spa_format.specs.Kind.{Fixed, kind_of, body_size, type_number}
 use Rattle.spa_format.specs.Pod.{least_count}
 use Rattle.spa_format.specs.Tree.{Shape, Tree, fixed, string, bytes, bitmap, array, pointer, Trees, no_trees, member, Properties, no_properties, property, struct, object, choice, type_of, array_type, choice_type, object_type, struct_type}
-use Rattle.spa_format.specs.Encoding.{framed, encoding_of, member_encodings, property_encodings, encoded_body, fixed_bodies, array_body}
+use Rattle.spa_format.specs.Encoding.{framed, encoding_of, member_encodings, property_encodings, encoded_body}
 use Rattle.spa_builder.proofs.Lengths.{length-word_bytes, members_joined, properties_joined, length-framed}
 use Rattle.spa_builder.specs.State.{Partial, open_struct, open_object, open_property, open_array, open_choice, State, start, with_tree, with_property}
-use Rattle.spa_builder.specs.Step.{all_fit, own_size, array_of, choice_of, child_kind, takes_trees, placed, keyed, begun, closes, finished, sized, taken, Outcome, Accepts, Inval, Nospc}
+use Rattle.spa_builder.specs.Step.{all_fit, own_size, array_of, child_kind, takes_trees, placed, keyed, begun, closes, finished, sized, taken, Outcome, Accepts, Inval, Nospc}
 use Rattle.spa_builder.specs.Held.{Held, held, IsHeld, IsAt, IsNested, IsFair, so_far, all_so_far, body_so_far, type_of_partial, frames_of, what_of}
 use Rattle.spa_builder.specs.Innermost.{filled, closed_with, has_room_for, innermost_of, takes_key}
 use Rattle.spa_builder.specs.Answers.{Makes, Spells}
@@ -146,11 +146,6 @@ is_begun old new s p start at f h e b g fit = record {
 }
 
 -- ---- a tree that is closed
-
-pub unpushed : (xs ys zs : List Open) (x : Open) (n : ℕ) → ys ≡ xs ++ x ∷ [] → n ≡ length ys → zs ≡ take (n - 1) ys → zs ≡ xs
-unpushed xs ys zs x n e l t =
-    let m = ap length e ∙ length-append xs (x ∷ []) in
-    t ∙ ap (take (n - 1)) e ∙ take_at xs (x ∷ []) (n - 1) (omega arith)
 
 pub goes_ok : {A : Type 0} (o : Option State) (t : State) (old new : Held) (x : A) → o ≡ Some t → IsAt new t → Makes (taken o) old new (Ok x)
 goes_ok o t old new x e h = subst (λ p. Makes (taken p) old new (Ok x)) (sym e) h

@@ -1,14 +1,14 @@
 -- How the bytes and the frames of a builder hold a state.
-use Rattle.std.specs.Prelude.{◌≡◌, ℕ, ◌+◌, List, [], ◌∷◌, ◌++◌, length, min, true, false, IsTrue, Option, Some, None}
+use Rattle.std.specs.Prelude.{◌≡◌, ℕ, ◌+◌, List, [], ◌∷◌, ◌++◌, length, min, IsTrue, Option, Some, None}
 use Rattle.spa_format.specs.Words.{word_bytes}
 use Rattle.spa_format.specs.Kind.{none_kind, type_number, Fixed, kind_of}
-use Rattle.spa_format.specs.Tree.{shape_number, Trees, struct_type, object_type, array_type, choice_type}
+use Rattle.spa_format.specs.Tree.{shape_number, struct_type, object_type, array_type, choice_type}
 use Rattle.spa_format.specs.Encoding.{array_body, fixed_bodies, member_encodings, property_encodings}
 use Rattle.spa_builder.specs.State.{Partial, open_struct, open_object, open_property, open_array, open_choice, State}
 use Rattle.spa_builder.specs.Step.{child_kind, takes_trees, all_fit}
 use Rattle.spa_builder.specs.declared.open.Open.{Open}
 use Rattle.spa_builder.specs.declared.open.What.{What}
-use Rattle.spa_builder.specs.declared.open.What.TheVariants.{Struct, Object, Array, Choice}
+use Rattle.spa_builder.specs.declared.open.What.TheVariants.{Struct, Property, Object, Array, Choice}
 
 -- what a builder holds
 pub record Held : Type 0 where
@@ -26,8 +26,8 @@ first_type (x ∷ xs) = Some (type_number (kind_of x))
 -- what the frame of a partial tree says; values of a choice are counted up to four
 abbrev pub what_of : Partial → What
 what_of (open_struct vs) = Struct
-what_of (open_object t i ps) = Object false
-what_of (open_property t i ps k f) = Object true
+what_of (open_object t i ps) = Object
+what_of (open_property t i ps k f) = Property
 what_of (open_array xs) = Array (first_type xs)
 what_of (open_choice h f xs) = Choice (shape_number h) (first_type xs) (min 4 (length xs))
 

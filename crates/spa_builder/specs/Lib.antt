@@ -5,3 +5,4 @@ pub mod Innermost
 pub mod Answers
 pub mod Growing
 pub mod Replay
+pub mod Framed

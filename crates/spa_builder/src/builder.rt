@@ -11,8 +11,10 @@ ghost use Rattle.spa_builder.specs.Answers.{Makes, Spells};
 use crate::building::{add_elements, add_encoding, add_fixed, add_key, add_pod, begin, close};
 use crate::bytes::pointer_pod;
 use crate::elements::SHAPE_MAX;
+use crate::frames::Frames;
 use crate::heads::{array_head, choice_head, object_head, struct_head};
-use crate::open::{Open, What};
+use crate::open::What;
+use crate::written::Written;
 use spa_bytes::POINTER_LEN;
 use spa_utils::{Errno, Fd, Float32, Float64, Fraction, Frame, Id, Rectangle, SpaTypes};
 use spa_value::ValueArray;
@@ -25,8 +27,8 @@ use std::marker::Model;
 /// NOMEM one for which there is no memory; in this order. A refused call changes nothing.
 #[derive(Drop)]
 pub struct Builder {
-    bytes: Vec<u8>,
-    frames: Vec<Open>,
+    bytes: Written,
+    frames: Frames,
 }
 
 impl Model for Builder {
@@ -34,18 +36,18 @@ impl Model for Builder {
 
     ghost Value = { Held };
 
-    ghost view = { λ b. held b.bytes.items b.frames.items };
+    ghost view = { λ b. held b.bytes b.frames };
 
-    ghost invariant = { λ b. IsHeld (held b.bytes.items b.frames.items) };
+    ghost invariant = { λ b. IsHeld (held b.bytes b.frames) };
 }
 
 impl Builder {
     /// A builder over this vector, which is emptied.
-    pub fn new(mut bytes: Vec<u8>) -> Builder
+    pub fn new(bytes: Vec<u8>) -> Builder
         ensures { IsAt result start }
     {
-        bytes.clear();
-        let frames = Vec::new(*bytes.allocator());
+        let frames = Frames::new(*bytes.allocator());
+        let bytes = Written::new(bytes);
         Builder { bytes, frames }
     }
 
@@ -60,10 +62,11 @@ impl Builder {
     pub fn into_inner(self) -> Vec<u8>
         ensures { (s : State) → IsAt self s → Spells result.items s }
     {
-        self.bytes
+        self.bytes.into_inner()
     }
 
     /// Adds a value that says nothing.
+    #[inline(always)]
     pub fn add_none(&mut self) -> Result<(), Errno>
         ensures { (s : State) → IsAt self.old s → Makes (step s (add (fixed none))) self.old self.new result }
     {
@@ -71,6 +74,7 @@ impl Builder {
     }
 
     /// Adds a truth value.
+    #[inline(always)]
     pub fn add_bool(&mut self, value: bool) -> Result<(), Errno>
         ensures { (s : State) → IsAt self.old s → Makes (step s (add (fixed (bool value)))) self.old self.new result }
     {
@@ -78,6 +82,7 @@ impl Builder {
     }
 
     /// Adds an id.
+    #[inline(always)]
     pub fn add_id(&mut self, value: Id) -> Result<(), Errno>
         ensures { (s : State) → IsAt self.old s → Makes (step s (add (fixed (id value.0)))) self.old self.new result }
     {
@@ -85,6 +90,7 @@ impl Builder {
     }
 
     /// Adds a signed number of 32 bits.
+    #[inline(always)]
     pub fn add_int(&mut self, value: i32) -> Result<(), Errno>
         ensures { (s : State) → IsAt self.old s → Makes (step s (add (fixed (int value)))) self.old self.new result }
     {
@@ -92,6 +98,7 @@ impl Builder {
     }
 
     /// Adds a signed number of 64 bits.
+    #[inline(always)]
     pub fn add_long(&mut self, value: i64) -> Result<(), Errno>
         ensures { (s : State) → IsAt self.old s → Makes (step s (add (fixed (long value)))) self.old self.new result }
     {
@@ -99,6 +106,7 @@ impl Builder {
     }
 
     /// Adds a float of 32 bits.
+    #[inline(always)]
     pub fn add_float(&mut self, value: Float32) -> Result<(), Errno>
         ensures { (s : State) → IsAt self.old s → Makes (step s (add (fixed (float value.0)))) self.old self.new result }
     {
@@ -106,6 +114,7 @@ impl Builder {
     }
 
     /// Adds a float of 64 bits.
+    #[inline(always)]
     pub fn add_double(&mut self, value: Float64) -> Result<(), Errno>
         ensures { (s : State) → IsAt self.old s → Makes (step s (add (fixed (double value.0)))) self.old self.new result }
     {
@@ -143,6 +152,7 @@ impl Builder {
     }
 
     /// Adds a pointer: a type number and an address.
+    #[inline(always)]
     pub fn add_pointer(&mut self, type_: Id, address: u64) -> Result<(), Errno>
         ensures { (s : State) → IsAt self.old s → Makes (step s (add (pointer type_.0 address))) self.old self.new result }
     {
@@ -151,6 +161,7 @@ impl Builder {
     }
 
     /// Adds a file descriptor's number.
+    #[inline(always)]
     pub fn add_fd(&mut self, value: i64) -> Result<(), Errno>
         ensures { (s : State) → IsAt self.old s → Makes (step s (add (fixed (fd value)))) self.old self.new result }
     {
@@ -158,6 +169,7 @@ impl Builder {
     }
 
     /// Adds a rectangle.
+    #[inline(always)]
     pub fn add_rectangle(&mut self, value: Rectangle) -> Result<(), Errno>
         ensures { (s : State) → IsAt self.old s → Makes (step s (add (fixed (rectangle value.width value.height)))) self.old self.new result }
     {
@@ -165,6 +177,7 @@ impl Builder {
     }
 
     /// Adds a fraction.
+    #[inline(always)]
     pub fn add_fraction(&mut self, value: Fraction) -> Result<(), Errno>
         ensures { (s : State) → IsAt self.old s → Makes (step s (add (fixed (fraction value.num value.denom)))) self.old self.new result }
     {
@@ -179,6 +192,7 @@ impl Builder {
     }
 
     /// Adds the key and the flags of a property. The next call adds or begins its value.
+    #[inline(always)]
     pub fn add_prop(&mut self, key: u32, flags: u32) -> Result<(), Errno>
         ensures { (s : State) → IsAt self.old s → Makes (step s (add_prop key flags)) self.old self.new result }
     {
@@ -194,7 +208,7 @@ impl Builder {
             &mut self.bytes,
             &mut self.frames,
             What::Array(None),
-            &array_head(),
+            array_head(),
         )
     }
 
@@ -212,7 +226,7 @@ impl Builder {
             &mut self.bytes,
             &mut self.frames,
             What::Choice(shape, None, 0),
-            &choice_head(shape, flags),
+            choice_head(shape, flags),
         )
     }
 
@@ -225,7 +239,7 @@ impl Builder {
             &mut self.bytes,
             &mut self.frames,
             What::Struct,
-            &struct_head(),
+            struct_head(),
         )
     }
 
@@ -237,8 +251,8 @@ impl Builder {
         begin(
             &mut self.bytes,
             &mut self.frames,
-            What::Object(false),
-            &object_head(type_, id),
+            What::Object,
+            object_head(type_, id),
         )
     }
 

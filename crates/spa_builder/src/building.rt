@@ -8,13 +8,15 @@ ghost use Rattle.spa_value.specs.View.{array_view};
 ghost use Rattle.spa_builder.specs.State.{Partial, State};
 ghost use Rattle.spa_builder.specs.Step.{add, begun, closes, keyed, placed, sized, step, taken, takes_trees};
 ghost use Rattle.spa_builder.specs.Held.{IsAt, IsFair, IsHeld, held, so_far, what_of};
+ghost use Rattle.spa_builder.specs.Framed.{is_nothing};
 ghost use Rattle.spa_builder.specs.Innermost.{takes_elements};
 ghost use Rattle.spa_builder.specs.Answers.{Makes};
 
-use crate::bytes::{append, patch, put_padding, put_plain, put_pod};
+use crate::bytes::{put_padding, put_plain, put_pod};
 use crate::elements::{is_finished, is_first, takes_element, takes_elements, with_element};
-use crate::frames::{admit, fill, has_room, innermost, set_innermost, takes_key, takes_trees};
+use crate::frames::{Frames, admit, fill, takes_key, takes_trees};
 use crate::open::{Open, What};
+use crate::written::Written;
 use spa_bytes::{HEADER_LEN, two_words};
 use spa_fixed::{CanonicalFixedSizedPod, put_array};
 use spa_utils::{Errno, Frame};
@@ -22,40 +24,43 @@ use spa_value::ValueArray;
 
 /// Adds a pod whose body is at hand in two parts, where a tree of any type may stand.
 pub(crate) fn add_pod(
-    bytes: &mut Vec<u8>,
-    frames: &mut Vec<Open>,
+    bytes: &mut Written,
+    frames: &mut Frames,
     type_: u32,
     front: &[u8],
     back: &[u8],
 ) -> Result<(), Errno>
-    requires holds { IsHeld (held bytes.old.items frames.old.items) }
+    requires holds { IsHeld (held bytes.old frames.old) }
     requires back { length back.now ≤ header_size }
-    ensures { (s : State) (v : Tree) → IsAt (held bytes.old.items frames.old.items) s → type_of v ≡ type_ → encoded_body v ≡ front.now ++ back.now
+    ensures { (s : State) (v : Tree) → IsAt (held bytes.old frames.old) s → type_of v ≡ type_ → encoded_body v ≡ front.now ++ back.now
         → (takes_trees s.opened ≡ false → placed s.closed s.opened v ≡ None)
-        → Makes (sized (nat_lt (length (encoded_body v)) size_limit) (placed s.closed s.opened v)) (held bytes.old.items frames.old.items) (held bytes.new.items frames.new.items) result }
+        → Makes (sized (nat_lt (length (encoded_body v)) size_limit) (placed s.closed s.opened v)) (held bytes.old frames.old) (held bytes.new frames.new) result }
 {
+    let innermost = frames.innermost();
     let size = front.len().saturating_add(back.len());
-    admit(bytes.len(), frames.as_slice(), size)?;
+    admit(bytes.len(), frames, size)?;
     put_pod(bytes, type_, front, back)?;
-    fill(frames);
+    fill(frames, innermost);
     Ok(())
 }
 
 /// Adds a value whose encoding is at hand, with a body of this size, where a tree of any type may stand.
+#[inline(always)]
 pub(crate) fn add_encoding(
-    bytes: &mut Vec<u8>,
-    frames: &mut Vec<Open>,
+    bytes: &mut Written,
+    frames: &mut Frames,
     size: usize,
     encoding: &[u8],
 ) -> Result<(), Errno>
-    requires holds { IsHeld (held bytes.old.items frames.old.items) }
-    ensures { (s : State) (v : Tree) → IsAt (held bytes.old.items frames.old.items) s → length (encoded_body v) ≡ size → encoding_of v ≡ encoding.now
+    requires holds { IsHeld (held bytes.old frames.old) }
+    ensures { (s : State) (v : Tree) → IsAt (held bytes.old frames.old) s → length (encoded_body v) ≡ size → encoding_of v ≡ encoding.now
         → (takes_trees s.opened ≡ false → placed s.closed s.opened v ≡ None)
-        → Makes (sized (nat_lt (length (encoded_body v)) size_limit) (placed s.closed s.opened v)) (held bytes.old.items frames.old.items) (held bytes.new.items frames.new.items) result }
+        → Makes (sized (nat_lt (length (encoded_body v)) size_limit) (placed s.closed s.opened v)) (held bytes.old frames.old) (held bytes.new frames.new) result }
 {
-    admit(bytes.len(), frames.as_slice(), size)?;
-    append(bytes, encoding)?;
-    fill(frames);
+    let innermost = frames.innermost();
+    admit(bytes.len(), frames, size)?;
+    bytes.append(encoding)?;
+    fill(frames, innermost);
     Ok(())
 }
 
@@ -70,37 +75,34 @@ fn array_size<T: CanonicalFixedSizedPod>(count: usize) -> usize
 /// Adds an array of these values, where a tree of any type may stand. It is encoded apart first, so that what is wanting
 /// in memory changes nothing.
 pub(crate) fn add_values<T: CanonicalFixedSizedPod>(
-    bytes: &mut Vec<u8>,
-    frames: &mut Vec<Open>,
+    bytes: &mut Written,
+    frames: &mut Frames,
     values: &[T],
 ) -> Result<(), Errno>
-    requires holds { IsHeld (held bytes.old.items frames.old.items) }
-    ensures { (s : State) → IsAt (held bytes.old.items frames.old.items) s
-        → Makes (step s (add (array T.kind (map T.fixed values.now)))) (held bytes.old.items frames.old.items) (held bytes.new.items frames.new.items) result }
+    requires holds { IsHeld (held bytes.old frames.old) }
+    ensures { (s : State) → IsAt (held bytes.old frames.old) s
+        → Makes (step s (add (array T.kind (map T.fixed values.now)))) (held bytes.old frames.old) (held bytes.new frames.new) result }
 {
-    admit(
-        bytes.len(),
-        frames.as_slice(),
-        array_size::<T>(values.len()),
-    )?;
-    let mut encoding = Vec::new(*bytes.allocator());
+    let innermost = frames.innermost();
+    admit(bytes.len(), frames, array_size::<T>(values.len()))?;
+    let mut encoding = Vec::new(bytes.allocator());
     let Ok(()) = put_array(&mut encoding, values) else {
         return Err(Errno::NOMEM);
     };
-    append(bytes, encoding.as_slice())?;
-    fill(frames);
+    bytes.append(encoding.as_slice())?;
+    fill(frames, innermost);
     Ok(())
 }
 
 /// Adds an array, where a tree of any type may stand.
 pub(crate) fn add_elements(
-    bytes: &mut Vec<u8>,
-    frames: &mut Vec<Open>,
+    bytes: &mut Written,
+    frames: &mut Frames,
     values: &ValueArray,
 ) -> Result<(), Errno>
-    requires holds { IsHeld (held bytes.old.items frames.old.items) }
-    ensures { (s : State) → IsAt (held bytes.old.items frames.old.items) s
-        → Makes (step s (add (array_view values.now))) (held bytes.old.items frames.old.items) (held bytes.new.items frames.new.items) result }
+    requires holds { IsHeld (held bytes.old frames.old) }
+    ensures { (s : State) → IsAt (held bytes.old frames.old) s
+        → Makes (step s (add (array_view values.now))) (held bytes.old frames.old) (held bytes.new frames.new) result }
 {
     match values {
         ValueArray::None(xs) => add_values(bytes, frames, xs.as_slice()),
@@ -117,47 +119,49 @@ pub(crate) fn add_elements(
 }
 
 /// Adds a value of fixed size: to an array or a choice as an element, and elsewhere as a pod.
+#[inline(always)]
 pub(crate) fn add_fixed<T: CanonicalFixedSizedPod>(
-    bytes: &mut Vec<u8>,
-    frames: &mut Vec<Open>,
+    bytes: &mut Written,
+    frames: &mut Frames,
     value: &T,
 ) -> Result<(), Errno>
-    requires holds { IsHeld (held bytes.old.items frames.old.items) }
-    ensures { (s : State) → IsAt (held bytes.old.items frames.old.items) s
-        → Makes (step s (add (fixed (T.fixed value.now)))) (held bytes.old.items frames.old.items) (held bytes.new.items frames.new.items) result }
+    requires holds { IsHeld (held bytes.old frames.old) }
+    ensures { (s : State) → IsAt (held bytes.old frames.old) s
+        → Makes (step s (add (fixed (T.fixed value.now)))) (held bytes.old frames.old) (held bytes.new frames.new) result }
 {
-    if takes_elements(innermost(frames.as_slice())) {
+    let innermost = frames.innermost();
+    if takes_elements(innermost) {
         return add_element(bytes, frames, T::TYPE, &value.padded_body()[..T::SIZE]);
     }
-    admit(bytes.len(), frames.as_slice(), T::SIZE)?;
+    admit(bytes.len(), frames, T::SIZE)?;
     put_plain(bytes, value)?;
-    fill(frames);
+    fill(frames, innermost);
     Ok(())
 }
 
 /// Adds an element to the innermost array or choice.
 fn add_element(
-    bytes: &mut Vec<u8>,
-    frames: &mut Vec<Open>,
+    bytes: &mut Written,
+    frames: &mut Frames,
     type_: u32,
     body: &[u8],
 ) -> Result<(), Errno>
-    requires holds { IsHeld (held bytes.old.items frames.old.items) }
+    requires holds { IsHeld (held bytes.old frames.old) }
     requires body { length body.now ≤ header_size }
-    ensures { (s : State) (x : Fixed) → IsAt (held bytes.old.items frames.old.items) s → type_number (kind_of x) ≡ type_ → fixed_body x ≡ body.now → takes_elements s.opened ≡ true
-        → Makes (sized (nat_lt (length (fixed_body x)) size_limit) (placed s.closed s.opened (fixed x))) (held bytes.old.items frames.old.items) (held bytes.new.items frames.new.items) result }
+    ensures { (s : State) (x : Fixed) → IsAt (held bytes.old frames.old) s → type_number (kind_of x) ≡ type_ → fixed_body x ≡ body.now → takes_elements s.opened ≡ true
+        → Makes (sized (nat_lt (length (fixed_body x)) size_limit) (placed s.closed s.opened (fixed x))) (held bytes.old frames.old) (held bytes.new frames.new) result }
 {
-    let Some(open) = innermost(frames.as_slice()) else {
+    let Some(open) = frames.innermost() else {
         return Err(Errno::INVAL);
     };
     if !takes_element(open.what, type_) {
         return Err(Errno::INVAL);
     }
-    if !has_room(bytes.len(), frames.as_slice(), body.len()) {
+    if !frames.has_room(bytes.len(), body.len()) {
         return Err(Errno::NOSPC);
     }
     let had = bytes.len();
-    append(bytes, body)?;
+    bytes.append(body)?;
     set_child(
         bytes,
         is_first(open.what),
@@ -165,81 +169,81 @@ fn add_element(
         body.len() as u32,
         type_,
     );
-    set_innermost(frames, with_element(open.what, type_));
+    frames.set_innermost(with_element(open.what, type_));
     Ok(())
 }
 
 /// Writes the child header there, where the first element came.
-fn set_child(bytes: &mut Vec<u8>, first: bool, at: usize, size: u32, type_: u32)
-    requires { at + 8 ≤ length bytes.old.items }
-    ensures first { first ≡ true → (front back : List ℕ) (a b : ℕ) → at ≡ length front → bytes.old.items ≡ front ++ (word_bytes a ++ (word_bytes b ++ back)) → bytes.new.items ≡ front ++ (word_bytes size ++ (word_bytes type_ ++ back)) }
-    ensures later { first ≡ false → bytes.new.items ≡ bytes.old.items }
+fn set_child(bytes: &mut Written, first: bool, at: usize, size: u32, type_: u32)
+    requires { at + 8 ≤ length bytes.old }
+    ensures first { first ≡ true → (front back : List ℕ) (a b : ℕ) → at ≡ length front → bytes.old ≡ front ++ (word_bytes a ++ (word_bytes b ++ back)) → bytes.new ≡ front ++ (word_bytes size ++ (word_bytes type_ ++ back)) }
+    ensures later { first ≡ false → bytes.new ≡ bytes.old }
 {
     if first {
-        patch(bytes, at, size);
-        patch(bytes, at + 4, type_);
+        bytes.patch_two(at, size, type_);
     }
 }
 
 /// Adds the key and the flags of a property, whose value is to come.
+#[inline(always)]
 pub(crate) fn add_key(
-    bytes: &mut Vec<u8>,
-    frames: &mut Vec<Open>,
+    bytes: &mut Written,
+    frames: &mut Frames,
     key: u32,
     flags: u32,
 ) -> Result<(), Errno>
-    requires { IsHeld (held bytes.old.items frames.old.items) }
-    ensures { (s : State) → IsAt (held bytes.old.items frames.old.items) s
-        → Makes (sized true (keyed s.closed s.opened key flags)) (held bytes.old.items frames.old.items) (held bytes.new.items frames.new.items) result }
+    requires { IsHeld (held bytes.old frames.old) }
+    ensures { (s : State) → IsAt (held bytes.old frames.old) s
+        → Makes (sized true (keyed s.closed s.opened key flags)) (held bytes.old frames.old) (held bytes.new frames.new) result }
 {
-    if !takes_key(innermost(frames.as_slice())) {
+    if !takes_key(frames.innermost()) {
         return Err(Errno::INVAL);
     }
-    if !has_room(bytes.len(), frames.as_slice(), HEADER_LEN) {
+    if !frames.has_room(bytes.len(), HEADER_LEN) {
         return Err(Errno::NOSPC);
     }
-    append(bytes, &two_words(key, flags))?;
-    set_innermost(frames, What::Object(true));
+    bytes.append_array(two_words(key, flags))?;
+    frames.set_innermost(What::Property);
     Ok(())
 }
 
 /// Begins a tree with these bytes, which are its header, with the size 0, and what follows it.
-pub(crate) fn begin(
-    bytes: &mut Vec<u8>,
-    frames: &mut Vec<Open>,
+pub(crate) fn begin<const N: usize>(
+    bytes: &mut Written,
+    frames: &mut Frames,
     what: What,
-    head: &[u8],
+    head: [u8; N],
 ) -> Result<Frame, Errno>
-    requires holds { IsHeld (held bytes.old.items frames.old.items) }
-    requires head { (n : ℕ) × (n ≤ 2) × (length head.now ≡ 8 + 8 * n) }
-    ensures step { (s : State) (p : Partial) → IsAt (held bytes.old.items frames.old.items) s → what ≡ what_of p → head.now ≡ so_far p → IsFair p
-        → Makes (sized true (begun p s)) (held bytes.old.items frames.old.items) (held bytes.new.items frames.new.items) result }
-    ensures frame { (s : State) → IsAt (held bytes.old.items frames.old.items) s → IfOk result (λ f. f.0 ≡ length s.opened + 1) }
+    requires holds { IsHeld (held bytes.old frames.old) }
+    requires what { is_nothing what ≡ false }
+    requires head { (n : ℕ) × (n ≤ 2) × (N ≡ 8 + 8 * n) }
+    requires size { length head ≡ N }
+    ensures step { (s : State) (p : Partial) → IsAt (held bytes.old frames.old) s → what ≡ what_of p → head.entry ≡ so_far p → IsFair p
+        → Makes (sized true (begun p s)) (held bytes.old frames.old) (held bytes.new frames.new) result }
+    ensures frame { (s : State) → IsAt (held bytes.old frames.old) s → IfOk result (λ f. f.0 ≡ length s.opened + 1) }
 {
-    if !takes_trees(innermost(frames.as_slice())) {
+    if !takes_trees(frames.innermost()) {
         return Err(Errno::INVAL);
     }
     let start = bytes.len();
-    if !has_room(start, frames.as_slice(), head.len()) {
+    if !frames.has_room(start, head.len()) {
         return Err(Errno::NOSPC);
     }
-    if frames.reserve(1).is_err() {
+    bytes.append_array(head)?;
+    let Ok(()) = frames.push(Open { start, what }) else {
+        bytes.truncate(start);
         return Err(Errno::NOMEM);
-    }
-    append(bytes, head)?;
-    if frames.push(Open { start, what }).is_err() {
-        unreachable!();
-    }
+    };
     Ok(Frame(frames.len()))
 }
 
 /// Closes the innermost tree.
-pub(crate) fn close(bytes: &mut Vec<u8>, frames: &mut Vec<Open>, frame: usize) -> Result<(), Errno>
-    requires { IsHeld (held bytes.old.items frames.old.items) }
-    ensures { (s : State) → IsAt (held bytes.old.items frames.old.items) s
-        → Makes (taken (closes s.closed s.opened frame)) (held bytes.old.items frames.old.items) (held bytes.new.items frames.new.items) result }
+pub(crate) fn close(bytes: &mut Written, frames: &mut Frames, frame: usize) -> Result<(), Errno>
+    requires { IsHeld (held bytes.old frames.old) }
+    ensures { (s : State) → IsAt (held bytes.old frames.old) s
+        → Makes (taken (closes s.closed s.opened frame)) (held bytes.old frames.old) (held bytes.new frames.new) result }
 {
-    let Some(open) = innermost(frames.as_slice()) else {
+    let Some(open) = frames.innermost() else {
         return Err(Errno::INVAL);
     };
     if frame != frames.len() {
@@ -250,8 +254,9 @@ pub(crate) fn close(bytes: &mut Vec<u8>, frames: &mut Vec<Open>, frame: usize) -
     }
     let size = bytes.len() - (open.start + HEADER_LEN);
     put_padding(bytes, size)?;
-    patch(bytes, open.start, size as u32);
+    bytes.patch(open.start, size as u32);
     frames.pop();
-    fill(frames);
+    let outer = frames.innermost();
+    fill(frames, outer);
     Ok(())
 }

@@ -8,82 +8,53 @@ ghost use Rattle.spa_format.specs.Words.{padding, size_limit, word_bytes};
 ghost use Rattle.spa_builder.specs.Growing.{IsLonger};
 ghost use Rattle.spa_utils.specs.declared.errno.TheConstants.Errno.{NOMEM};
 
-use spa_bytes::{HEADER_LEN, POINTER_LEN, two_words};
-use spa_fixed::{CanonicalFixedSizedPod, put_fixed};
+use crate::written::Written;
+use spa_bytes::{HEADER_LEN, POINTER_LEN, extent_of, two_words};
+use spa_fixed::{CanonicalFixedSizedPod, pod_bytes};
 use spa_utils::{Errno, SpaTypes};
 
 /// The length in bytes of a pointer's pod.
 const POINTER_POD_LEN: usize = HEADER_LEN + POINTER_LEN;
 
-/// Makes room for so many bytes more.
-fn grow(bytes: &mut Vec<u8>, more: usize) -> Result<(), Errno>
-    ensures kept { bytes.new.items ≡ bytes.old.items }
-    ensures memory { IfErr result (λ e. e ≡ NOMEM) }
-{
-    match bytes.reserve(more) {
-        Ok(()) => Ok(()),
-        Err(_) => Err(Errno::NOMEM),
-    }
-}
-
-/// Appends these bytes.
-pub(crate) fn append(bytes: &mut Vec<u8>, piece: &[u8]) -> Result<(), Errno>
-    ensures ok { OnOk result (bytes.new.items ≡ bytes.old.items ++ piece.now) }
-    ensures unchanged { OnErr result (bytes.new.items ≡ bytes.old.items) }
-    ensures memory { IfErr result (λ e. e ≡ NOMEM) }
-{
-    match bytes.extend_from_slice(piece) {
-        Ok(()) => Ok(()),
-        Err(_) => Err(Errno::NOMEM),
-    }
-}
-
 /// Appends zeros up to a multiple of 8, behind a body of this size.
-pub(crate) fn put_padding(bytes: &mut Vec<u8>, size: usize) -> Result<(), Errno>
-    ensures ok { OnOk result (bytes.new.items ≡ bytes.old.items ++ padding size) }
-    ensures unchanged { OnErr result (bytes.new.items ≡ bytes.old.items) }
+#[inline(always)]
+pub(crate) fn put_padding(bytes: &mut Written, size: usize) -> Result<(), Errno>
+    ensures ok { OnOk result (bytes.new ≡ bytes.old ++ padding size) }
+    ensures unchanged { OnErr result (bytes.new ≡ bytes.old) }
     ensures memory { IfErr result (λ e. e ≡ NOMEM) }
 {
-    let zeros = [0; HEADER_LEN];
-    append(
-        bytes,
-        &zeros[..(HEADER_LEN - size % HEADER_LEN) % HEADER_LEN],
+    bytes.append_first(
+        [0; HEADER_LEN],
+        (HEADER_LEN - size % HEADER_LEN) % HEADER_LEN,
     )
 }
 
 /// Appends the pod of a value of fixed size.
+#[inline(always)]
 pub(crate) fn put_plain<T: CanonicalFixedSizedPod>(
-    bytes: &mut Vec<u8>,
+    bytes: &mut Written,
     value: &T,
 ) -> Result<(), Errno>
-    ensures ok { OnOk result (bytes.new.items ≡ bytes.old.items ++ framed T.TYPE (fixed_body (T.fixed value.now))) }
-    ensures unchanged { OnErr result (bytes.new.items ≡ bytes.old.items) }
+    ensures ok { OnOk result (bytes.new ≡ bytes.old ++ framed T.TYPE (fixed_body (T.fixed value.now))) }
+    ensures unchanged { OnErr result (bytes.new ≡ bytes.old) }
     ensures memory { IfErr result (λ e. e ≡ NOMEM) }
 {
-    let had = bytes.len();
-    match put_fixed(bytes, value) {
-        Ok(()) => Ok(()),
-        Err(_) => {
-            bytes.truncate(had);
-            Err(Errno::NOMEM)
-        }
-    }
+    bytes.append_first(pod_bytes(value), extent_of(T::SIZE as u32))
 }
 
 /// Appends a pod whose body is at hand in two parts.
 pub(crate) fn put_pod(
-    bytes: &mut Vec<u8>,
+    bytes: &mut Written,
     type_: u32,
     front: &[u8],
     back: &[u8],
 ) -> Result<(), Errno>
     requires { length front.now + length back.now < size_limit }
-    ensures ok { OnOk result (bytes.new.items ≡ bytes.old.items ++ framed type_ (front.now ++ back.now)) }
-    ensures unchanged { OnErr result (bytes.new.items ≡ bytes.old.items) }
+    ensures ok { OnOk result (bytes.new ≡ bytes.old ++ framed type_ (front.now ++ back.now)) }
+    ensures unchanged { OnErr result (bytes.new ≡ bytes.old) }
     ensures memory { IfErr result (λ e. e ≡ NOMEM) }
 {
     let had = bytes.len();
-    grow(bytes, front.len() + back.len() + 2 * HEADER_LEN)?;
     match put_parts(bytes, type_, front, back) {
         Ok(()) => Ok(()),
         Err(_) => {
@@ -94,15 +65,15 @@ pub(crate) fn put_pod(
 }
 
 /// The same, where a refusal may leave a beginning.
-fn put_parts(bytes: &mut Vec<u8>, type_: u32, front: &[u8], back: &[u8]) -> Result<(), Errno>
+fn put_parts(bytes: &mut Written, type_: u32, front: &[u8], back: &[u8]) -> Result<(), Errno>
     requires { length front.now + length back.now < size_limit }
-    ensures ok { OnOk result (bytes.new.items ≡ bytes.old.items ++ framed type_ (front.now ++ back.now)) }
-    ensures longer { OnErr result (IsLonger bytes.old.items bytes.new.items) }
+    ensures ok { OnOk result (bytes.new ≡ bytes.old ++ framed type_ (front.now ++ back.now)) }
+    ensures longer { OnErr result (IsLonger bytes.old bytes.new) }
 {
     let size = front.len() + back.len();
-    append(bytes, &two_words(size as u32, type_))?;
-    append(bytes, front)?;
-    append(bytes, back)?;
+    bytes.append_array(two_words(size as u32, type_))?;
+    bytes.append(front)?;
+    bytes.append(back)?;
     put_padding(bytes, size)?;
     Ok(())
 }
@@ -118,13 +89,4 @@ pub(crate) fn pointer_pod(type_: u32, address: u64) -> [u8; POINTER_POD_LEN]
     words.copy_from_slice(&two_words(type_, 0));
     number.copy_from_slice(&address.to_le_bytes());
     pod
-}
-
-/// Writes a word over four bytes.
-#[tactic(auto, unfolding(spa_format::specs::Words::word_bytes))]
-pub(crate) fn patch(bytes: &mut Vec<u8>, at: usize, n: u32)
-    requires { at + 4 ≤ length bytes.old.items }
-    ensures { bytes.new.items ≡ take at bytes.old.items ++ (word_bytes n ++ drop (at + 4) bytes.old.items) }
-{
-    bytes[at..at + 4].copy_from_slice(&n.to_le_bytes());
 }

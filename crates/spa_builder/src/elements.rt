@@ -1,10 +1,11 @@
 //! Elements of arrays and choices: which may come next.
-ghost use Rattle.std.specs.Prelude.{◌≡◌, List, ℕ, true, is_some};
+ghost use Rattle.std.specs.Prelude.{◌≡◌, List, ℕ, true, false, is_some};
 ghost use Rattle.spa_format.specs.Kind.{Fixed, kind_of, type_number};
 ghost use Rattle.spa_format.specs.Tree.{Shape, shape_number};
 ghost use Rattle.spa_builder.specs.State.{Partial};
 ghost use Rattle.spa_builder.specs.Step.{finished, has_place};
 ghost use Rattle.spa_builder.specs.Held.{what_of};
+ghost use Rattle.spa_builder.specs.Framed.{is_nothing};
 ghost use Rattle.spa_builder.specs.Innermost.{innermost_of, is_first, takes_element, takes_elements, with_element};
 
 use crate::open::{Open, What};
@@ -26,6 +27,7 @@ const RANGE_COUNT: u32 = 3;
 const STEP_COUNT: u32 = 4;
 
 /// Whether elements of a fixed size stand there.
+#[inline(always)]
 pub(crate) fn takes_elements(innermost: Option<Open>) -> bool
     ensures { (base : ℕ) (ps : List Partial) → innermost ≡ innermost_of base ps → result ≡ takes_elements ps }
 {
@@ -69,7 +71,8 @@ pub(crate) fn takes_element(what: What, type_: u32) -> bool
 
 /// What the frame says with one element more.
 pub(crate) fn with_element(what: What, type_: u32) -> What
-    ensures { (p : Partial) (x : Fixed) → what ≡ what_of p → type_ ≡ type_number (kind_of x) → takes_element p x ≡ true → result ≡ what_of (with_element p x) }
+    ensures with { (p : Partial) (x : Fixed) → what ≡ what_of p → type_ ≡ type_number (kind_of x) → takes_element p x ≡ true → result ≡ what_of (with_element p x) }
+    ensures something { is_nothing what ≡ false → is_nothing result ≡ false }
 {
     match what {
         What::Array(_) => What::Array(Some(type_)),
@@ -90,7 +93,7 @@ pub(crate) fn is_finished(what: What) -> bool
     ensures { (p : Partial) → what ≡ what_of p → result ≡ is_some (finished p) }
 {
     match what {
-        What::Object(waits) => !waits,
+        What::Nothing | What::Property => false,
         What::Choice(RANGE, _, count) => count >= RANGE_COUNT,
         What::Choice(STEP, _, count) => count >= STEP_COUNT,
         What::Choice(_, _, count) => count >= 1,

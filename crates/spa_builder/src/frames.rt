@@ -1,112 +1,226 @@
 //! The list of frames: what may come next, and what a frame says once it came.
-ghost use Rattle.std.specs.Prelude.{◌≡◌, ◌+◌, ◌<◌, ◌*◌, ◌∷◌, [], List, ℕ, IsTrue, length};
+ghost use Rattle.std.specs.Prelude.{◌≡◌, ◌+◌, ◌<◌, ◌*◌, ◌∷◌, ◌++◌, [], List, ℕ, IfErr, IfSome, IsTrue, OnErr, OnOk, false, length};
 ghost use Rattle.spa_format.specs.Tree.{Tree};
 ghost use Rattle.spa_format.specs.Words.{size_limit};
 ghost use Rattle.spa_builder.specs.State.{Partial};
 ghost use Rattle.spa_builder.specs.Step.{takes_trees};
 ghost use Rattle.spa_builder.specs.Held.{all_so_far, frames_of, what_of};
+ghost use Rattle.spa_builder.specs.Framed.{is_nothing, most_bytes};
 ghost use Rattle.spa_builder.specs.Innermost.{filled, has_room_for, innermost_of, takes_key, waits};
 ghost use Rattle.spa_builder.specs.Answers.{IsAdmitted};
+ghost use Rattle.spa_utils.specs.declared.errno.TheConstants.Errno.{NOMEM};
 
 use crate::open::{Open, What};
 use spa_bytes::HEADER_LEN;
 use spa_utils::Errno;
+use std::alloc::Global;
+use std::marker::Model;
 
 /// The numbers that a size word can't hold begin here.
 pub(crate) const SIZE_LIMIT: usize = 1 << 32;
 
+/// No frame.
+const NO_FRAME: Open = Open {
+    start: 0,
+    what: What::Nothing,
+};
+
 /// The most bytes of padding.
 const PADDING_MAX: usize = HEADER_LEN - 1;
 
-/// The innermost frame.
-pub(crate) fn innermost(frames: &[Open]) -> Option<Open>
-    ensures { (base : ℕ) (ps : List Partial) → frames.now ≡ frames_of base ps → result ≡ innermost_of base ps }
+/// The numbers of bytes of a pod with its header that its size word can't hold begin here. Where a pod is open inside it,
+/// there may be padding to come.
+#[inline(always)]
+fn most_bytes(alone: bool) -> usize
+    ensures { result ≡ most_bytes alone }
 {
-    frames.last().copied()
+    if alone {
+        SIZE_LIMIT + HEADER_LEN
+    } else {
+        SIZE_LIMIT + HEADER_LEN - PADDING_MAX
+    }
+}
+
+/// Whether it is no pod.
+#[inline(always)]
+fn is_nothing(what: What) -> bool
+    ensures { result ≡ is_nothing what }
+{
+    matches!(what, What::Nothing)
+}
+
+/// The frames of the pods that are begun.
+#[derive(Drop)]
+pub(crate) struct Frames {
+    outer: Vec<Open>,
+    innermost: Open,
+    first: usize,
+    most: usize,
+}
+
+impl Model for Frames {
+    ghost use Rattle.std.specs.Prelude.{List};
+    ghost use Rattle.spa_builder.specs.declared.open.Open.{Open};
+    ghost use Rattle.spa_builder.specs.Framed.{IsKept, frames_in};
+
+    ghost Value = { List Open };
+
+    ghost view = { λ f. frames_in f.outer.items f.innermost };
+
+    ghost invariant = { λ f. IsKept f.outer.items f.innermost f.first f.most };
+}
+
+impl Frames {
+    /// None.
+    pub(crate) fn new(alloc: Global) -> Frames
+        ensures { result ≡ [] }
+    {
+        Frames {
+            outer: Vec::new(alloc),
+            innermost: NO_FRAME,
+            first: 0,
+            most: most_bytes(true),
+        }
+    }
+
+    /// How many there are.
+    #[inline(always)]
+    pub(crate) fn len(&self) -> usize
+        ensures { result ≡ length self.now }
+    {
+        if is_nothing(self.innermost.what) {
+            return 0;
+        }
+        self.outer.len() + 1
+    }
+
+    /// The innermost.
+    #[inline(always)]
+    pub(crate) fn innermost(&self) -> Option<Open>
+        ensures last { (base : ℕ) (ps : List Partial) → self.now ≡ frames_of base ps → result ≡ innermost_of base ps }
+        ensures something { IfSome result (λ o. is_nothing o.what ≡ false) }
+    {
+        if is_nothing(self.innermost.what) {
+            return None;
+        }
+        Some(self.innermost)
+    }
+
+    /// Whether so many bytes more leave every size word within 32 bits: the outermost is the greatest.
+    #[inline(always)]
+    pub(crate) fn has_room(&self, len: usize, more: usize) -> bool
+        requires within { (base : ℕ) × (ps : List Partial) × (self.now ≡ frames_of base ps) × (len ≡ base + length (all_so_far ps)) × IsTrue (has_room_for 0 ps) }
+        requires more { more < 2 * size_limit }
+        ensures { (base : ℕ) (ps : List Partial) → self.now ≡ frames_of base ps → len ≡ base + length (all_so_far ps) → result ≡ has_room_for more ps }
+    {
+        if is_nothing(self.innermost.what) {
+            return true;
+        }
+        len - self.first + more < self.most
+    }
+
+    /// Sets what the innermost says.
+    #[inline(always)]
+    pub(crate) fn set_innermost(&mut self, what: What)
+        requires { is_nothing what ≡ false }
+        ensures { (base : ℕ) (p q : Partial) (ps : List Partial) → self.old ≡ frames_of base (p ∷ ps) → what ≡ what_of q → self.new ≡ frames_of base (q ∷ ps) }
+    {
+        self.innermost.what = what;
+    }
+
+    /// Begins a frame in the innermost. A refused call changes nothing.
+    pub(crate) fn push(&mut self, frame: Open) -> Result<(), Errno>
+        requires { is_nothing frame.what ≡ false }
+        ensures ok { OnOk result (self.new ≡ self.old ++ frame ∷ []) }
+        ensures unchanged { OnErr result (self.new ≡ self.old) }
+        ensures memory { IfErr result (λ e. e ≡ NOMEM) }
+    {
+        if is_nothing(self.innermost.what) {
+            self.first = frame.start;
+            self.innermost = frame;
+            return Ok(());
+        }
+        if self.outer.push(self.innermost).is_err() {
+            return Err(Errno::NOMEM);
+        }
+        self.innermost = frame;
+        self.most = most_bytes(false);
+        Ok(())
+    }
+
+    /// Drops the innermost.
+    pub(crate) fn pop(&mut self)
+        requires { (base : ℕ) × (p : Partial) × (ps : List Partial) × (self.old ≡ frames_of base (p ∷ ps)) }
+        ensures { (base : ℕ) (p : Partial) (ps : List Partial) → self.old ≡ frames_of base (p ∷ ps) → self.new ≡ frames_of base ps }
+    {
+        let Some(frame) = self.outer.pop() else {
+            self.innermost = NO_FRAME;
+            self.first = NO_FRAME.start;
+            return;
+        };
+        self.innermost = frame;
+        self.most = most_bytes(self.outer.is_empty());
+    }
 }
 
 /// Whether a tree of any type may begin there.
+#[inline(always)]
 pub(crate) fn takes_trees(innermost: Option<Open>) -> bool
     ensures { (base : ℕ) (ps : List Partial) → innermost ≡ innermost_of base ps → result ≡ takes_trees ps }
 {
     match innermost {
         None => true,
-        Some(open) => matches!(open.what, What::Struct | What::Object(true)),
+        Some(open) => matches!(open.what, What::Struct | What::Property),
     }
 }
 
 /// Whether a key waits there for its value.
+#[inline(always)]
 fn waits(innermost: Option<Open>) -> bool
     ensures { (base : ℕ) (ps : List Partial) → innermost ≡ innermost_of base ps → result ≡ waits ps }
 {
     match innermost {
         None => false,
-        Some(open) => matches!(open.what, What::Object(true)),
+        Some(open) => matches!(open.what, What::Property),
     }
 }
 
 /// Whether an object stands there in which no key waits.
+#[inline(always)]
 pub(crate) fn takes_key(innermost: Option<Open>) -> bool
     ensures { (base : ℕ) (ps : List Partial) → innermost ≡ innermost_of base ps → result ≡ takes_key ps }
 {
     match innermost {
         None => false,
-        Some(open) => matches!(open.what, What::Object(false)),
-    }
-}
-
-/// Whether so many bytes more leave every size word within 32 bits: the outermost is the greatest. Where a pod is open
-/// inside it, there may be padding to come.
-pub(crate) fn has_room(len: usize, frames: &[Open], more: usize) -> bool
-    requires within { (base : ℕ) × (ps : List Partial) × (frames.now ≡ frames_of base ps) × (len ≡ base + length (all_so_far ps)) × IsTrue (has_room_for 0 ps) }
-    requires more { more < 2 * size_limit }
-    ensures { (base : ℕ) (ps : List Partial) → frames.now ≡ frames_of base ps → len ≡ base + length (all_so_far ps) → result ≡ has_room_for more ps }
-{
-    let Some(outermost) = frames.first() else {
-        return true;
-    };
-    let size = len - (outermost.start + HEADER_LEN) + more;
-    if frames.len() == 1 {
-        size < SIZE_LIMIT
-    } else {
-        size < SIZE_LIMIT - PADDING_MAX
+        Some(open) => matches!(open.what, What::Object),
     }
 }
 
 /// Whether a value that isn't an element, with a body of this size, may come next: INVAL where none may, NOSPC where a
 /// size word would be past 32 bits.
-pub(crate) fn admit(len: usize, frames: &[Open], size: usize) -> Result<(), Errno>
+#[inline(always)]
+pub(crate) fn admit(len: usize, frames: &Frames, size: usize) -> Result<(), Errno>
     requires { (base : ℕ) × (ps : List Partial) × (frames.now ≡ frames_of base ps) × (len ≡ base + length (all_so_far ps)) × IsTrue (has_room_for 0 ps) }
     ensures { (base : ℕ) (ps : List Partial) → frames.now ≡ frames_of base ps → len ≡ base + length (all_so_far ps) → IsAdmitted size ps result }
 {
-    if !takes_trees(innermost(frames)) {
+    if !takes_trees(frames.innermost()) {
         return Err(Errno::INVAL);
     }
     if size >= SIZE_LIMIT {
         return Err(Errno::NOSPC);
     }
-    if !has_room(len, frames, HEADER_LEN + (size + PADDING_MAX) / 8 * 8) {
+    if !frames.has_room(len, HEADER_LEN + (size + PADDING_MAX) / 8 * 8) {
         return Err(Errno::NOSPC);
     }
     Ok(())
 }
 
-/// Sets what the innermost frame says.
-pub(crate) fn set_innermost(frames: &mut Vec<Open>, what: What)
-    ensures some { (base : ℕ) (p q : Partial) (ps : List Partial) → frames.old.items ≡ frames_of base (p ∷ ps) → what ≡ what_of q → frames.new.items ≡ frames_of base (q ∷ ps) }
-    ensures none { frames.old.items ≡ [] → frames.new.items ≡ [] }
+/// A value came into the innermost tree, whose frame was read before: a key that waited has it.
+#[inline(always)]
+pub(crate) fn fill(frames: &mut Frames, innermost: Option<Open>)
+    ensures { (base : ℕ) (ps : List Partial) (v : Tree) → IsTrue (takes_trees ps) → frames.old ≡ frames_of base ps → innermost ≡ innermost_of base ps → frames.new ≡ frames_of base (filled ps v) }
 {
-    let n = frames.len();
-    if n > 0 {
-        frames[n - 1].what = what;
-    }
-}
-
-/// A value came into the innermost tree: a key that waited has it.
-pub(crate) fn fill(frames: &mut Vec<Open>)
-    ensures { (base : ℕ) (ps : List Partial) (v : Tree) → IsTrue (takes_trees ps) → frames.old.items ≡ frames_of base ps → frames.new.items ≡ frames_of base (filled ps v) }
-{
-    if waits(innermost(frames.as_slice())) {
-        set_innermost(frames, What::Object(false));
+    if waits(innermost) {
+        frames.set_innermost(What::Object);
     }
 }

@@ -11,6 +11,7 @@ mod frames;
 mod heads;
 mod macros;
 mod open;
+mod written;
 
 pub use build_call::BuildCall;
 pub use builder::Builder;

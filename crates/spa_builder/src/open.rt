@@ -3,10 +3,14 @@
 /// What was begun, and what of its members the builder has to know.
 #[derive(Clone, Copy, Debug)]
 pub(crate) enum What {
+    /// Nothing.
+    Nothing,
     /// A struct.
     Struct,
-    /// An object, and whether a key waits for its value.
-    Object(bool),
+    /// An object in which a key waits for its value.
+    Property,
+    /// An object in which no key waits.
+    Object,
     /// An array, with the type number of its first element.
     Array(Option<u32>),
     /// A choice of this shape, with the type number of its first value, and the number of its values, or four where

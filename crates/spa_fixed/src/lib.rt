@@ -14,4 +14,4 @@ pub use choice::{put_choice, read_choice};
 pub use fault::{DeserializeError, Fault, FaultKind, Refusal};
 pub use fixed::{CanonicalFixedSizedPod, ChoiceElement};
 pub use fixed_sized::FixedSizedPod;
-pub use pod::put_fixed;
+pub use pod::{LONGEST_POD_LEN, pod_bytes, put_fixed};

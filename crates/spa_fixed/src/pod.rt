@@ -10,7 +10,7 @@ use spa_bytes::{HEADER_LEN, extent_of, two_words};
 use spa_sink::{GenError, PodSink};
 
 /// The length in bytes of the longest pod of fixed size: a header, and a body with its padding.
-const LONGEST_POD_LEN: usize = 16;
+pub const LONGEST_POD_LEN: usize = 16;
 
 /// Appends the pod of a value of fixed size: header, body and padding at once. It is refused only where the sink
 /// refuses it.
@@ -26,8 +26,9 @@ pub fn put_fixed<T: CanonicalFixedSizedPod, S: PodSink>(
     sink.append(&pod_bytes(value)[..extent_of(T::SIZE as u32)])
 }
 
-/// A pod, and zeros behind it up to sixteen bytes.
-fn pod_bytes<T: CanonicalFixedSizedPod>(value: &T) -> [u8; LONGEST_POD_LEN]
+/// The pod of a value of fixed size, and zeros behind it up to sixteen bytes.
+#[inline(always)]
+pub fn pod_bytes<T: CanonicalFixedSizedPod>(value: &T) -> [u8; LONGEST_POD_LEN]
     ensures encoding { take (extent T.SIZE) result ≡ framed T.TYPE (fixed_body (T.fixed value.now)) }
     ensures typed { IsTypedFixed (T.fixed value.now) }
 {

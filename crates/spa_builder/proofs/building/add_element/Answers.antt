@@ -1,4 +1,4 @@
-use Rattle.std.proofs.Common.{◌≡◌, ◌-◌, ◌∷◌, ◌++◌, false, true, length, ap, sym, refl, ◌∙◌, arith, subst, length-append}
+use Rattle.std.proofs.Common.{◌≡◌, ◌-◌, ◌∷◌, ◌++◌, false, true, length, ap, sym, ◌∙◌, arith, subst, length-append}
 use Rattle.spa_format.specs.Encoding.{member_encodings}
 use Rattle.spa_format.specs.Tree.{fixed}
 use Rattle.spa_builder.specs.Step.{placed}
@@ -12,14 +12,14 @@ use Rattle.spa_builder.proofs.building.add_element.Goals as goal
 pub has_room-requires-clause-within : goal.has_room-requires-clause-within
 has_room-requires-clause-within c =
     let h = c.requires.holds in
-    let r = has_its_room (held c.args.bytes.now.items c.args.frames.now.items) h.0 h.1 in
-    (r.0, r.1, c.as_slice-2.ensures.value ∙ r.2, c.len.ensures ∙ c.args.bytes.now.ok.0 ∙ r.3, r.4)
+    let r = has_its_room (held c.args.bytes.now c.args.frames.now) h.0 h.1 in
+    (r.0, r.1, r.2, c.len.ensures ∙ r.3, r.4)
 
 pub returns-then-not-takes_element : goal.returns-then-not-takes_element
 returns-then-not-takes_element c s x at ty b el =
-    let old : Held = held c.args.bytes.now.items c.args.frames.now.items in
+    let old : Held = held c.args.bytes.now c.args.frames.now in
     let base = length (member_encodings s.closed) in
-    let z = closing old s.closed s.opened c.in-Some.open at (c.in-Some.ensures base s.opened (c.as_slice.ensures.value ∙ at.frames)) in
+    let z = closing old s.closed s.opened c.in-Some.open at (c.in-Some.ensures.last base s.opened (at.frames)) in
     let p = z.0 in
     let ps = z.1 in
     let k = z.2 in
@@ -32,9 +32,9 @@ returns-then-not-takes_element c s x at ty b el =
 
 pub returns-then-not-has_room : goal.returns-then-not-has_room
 returns-then-not-has_room c s x at ty b el =
-    let old : Held = held c.args.bytes.now.items c.args.frames.now.items in
+    let old : Held = held c.args.bytes.now c.args.frames.now in
     let base = length (member_encodings s.closed) in
-    let z = closing old s.closed s.opened c.in-Some.open at (c.in-Some.ensures base s.opened (c.as_slice.ensures.value ∙ at.frames)) in
+    let z = closing old s.closed s.opened c.in-Some.open at (c.in-Some.ensures.last base s.opened (at.frames)) in
     let p = z.0 in
     let ps = z.1 in
     let k = z.2 in
@@ -44,15 +44,15 @@ returns-then-not-has_room c s x at ty b el =
     let one = small_body x _ len c.requires.body in
     let t : takes_element p x ≡ true = sym (c.takes_element.ensures p x k.what (sym ty)) ∙ c.if-not-takes_element.false in
     let is = ap (λ l. placed s.closed l (fixed x)) k.opened ∙ element_placed s.closed p ps x h t in
-    let room = sym (c.has_room.ensures base s.opened (c.as_slice-2.ensures.value ∙ at.frames) (c.len.ensures ∙ c.args.bytes.now.ok.0 ∙ base_and_more old s at)) ∙ c.if-not-has_room.true in
+    let room = sym (c.has_room.ensures base s.opened (at.frames) (c.len.ensures ∙ base_and_more old s at)) ∙ c.if-not-has_room.true in
     let fit = element_fit p ps x _ (sym len) h t nested ∙ ap (has_room_for (length c.args.body.now)) (sym k.opened) ∙ room in
     sized_nospc _ _ _ (record { closed = s.closed; opened = with_element p x ∷ ps }) old is (and_false _ _ fit)
 
 pub returns-in_err-append : goal.returns-in_err-append
 returns-in_err-append c s x at ty b el =
-    let old : Held = held c.args.bytes.now.items c.args.frames.now.items in
+    let old : Held = held c.args.bytes.now c.args.frames.now in
     let base = length (member_encodings s.closed) in
-    let z = closing old s.closed s.opened c.in-Some.open at (c.in-Some.ensures base s.opened (c.as_slice.ensures.value ∙ at.frames)) in
+    let z = closing old s.closed s.opened c.in-Some.open at (c.in-Some.ensures.last base s.opened (at.frames)) in
     let p = z.0 in
     let ps = z.1 in
     let k = z.2 in
@@ -62,36 +62,36 @@ returns-in_err-append c s x at ty b el =
     let one = small_body x _ len c.requires.body in
     let t : takes_element p x ≡ true = sym (c.takes_element.ensures p x k.what (sym ty)) ∙ c.if-not-takes_element.false in
     let is = ap (λ l. placed s.closed l (fixed x)) k.opened ∙ element_placed s.closed p ps x h t in
-    let room = sym (c.has_room.ensures base s.opened (c.as_slice-2.ensures.value ∙ at.frames) (c.len.ensures ∙ c.args.bytes.now.ok.0 ∙ base_and_more old s at)) ∙ c.if-not-has_room.false in
+    let room = sym (c.has_room.ensures base s.opened (at.frames) (c.len.ensures ∙ base_and_more old s at)) ∙ c.if-not-has_room.false in
     let fit = element_fit p ps x _ (sym len) h t nested ∙ ap (has_room_for (length c.args.body.now)) (sym k.opened) ∙ room in
-    sized_nomem _ _ (record { closed = s.closed; opened = with_element p x ∷ ps }) old _ _ one is fit (is_nomem c.from_residual.result _ c.from_residual.ensures.1 c.in_err-append.ensures.memory) (ap (λ l. held l c.args.frames.now.items) c.in_err-append.ensures.unchanged)
+    sized_nomem _ _ (record { closed = s.closed; opened = with_element p x ∷ ps }) old _ _ one is fit (is_nomem c.from_residual.result _ c.from_residual.ensures.1 c.in_err-append.ensures.memory) (ap (λ l. held l c.args.frames.now) c.in_err-append.ensures.unchanged)
 
 pub overflow_sub-had : goal.overflow_sub-had
 overflow_sub-had c =
-    let old : Held = held c.args.bytes.now.items c.args.frames.now.items in
+    let old : Held = held c.args.bytes.now c.args.frames.now in
     let s = c.requires.holds.0 in
     let at = c.requires.holds.1 in
-    let k = closing old s.closed s.opened c.in-Some.open at (c.in-Some.ensures (length (member_encodings s.closed)) s.opened (c.as_slice.ensures.value ∙ at.frames)) in
+    let k = closing old s.closed s.opened c.in-Some.open at (c.in-Some.ensures.last (length (member_encodings s.closed)) s.opened (at.frames)) in
     let l = k.2.long in
-    let e : c.len-had.result ≡ length c.args.bytes.now.items = c.len-had.ensures ∙ c.args.bytes.now.ok.0 in
+    let e : c.len-had.result ≡ length c.args.bytes.now = c.len-had.ensures in
     omega arith
 
 pub set_child-requires : goal.set_child-requires
 set_child-requires c =
-    let old : Held = held c.args.bytes.now.items c.args.frames.now.items in
+    let old : Held = held c.args.bytes.now c.args.frames.now in
     let s = c.requires.holds.0 in
     let at = c.requires.holds.1 in
-    let k = closing old s.closed s.opened c.in-Some.open at (c.in-Some.ensures (length (member_encodings s.closed)) s.opened (c.as_slice.ensures.value ∙ at.frames)) in
+    let k = closing old s.closed s.opened c.in-Some.open at (c.in-Some.ensures.last (length (member_encodings s.closed)) s.opened (at.frames)) in
     let l = k.2.long in
-    let e : c.len-had.result ≡ length c.args.bytes.now.items = c.len-had.ensures ∙ c.args.bytes.now.ok.0 in
-    let f = ap length c.in_ok-append.ensures.ok ∙ length-append c.args.bytes.now.items c.args.body.now in
+    let e : c.len-had.result ≡ length c.args.bytes.now = c.len-had.ensures in
+    let f = ap length c.in_ok-append.ensures.ok ∙ length-append c.args.bytes.now c.args.body.now in
     omega arith
 
 pub returns : goal.returns
 returns c s x at ty b el =
-    let old : Held = held c.args.bytes.now.items c.args.frames.now.items in
+    let old : Held = held c.args.bytes.now c.args.frames.now in
     let base = length (member_encodings s.closed) in
-    let z = closing old s.closed s.opened c.in-Some.open at (c.in-Some.ensures base s.opened (c.as_slice.ensures.value ∙ at.frames)) in
+    let z = closing old s.closed s.opened c.in-Some.open at (c.in-Some.ensures.last base s.opened (at.frames)) in
     let p = z.0 in
     let ps = z.1 in
     let k = z.2 in
@@ -101,14 +101,14 @@ returns c s x at ty b el =
     let one = small_body x _ len c.requires.body in
     let t : takes_element p x ≡ true = sym (c.takes_element.ensures p x k.what (sym ty)) ∙ c.if-not-takes_element.false in
     let is = ap (λ l. placed s.closed l (fixed x)) k.opened ∙ element_placed s.closed p ps x h t in
-    let room = sym (c.has_room.ensures base s.opened (c.as_slice-2.ensures.value ∙ at.frames) (c.len.ensures ∙ c.args.bytes.now.ok.0 ∙ base_and_more old s at)) ∙ c.if-not-has_room.false in
+    let room = sym (c.has_room.ensures base s.opened (at.frames) (c.len.ensures ∙ base_and_more old s at)) ∙ c.if-not-has_room.false in
     let fit = element_fit p ps x _ (sym len) h t nested ∙ ap (has_room_for (length c.args.body.now)) (sym k.opened) ∙ room in
     let front = member_encodings s.closed ++ all_so_far ps in
-    let new : Held = held c.set_child.new.bytes.items c.set_innermost.new.frames.items in
-    let had : c.len-had.result ≡ length c.args.bytes.now.items = c.len-had.ensures ∙ c.args.bytes.now.ok.0 in
+    let new : Held = held c.set_child.new.bytes c.set_innermost.new.self in
+    let had : c.len-had.result ≡ length c.args.bytes.now = c.len-had.ensures in
     let mid = c.in_ok-append.ensures.ok ∙ ap (λ l. l ++ c.args.body.now) k.bytes ∙ ap (λ l. (front ++ so_far p) ++ l) (sym b) in
     let size = sym len ∙ length-fixed x in
-    let bytes = element_bytes p x front c.append.new.bytes.items c.set_child.new.bytes.items (c.len-had.result - 8) (length c.args.body.now) c.args.type_ c.is_first.result (sym ty) h (c.is_first.ensures p k.what) mid (ap (λ n. n - 8) (had ∙ ap length k.bytes)) size c.set_child.ensures.first c.set_child.ensures.later in
-    let frames = c.set_innermost.ensures.some base p (with_element p x) ps (at.frames ∙ ap (frames_of base) k.opened) (c.with_element.ensures p x k.what (sym ty) t) in
+    let bytes = element_bytes p x front c.append.new.self c.set_child.new.bytes (c.len-had.result - 8) (length c.args.body.now) c.args.type_ c.is_first.result (sym ty) h (c.is_first.ensures p k.what) mid (ap (λ n. n - 8) (had ∙ ap length k.bytes)) size c.set_child.ensures.first c.set_child.ensures.later in
+    let frames = c.set_innermost.ensures base p (with_element p x) ps (at.frames ∙ ap (frames_of base) k.opened) (c.with_element.ensures.with p x k.what (sym ty) t) in
     sized_goes _ _ (record { closed = s.closed; opened = with_element p x ∷ ps }) old new _ one is fit
     (is_element new s.closed p ps x nested t bytes frames fit)

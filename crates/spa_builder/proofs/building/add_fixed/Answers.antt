@@ -1,5 +1,5 @@
-use Rattle.std.proofs.Common.{◌≡◌, ◌≤◌, ◌++◌, Err, length, map, ap, sym, ◌∙◌, subst, arith, length-append}
-use Rattle.spa_format.specs.Kind.{body_size, fixed_body, kind_of, type_number}
+use Rattle.std.proofs.Common.{◌≡◌, ◌≤◌, ◌++◌, Err, length, ap, sym, ◌∙◌, subst}
+use Rattle.spa_format.specs.Kind.{body_size, fixed_body, type_number}
 use Rattle.spa_format.specs.Encoding.{framed, member_encodings}
 use Rattle.spa_format.specs.Tree.{fixed}
 use Rattle.spa_format.specs.Words.{size_limit}
@@ -13,35 +13,35 @@ use Rattle.spa_builder.proofs.building.add_fixed.Goals as goal
 pub admit-requires : goal.admit-requires
 admit-requires g c =
     let h = c.requires.holds in
-    let r = has_its_room (held c.args.bytes.now.items c.args.frames.now.items) h.0 h.1 in
-    (r.0, r.1, c.as_slice-2.ensures.value ∙ r.2, c.len.ensures ∙ c.args.bytes.now.ok.0 ∙ r.3, r.4)
+    let r = has_its_room (held c.args.bytes.now c.args.frames.now) h.0 h.1 in
+    (r.0, r.1, r.2, c.len.ensures ∙ r.3, r.4)
 
 pub returns-in_err-admit : goal.returns-in_err-admit
 returns-in_err-admit g c s at =
-    let old : Held = held c.args.bytes.now.items c.args.frames.now.items in
+    let old : Held = held c.args.bytes.now c.args.frames.now in
     let x = g.T.CanonicalFixedSizedPod.fixed c.args.value.now in
     let v = fixed x in
     let k = g.met.T.CanonicalFixedSizedPod.its_kind c.args.value.now in
     let l : g.T.CanonicalFixedSizedPod.SIZE ≡ length (fixed_body x) = g.met.T.CanonicalFixedSizedPod.its_size ∙ ap body_size (sym k) ∙ sym (length-fixed x) in
     let size : IsSizeOf c.SIZE-2.result v = record { exact = λ y. c.SIZE-2.ensures ∙ l; large = λ y. subst (λ m. size_limit ≤ m) (c.SIZE-2.ensures ∙ l) y } in
-    not_admitted s v old _ _ _ c.from_residual.ensures.1 at size (no_place s.closed s.opened x (sym (c.takes_elements.ensures (length (member_encodings s.closed)) s.opened (c.innermost.ensures (length (member_encodings s.closed)) s.opened (c.as_slice.ensures.value ∙ at.frames))) ∙ c.if-takes_elements.false)) (c.in_err-admit.ensures (length (member_encodings s.closed)) s.opened (c.as_slice-2.ensures.value ∙ at.frames) (c.len.ensures ∙ c.args.bytes.now.ok.0 ∙ base_and_more old s at))
+    not_admitted s v old _ _ _ c.from_residual.ensures.1 at size (no_place s.closed s.opened x (sym (c.takes_elements.ensures (length (member_encodings s.closed)) s.opened (c.innermost-innermost.ensures.last (length (member_encodings s.closed)) s.opened (at.frames))) ∙ c.if-takes_elements.false)) (c.in_err-admit.ensures (length (member_encodings s.closed)) s.opened (at.frames) (c.len.ensures ∙ base_and_more old s at))
 
 pub returns-in_err-put_plain : goal.returns-in_err-put_plain
 returns-in_err-put_plain g c s at =
-    let old : Held = held c.args.bytes.now.items c.args.frames.now.items in
+    let old : Held = held c.args.bytes.now c.args.frames.now in
     let x = g.T.CanonicalFixedSizedPod.fixed c.args.value.now in
     let v = fixed x in
     let k = g.met.T.CanonicalFixedSizedPod.its_kind c.args.value.now in
     let l : g.T.CanonicalFixedSizedPod.SIZE ≡ length (fixed_body x) = g.met.T.CanonicalFixedSizedPod.its_size ∙ ap body_size (sym k) ∙ sym (length-fixed x) in
     let size : IsSizeOf c.SIZE-2.result v = record { exact = λ y. c.SIZE-2.ensures ∙ l; large = λ y. subst (λ m. size_limit ≤ m) (c.SIZE-2.ensures ∙ l) y } in
-    admitted_nomem s v old _ _ _ _ at size (c.in_ok-admit.ensures (length (member_encodings s.closed)) s.opened (c.as_slice-2.ensures.value ∙ at.frames) (c.len.ensures ∙ c.args.bytes.now.ok.0 ∙ base_and_more old s at)) (passed _ _ c.from_residual-in_err-put_plain.ensures.1 ∙ ap (λ e. Err e) c.in_err-put_plain.ensures.memory) (ap (λ l. held l c.args.frames.now.items) c.in_err-put_plain.ensures.unchanged)
+    admitted_nomem s v old _ _ _ _ at size (c.in_ok-admit.ensures (length (member_encodings s.closed)) s.opened (at.frames) (c.len.ensures ∙ base_and_more old s at)) (passed _ _ c.from_residual-in_err-put_plain.ensures.1 ∙ ap (λ e. Err e) c.in_err-put_plain.ensures.memory) (ap (λ l. held l c.args.frames.now) c.in_err-put_plain.ensures.unchanged)
 
 pub returns : goal.returns
 returns g c s at =
-    let old : Held = held c.args.bytes.now.items c.args.frames.now.items in
+    let old : Held = held c.args.bytes.now c.args.frames.now in
     let x = g.T.CanonicalFixedSizedPod.fixed c.args.value.now in
     let v = fixed x in
     let k = g.met.T.CanonicalFixedSizedPod.its_kind c.args.value.now in
     let l : g.T.CanonicalFixedSizedPod.SIZE ≡ length (fixed_body x) = g.met.T.CanonicalFixedSizedPod.its_size ∙ ap body_size (sym k) ∙ sym (length-fixed x) in
     let size : IsSizeOf c.SIZE-2.result v = record { exact = λ y. c.SIZE-2.ensures ∙ l; large = λ y. subst (λ m. size_limit ≤ m) (c.SIZE-2.ensures ∙ l) y } in
-    admitted s v old (held c.put_plain.new.bytes.items c.fill.new.frames.items) _ _ _ at size (c.in_ok-admit.ensures (length (member_encodings s.closed)) s.opened (c.as_slice-2.ensures.value ∙ at.frames) (c.len.ensures ∙ c.args.bytes.now.ok.0 ∙ base_and_more old s at)) (c.in_ok-put_plain.ensures.ok ∙ ap (λ t. c.args.bytes.now.items ++ framed t (fixed_body x)) (g.met.T.CanonicalFixedSizedPod.its_type ∙ ap type_number (sym k))) (λ t. c.fill.ensures (length (member_encodings s.closed)) s.opened v t at.frames)
+    admitted s v old (held c.put_plain.new.bytes c.fill.new.frames) _ _ _ at size (c.in_ok-admit.ensures (length (member_encodings s.closed)) s.opened (at.frames) (c.len.ensures ∙ base_and_more old s at)) (c.in_ok-put_plain.ensures.ok ∙ ap (λ t. c.args.bytes.now ++ framed t (fixed_body x)) (g.met.T.CanonicalFixedSizedPod.its_type ∙ ap type_number (sym k))) (λ t. c.fill.ensures (length (member_encodings s.closed)) s.opened v t at.frames (c.innermost-innermost.ensures.last (length (member_encodings s.closed)) s.opened at.frames))

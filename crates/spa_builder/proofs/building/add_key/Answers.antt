@@ -10,46 +10,46 @@ use Rattle.spa_builder.proofs.building.add_key.Goals as goal
 pub has_room-requires-clause-within : goal.has_room-requires-clause-within
 has_room-requires-clause-within c =
     let h = c.requires in
-    let r = has_its_room (held c.args.bytes.now.items c.args.frames.now.items) h.0 h.1 in
-    (r.0, r.1, c.as_slice-2.ensures.value ∙ r.2, c.len.ensures ∙ c.args.bytes.now.ok.0 ∙ r.3, r.4)
+    let r = has_its_room (held c.args.bytes.now c.args.frames.now) h.0 h.1 in
+    (r.0, r.1, r.2, c.len.ensures ∙ r.3, r.4)
 
 pub returns-then-not-has_room : goal.returns-then-not-has_room
 returns-then-not-has_room c s at =
-    let old : Held = held c.args.bytes.now.items c.args.frames.now.items in
+    let old : Held = held c.args.bytes.now c.args.frames.now in
     let base = length (member_encodings s.closed) in
     let key = c.args.key in
     let flags = c.args.flags in
-    let t = takes_key_is s.opened (sym (c.takes_key.ensures base s.opened (c.innermost.ensures base s.opened (c.as_slice.ensures.value ∙ at.frames))) ∙ c.if-not-takes_key.false) in
-    let room = sym (c.has_room.ensures base s.opened (c.as_slice-2.ensures.value ∙ at.frames) (c.len.ensures ∙ c.args.bytes.now.ok.0 ∙ base_and_more old s at)) ∙ c.if-not-has_room.true in
+    let t = takes_key_is s.opened (sym (c.takes_key.ensures base s.opened (c.innermost.ensures.last base s.opened (at.frames))) ∙ c.if-not-takes_key.false) in
+    let room = sym (c.has_room.ensures base s.opened (at.frames) (c.len.ensures ∙ base_and_more old s at)) ∙ c.if-not-has_room.true in
     let fit = keyed_fit t.0 t.1 t.2 key flags t.3 (subst IsNested t.4 at.nested) ∙ ap (has_room_for 8) (sym t.4) ∙ room in
     sized_nospc _ true _ (record { closed = s.closed; opened = open_property t.0 t.1 t.2 key flags ∷ t.3 }) old (ap (λ l. keyed s.closed l key flags) t.4) fit
 
-pub returns-in_err-append : goal.returns-in_err-append
-returns-in_err-append c s at =
-    let old : Held = held c.args.bytes.now.items c.args.frames.now.items in
+pub returns-in_err-append_array : goal.returns-in_err-append_array
+returns-in_err-append_array c s at =
+    let old : Held = held c.args.bytes.now c.args.frames.now in
     let base = length (member_encodings s.closed) in
     let key = c.args.key in
     let flags = c.args.flags in
-    let t = takes_key_is s.opened (sym (c.takes_key.ensures base s.opened (c.innermost.ensures base s.opened (c.as_slice.ensures.value ∙ at.frames))) ∙ c.if-not-takes_key.false) in
-    let room = sym (c.has_room.ensures base s.opened (c.as_slice-2.ensures.value ∙ at.frames) (c.len.ensures ∙ c.args.bytes.now.ok.0 ∙ base_and_more old s at)) ∙ c.if-not-has_room.false in
+    let t = takes_key_is s.opened (sym (c.takes_key.ensures base s.opened (c.innermost.ensures.last base s.opened (at.frames))) ∙ c.if-not-takes_key.false) in
+    let room = sym (c.has_room.ensures base s.opened (at.frames) (c.len.ensures ∙ base_and_more old s at)) ∙ c.if-not-has_room.false in
     let fit = keyed_fit t.0 t.1 t.2 key flags t.3 (subst IsNested t.4 at.nested) ∙ ap (has_room_for 8) (sym t.4) ∙ room in
-    sized_nomem true _ (record { closed = s.closed; opened = open_property t.0 t.1 t.2 key flags ∷ t.3 }) old _ _ refl (ap (λ l. keyed s.closed l key flags) t.4) fit (is_nomem c.from_residual.result _ c.from_residual.ensures.1 c.in_err-append.ensures.memory) (ap (λ l. held l c.args.frames.now.items) c.in_err-append.ensures.unchanged)
+    sized_nomem true _ (record { closed = s.closed; opened = open_property t.0 t.1 t.2 key flags ∷ t.3 }) old _ _ refl (ap (λ l. keyed s.closed l key flags) t.4) fit (is_nomem c.from_residual.result _ c.from_residual.ensures.1 c.in_err-append_array.ensures.memory) (ap (λ l. held l c.args.frames.now) c.in_err-append_array.ensures.unchanged)
 
 pub returns : goal.returns
 returns c s at =
-    let old : Held = held c.args.bytes.now.items c.args.frames.now.items in
+    let old : Held = held c.args.bytes.now c.args.frames.now in
     let base = length (member_encodings s.closed) in
     let key = c.args.key in
     let flags = c.args.flags in
-    let t = takes_key_is s.opened (sym (c.takes_key.ensures base s.opened (c.innermost.ensures base s.opened (c.as_slice.ensures.value ∙ at.frames))) ∙ c.if-not-takes_key.false) in
-    let room = sym (c.has_room.ensures base s.opened (c.as_slice-2.ensures.value ∙ at.frames) (c.len.ensures ∙ c.args.bytes.now.ok.0 ∙ base_and_more old s at)) ∙ c.if-not-has_room.false in
+    let t = takes_key_is s.opened (sym (c.takes_key.ensures base s.opened (c.innermost.ensures.last base s.opened (at.frames))) ∙ c.if-not-takes_key.false) in
+    let room = sym (c.has_room.ensures base s.opened (at.frames) (c.len.ensures ∙ base_and_more old s at)) ∙ c.if-not-has_room.false in
     let fit = keyed_fit t.0 t.1 t.2 key flags t.3 (subst IsNested t.4 at.nested) ∙ ap (has_room_for 8) (sym t.4) ∙ room in
-    let frames = c.set_innermost.ensures.some base (open_object t.0 t.1 t.2) (open_property t.0 t.1 t.2 key flags) t.3 (at.frames ∙ ap (frames_of base) t.4) refl in
-    sized_goes true _ (record { closed = s.closed; opened = open_property t.0 t.1 t.2 key flags ∷ t.3 }) old (held c.append.new.bytes.items c.set_innermost.new.frames.items) _ refl (ap (λ l. keyed s.closed l key flags) t.4) fit
-    (is_keyed (held c.append.new.bytes.items c.set_innermost.new.frames.items) s.closed t.0 t.1 t.2 key flags t.3 old.bytes (at.bytes ∙ ap (λ l. member_encodings s.closed ++ all_so_far l) t.4) (subst IsNested t.4 at.nested) (c.in_ok-append.ensures.ok ∙ ap (λ l. c.args.bytes.now.items ++ l) c.two_words.ensures) frames fit)
+    let frames = c.set_innermost.ensures base (open_object t.0 t.1 t.2) (open_property t.0 t.1 t.2 key flags) t.3 (at.frames ∙ ap (frames_of base) t.4) refl in
+    sized_goes true _ (record { closed = s.closed; opened = open_property t.0 t.1 t.2 key flags ∷ t.3 }) old (held c.append_array.new.self c.set_innermost.new.self) _ refl (ap (λ l. keyed s.closed l key flags) t.4) fit
+    (is_keyed (held c.append_array.new.self c.set_innermost.new.self) s.closed t.0 t.1 t.2 key flags t.3 old.bytes (at.bytes ∙ ap (λ l. member_encodings s.closed ++ all_so_far l) t.4) (subst IsNested t.4 at.nested) (c.in_ok-append_array.ensures.ok ∙ ap (λ l. c.args.bytes.now ++ l) c.two_words.ensures) frames fit)
 
 pub returns-then-not-takes_key : goal.returns-then-not-takes_key
 returns-then-not-takes_key c s at =
-    let old : Held = held c.args.bytes.now.items c.args.frames.now.items in
+    let old : Held = held c.args.bytes.now c.args.frames.now in
     let base = length (member_encodings s.closed) in
-    sized_inval _ true _ old (keyed_not s.closed s.opened c.args.key c.args.flags (sym (c.takes_key.ensures base s.opened (c.innermost.ensures base s.opened (c.as_slice.ensures.value ∙ at.frames))) ∙ c.if-not-takes_key.true))
+    sized_inval _ true _ old (keyed_not s.closed s.opened c.args.key c.args.flags (sym (c.takes_key.ensures base s.opened (c.innermost.ensures.last base s.opened (at.frames))) ∙ c.if-not-takes_key.true))

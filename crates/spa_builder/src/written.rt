@@ -1,0 +1,169 @@
+//! The bytes that a builder has written, at the front of a vector that is kept longer than they are: what lies behind
+//! them is room, which an append fills without asking for memory.
+ghost use Rattle.std.specs.Prelude.{◌≡◌, ◌+◌, ◌≤◌, ◌++◌, ℕ, [], List, IfErr, OnErr, OnOk, drop, length, take};
+ghost use Rattle.spa_format.specs.Words.{word_bytes};
+ghost use Rattle.spa_utils.specs.declared.errno.TheConstants.Errno.{NOMEM};
+
+use spa_bytes::{HEADER_LEN, two_words};
+use spa_utils::Errno;
+use std::alloc::Global;
+use std::marker::Model;
+
+/// Bytes, one behind another. A refused call changes nothing.
+#[derive(Drop)]
+pub(crate) struct Written {
+    bytes: Vec<u8>,
+    count: usize,
+}
+
+impl Model for Written {
+    ghost Value = { List ℕ };
+
+    ghost view = { λ w. take w.count w.bytes.items };
+
+    ghost invariant = { λ w. w.count ≤ length w.bytes.items };
+}
+
+/// How many bytes longer the vector is made at least, where it has the capacity.
+const ROOM_STEP: usize = 4096;
+
+/// Makes the vector longer by so many bytes at least.
+#[cold]
+#[inline(never)]
+fn grow(bytes: &mut Vec<u8>, more: usize) -> Result<(), Errno>
+    ensures room { OnOk result (length bytes.old.items + more ≤ length bytes.new.items) }
+    ensures kept { (n : ℕ) → n ≤ length bytes.old.items → (take n bytes.new.items ≡ take n bytes.old.items) × (length bytes.old.items ≤ length bytes.new.items) }
+    ensures memory { IfErr result (λ e. e ≡ NOMEM) }
+{
+    let had = bytes.len();
+    if bytes.reserve(more).is_err() {
+        return Err(Errno::NOMEM);
+    }
+    let wanted = had.saturating_add(more.max(ROOM_STEP));
+    if bytes.resize(wanted.min(bytes.capacity()), 0).is_err() {
+        return Err(Errno::NOMEM);
+    }
+    Ok(())
+}
+
+/// Makes room for so many bytes behind the first ones.
+#[inline(always)]
+fn make_room(bytes: &mut Vec<u8>, count: usize, more: usize) -> Result<(), Errno>
+    requires { count ≤ length bytes.old.items }
+    ensures room { OnOk result (count + more ≤ length bytes.new.items) }
+    ensures within { count ≤ length bytes.new.items }
+    ensures kept { take count bytes.new.items ≡ take count bytes.old.items }
+    ensures memory { IfErr result (λ e. e ≡ NOMEM) }
+{
+    if more <= bytes.len() - count {
+        return Ok(());
+    }
+    grow(bytes, more)
+}
+
+impl Written {
+    /// None yet, in this vector.
+    pub(crate) fn new(bytes: Vec<u8>) -> Written
+        ensures { result ≡ [] }
+    {
+        Written { bytes, count: 0 }
+    }
+
+    /// How many there are.
+    #[inline(always)]
+    pub(crate) fn len(&self) -> usize
+        ensures { result ≡ length self.now }
+    {
+        self.count
+    }
+
+    /// All of them.
+    pub(crate) fn as_slice(&self) -> &[u8]
+        ensures { result.now ≡ self.now }
+    {
+        &self.bytes[..self.count]
+    }
+
+    /// The vector, which holds them and nothing else.
+    pub(crate) fn into_inner(self) -> Vec<u8>
+        ensures { result.items ≡ self }
+    {
+        let Written { mut bytes, count } = self;
+        bytes.truncate(count);
+        bytes
+    }
+
+    /// What the vector takes memory from.
+    pub(crate) fn allocator(&self) -> Global {
+        *self.bytes.allocator()
+    }
+
+    /// Appends these bytes.
+    pub(crate) fn append(&mut self, piece: &[u8]) -> Result<(), Errno>
+        ensures ok { OnOk result (self.new ≡ self.old ++ piece.now) }
+        ensures unchanged { OnErr result (self.new ≡ self.old) }
+        ensures memory { IfErr result (λ e. e ≡ NOMEM) }
+    {
+        make_room(&mut self.bytes, self.count, piece.len())?;
+        let at = self.count;
+        let end = at + piece.len();
+        self.bytes[at..end].copy_from_slice(piece);
+        self.count = end;
+        Ok(())
+    }
+
+    /// Appends the first of these bytes, as many as are asked for.
+    #[inline(always)]
+    #[tactic(auto, using(crate::proofs::Pieces::take_into))]
+    pub(crate) fn append_first<const N: usize>(
+        &mut self,
+        piece: [u8; N],
+        count: usize,
+    ) -> Result<(), Errno>
+        requires { count ≤ N }
+        ensures ok { OnOk result (self.new ≡ self.old ++ take count piece.entry) }
+        ensures unchanged { OnErr result (self.new ≡ self.old) }
+        ensures memory { IfErr result (λ e. e ≡ NOMEM) }
+    {
+        let at = self.count;
+        make_room(&mut self.bytes, at, N)?;
+        self.bytes[at..at + N].copy_from_slice(&piece);
+        self.count = at + count;
+        Ok(())
+    }
+
+    /// Appends these bytes, whose number is known.
+    #[inline(always)]
+    pub(crate) fn append_array<const N: usize>(&mut self, piece: [u8; N]) -> Result<(), Errno>
+        ensures ok { OnOk result (self.new ≡ self.old ++ piece.entry) }
+        ensures unchanged { OnErr result (self.new ≡ self.old) }
+        ensures memory { IfErr result (λ e. e ≡ NOMEM) }
+    {
+        self.append_first(piece, N)
+    }
+
+    /// Drops those from this place on.
+    pub(crate) fn truncate(&mut self, count: usize)
+        requires { count ≤ length self.old }
+        ensures { self.new ≡ take count self.old }
+    {
+        self.count = count;
+    }
+
+    /// Writes a word over four of them.
+    #[tactic(auto, unfolding(spa_format::specs::Words::word_bytes))]
+    pub(crate) fn patch(&mut self, at: usize, n: u32)
+        requires { at + 4 ≤ length self.old }
+        ensures { self.new ≡ take at self.old ++ (word_bytes n ++ drop (at + 4) self.old) }
+    {
+        self.bytes[at..at + 4].copy_from_slice(&n.to_le_bytes());
+    }
+
+    /// Writes two words over eight of them.
+    pub(crate) fn patch_two(&mut self, at: usize, first: u32, second: u32)
+        requires { at + 8 ≤ length self.old }
+        ensures { self.new ≡ take at self.old ++ ((word_bytes first ++ word_bytes second) ++ drop (at + 8) self.old) }
+    {
+        self.bytes[at..at + HEADER_LEN].copy_from_slice(&two_words(first, second));
+    }
+}

@@ -6,7 +6,11 @@ use Rattle.spa_format.specs.Tree.{none_choice, range_choice, enum_choice, Tree, 
 use Rattle.spa_negotiate.specs.declared.offer.Rule.{Rule}
 use Rattle.spa_negotiate.specs.declared.offer.Offer.{Offer}
 use Rattle.spa_negotiate.specs.Admits.{IsPlain, IsSupported, IsAtMost, Admits, plain_of}
-use Rattle.spa_negotiate.specs.Offers.{rule_of, further_values_of, IsSupportedRule, AdmitsBy, IsOfferOf, OfferAdmits}
+use Rattle.std.specs.BTreeSet.{BTreeSet}
+use Rattle.spa_value.specs.View.{view}
+use Rattle.spa_negotiate.specs.declared.numbers.Numbers.{Numbers}
+use Rattle.spa_negotiate.specs.Numbering.{HasAll}
+use Rattle.spa_negotiate.specs.Offers.{rule_of, further_values_of, indexed_of, IsSupportedRule, IsIndexedBy, IsIndexed, AdmitsBy, IsOfferOf, OfferAdmits}
 use Rattle.spa_negotiate.specs.Meeting.{Settles, Agree}
 
 -- what a value admits is admitted by its rule, default and further values,
@@ -52,6 +56,27 @@ OfferAdmits-value v o i x h =
 pub Admits-offer : (v : Tree) (o : Offer) → IsOfferOf v o → (x : Tree) → OfferAdmits o x →
     Admits v x
 Admits-offer v o i x h = Admits-rule v x (AdmitsBy-same _ _ _ _ _ _ x i.rule i.default i.values h)
+
+-- what a value's rule looks up is in an index of the value's,
+IsIndexedBy-value : (v : Tree) (index : BTreeSet Numbers) → HasAll index (indexed_of v) →
+    IsIndexedBy (rule_of v) (plain_of v ∷ further_values_of v) index
+IsIndexedBy-value (choice none_choice f k d vs) index h = tt
+IsIndexedBy-value (choice enum_choice f k d vs) index h = h
+IsIndexedBy-value (choice range_choice f id_kind d vs) index h = tt
+IsIndexedBy-value (choice range_choice f int_kind d vs) index h = tt
+IsIndexedBy-value (choice range_choice f long_kind d vs) index h = tt
+IsIndexedBy-value (choice range_choice f k d vs) index h = tt
+IsIndexedBy-value (choice _ f k d vs) index h = tt
+IsIndexedBy-value v index h = tt
+
+-- and so in that of its offer
+pub IsIndexed-offer : (v : Tree) (o : Offer) → IsOfferOf v o → HasAll o.index (indexed_of v) →
+    IsIndexed o
+IsIndexed-offer v o i h =
+    let own = IsIndexedBy-value v o.index h in
+    subst (λ r. IsIndexedBy r (view o.default ∷ map view o.values.items) o.index) (sym i.rule)
+    (subst (λ d. IsIndexedBy (rule_of v) (d ∷ map view o.values.items) o.index) (sym i.default)
+    (subst (λ vs. IsIndexedBy (rule_of v) (plain_of v ∷ vs) o.index) (sym i.values) own))
 
 -- a supported value has the rule of one,
 IsSupportedRule-value : (v : Tree) → IsSupported v → IsSupportedRule (rule_of v)

@@ -1,7 +1,7 @@
 -- Where no candidate is admitted by both of two offers, no value is.
-use Rattle.std.proofs.Common.{◌≡◌, inl, inr, List, [], ◌∷◌, refl, subst, Option, Some, None, MatchOption}
+use Rattle.std.proofs.Common.{◌≡◌, inl, inr, List, ◌∷◌, refl, subst, Option, Some, None, MatchOption}
 use Rattle.std.specs.List.{All, Contains}
-use Rattle.std.proofs.lemmas.List.Elements.{All-cons, All-nil, All-contains, Contains-append_right, Contains-append_cases}
+use Rattle.std.proofs.lemmas.List.Elements.{All-cons, All-contains}
 use Rattle.spa_format.specs.Tree.{Tree}
 use Rattle.spa_negotiate.specs.declared.offer.Rule.{Rule}
 use Rattle.spa_negotiate.specs.declared.offer.Rule.TheVariants.{Only, Among, Between, Unsupported}
@@ -55,22 +55,6 @@ none_common Between Between d e (m ∷ a ∷ vs) (n ∷ b ∷ ws) nd ne na nb nf
     ranges_meet m a n b x nf ng h
 none_common Between Between d e (m ∷ a ∷ vs) _ nd ne na nb nf ng x h = absurd h.1
 none_common Between Between d e _ ws nd ne na nb nf ng x h = absurd h.0
-
--- what is among some values is among them and one more
-pub Contains-behind : (d : Tree) (vs : List Tree) (x : Tree) → Contains vs x → Contains (d ∷ vs) x
-Contains-behind d vs x h = Contains-append_right (d ∷ []) vs x h
-
--- what is among some values and isn't the first is among the others
-pub Contains-not_first : (d : Tree) (vs : List Tree) (x : Tree) → ¬ (x ≡ d) → Contains (d ∷ vs) x →
-    Contains vs x
-Contains-not_first d vs x n h =
-    let IsFirst : Tree → Type 0 = λ y. y ≡ d in
-    let one = All-cons IsFirst d [] refl (All-nil IsFirst) in
-    elim (Contains-append_cases (d ∷ []) vs x h) [
-      | inl at ↦
-          absurd (n (All-contains IsFirst (d ∷ []) x one at))
-      | inr at ↦ at
-    ]
 
 -- what is said of no value, where there is none
 pub none_of : {A : Type 0} (P : Type 0) (Q : A → Type 0) (o : Option A) →

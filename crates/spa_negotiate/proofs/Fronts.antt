@@ -10,10 +10,10 @@ use Rattle.spa_format.specs.Tree.{Tree, object, Properties}
 use Rattle.spa_format.specs.Walk.{ArePropertiesOf, property_walk, properties_of}
 use Rattle.spa_format.specs.Typed.{IsBytes}
 use Rattle.spa_format.specs.Words.{word_at, extent}
-use Rattle.spa_format.specs.Writable.{HasNul, IsWritable}
+use Rattle.spa_format.specs.Writable.{IsWritable}
 use Rattle.spa_value.specs.declared.object.Object.{Object}
 use Rattle.spa_value.specs.View.{object_view}
-use Rattle.spa_value.proofs.ViewLaws.{view-fields}
+use Rattle.spa_value.specs.ObjectLaws.{ObjectsHaveTheirFields}
 use Rattle.spa_negotiate.specs.declared.error.Side.TheVariants.{First, Second}
 use Rattle.spa_negotiate.specs.declared.error.NegotiateError.{NegotiateError}
 use Rattle.spa_negotiate.specs.declared.error.NegotiateError.TheVariants.{Unread, NotObject, OutOfMemory}
@@ -22,12 +22,14 @@ use Rattle.spa_negotiate.specs.Meeting.{Meet}
 use Rattle.spa_negotiate.proofs.Values.{NoNul-met, IsNormal-met, are_settled-met}
 
 -- the tree of an object is one
-is_object : (o : Object) → IsObject (object_view o)
-is_object o = subst IsObject (sym (view-fields o)) tt
+is_object : ObjectsHaveTheirFields → (o : Object) → IsObject (object_view o)
+is_object fields o = subst IsObject (sym (fields o)) tt
 
 -- an input that begins with an object
-pub BeginsObject-read : (b : List ℕ) (o : Object) → Begins b (object_view o) → BeginsObject b
-BeginsObject-read b o h = record { value = object_view o; begins = h; is_object = is_object o }
+pub BeginsObject-read : ObjectsHaveTheirFields → (b : List ℕ) (o : Object) → Begins b (object_view o) →
+    BeginsObject b
+BeginsObject-read fields b o h =
+    record { value = object_view o; begins = h; is_object = is_object fields o }
 
 -- the second side's refusal, behind a first side that is an object
 pub second_refused : (a b : List ℕ) → BeginsObject a → (e : NegotiateError) →

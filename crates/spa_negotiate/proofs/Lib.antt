@@ -1,4 +1,6 @@
+pub mod Passing
 pub mod Plain
+pub mod NumberLemmas
 pub mod Order
 pub mod Completeness
 pub mod Agreeing

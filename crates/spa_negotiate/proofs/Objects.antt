@@ -6,7 +6,7 @@ use Rattle.spa_value.specs.declared.object.Property.{Property}
 use Rattle.spa_value.specs.declared.object.Object.{Object, out-Object, roll-Object}
 use Rattle.spa_value.specs.View.{object_view}
 use Rattle.spa_value.specs.Views.{property_views}
-use Rattle.spa_value.proofs.ViewLaws.{view-object, view-fields}
+use Rattle.spa_value.specs.ObjectLaws.{ObjectsHaveTheirFields, ObjectsAreMadeOfFields}
 use Rattle.spa_negotiate.specs.declared.error.NegotiateError.{NegotiateError}
 use Rattle.spa_negotiate.specs.declared.error.NegotiateError.TheVariants.{TypeMismatch}
 use Rattle.spa_negotiate.specs.Meeting.{SettlesKeys, AgreeAt, Meet, CanMeet}
@@ -15,15 +15,15 @@ use Rattle.spa_negotiate.specs.Refusals.{IsRefusal, AreRefused}
 use Rattle.spa_negotiate.proofs.Settling.{AgreeAt-settled}
 use Rattle.spa_negotiate.proofs.Refusing.{AreRefused-properties}
 
-module _ (o p : Object) where
+module _ (fields : ObjectsHaveTheirFields) (made : ObjectsAreMadeOfFields) (o p : Object) where
   -- the objects are of two types
   pub mismatch : ¬ ((out-Object o).type_ ≡ (out-Object p).type_) →
       AreRefused (object_view o) (object_view p) TypeMismatch
   mismatch n =
       let f = out-Object o in
       let ours = object f.type_ f.id (property_views f.properties.items) in
-      subst (λ v. AreRefused v (object_view p) TypeMismatch) (sym (view-fields o))
-      (subst (λ w. AreRefused ours w TypeMismatch) (sym (view-fields p)) (λ e. n (sym e)))
+      subst (λ v. AreRefused v (object_view p) TypeMismatch) (sym (fields o))
+      (subst (λ w. AreRefused ours w TypeMismatch) (sym (fields p)) (λ e. n (sym e)))
 
   -- they are of one type, and these are their properties
   module _ (xs ys : List Property) (ours : xs ≡ (out-Object o).properties.items)
@@ -40,8 +40,8 @@ module _ (o p : Object) where
     both P h =
         let f = out-Object o in
         let g = out-Object p in
-        let v = view-fields o ∙ ap (λ z. object f.type_ f.id (property_views z)) (sym ours) in
-        let w = view-fields p ∙ ap (λ z. object g.type_ g.id (property_views z)) (sym theirs) in
+        let v = fields o ∙ ap (λ z. object f.type_ f.id (property_views z)) (sym ours) in
+        let w = fields p ∙ ap (λ z. object g.type_ g.id (property_views z)) (sym theirs) in
         subst (λ t. P t (object_view p)) (sym v) (subst (λ t. P left t) (sym w) h)
 
     pub objects_refused : (e : NegotiateError) →
@@ -61,7 +61,7 @@ module _ (o p : Object) where
     objects_meet rs h =
         let f = out-Object o in
         let met = roll-Object (record { type_ = f.type_; id = f.id; properties = rs }) in
-        let same = sym (view-object f.type_ f.id rs) in
+        let same = sym (made f.type_ f.id rs) in
         let one_type = subst (Meet left right) same (sym one, refl, refl, h) in
         both (λ v w. Meet v w (object_view met)) one_type
 

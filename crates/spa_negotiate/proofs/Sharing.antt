@@ -1,6 +1,6 @@
 -- From what two offers have in common, or are refused for, to the same of the values that make
 -- them.
-use Rattle.std.proofs.Common.{◌≡◌, ℕ, Some, Result, Ok, Err, IfOk, IfErr}
+use Rattle.std.proofs.Common.{ℕ, Some, Result, Ok, Err, IfOk, IfErr}
 use Rattle.spa_format.specs.Tree.{Tree}
 use Rattle.spa_value.specs.declared.value.Value.{Value}
 use Rattle.spa_value.specs.View.{view}

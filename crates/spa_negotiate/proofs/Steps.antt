@@ -5,7 +5,7 @@ use Rattle.spa_format.specs.Tree.{Tree, Properties, no_properties, property, joi
 use Rattle.spa_value.specs.declared.object.Property.{Property}
 use Rattle.spa_value.specs.View.{view}
 use Rattle.spa_value.specs.Views.{property_views, property_view}
-use Rattle.spa_value.proofs.ViewLaws.{property_views-at, property_views-take_more}
+use Rattle.spa_value.specs.ObjectLaws.{PropertyListsGoOn, PropertyListsAreCut}
 use Rattle.spa_negotiate.specs.declared.error.NegotiateError.{NegotiateError}
 use Rattle.spa_negotiate.specs.declared.negotiation.Settled.{Settled}
 use Rattle.spa_negotiate.specs.Admits.{IsPlain, plain_of}
@@ -44,8 +44,8 @@ not-true true h = absurd (true≢false (sym h))
 not-true false h = refl
 
 -- The i-th property of a side, p, is looked at, where s was settled so far. Its key was added to the keys, in which it was new or not.
-module _ (ours theirs : List Property) (i : ℕ) (p : Property) (s : Settled) (is_new : Bool)
-    (keys : BTreeSet ℕ) (added : IsAdded s.keys p.key is_new keys) where
+module _ (go_on : PropertyListsGoOn) (are_cut : PropertyListsAreCut) (ours theirs : List Property)
+    (i : ℕ) (p : Property) (s : Settled) (is_new : Bool) (keys : BTreeSet ℕ) (added : IsAdded s.keys p.key is_new keys) where
   -- the properties before p, whose keys were there
   module _ (before : Properties) (has : HasKeys s.keys before) where
     there : is_new ≡ false → contains p.key (key_list before) ≡ true
@@ -64,7 +64,7 @@ module _ (ours theirs : List Property) (i : ℕ) (p : Property) (s : Settled) (i
   module _ (l : i < length ours) (e : p ≡ get_or ours i p)
       (h : IsSettled ours theirs (firsts ours i) s) where
     one_more_first : join_properties (firsts ours i) (property_view p) ≡ firsts ours (i + 1)
-    one_more_first = sym (property_views-take_more ours i p l e)
+    one_more_first = sym (go_on ours i p l e)
 
     pub first_keys : HasKeys keys (firsts ours (i + 1))
     first_keys = subst (HasKeys keys) one_more_first (more_keys (firsts ours i) h.keys)
@@ -91,7 +91,7 @@ module _ (ours theirs : List Property) (i : ℕ) (p : Property) (s : Settled) (i
         let met = property_views s.met.items in
         let before = firsts ours i in
         let behind = property_views (drop (i + 1) ours) in
-        let at = property_views-at ours i p l e in
+        let at = are_cut ours i p l e in
         let key = absent before h.keys was in
         let new =
         SettlesKeys-first os ts before met behind p.key p.flags.0 (view p.value) x at h.settles key
@@ -109,7 +109,7 @@ module _ (ours theirs : List Property) (i : ℕ) (p : Property) (s : Settled) (i
         let met = property_views s.met.items in
         let before = firsts ours i in
         let behind = property_views (drop (i + 1) ours) in
-        let at = property_views-at ours i p l e in
+        let at = are_cut ours i p l e in
         let key = absent before h.keys was in
         IsRefusal-first os ts before met behind p.key p.flags.0 (view p.value) why at h.settles key r
 
@@ -120,7 +120,7 @@ module _ (ours theirs : List Property) (i : ℕ) (p : Property) (s : Settled) (i
         ≡ others ours theirs (i + 1)
     one_more_other =
         join_properties-assoc (property_views ours) (firsts theirs i) (property_view p)
-        ∙ ap (join_properties (property_views ours)) (sym (property_views-take_more theirs i p l e))
+        ∙ ap (join_properties (property_views ours)) (sym (go_on theirs i p l e))
 
     pub other_keys : HasKeys keys (others ours theirs (i + 1))
     other_keys = subst (HasKeys keys) one_more_other (more_keys (others ours theirs i) h.keys)
@@ -147,7 +147,7 @@ module _ (ours theirs : List Property) (i : ℕ) (p : Property) (s : Settled) (i
         let met = property_views s.met.items in
         let before = others ours theirs i in
         let behind = property_views (drop (i + 1) theirs) in
-        let at = property_views-at theirs i p l e in
+        let at = are_cut theirs i p l e in
         let key = absent before h.keys was in
         let new =
         SettlesKeys-other os ts (firsts theirs i) met behind p.key p.flags.0 (view p.value) x at

@@ -1,6 +1,7 @@
 -- What a value offers, as the search for a common value sees it: a rule, a default, and further values.
 -- A plain value offers itself, as a None choice does.
 use Rattle.std.specs.Prelude.{⊤, ◌≡◌, ℕ, List, [], ◌∷◌, map, Contains}
+use Rattle.std.specs.BTreeSet.{BTreeSet}
 use Rattle.spa_format.specs.Kind.{Kind, id_kind, int_kind, long_kind}
 use Rattle.spa_format.specs.Tree.{none_choice, range_choice, enum_choice, Tree, fixed, choice}
 use Rattle.spa_value.specs.View.{view}
@@ -10,6 +11,8 @@ use Rattle.spa_negotiate.specs.declared.error.NegotiateError.TheVariants as erro
 use Rattle.spa_negotiate.specs.declared.offer.Rule.{Rule}
 use Rattle.spa_negotiate.specs.declared.offer.Rule.TheVariants.{Only, Among, Between, Unsupported}
 use Rattle.spa_negotiate.specs.declared.offer.Offer.{Offer}
+use Rattle.spa_negotiate.specs.declared.numbers.Numbers.{Numbers}
+use Rattle.spa_negotiate.specs.Numbering.{HasAll}
 
 -- the rule of a range over this kind
 abbrev pub range_rule : Kind → Rule
@@ -37,6 +40,11 @@ further_values_of (choice enum_choice flags kind default values) = map (λ v. fi
 further_values_of (choice range_choice flags kind default values) = map (λ v. fixed v) values
 further_values_of _ = []
 
+-- the default and the alternatives of an Enum
+abbrev pub indexed_of : Tree → List Tree
+indexed_of (choice enum_choice flags kind default values) = fixed default ∷ map (λ v. fixed v) values
+indexed_of _ = []
+
 -- the offer is that of a value with this tree
 pub record IsOfferOf (value : Tree) (offer : Offer) : Type 0 where
   pub rule : offer.rule ≡ rule_of value
@@ -54,6 +62,15 @@ AdmitsBy Unsupported default values x = ⊥
 -- x is admitted by this offer
 abbrev pub OfferAdmits : Offer → Tree → Type 0
 OfferAdmits offer x = AdmitsBy offer.rule (view offer.default) (map view offer.values.items) x
+
+-- the index has what the rule looks up in it: the default and the alternatives of an Enum
+abbrev pub IsIndexedBy : Rule → List Tree → BTreeSet Numbers → Type 0
+IsIndexedBy Among values index = HasAll index values
+IsIndexedBy _ values index = ⊤
+
+-- the same of an offer
+abbrev pub IsIndexed : Offer → Type 0
+IsIndexed offer = IsIndexedBy offer.rule (view offer.default ∷ map view offer.values.items) offer.index
 
 -- x is admitted by both offers
 abbrev pub BothAdmit : Offer → Offer → Tree → Type 0

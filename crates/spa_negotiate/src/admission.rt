@@ -1,18 +1,21 @@
 //! The search for a value that two offers both admit.
-ghost use Rattle.std.specs.Prelude.{◌≡◌, ◌↔◌, IfOk, IsTrue, MatchOption, All, Contains, map};
+ghost use Rattle.std.specs.Prelude.{◌≡◌, ◌↔◌, IfOk, IsTrue, MatchOption, All, map};
 ghost use Rattle.spa_format.specs.Tree.{Tree};
 ghost use Rattle.spa_value.specs.View.{view};
 ghost use Rattle.spa_negotiate.specs.Admits.{IsAtMost};
-ghost use Rattle.spa_negotiate.specs.Offers.{BothAdmit, OfferAdmits, alternatives_of, floor_of};
+ghost use Rattle.spa_negotiate.specs.Offers.{BothAdmit, IsIndexed, OfferAdmits, alternatives_of, floor_of};
 
+use crate::numbers::has;
 use crate::offer::{Offer, Rule};
-use spa_value::Value;
+use libspa::pod::Value;
+use libspa::pod::value_laws::{equal_trees_are_the_same, trees_have_their_types};
 use std::alloc::AllocError;
 
 /// Whether the first is no greater than the second, where both are ids, both ints or both longs.
 fn is_at_most(value: &Value, other: &Value) -> bool
     ensures { IsTrue result ↔ IsAtMost (view value.now) (view other.now) }
 {
+    trees_have_their_types();
     match value {
         Value::Id(x) => match other {
             Value::Id(y) => x.0 <= y.0,
@@ -34,28 +37,18 @@ fn is_at_most(value: &Value, other: &Value) -> bool
 fn is_same(value: &Value, other: &Value) -> bool
     ensures { IsTrue result ↔ (view value.now ≡ view other.now) }
 {
+    equal_trees_are_the_same();
     value == other
-}
-
-/// Whether the value is among these.
-fn is_among(values: &[Value], value: &Value) -> bool
-    ensures { IsTrue result ↔ Contains (map view values.now) (view value.now) }
-{
-    for one in values {
-        if is_same(one, value) {
-            return true;
-        }
-    }
-    false
 }
 
 /// Whether the offer admits the value.
 fn admits(offer: &Offer, value: &Value) -> bool
+    requires { IsIndexed offer.now }
     ensures { IsTrue result ↔ OfferAdmits offer.now (view value.now) }
 {
     match offer.rule {
         Rule::Only => is_same(value, &offer.default),
-        Rule::Among => is_same(value, &offer.default) || is_among(offer.values.as_slice(), value),
+        Rule::Among => has(&offer.index, value),
         Rule::Between => match offer.values.as_slice() {
             [low, high, ..] => is_at_most(low, value) && is_at_most(value, high),
             _ => false,
@@ -66,6 +59,7 @@ fn admits(offer: &Offer, value: &Value) -> bool
 
 /// Whether both offers admit the value.
 fn both_admit(a: &Offer, b: &Offer, value: &Value) -> bool
+    requires { IsIndexed a.now × IsIndexed b.now }
     ensures { IsTrue result ↔ BothAdmit a.now b.now (view value.now) }
 {
     admits(a, value) && admits(b, value)
@@ -73,6 +67,7 @@ fn both_admit(a: &Offer, b: &Offer, value: &Value) -> bool
 
 /// A copy of the first of these values that both offers admit, where there is one.
 fn first_of(values: &[Value], a: &Offer, b: &Offer) -> Result<Option<Value>, AllocError>
+    requires { IsIndexed a.now × IsIndexed b.now }
     ensures { IfOk result (λ found. MatchOption found (All (λ x. ¬ (BothAdmit a.now b.now x)) (map view values.now)) (λ x. BothAdmit a.now b.now (view x))) }
 {
     for value in values {
@@ -109,6 +104,7 @@ fn floor(offer: &Offer) -> &Value
 /// The first of these that both offers admit: a's default, b's default, a's alternatives, b's alternatives, a's
 /// minimum, b's minimum. Where both admit none of these, they admit no value.
 pub(crate) fn first_common(a: &Offer, b: &Offer) -> Result<Option<Value>, AllocError>
+    requires { IsIndexed a.now × IsIndexed b.now }
     ensures { IfOk result (λ found. MatchOption found ((x : Tree) → ¬ (BothAdmit a.now b.now x)) (λ x. BothAdmit a.now b.now (view x))) }
 {
     if both_admit(a, b, &a.default) {

@@ -1,13 +1,14 @@
-//! The nine types over which there are choices, and the values of their elements.
+//! The nine types over which there are choices: their elements as values and as numbers.
 ghost use Rattle.std.specs.Prelude.{◌≡◌};
 ghost use Rattle.spa_format.specs.Tree.{fixed};
 ghost use Rattle.spa_value.specs.View.{view};
+ghost use Rattle.spa_negotiate.specs.Numbering.{numbers_of};
 ghost use Rattle.spa_negotiate.specs.Offers.{range_rule};
 
+use crate::numbers::Numbers;
 use crate::offer::Rule;
-use spa_fixed::CanonicalFixedSizedPod;
-use spa_utils::{Fd, Float32, Float64, Fraction, Id, Rectangle};
-use spa_value::Value;
+use libspa::pod::{CanonicalFixedSizedPod, Value};
+use libspa::utils::{Fd, Float32, Float64, Fraction, Id, Rectangle};
 
 /// One of the nine types over which there are choices.
 pub(crate) trait Element: CanonicalFixedSizedPod {
@@ -18,6 +19,10 @@ pub(crate) trait Element: CanonicalFixedSizedPod {
     /// This element as a value.
     fn value(&self) -> Value
         ensures { view result ≡ fixed (Self.fixed self.now) };
+
+    /// The numbers by which this element is told from all others.
+    fn numbers(&self) -> Numbers
+        ensures { result ≡ numbers_of (Self.fixed self.now) };
 }
 
 impl Element for bool {
@@ -27,6 +32,10 @@ impl Element for bool {
 
     fn value(&self) -> Value {
         Value::Bool(*self)
+    }
+
+    fn numbers(&self) -> Numbers {
+        Numbers::unsigned(Self::TYPE, u64::from(*self), 0)
     }
 }
 
@@ -38,6 +47,10 @@ impl Element for Id {
     fn value(&self) -> Value {
         Value::Id(*self)
     }
+
+    fn numbers(&self) -> Numbers {
+        Numbers::unsigned(Self::TYPE, u64::from(self.0), 0)
+    }
 }
 
 impl Element for i32 {
@@ -47,6 +60,10 @@ impl Element for i32 {
 
     fn value(&self) -> Value {
         Value::Int(*self)
+    }
+
+    fn numbers(&self) -> Numbers {
+        Numbers::signed(Self::TYPE, i64::from(*self))
     }
 }
 
@@ -58,6 +75,10 @@ impl Element for i64 {
     fn value(&self) -> Value {
         Value::Long(*self)
     }
+
+    fn numbers(&self) -> Numbers {
+        Numbers::signed(Self::TYPE, *self)
+    }
 }
 
 impl Element for Float32 {
@@ -67,6 +88,10 @@ impl Element for Float32 {
 
     fn value(&self) -> Value {
         Value::Float(*self)
+    }
+
+    fn numbers(&self) -> Numbers {
+        Numbers::unsigned(Self::TYPE, u64::from(self.0), 0)
     }
 }
 
@@ -78,6 +103,10 @@ impl Element for Float64 {
     fn value(&self) -> Value {
         Value::Double(*self)
     }
+
+    fn numbers(&self) -> Numbers {
+        Numbers::unsigned(Self::TYPE, self.0, 0)
+    }
 }
 
 impl Element for Rectangle {
@@ -87,6 +116,10 @@ impl Element for Rectangle {
 
     fn value(&self) -> Value {
         Value::Rectangle(*self)
+    }
+
+    fn numbers(&self) -> Numbers {
+        Numbers::unsigned(Self::TYPE, u64::from(self.width), u64::from(self.height))
     }
 }
 
@@ -98,6 +131,10 @@ impl Element for Fraction {
     fn value(&self) -> Value {
         Value::Fraction(*self)
     }
+
+    fn numbers(&self) -> Numbers {
+        Numbers::unsigned(Self::TYPE, u64::from(self.num), u64::from(self.denom))
+    }
 }
 
 impl Element for Fd {
@@ -107,5 +144,9 @@ impl Element for Fd {
 
     fn value(&self) -> Value {
         Value::Fd(*self)
+    }
+
+    fn numbers(&self) -> Numbers {
+        Numbers::signed(Self::TYPE, self.0)
     }
 }

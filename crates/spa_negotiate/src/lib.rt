@@ -6,6 +6,7 @@ mod element;
 mod error;
 mod keyed;
 mod negotiation;
+mod numbers;
 mod offer;
 mod pods;
 

@@ -5,7 +5,7 @@ ghost use Rattle.spa_value.specs.View.{object_view, view};
 ghost use Rattle.spa_value.specs.Views.{property_views};
 ghost use Rattle.spa_negotiate.specs.Admits.{IsCommon, IsPlain};
 ghost use Rattle.spa_negotiate.specs.Meeting.{CanMeet, Meet, Settles};
-ghost use Rattle.spa_negotiate.specs.Offers.{BothAdmit, IsOfferRefusal};
+ghost use Rattle.spa_negotiate.specs.Offers.{BothAdmit, IsIndexed, IsOfferRefusal};
 ghost use Rattle.spa_negotiate.specs.PropertyLists.{HasPlaces, IsPushed, IsSettled, SettlesListed, found_at};
 ghost use Rattle.spa_negotiate.specs.Refusals.{AreRefused, IsKeyRefusal, IsRefusal, OnDisagreement};
 
@@ -13,7 +13,8 @@ use crate::admission::first_common;
 use crate::error::NegotiateError;
 use crate::keyed::{Keyed, add_key};
 use crate::offer::{Offer, offer_of, settled};
-use spa_value::{Object, Property, Value};
+use libspa::pod::value_laws::{objects_are_their_fields, property_lists_are_in_order};
+use libspa::pod::{Object, Property, Value};
 use std::alloc::{AllocError, Global};
 use std::collections::BTreeSet;
 
@@ -30,8 +31,8 @@ use std::collections::BTreeSet;
 /// The refusals: `TypeMismatch`, before any other; then, at the first of a's keys under which the two don't agree,
 /// `Unsupported`, before `Disjoint`. `OutOfMemory` is answered only for two objects of one type.
 ///
-/// A key is looked for in a tree of keys, so the time grows with n log n for n properties, their values aside. Under a key
-/// of both each alternative of one Enum is looked for along those of the other.
+/// Keys and alternatives are looked for in trees, so the time grows with n log n for n properties and alternatives, other
+/// values aside.
 pub fn negotiate(alloc: Global, a: &Object, b: &Object) -> Result<Object, NegotiateError>
     // Unless memory runs out, this succeeds exactly where the two can meet,
     ensures accepted { OnOk result (CanMeet (object_view a.now) (object_view b.now)) }
@@ -41,6 +42,7 @@ pub fn negotiate(alloc: Global, a: &Object, b: &Object) -> Result<Object, Negoti
     // and a refusal is one that stands.
     ensures cause { IfErr result (AreRefused (object_view a.now) (object_view b.now)) }
 {
+    objects_are_their_fields();
     if a.type_ != b.type_ {
         return Err(NegotiateError::TypeMismatch);
     }
@@ -69,6 +71,7 @@ fn settle_first(alloc: Global, a: &[Property], b: &Keyed<'_>) -> Result<Settled,
     ensures settled { IfOk result (IsSettled a.now b.now.properties.now (property_views a.now)) }
     ensures cause { IfErr result (IsRefusal (property_views a.now) (property_views b.now.properties.now)) }
 {
+    property_lists_are_in_order();
     let mut met = Vec::new(alloc);
     let mut keys = BTreeSet::new(alloc);
     for property in a {
@@ -90,6 +93,7 @@ fn settle_others(
     requires { IsSettled a.now b.now (property_views a.now) first }
     ensures { IfOk result (λ met. SettlesListed a.now b.now (join_properties (property_views a.now) (property_views b.now)) met.items) }
 {
+    property_lists_are_in_order();
     let Settled { mut met, mut keys } = first;
     for property in b {
         if add_key(&mut keys, property.key)? {
@@ -126,6 +130,7 @@ fn common(alloc: Global, key: u32, a: &Value, b: &Value) -> Result<Value, Negoti
 
 /// A value that both offers admit.
 fn common_of(key: u32, first: &Offer, second: &Offer) -> Result<Value, NegotiateError>
+    requires { IsIndexed first.now × IsIndexed second.now }
     ensures common { IfOk result (λ x. BothAdmit first.now second.now (view x)) }
     ensures cause { IfErr result (IsOfferRefusal key first.now second.now) }
 {
@@ -142,6 +147,7 @@ fn common_of(key: u32, first: &Offer, second: &Offer) -> Result<Value, Negotiate
 fn push(properties: &mut Vec<Property>, key: u32, value: Value) -> Result<(), AllocError>
     ensures { OnOk result (IsPushed properties.old.items key (view value) properties.new.items) }
 {
+    property_lists_are_in_order();
     properties.push(Property::new(key, value))?;
     Ok(())
 }

@@ -4,12 +4,16 @@ ghost use Rattle.spa_format.specs.Tree.{fixed};
 ghost use Rattle.spa_value.specs.View.{choice_view, view};
 ghost use Rattle.spa_fixed.specs.Choices.{choice_enum_tree};
 ghost use Rattle.spa_negotiate.specs.Admits.{IsPlain, plain_of};
-ghost use Rattle.spa_negotiate.specs.Offers.{IsOfferOf, further_values_of, rule_of};
+ghost use Rattle.spa_negotiate.specs.Numbering.{HasAll};
+ghost use Rattle.spa_negotiate.specs.Offers.{IsIndexed, IsOfferOf, further_values_of, indexed_of, rule_of};
 
 use crate::element::Element;
-use spa_utils::ChoiceEnum;
-use spa_value::{ChoiceValue, Value};
+use crate::numbers::{Numbers, add};
+use libspa::pod::value_laws::trees_have_their_types;
+use libspa::pod::{ChoiceValue, Value};
+use libspa::utils::ChoiceEnum;
 use std::alloc::{AllocError, Global};
+use std::collections::BTreeSet;
 
 /// Which values an offer admits.
 #[derive(Clone, Copy)]
@@ -43,6 +47,8 @@ pub(crate) struct Offer {
     pub(crate) default: Value,
     /// The alternatives of an Enum, the minimum and the maximum of a Range, and nothing elsewhere.
     pub(crate) values: Vec<Value>,
+    /// The default and the alternatives of an Enum, to look values up in, and nothing elsewhere.
+    pub(crate) index: BTreeSet<Numbers>,
 }
 
 // By hand, so that a function that holds two offers calls this and isn't proved along each path of a drop.
@@ -52,6 +58,7 @@ impl Drop for Offer {
             rule: _,
             default: _,
             values: _,
+            index: _,
         } = self;
     }
 }
@@ -117,21 +124,61 @@ fn list_of<T: Element>(alloc: Global, elements: &[T]) -> Result<Vec<Value>, Allo
     Ok(values)
 }
 
+/// The default and the alternatives of an Enum, and nothing of other choices.
+#[tactic(auto, using(crate::proofs::NumberLemmas::empty_has_none))]
+fn index_of<T: Element>(
+    alloc: Global,
+    choice: &ChoiceEnum<T>,
+) -> Result<BTreeSet<Numbers>, AllocError>
+    ensures { IfOk result (λ index. HasAll index (indexed_of (choice_enum_tree T.kind T.fixed 0 choice.now))) }
+{
+    match choice {
+        ChoiceEnum::Enum {
+            default,
+            alternatives,
+        } => index_of_all(alloc, default, alternatives.as_slice()),
+        ChoiceEnum::None(_) => Ok(BTreeSet::new(alloc)),
+        ChoiceEnum::Range { .. } => Ok(BTreeSet::new(alloc)),
+        ChoiceEnum::Step { .. } => Ok(BTreeSet::new(alloc)),
+        ChoiceEnum::Flags { .. } => Ok(BTreeSet::new(alloc)),
+    }
+}
+
+/// An element and others.
+fn index_of_all<T: Element>(
+    alloc: Global,
+    first: &T,
+    others: &[T],
+) -> Result<BTreeSet<Numbers>, AllocError>
+    ensures { IfOk result (λ index. HasAll index (fixed (T.fixed first.now) ∷ map (λ x. fixed x) (map T.fixed others.now))) }
+{
+    let mut index = BTreeSet::new(alloc);
+    add(&mut index, first)?;
+    for other in others {
+        add(&mut index, other)?;
+    }
+    Ok(index)
+}
+
 /// What a choice offers, whatever its flags are.
 fn offer_of_choice<T: Element>(alloc: Global, choice: &ChoiceEnum<T>) -> Result<Offer, AllocError>
-    ensures { IfOk result (λ offer. IsOfferOf (choice_enum_tree T.kind T.fixed 0 choice.now) offer) }
+    ensures offer { IfOk result (λ offer. IsOfferOf (choice_enum_tree T.kind T.fixed 0 choice.now) offer) }
+    ensures indexed { IfOk result (λ offer. IsIndexed offer) }
 {
     Ok(Offer {
         rule: rule_of(choice),
         default: plain_of(choice),
         values: further_values_of(alloc, choice)?,
+        index: index_of(alloc, choice)?,
     })
 }
 
 /// What a value offers.
 pub(crate) fn offer_of(alloc: Global, value: &Value) -> Result<Offer, AllocError>
-    ensures { IfOk result (λ offer. IsOfferOf (view value.now) offer) }
+    ensures offer { IfOk result (λ offer. IsOfferOf (view value.now) offer) }
+    ensures indexed { IfOk result (λ offer. IsIndexed offer) }
 {
+    trees_have_their_types();
     match value {
         Value::Choice(choice) => match choice {
             ChoiceValue::Bool(choice) => offer_of_choice(alloc, &choice.1),
@@ -148,6 +195,7 @@ pub(crate) fn offer_of(alloc: Global, value: &Value) -> Result<Offer, AllocError
             rule: Rule::Only,
             default: value.clone()?,
             values: Vec::new(alloc),
+            index: BTreeSet::new(alloc),
         }),
     }
 }
@@ -174,6 +222,7 @@ pub(crate) fn settled(value: &Value) -> Result<Value, AllocError>
     ensures plain { IfOk result (λ settled. IsPlain (view settled)) }
     ensures settled { IfOk result (λ settled. view settled ≡ plain_of (view value.now)) }
 {
+    trees_have_their_types();
     match value {
         Value::Choice(choice) => Ok(settled_choice(choice)),
         _ => Ok(value.clone()?),

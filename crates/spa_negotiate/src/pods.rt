@@ -11,13 +11,12 @@ ghost use Rattle.spa_negotiate.specs.Meeting.{CanMeet};
 
 use crate::error::{NegotiateError, Side};
 use crate::negotiation::negotiate;
-use spa_fixed::DeserializeError;
-use spa_format::laws::{pods_have_one_value, readings_are_normal};
-use spa_format::view_laws::{settled_properties_are_settled, walks_find_members};
-use spa_read::PodDeserializer;
-use spa_sink::GenError;
-use spa_value::{Object, Value, discard};
-use spa_write::PodSerializer;
+use libspa::pod::deserialize::{DeserializeError, PodDeserializer};
+use libspa::pod::laws::{pods_have_one_value, readings_are_normal};
+use libspa::pod::serialize::{GenError, PodSerializer};
+use libspa::pod::value_laws::{objects_are_their_fields, trees_have_their_types};
+use libspa::pod::view_laws::{settled_properties_are_settled, walks_find_members};
+use libspa::pod::{Object, Value, discard};
 use std::alloc::Global;
 
 /// The encoding of the object in which the objects at the fronts of two inputs meet, by the rules of `negotiate`. What follows
@@ -39,6 +38,7 @@ pub fn negotiate_pods(alloc: Global, a: &[u8], b: &[u8]) -> Result<Vec<u8>, Nego
     // and a refusal is one that stands.
     ensures cause { IfErr result (AreFrontsRefused a.now b.now) }
 {
+    objects_are_their_fields();
     pods_have_one_value();
     walks_find_members();
     settled_properties_are_settled();
@@ -69,6 +69,7 @@ fn object_at(alloc: Global, bytes: &[u8], side: Side) -> Result<Object, Negotiat
 fn object_of(value: Value) -> Option<Object>
     ensures { MatchOption result (¬ (IsObject (view value))) (λ object. view value ≡ object_view object) }
 {
+    trees_have_their_types();
     match value {
         Value::Object(object) => Some(object),
         other => {

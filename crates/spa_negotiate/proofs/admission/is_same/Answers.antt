@@ -1,9 +1,8 @@
 use Rattle.std.proofs.Common.{sym, ◌∙◌}
 use Rattle.spa_value.specs.View.{view}
-use Rattle.spa_value.specs.EqualityLaws.{tree-decides}
 use Rattle.spa_negotiate.proofs.admission.is_same.Goals as goal
 
 pub returns : goal.returns
 returns c =
-    let same = tree-decides (view c.args.value.now) (view c.args.other.now) in
+    let same = c.equal_trees_are_the_same.ensures.trees (view c.args.value.now) (view c.args.other.now) in
     (λ h. same.0 (sym c.eq.ensures ∙ h), λ e. c.eq.ensures ∙ same.1 e)

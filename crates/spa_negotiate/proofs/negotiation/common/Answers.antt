@@ -5,14 +5,14 @@ use Rattle.spa_negotiate.proofs.negotiation.common.Goals as goal
 pub returns-clause-plain : goal.returns-clause-plain
 returns-clause-plain c =
     IsPlain-offers (view c.args.a.now) (view c.args.b.now) _ _
-    c.in_ok-first.ensures c.in_ok-second.ensures _ c.common_of.ensures.common
+    c.in_ok-first.ensures.offer c.in_ok-second.ensures.offer _ c.common_of.ensures.common
 
 pub returns-clause-common : goal.returns-clause-common
 returns-clause-common c =
     IsCommon-offers (view c.args.a.now) (view c.args.b.now) _ _
-    c.in_ok-first.ensures c.in_ok-second.ensures _ c.common_of.ensures.common
+    c.in_ok-first.ensures.offer c.in_ok-second.ensures.offer _ c.common_of.ensures.common
 
 pub returns-clause-cause : goal.returns-clause-cause
 returns-clause-cause c =
     IsKeyRefusal-offers (view c.args.a.now) (view c.args.b.now) _ _
-    c.in_ok-first.ensures c.in_ok-second.ensures c.args.key _ c.common_of.ensures.cause
+    c.in_ok-first.ensures.offer c.in_ok-second.ensures.offer c.args.key _ c.common_of.ensures.cause

@@ -16,6 +16,7 @@ loop-property-init c =
 
 pub loop-property-preserved : goal.loop-property-preserved
 loop-property-preserved c =
+    let law = c.property_lists_are_in_order.ensures in
     let ours = c.args.a.now in
     let theirs = c.args.b.now in
     let l = c.loop-property in
@@ -25,19 +26,19 @@ loop-property-preserved c =
     let added = c.in_ok-add_key.ensures in
     let more = c.loop-property-test.true in
     let is = c.property-item.is in
-    let keys = other_keys ours theirs i p s _ _ added more is l.invariant in
+    let keys = other_keys law.first law.cut ours theirs i p s _ _ added more is l.invariant in
     elim c.if-branch.branch [
       | then-branch+in_ok-value+in_ok-push w ↦
           let x = w.in_ok-value in
           let pushed = ap (λ v. property_views v.items) w.met-is ∙ w.in_ok-push.ensures in
           record {
             settles =
-                other_new ours theirs i p s _ _ added more is l.invariant w.if-branch.true
+                other_new law.first law.cut ours theirs i p s _ _ added more is l.invariant w.if-branch.true
                 c.if-branch.met.items (view x.value) pushed x.ensures.plain x.ensures.settled;
             keys = keys;
           }
       | else-branch w ↦
-          let seen = other_seen ours theirs i p s _ _ added more is l.invariant w.if-branch.false in
+          let seen = other_seen law.first law.cut ours theirs i p s _ _ added more is l.invariant w.if-branch.false in
           record {
             settles =
                 subst (λ v. SettlesListed ours theirs (others ours theirs (i + 1)) v.items) (sym w.met-is)

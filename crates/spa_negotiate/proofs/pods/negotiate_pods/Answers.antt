@@ -1,11 +1,11 @@
 use Rattle.spa_value.specs.View.{object_view}
 use Rattle.spa_negotiate.proofs.Fronts.{BeginsObject-read, second_refused, ReadsBack-met, MeetIn-written, settled-written}
-use Rattle.spa_bytes.proofs.Passing.{passed_on}
+use Rattle.spa_negotiate.proofs.Passing.{passed_on}
 use Rattle.spa_negotiate.proofs.pods.negotiate_pods.Goals as goal
 
 pub returns-in_err-second-clause-cause : goal.returns-in_err-second-clause-cause
 returns-in_err-second-clause-cause c =
-    let first = BeginsObject-read c.args.a.now c.in_ok-first.first c.in_ok-first.ensures.value in
+    let first = BeginsObject-read c.objects_are_their_fields.ensures.fields c.args.a.now c.in_ok-first.first c.in_ok-first.ensures.value in
     passed_on _ _ _ c.from_residual-in_err-second.ensures.1
     (second_refused c.args.a.now c.args.b.now first _ c.in_err-second.ensures.cause)
 

@@ -16,6 +16,8 @@ pub use Rattle.spa_value.specs.View
 pub use Rattle.spa_value.specs.Equality
 pub use Rattle.spa_read.specs.Reading
 pub use Rattle.spa_write.specs.Written
+pub use Rattle.spa_write.specs.Success
+pub use Rattle.spa_write.specs.Unfinished
 pub use Rattle.spa_rewrite.specs.Rewriting
 pub use Rattle.spa_view.specs.View as Seen
 pub use Rattle.spa_view.specs.Tests

@@ -52,7 +52,10 @@ pub mod pod {
     pub mod serialize {
         pub use spa_device::IoSink;
         pub use spa_sink::{GenError, PodOutput, PodSink};
-        pub use spa_write::{PodSerialize, PodSerializer, SerializeSuccess, laws};
+        pub use spa_write::{
+            ArrayPodSerializer, ObjectPodSerializer, PodSerialize, PodSerializer, SerializeSuccess,
+            StructPodSerializer, laws,
+        };
     }
 
     /// Reading values.

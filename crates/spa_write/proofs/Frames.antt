@@ -7,7 +7,7 @@ use Rattle.spa_sink.specs.declared.gen_error.GenError.TheVariants.{TooLarge}
 use Rattle.spa_sink.specs.Writing.{RefusesWrite}
 use Rattle.spa_format.specs.Words.{header_size, padded_size, padding, size_limit, word_bytes}
 use Rattle.spa_format.specs.Encoding.{framed}
-use Rattle.spa_write.specs.Written.{Appending, ClosesPod, IsBegun, IsClosed, IsExtended, IsPastLimit, IsWholeSize, Refusing, begun_length}
+use Rattle.spa_write.specs.Written.{Appending, ClosesPod, IsClosed, IsExtended, IsPastLimit, IsWholeSize, Refusing, begun_length}
 use Rattle.spa_format.proofs.Encodings.{body_within, length-framed, length-word_bytes, two_words_length}
 use Rattle.spa_write.proofs.Refusals.{IsSink, part_refused, sink_refused}
 
@@ -20,7 +20,7 @@ begun_body old head body h =
     omega arith
 
 -- its encoding, once the size word is written
-sized_encoding : (old body : List ℕ) (type : ℕ) → IsWholeSize (length body) →
+pub sized_encoding : (old body : List ℕ) (type : ℕ) → IsWholeSize (length body) →
     take (length old) (old ++ ((word_bytes 0 ++ word_bytes type) ++ body)) ++
     (word_bytes (length body) ++ drop (length old + 4) (old ++ ((word_bytes 0 ++ word_bytes type) ++ body)))
     ≡ old ++ framed type body

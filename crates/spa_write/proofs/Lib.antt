@@ -3,3 +3,5 @@ pub mod Extending
 pub mod Frames
 pub mod Structs
 pub mod Objects
+pub mod OpenPods
+pub mod OpenArrays

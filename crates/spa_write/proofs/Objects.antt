@@ -5,7 +5,7 @@ use Rattle.spa_sink.specs.declared.gen_error.GenError.{GenError}
 use Rattle.spa_sink.specs.declared.gen_error.GenError.TheVariants.{TooLarge}
 use Rattle.spa_sink.specs.Writing.{RefusesWrite}
 use Rattle.spa_format.specs.Words.{header_size, size_limit, word_bytes}
-use Rattle.spa_format.specs.Tree.{Tree, object, object_type, Properties, no_properties, property, join_properties, type_of}
+use Rattle.spa_format.specs.Tree.{Tree, object, object_type, Properties, no_properties, property, join_properties}
 use Rattle.spa_format.specs.Encoding.{encoded_body, encoding_of, property_encodings}
 use Rattle.spa_format.specs.Typed.{AllPropertiesTyped}
 use Rattle.spa_format.specs.Writable.{HasNul, IsTooLarge, SomeValueHasNul, SomeValueTooLarge}

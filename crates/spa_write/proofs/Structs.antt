@@ -6,7 +6,7 @@ use Rattle.spa_sink.specs.declared.gen_error.GenError.TheVariants.{TooLarge}
 use Rattle.spa_sink.specs.Writing.{RefusesWrite}
 use Rattle.spa_format.specs.Words.{header_size, size_limit, word_bytes}
 use Rattle.spa_format.specs.Tree.{Tree, struct, struct_type, Trees, no_trees, member, join_members, type_of}
-use Rattle.spa_format.specs.Encoding.{framed, encoded_body, encoding_of, member_encodings}
+use Rattle.spa_format.specs.Encoding.{encoded_body, encoding_of, member_encodings}
 use Rattle.spa_format.specs.Typed.{AllTyped}
 use Rattle.spa_format.specs.Writable.{HasNul, IsTooLarge, SomeHasNul, SomeTooLarge}
 use Rattle.spa_value.specs.declared.value.Value.{Value}

@@ -1,12 +1,13 @@
 //! What writing a value comes to over each output. The functions only call the writer: their contracts are the laws.
 ghost use Rattle.std.specs.Prelude.{◌≡◌, ◌+◌, ◌<◌, ◌≤◌, ◌++◌, IfErr, IfOk, IsOk, length};
 ghost use Rattle.spa_sink.specs.Writing.{RefusedFor};
+ghost use Rattle.spa_sink.specs.declared.gen_error.GenError.{GenError};
 ghost use Rattle.spa_sink.specs.declared.gen_error.GenError.TheVariants.{Full, OutOfMemory};
 ghost use Rattle.spa_format.specs.Encoding.{encoding_of};
 ghost use Rattle.spa_format.specs.Writable.{HasNul, IsTooLarge, IsWritable};
 ghost use Rattle.spa_value.specs.View.{view};
 
-use crate::serializer::PodSerializer;
+use crate::serializer::{PodSerialize, PodSerializer};
 use arrayvec::ArrayVec;
 use spa_sink::GenError;
 use spa_value::Value;
@@ -40,4 +41,17 @@ pub fn values_are_written_into_memory(
     ensures cause { IfErr result (RefusedFor (HasNul (view value.now)) (IsTooLarge (view value.now)) (λ e. e ≡ OutOfMemory)) }
 {
     PodSerializer::<Vec<u8>>::serialize(out, value)
+}
+
+/// What isn't refused for its own sake is written over an output of fixed size exactly where its encoding fits, and refused as
+/// `Full` else.
+pub fn pods_are_written_where_they_fit<P: PodSerialize, const N: usize>(
+    out: ArrayVec<u8, N>,
+    pod: &P,
+) -> Result<(ArrayVec<u8, N>, u64), GenError>
+    ensures encoding { IfOk result (λ done. done.0.items ≡ out.entry.items ++ encoding_of (P.value pod.now)) }
+    ensures room { ((e : GenError) → ¬ (P.refuses pod.now e)) → length out.entry.items + length (encoding_of (P.value pod.now)) ≤ N → IsOk result }
+    ensures full { ((e : GenError) → ¬ (P.refuses pod.now e)) → IfErr result (λ e. (e ≡ Full) × (N < length out.entry.items + length (encoding_of (P.value pod.now)))) }
+{
+    PodSerializer::serialize(out, pod)
 }

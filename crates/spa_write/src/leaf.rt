@@ -44,7 +44,7 @@ pub fn put_leaf<S: PodSink>(sink: &mut S, value: &Value) -> Result<(), GenError>
 }
 
 /// Appends the pod of a value of fixed size.
-fn put_number<T: CanonicalFixedSizedPod, S: PodSink>(
+pub(crate) fn put_number<T: CanonicalFixedSizedPod, S: PodSink>(
     sink: &mut S,
     value: &T,
 ) -> Result<(), GenError>
@@ -55,7 +55,7 @@ fn put_number<T: CanonicalFixedSizedPod, S: PodSink>(
 }
 
 /// Appends the pod of elements of one type of fixed size.
-fn put_elements<T: CanonicalFixedSizedPod, S: PodSink>(
+pub(crate) fn put_elements<T: CanonicalFixedSizedPod, S: PodSink>(
     sink: &mut S,
     values: &[T],
 ) -> Result<(), GenError>
@@ -66,7 +66,7 @@ fn put_elements<T: CanonicalFixedSizedPod, S: PodSink>(
 }
 
 /// Appends the pod of a choice over one type of fixed size.
-fn put_alternatives<T: ChoiceElement, S: PodSink>(
+pub(crate) fn put_alternatives<T: ChoiceElement, S: PodSink>(
     sink: &mut S,
     choice: &Choice<T>,
 ) -> Result<(), GenError>

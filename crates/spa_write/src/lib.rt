@@ -1,15 +1,25 @@
 //! The writer of values: a value's encoding is appended to any output.
 #![tactic(auto)]
 
+mod arrays;
+mod borrowed;
+mod choices;
+mod elements;
+mod fixed_types;
 mod frame;
 pub mod laws;
 mod leaf;
+mod members;
+mod open_pod;
 mod serializer;
 mod text;
 mod value;
+mod whole;
 
+pub use elements::ArrayPodSerializer;
 pub use frame::{begin, close};
 pub use leaf::put_leaf;
+pub use members::{ObjectPodSerializer, StructPodSerializer};
 pub use serializer::{PodSerialize, PodSerializer, SerializeSuccess};
 pub use text::{put_bitmap, put_bytes, put_pointer, put_text};
 pub use value::write_value;

@@ -41,7 +41,7 @@ pub trait PodSerialize {
 /// Writes one pod to the end of an output.
 #[derive(Drop)]
 pub struct PodSerializer<O: PodOutput> {
-    out: O,
+    pub(crate) out: O,
 }
 
 impl<O: PodOutput> Model for PodSerializer<O> {
@@ -53,8 +53,8 @@ impl<O: PodOutput> Model for PodSerializer<O> {
 /// A pod was written.
 #[derive(Drop)]
 pub struct SerializeSuccess<O: PodOutput> {
-    out: O,
-    len: u64,
+    pub(crate) out: O,
+    pub(crate) len: u64,
 }
 
 impl<O: PodOutput> Model for SerializeSuccess<O> {

@@ -1,0 +1,14 @@
+//! Types of a program's own, written as pods. They know the library by its contracts alone.
+#![tactic(auto)]
+
+mod level;
+mod mode;
+mod screen;
+mod song;
+mod tagged;
+
+pub use level::{Level, Pair};
+pub use mode::{Mode, Size, put_mode};
+pub use screen::{Device, Screen};
+pub use song::{Cover, Song};
+pub use tagged::{Tagged, is_number, tagged_number};

@@ -93,19 +93,19 @@ reaches_member vs left some = record {
 }
 
 -- what is left begins with a key and flags, and behind these stands a pod
-record HasKey (left behind : List ℕ) (k f : ℕ) : Type 0 where
-  long : header_size ≤ length left
-  is_behind : behind ≡ drop header_size left
-  key : k ≡ word_at left 0
-  flags : f ≡ word_at left 4
+pub record HasKey (left behind : List ℕ) (k f : ℕ) : Type 0 where
+  pub long : header_size ≤ length left
+  pub is_behind : behind ≡ drop header_size left
+  pub key : k ≡ word_at left 0
+  pub flags : f ≡ word_at left 4
 
 -- the property that those make with the front behind them
-record IsFirst (left rest : List ℕ) (one : Properties) : Type 0 where
-  here : List ℕ
-  parts : left ≡ here ++ rest
-  its_bytes : AreProperties one here
+pub record IsFirst (left rest : List ℕ) (one : Properties) : Type 0 where
+  pub here : List ℕ
+  pub parts : left ≡ here ++ rest
+  pub its_bytes : AreProperties one here
 
-first_property : (left behind rest : List ℕ) (k f : ℕ) (v : Tree) → HasKey left behind k f →
+pub first_property : (left behind rest : List ℕ) (k f : ℕ) (v : Tree) → HasKey left behind k f →
     BeginsWith behind v rest → IsFirst left rest (property k f v no_properties)
 first_property left behind rest k f v h b =
     let head = take 8 left in

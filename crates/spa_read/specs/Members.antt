@@ -1,0 +1,137 @@
+-- Readers of a struct's members and of an object's properties: what they have left, and what their calls take.
+use Rattle.std.specs.Prelude.{◌≡◌, ◌≢◌, ℕ, ◌+◌, ◌*◌, ◌≤◌, Bool, true, false, List, [], ◌++◌, length, drop, take}
+use Rattle.spa_format.specs.Words.{word_at, header_size}
+use Rattle.spa_format.specs.Kind.{Kind, Fixed, IsFixedBody, body_size, type_number}
+use Rattle.spa_format.specs.Tree.{Tree, Trees, Properties, array_type, object_type, struct_type}
+use Rattle.spa_format.specs.Pod.{AreMembers, AreProperties}
+use Rattle.spa_bytes.specs.Opening.{Opens}
+use Rattle.std.specs.Borrow.{Bor}
+use Rattle.spa_fixed.specs.declared.fault.DeserializeError.{DeserializeError}
+use Rattle.spa_fixed.specs.declared.fault.DeserializeError.TheVariants as error
+use Rattle.spa_read.specs.Reading.{IsRead}
+
+-- what a reader has left of its body, what follows the pod, and whether the reader has failed
+pub record Reader : Type 0 where
+  pub left : List ℕ
+  pub after : List ℕ
+  pub failed : Bool
+
+-- all is read, and no call was refused
+pub record AtEnd (r : Reader) : Type 0 where
+  pub good : r.failed ≡ false
+  pub none_left : r.left ≡ []
+
+-- the reader of the struct at the front, at its first member
+pub record OpensStruct (input : List ℕ) (r : Reader) : Type 0 where
+  pub good : r.failed ≡ false
+  pub opens : Opens input struct_type r.left r.after
+
+-- this is the reader that was lent, some members further and not failed
+pub record Ahead (lent now : Reader) : Type 0 where
+  pub members : Trees
+  pub seen : List ℕ
+  pub good : lent.failed ≡ false
+  pub left : lent.left ≡ seen ++ now.left
+  pub are : AreMembers members seen
+  pub after : now.after ≡ lent.after
+
+-- this is the reader that was lent, some members further, or it has failed
+pub record Further (lent now : Reader) : Type 0 where
+  pub ahead : now.failed ≡ false → Ahead lent now
+
+-- all that the reader had left are these members
+pub record AllMembers (lent : Reader) (P : Trees → Type 0) : Type 0 where
+  pub members : Trees
+  pub are : AreMembers members lent.left
+  pub holds : P members
+
+-- the next member is taken
+pub record TakesField (old new : Reader) (P : Tree → Type 0) : Type 0 where
+  pub was_good : old.failed ≡ false
+  pub good : new.failed ≡ false
+  pub field : IsRead old.left new.left P
+  pub after : new.after ≡ old.after
+
+-- an object's reader, and the object's type and id
+pub record ObjectReader : Type 0 where
+  pub type : ℕ
+  pub id : ℕ
+  pub reader : Reader
+
+-- the reader of the object at the front, at its first property
+pub record OpensObject (input : List ℕ) (r : ObjectReader) : Type 0 where
+  pub good : r.reader.failed ≡ false
+  pub body : List ℕ
+  pub opens : Opens input object_type body r.reader.after
+  pub header : header_size ≤ length body
+  pub its_type : r.type ≡ word_at body 0
+  pub its_id : r.id ≡ word_at body 4
+  pub left : r.reader.left ≡ drop header_size body
+
+-- this is the object's reader that was lent, some properties further and not failed
+pub record AheadIn (lent now : ObjectReader) : Type 0 where
+  pub properties : Properties
+  pub seen : List ℕ
+  pub good : lent.reader.failed ≡ false
+  pub left : lent.reader.left ≡ seen ++ now.reader.left
+  pub are : AreProperties properties seen
+  pub after : now.reader.after ≡ lent.reader.after
+
+-- this is the object's reader that was lent, some properties further, or it has failed
+pub record FurtherIn (lent now : ObjectReader) : Type 0 where
+  pub ahead : now.reader.failed ≡ false → AheadIn lent now
+
+-- all that the reader had left are these properties
+pub record AllProperties (lent : ObjectReader) (P : Properties → Type 0) : Type 0 where
+  pub properties : Properties
+  pub are : AreProperties properties lent.reader.left
+  pub holds : P properties
+
+-- the next property, which has this key and these flags, is taken
+pub record TakesProperty (old new : ObjectReader) (key flags : ℕ) (P : Tree → Type 0) : Type 0 where
+  pub was_good : old.reader.failed ≡ false
+  pub good : new.reader.failed ≡ false
+  pub header : header_size ≤ length old.reader.left
+  pub its_key : key ≡ word_at old.reader.left 0
+  pub its_flags : flags ≡ word_at old.reader.left 4
+  pub value : IsRead (drop header_size old.reader.left) new.reader.left P
+  pub after : new.reader.after ≡ old.reader.after
+
+-- A refusal of the next property under a key: the reader has failed; or none is left, and it is the same; or another key
+-- stands there, of a property that is taken.
+pub data RefusesKey (Takes : ℕ → ℕ → Type 0) (key : ℕ) (old new : ObjectReader) (e : DeserializeError (Bor (List ℕ))) : Type 0 where
+  fails : new.reader.failed ≡ true → RefusesKey Takes key old new e
+  missing : e ≡ error.PropertyMissing → AtEnd old.reader → new ≡ old → RefusesKey Takes key old new e
+  wrong_key : (found flags : ℕ) → e ≡ error.PropertyWrongKey found → found ≢ key → Takes found flags → RefusesKey Takes key old new e
+
+-- an array's reader: how many elements are left, what has them, and what follows the array
+pub record ArrayReader : Type 0 where
+  pub count : ℕ
+  pub reader : Reader
+
+-- so many elements of this size are left; of a kind whose bodies have no bytes there are none
+pub record HasElements (size : ℕ) (r : ArrayReader) : Type 0 where
+  pub whole : length r.reader.left ≡ r.count * size
+  pub units : size ≡ 0 → r.count ≡ 0
+
+-- the reader of the array over this kind at the front, at its first element
+pub record OpensArray (k : Kind) (input : List ℕ) (r : ArrayReader) : Type 0 where
+  pub good : r.reader.failed ≡ false
+  pub body : List ℕ
+  pub opens : Opens input array_type body r.reader.after
+  pub header : header_size ≤ length body
+  pub child_size : word_at body 0 ≡ body_size k
+  pub child_type : word_at body 4 ≡ type_number k
+  pub left : r.reader.left ≡ drop header_size body
+  pub elements : HasElements (body_size k) r
+
+-- the next element is taken: a body of this kind says a value, of which this element is made
+pub record TakesElement {C X : Type 0} (k : Kind) (fixed : C → Fixed) (made_of : C → X) (old new : ArrayReader) (x : X) : Type 0 where
+  pub was_good : old.reader.failed ≡ false
+  pub good : new.reader.failed ≡ false
+  pub counted : old.count ≡ new.count + 1
+  pub canonical : C
+  pub says : IsFixedBody k (take (body_size k) old.reader.left) (fixed canonical)
+  pub made : x ≡ made_of canonical
+  pub left : new.reader.left ≡ drop (body_size k) old.reader.left
+  pub after : new.reader.after ≡ old.reader.after

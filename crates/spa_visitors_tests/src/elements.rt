@@ -1,0 +1,109 @@
+//! Arrays, element by element.
+ghost use Rattle.std.specs.Prelude.{⊤};
+
+use spa_fixed::{DeserializeError, FixedSizedPod};
+use spa_read::{
+    ArrayPodDeserializer, DeserializeSuccess, PodDeserialize, PodDeserializer,
+};
+use spa_spelling::bytes_of;
+use std::alloc::Global;
+use std::test::Fail;
+
+/// A loudness, which is a number.
+#[derive(Drop)]
+struct Level {
+    steps: i32,
+}
+
+impl FixedSizedPod for Level {
+    type CanonicalType = i32;
+
+    ghost to_canonical = { λ level. level.steps };
+
+    ghost of_canonical = { λ steps. record { steps = steps } };
+
+    fn as_canonical_type(&self) -> i32 {
+        self.steps
+    }
+
+    fn from_canonical_type(canonical: &i32) -> Level {
+        Level { steps: *canonical }
+    }
+}
+
+/// The next element, or the number of its refusal: -1 past the last, -2 of a reader that has failed, -3 else.
+fn next(reader: &mut ArrayPodDeserializer<Level>) -> i32 {
+    match reader.deserialize_element() {
+        Ok(level) => level.steps,
+        Err(DeserializeError::NoElementLeft) => -1,
+        Err(DeserializeError::FailedReader) => -2,
+        Err(_) => -3,
+    }
+}
+
+/// Three levels and a fourth step, behind which the reader has failed; how many there are is the first number.
+#[derive(Drop)]
+struct Levels([i32; 5]);
+
+impl<'de> PodDeserialize<'de> for Levels {
+    ghost reads = { λ _ _. ⊤ };
+
+    fn deserialize(
+        deserializer: PodDeserializer<'de>,
+    ) -> Result<(Levels, DeserializeSuccess<'de>), DeserializeError<&'de [u8]>> {
+        let (mut reader, _) = deserializer.new_array_deserializer::<Level>()?;
+        let first = next(&mut reader);
+        let second = next(&mut reader);
+        let third = next(&mut reader);
+        if first != 10 || second != 15 || third != 19 {
+            return Err(DeserializeError::UnsupportedType);
+        }
+        let fourth = next(&mut reader);
+        if fourth != -1 {
+            return Err(DeserializeError::UnsupportedType);
+        }
+        let _ = reader.end()?;
+        Err(DeserializeError::PropertyMissing)
+    }
+}
+
+/// How many elements are left where the reader ends early.
+#[derive(Drop)]
+struct Early;
+
+impl<'de> PodDeserialize<'de> for Early {
+    ghost reads = { λ _ _. ⊤ };
+
+    fn deserialize(
+        deserializer: PodDeserializer<'de>,
+    ) -> Result<(Early, DeserializeSuccess<'de>), DeserializeError<&'de [u8]>> {
+        let (mut reader, count) = deserializer.new_array_deserializer::<Level>()?;
+        let first = next(&mut reader);
+        if count != 3 || first != 10 {
+            return Err(DeserializeError::UnsupportedType);
+        }
+        let _ = reader.end()?;
+        Err(DeserializeError::PropertyMissing)
+    }
+}
+
+/// The name of a read's refusal.
+fn refusal<'de, P: PodDeserialize<'de>>(alloc: Global, input: &'de [u8]) -> &'static str {
+    let read: Result<(&'de [u8], P), DeserializeError<&'de [u8]>> =
+        PodDeserializer::deserialize_from(alloc, input);
+    match read {
+        Ok(_) => "none",
+        Err(e) => e.kind(),
+    }
+}
+
+#[test]
+fn elements_are_read_one_by_one(rt: HostRuntime) -> Result<(), Fail> {
+    let input = bytes_of(rt.alloc(), &[20, 13, 4, 4, 10, 15, 19, 0])?;
+    let bytes = input.as_slice();
+    assert_eq!(rt; refusal::<Levels>(rt.alloc(), bytes), "FailedReader");
+    assert_eq!(rt; refusal::<Early>(rt.alloc(), bytes), "UnreadMembers");
+    let units = bytes_of(rt.alloc(), &[8, 13, 0, 1])?;
+    assert_eq!(rt; refusal::<Levels>(rt.alloc(), units.as_slice()), "Tag");
+    Ok(())
+}

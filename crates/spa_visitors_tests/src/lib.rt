@@ -1,0 +1,15 @@
+//! Tests of typed reads, of visitors and of a user's own readers. There is nothing here but tests.
+#![tactic(auto)]
+
+#[cfg(test)]
+mod answers;
+#[cfg(test)]
+mod elements;
+#[cfg(test)]
+mod fronts;
+#[cfg(test)]
+mod objects;
+#[cfg(test)]
+mod structs;
+#[cfg(test)]
+mod visitors;

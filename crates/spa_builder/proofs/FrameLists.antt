@@ -13,7 +13,8 @@ use Rattle.spa_builder.specs.declared.open.What.{What}
 pub length-frames_of : (base : ℕ) (ps : List Partial) → length (frames_of base ps) ≡ length ps
 length-frames_of base [] = refl
 length-frames_of base (p ∷ ps) =
-    let e = length-append (frames_of base ps) ((record { start = base + length (all_so_far ps); what = what_of p }) ∷ []) in
+    let e = length-append (frames_of base ps)
+    ((record { start = base + length (all_so_far ps); what = what_of p }) ∷ []) in
     let f = length-frames_of base ps in
     omega arith
 
@@ -21,29 +22,46 @@ get_last : (xs : List Open) (x : Open) (n : ℕ) → n ≡ length xs → slice_g
 get_last [] x n e = rw e refl
 get_last (y ∷ ys) x n e = rw e (get_last ys x (length ys) refl)
 
-pub last_frame : (base : ℕ) (ps : List Partial) → slice_get (frames_of base ps) (length (frames_of base ps) - 1) ≡ innermost_of base ps
+pub last_frame : (base : ℕ) (ps : List Partial) →
+    slice_get (frames_of base ps) (length (frames_of base ps) - 1) ≡ innermost_of base ps
 last_frame base [] = refl
 last_frame base (p ∷ ps) =
     let x : Open = record { start = base + length (all_so_far ps); what = what_of p } in
     let e = length-append (frames_of base ps) (x ∷ []) in
     get_last (frames_of base ps) x (length (frames_of base ps ++ x ∷ []) - 1) (omega arith)
 
-get_first : (xs : List Open) (y x : Open) → slice_get xs 0 ≡ Some x → slice_get (xs ++ y ∷ []) 0 ≡ Some x
+get_first : (xs : List Open) (y x : Open) → slice_get xs 0 ≡ Some x →
+    slice_get (xs ++ y ∷ []) 0 ≡ Some x
 get_first [] y x e = cc
 get_first (z ∷ zs) y x e = e
 
-pub first_frame : (base : ℕ) (p : Partial) (ps : List Partial) → (w : What) × (slice_get (frames_of base (p ∷ ps)) 0 ≡ Some (record { start = base; what = w }))
-first_frame base p [] = (what_of p, ap (λ n. Some (record { start = n; what = what_of p })) (let e : base + 0 ≡ base = omega arith in e))
+pub first_frame : (base : ℕ) (p : Partial) (ps : List Partial) →
+    (w : What) × (slice_get (frames_of base (p ∷ ps)) 0 ≡ Some (record { start = base; what = w }))
+first_frame base p [] = (
+  what_of p,
+  ap (λ n. Some (record { start = n; what = what_of p }))
+      (let e : base + 0 ≡ base = omega arith in e),
+)
 first_frame base p (q ∷ qs) =
-    let h = first_frame base q qs in
-    (h.0, get_first (frames_of base (q ∷ qs)) (record { start = base + length (all_so_far (q ∷ qs)); what = what_of p }) (record { start = base; what = h.0 }) h.1)
+    let h = first_frame base q qs in (
+      h.0,
+      get_first (frames_of base (q ∷ qs))
+          (record { start = base + length (all_so_far (q ∷ qs)); what = what_of p })
+          (record { start = base; what = h.0 }) h.1,
+    )
 
-pub set_last : (base : ℕ) (p q : Partial) (ps : List Partial) (n : ℕ) → n ≡ length ps → set (frames_of base (p ∷ ps)) n (record { start = base + length (all_so_far ps); what = what_of q }) ≡ frames_of base (q ∷ ps)
+pub set_last : (base : ℕ) (p q : Partial) (ps : List Partial) (n : ℕ) → n ≡ length ps →
+    set (frames_of base (p ∷ ps)) n
+    (record { start = base + length (all_so_far ps); what = what_of q }) ≡ frames_of base (q ∷ ps)
 set_last base p q ps n e =
-    set_at (frames_of base ps) (record { start = base + length (all_so_far ps); what = what_of p }) [] (record { start = base + length (all_so_far ps); what = what_of q }) n (length-frames_of base ps ∙ sym e)
+    set_at (frames_of base ps) (record { start = base + length (all_so_far ps); what = what_of p })
+    [] (record { start = base + length (all_so_far ps); what = what_of q }) n
+    (length-frames_of base ps ∙ sym e)
 
 -- the first frame is the outermost tree's
-pub outermost_is : (frames : List Open) (base : ℕ) (ps : List Partial) (o : Open) → frames ≡ frames_of base ps → Some o ≡ slice_get frames 0 → (o.start ≡ base) × (length frames ≡ length ps) × (0 < length ps)
+pub outermost_is : (frames : List Open) (base : ℕ) (ps : List Partial) (o : Open) →
+    frames ≡ frames_of base ps → Some o ≡ slice_get frames 0 →
+    (o.start ≡ base) × (length frames ≡ length ps) × (0 < length ps)
 outermost_is frames base [] o e f = let g = ap (λ l. slice_get l 0) e in absurd (cc)
 outermost_is frames base (p ∷ ps) o e f =
     let g = first_frame base p ps in
@@ -51,27 +69,39 @@ outermost_is frames base (p ∷ ps) o e f =
     let i : o ≡ record { start = base; what = g.0 } = cc in
     (ap (λ (x : Open). x.start) i, ap length e ∙ length-frames_of base (p ∷ ps), omega arith)
 
-pub set_frame : (frames : List Open) (base : ℕ) (p q : Partial) (ps : List Partial) (w : What) (n : ℕ) (o : Open) → frames ≡ frames_of base (p ∷ ps) → n ≡ length frames - 1 → o ≡ get_or frames n o → w ≡ what_of q → set frames n (record { start = o.start; what = w }) ≡ frames_of base (q ∷ ps)
+pub set_frame : (frames : List Open) (base : ℕ) (p q : Partial) (ps : List Partial) (w : What)
+    (n : ℕ) (o : Open) → frames ≡ frames_of base (p ∷ ps) → n ≡ length frames - 1 →
+    o ≡ get_or frames n o → w ≡ what_of q → set frames n (record { start = o.start; what = w }) ≡
+    frames_of base (q ∷ ps)
 set_frame frames base p q ps w n o e m g f =
     let old : Open = record { start = base + length (all_so_far ps); what = what_of p } in
-    let k : n ≡ length (frames_of base ps) = (let l = ap length e ∙ length-append (frames_of base ps) (old ∷ []) in omega arith) in
-    let at : o ≡ old = g ∙ ap (λ i. get_or frames i o) k ∙ ap (λ l. get_or l (length (frames_of base ps)) o) e ∙ get_or_push (frames_of base ps) old o (length (frames_of base ps)) refl in
+    let k : n ≡ length (frames_of base ps) =
+    (let l = ap length e ∙ length-append (frames_of base ps) (old ∷ []) in omega arith) in
+    let at : o ≡ old = g ∙ ap (λ i. get_or frames i o) k
+    ∙ ap (λ l. get_or l (length (frames_of base ps)) o) e
+    ∙ get_or_push (frames_of base ps) old o (length (frames_of base ps)) refl in
     ap (λ (x : Open). set frames n (record { start = x.start; what = w })) at
     ∙ ap (λ (x : What). set frames n (record { start = base + length (all_so_far ps); what = x })) f
     ∙ ap (λ i. set frames i (record { start = base + length (all_so_far ps); what = what_of q })) k
-    ∙ ap (λ l. set l (length (frames_of base ps)) (record { start = base + length (all_so_far ps); what = what_of q })) e
+    ∙ ap (λ l. set l (length (frames_of base ps))
+    (record { start = base + length (all_so_far ps); what = what_of q })) e
     ∙ set_last base p q ps (length (frames_of base ps)) (length-frames_of base ps)
 
 -- where a key waits, it gets its value; in a struct the frame stays
-pub filled_frames : (old new : List Open) (base : ℕ) (ps : List Partial) (v : Tree) → waits ps ≡ true → old ≡ frames_of base ps → ((b : ℕ) (p q : Partial) (rs : List Partial) → old ≡ frames_of b (p ∷ rs) → Object ≡ what_of q → new ≡ frames_of b (q ∷ rs)) → new ≡ frames_of base (filled ps v)
+pub filled_frames : (old new : List Open) (base : ℕ) (ps : List Partial) (v : Tree) →
+    waits ps ≡ true → old ≡ frames_of base ps →
+    ((b : ℕ) (p q : Partial) (rs : List Partial) → old ≡ frames_of b (p ∷ rs) → Object ≡ what_of q →
+    new ≡ frames_of b (q ∷ rs)) → new ≡ frames_of base (filled ps v)
 filled_frames old new base [] v h e f = absurd (cc)
 filled_frames old new base (open_struct vs ∷ ps) v h e f = absurd (cc)
 filled_frames old new base (open_object t i qs ∷ ps) v h e f = absurd (cc)
-filled_frames old new base (open_property t i qs k fl ∷ ps) v h e f = f base (open_property t i qs k fl) (open_object t i (with_property qs k fl v)) ps e refl
+filled_frames old new base (open_property t i qs k fl ∷ ps) v h e f =
+    f base (open_property t i qs k fl) (open_object t i (with_property qs k fl v)) ps e refl
 filled_frames old new base (open_array xs ∷ ps) v h e f = absurd (cc)
 filled_frames old new base (open_choice k fl xs ∷ ps) v h e f = absurd (cc)
 
-pub unfilled_frames : (base : ℕ) (ps : List Partial) (v : Tree) → waits ps ≡ false → frames_of base ps ≡ frames_of base (filled ps v)
+pub unfilled_frames : (base : ℕ) (ps : List Partial) (v : Tree) → waits ps ≡ false →
+    frames_of base ps ≡ frames_of base (filled ps v)
 unfilled_frames base [] v h = refl
 unfilled_frames base (open_struct vs ∷ ps) v h = refl
 unfilled_frames base (open_object t i qs ∷ ps) v h = refl

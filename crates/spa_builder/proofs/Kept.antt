@@ -13,8 +13,10 @@ use Rattle.spa_builder.proofs.Sizes.{at_least_8, same_test}
 -- a last element and what stands before it
 same_last : (xs ys : List Open) (x y : Open) → xs ++ x ∷ [] ≡ ys ++ y ∷ [] → (xs ≡ ys) × (x ≡ y)
 same_last [] [] x y e = (refl, cc)
-same_last [] (z ∷ zs) x y e = let l = ap length e in let m = length-append zs (y ∷ []) in absurd (omega arith)
-same_last (z ∷ zs) [] x y e = let l = ap length e in let m = length-append zs (x ∷ []) in absurd (omega arith)
+same_last [] (z ∷ zs) x y e = let l = ap length e in let m = length-append zs (y ∷ []) in
+    absurd (omega arith)
+same_last (z ∷ zs) [] x y e = let l = ap length e in let m = length-append zs (x ∷ []) in
+    absurd (omega arith)
 same_last (z ∷ zs) (w ∷ ws) x y e =
     let t : zs ++ x ∷ [] ≡ ws ++ y ∷ [] = cc in
     let h : z ≡ w = cc in
@@ -32,10 +34,12 @@ what_something (open_property t i ps k f) = refl
 what_something (open_array xs) = refl
 what_something (open_choice h f xs) = refl
 
-pub frames_with : (outer : List Open) (o : Open) → is_nothing o.what ≡ false → frames_in outer o ≡ outer ++ o ∷ []
+pub frames_with : (outer : List Open) (o : Open) → is_nothing o.what ≡ false →
+    frames_in outer o ≡ outer ++ o ∷ []
 frames_with outer o h = ap (λ b. cond b outer (outer ++ o ∷ [])) h
 
-pub frames_without : (outer : List Open) (o : Open) → is_nothing o.what ≡ true → frames_in outer o ≡ outer
+pub frames_without : (outer : List Open) (o : Open) → is_nothing o.what ≡ true →
+    frames_in outer o ≡ outer
 frames_without outer o h = ap (λ b. cond b outer (outer ++ o ∷ [])) h
 
 is_either : (b : Bool) → (b ≡ true → ⊥) → b ≡ false
@@ -43,16 +47,23 @@ is_either true f = absurd (f refl)
 is_either false f = refl
 
 -- where a tree is begun, something is innermost
-begun_something : (outer : List Open) (o : Open) (first most base : ℕ) (p : Partial) (ps : List Partial) → IsKept outer o first most → frames_in outer o ≡ frames_of base (p ∷ ps) → is_nothing o.what ≡ false
+begun_something : (outer : List Open) (o : Open) (first most base : ℕ) (p : Partial)
+    (ps : List Partial) → IsKept outer o first most → frames_in outer o ≡ frames_of base (p ∷ ps) →
+    is_nothing o.what ≡ false
 begun_something outer o first most base p ps k e =
     is_either (is_nothing o.what) (λ h. no_last _ _ (sym e ∙ frames_without outer o h ∙ k.none h))
 
-pub innermost_is : (outer : List Open) (o : Open) (first most base : ℕ) (ps : List Partial) → IsKept outer o first most → is_nothing o.what ≡ false → frames_in outer o ≡ frames_of base ps → Some o ≡ innermost_of base ps
-innermost_is outer o first most base [] k h e = absurd (no_last outer o (sym (frames_with outer o h) ∙ e))
+pub innermost_is : (outer : List Open) (o : Open) (first most base : ℕ) (ps : List Partial) →
+    IsKept outer o first most → is_nothing o.what ≡ false → frames_in outer o ≡ frames_of base ps →
+    Some o ≡ innermost_of base ps
+innermost_is outer o first most base [] k h e =
+    absurd (no_last outer o (sym (frames_with outer o h) ∙ e))
 innermost_is outer o first most base (p ∷ ps) k h e =
     ap (λ x. Some x) ((same_last outer _ o _ (sym (frames_with outer o h) ∙ e)).1)
 
-pub innermost_none : (outer : List Open) (o : Open) (first most base : ℕ) (ps : List Partial) → IsKept outer o first most → is_nothing o.what ≡ true → frames_in outer o ≡ frames_of base ps → ps ≡ []
+pub innermost_none : (outer : List Open) (o : Open) (first most base : ℕ) (ps : List Partial) →
+    IsKept outer o first most → is_nothing o.what ≡ true → frames_in outer o ≡ frames_of base ps →
+    ps ≡ []
 innermost_none outer o first most base [] k h e = refl
 innermost_none outer o first most base (p ∷ ps) k h e =
     absurd (no_last _ _ (sym e ∙ frames_without outer o h ∙ k.none h))
@@ -64,7 +75,9 @@ pub record Outermost (first most base : ℕ) (ps : List Partial) : Type 0 where
   pub alone : length ps ≡ 1 → most ≡ most_bytes true
   pub around : length ps ≢ 1 → most ≡ most_bytes false
 
-pub outermost_kept : (outer : List Open) (o : Open) (first most base : ℕ) (ps : List Partial) → IsKept outer o first most → is_nothing o.what ≡ false → frames_in outer o ≡ frames_of base ps → Outermost first most base ps
+pub outermost_kept : (outer : List Open) (o : Open) (first most base : ℕ) (ps : List Partial) →
+    IsKept outer o first most → is_nothing o.what ≡ false → frames_in outer o ≡ frames_of base ps →
+    Outermost first most base ps
 outermost_kept [] o first most base ps k h e =
     let f = sym (frames_with [] o h) ∙ e in
     let w = outermost_is (o ∷ []) base ps o f refl in
@@ -87,30 +100,41 @@ outermost_kept (q ∷ rest) o first most base ps k h e =
       around = λ n. (k.more q rest refl).1;
     }
 
-pub room_kept : (first most base : ℕ) (ps : List Partial) (more n : ℕ) → Outermost first most base ps → n ≡ length (all_so_far ps) + more → nat_lt n most ≡ has_room_for more ps
+pub room_kept : (first most base : ℕ) (ps : List Partial) (more n : ℕ) →
+    Outermost first most base ps → n ≡ length (all_so_far ps) + more →
+    nat_lt n most ≡ has_room_for more ps
 room_kept first most base [] more n o e = let z = o.some in absurd (omega arith)
 room_kept first most base (p ∷ []) more n o e =
     let l = at_least_8 p [] in
     ap (nat_lt n) (o.alone refl)
-    ∙ same_test n (length (all_so_far (p ∷ [])) - 8 + more) (2 ^ 32 + 8) (2 ^ 32) (λ h. omega arith) (λ h. omega arith)
+    ∙ same_test n (length (all_so_far (p ∷ [])) - 8 + more) (2 ^ 32 + 8) (2 ^ 32) (λ h. omega arith)
+    (λ h. omega arith)
 room_kept first most base (p ∷ q ∷ qs) more n o e =
     let l = at_least_8 p (q ∷ qs) in
     let two : length (p ∷ q ∷ qs) ≢ 1 = λ x. omega arith in
     ap (nat_lt n) (o.around two)
-    ∙ same_test n (length (all_so_far (p ∷ q ∷ qs)) - 8 + more) (2 ^ 32 + 8 - 7) (2 ^ 32 - 7) (λ h. omega arith) (λ h. omega arith)
+    ∙ same_test n (length (all_so_far (p ∷ q ∷ qs)) - 8 + more) (2 ^ 32 + 8 - 7) (2 ^ 32 - 7)
+    (λ h. omega arith) (λ h. omega arith)
 
 -- the innermost one says something else
-pub set_kept : (outer : List Open) (o new : Open) (first most base : ℕ) (p q : Partial) (ps : List Partial) → IsKept outer o first most → frames_in outer o ≡ frames_of base (p ∷ ps) → new.start ≡ o.start → new.what ≡ what_of q → frames_in outer new ≡ frames_of base (q ∷ ps)
+pub set_kept : (outer : List Open) (o new : Open) (first most base : ℕ) (p q : Partial)
+    (ps : List Partial) → IsKept outer o first most → frames_in outer o ≡ frames_of base (p ∷ ps) →
+    new.start ≡ o.start → new.what ≡ what_of q → frames_in outer new ≡ frames_of base (q ∷ ps)
 set_kept outer o new first most base p q ps k e s w =
     let h = begun_something outer o first most base p ps k e in
     let r = same_last outer (frames_of base ps) o _ (sym (frames_with outer o h) ∙ e) in
     let n : is_nothing new.what ≡ false = ap is_nothing w ∙ what_something q in
     let at : o.start ≡ base + length (all_so_far ps) = ap (λ (x : Open). x.start) r.1 in
-    let same : new ≡ record { start = base + length (all_so_far ps); what = what_of q } = rw (s ∙ at, w) refl in
-    frames_with outer new n ∙ ap (λ l. l ++ new ∷ []) r.0 ∙ ap (λ x. frames_of base ps ++ x ∷ []) same
+    let same : new ≡ record { start = base + length (all_so_far ps); what = what_of q } =
+    rw (s ∙ at, w) refl in
+    frames_with outer new n ∙ ap (λ l. l ++ new ∷ []) r.0
+    ∙ ap (λ x. frames_of base ps ++ x ∷ []) same
 
 -- the innermost one is dropped, and there is another one
-pub popped_some : (outer rest : List Open) (o next : Open) (first most base : ℕ) (p : Partial) (ps : List Partial) → IsKept outer o first most → frames_in outer o ≡ frames_of base (p ∷ ps) → outer ≡ rest ++ next ∷ [] → (is_nothing next.what ≡ false) × (frames_in rest next ≡ frames_of base ps)
+pub popped_some : (outer rest : List Open) (o next : Open) (first most base : ℕ) (p : Partial)
+    (ps : List Partial) → IsKept outer o first most → frames_in outer o ≡ frames_of base (p ∷ ps) →
+    outer ≡ rest ++ next ∷ [] →
+    (is_nothing next.what ≡ false) × (frames_in rest next ≡ frames_of base ps)
 popped_some outer rest o next first most base p [] k e f =
     let h = begun_something outer o first most base p [] k e in
     let r = same_last outer [] o _ (sym (frames_with outer o h) ∙ e) in
@@ -120,26 +144,36 @@ popped_some outer rest o next first most base p (q ∷ qs) k e f =
     let r = same_last outer (frames_of base (q ∷ qs)) o _ (sym (frames_with outer o h) ∙ e) in
     let g = sym f ∙ r.0 in
     let t = same_last rest (frames_of base qs) next _ g in
-    let n : is_nothing next.what ≡ false = ap (λ (x : Open). is_nothing x.what) t.1 ∙ what_something q in
+    let n : is_nothing next.what ≡ false = ap (λ (x : Open). is_nothing x.what) t.1
+    ∙ what_something q in
     (n, frames_with rest next n ∙ g)
 
-pub popped_none : (outer : List Open) (o : Open) (first most base : ℕ) (p : Partial) (ps : List Partial) → IsKept outer o first most → frames_in outer o ≡ frames_of base (p ∷ ps) → outer ≡ [] → frames_of base ps ≡ []
+pub popped_none : (outer : List Open) (o : Open) (first most base : ℕ) (p : Partial)
+    (ps : List Partial) → IsKept outer o first most → frames_in outer o ≡ frames_of base (p ∷ ps) →
+    outer ≡ [] → frames_of base ps ≡ []
 popped_none outer o first most base p ps k e f =
     let h = begun_something outer o first most base p ps k e in
     let r = same_last outer (frames_of base ps) o _ (sym (frames_with outer o h) ∙ e) in
     sym r.0 ∙ f
 
-some_rest : (rest : List Open) (next q : Open) (r : List Open) → rest ≡ q ∷ r → rest ++ next ∷ [] ≡ q ∷ (r ++ next ∷ [])
+some_rest : (rest : List Open) (next q : Open) (r : List Open) → rest ≡ q ∷ r →
+    rest ++ next ∷ [] ≡ q ∷ (r ++ next ∷ [])
 some_rest rest next q r e = ap (λ l. l ++ next ∷ []) e
 
-pub still_kept : (outer rest : List Open) (o next : Open) (first most most' : ℕ) → IsKept outer o first most → outer ≡ rest ++ next ∷ [] → is_nothing next.what ≡ false → (rest ≡ [] → most' ≡ most_bytes true) → ((q : Open) (r : List Open) → rest ≡ q ∷ r → most' ≡ most_bytes false) → IsKept rest next first most'
+pub still_kept : (outer rest : List Open) (o next : Open) (first most most' : ℕ) →
+    IsKept outer o first most → outer ≡ rest ++ next ∷ [] → is_nothing next.what ≡ false →
+    (rest ≡ [] → most' ≡ most_bytes true) →
+    ((q : Open) (r : List Open) → rest ≡ q ∷ r → most' ≡ most_bytes false) →
+    IsKept rest next first most'
 still_kept outer rest o next first most most' k f n alone around = record {
   none = λ h. absurd (cc (n, h));
   only = λ e. ((k.more next [] (f ∙ ap (λ l. l ++ next ∷ []) e)).0, alone e);
   more = λ q r e. ((k.more q (r ++ next ∷ []) (f ∙ some_rest rest next q r e)).0, around q r e);
 }
 
-pub more_kept : (outer : List Open) (o new : Open) (first most : ℕ) → IsKept outer o first most → is_nothing o.what ≡ false → is_nothing new.what ≡ false → IsKept (outer ++ o ∷ []) new first (most_bytes false)
+pub more_kept : (outer : List Open) (o new : Open) (first most : ℕ) → IsKept outer o first most →
+    is_nothing o.what ≡ false → is_nothing new.what ≡ false →
+    IsKept (outer ++ o ∷ []) new first (most_bytes false)
 more_kept [] o new first most k h n = record {
   none = λ x. absurd (cc (n, x));
   only = λ e. absurd (no_last [] o e);
@@ -151,7 +185,8 @@ more_kept (z ∷ zs) o new first most k h n = record {
   more = λ q r e. let i : z ≡ q = cc in ((k.more z zs refl).0 ∙ ap (λ (x : Open). x.start) i, refl);
 }
 
-pub first_kept : (outer : List Open) (o new : Open) (first most : ℕ) → IsKept outer o first most → is_nothing o.what ≡ true → is_nothing new.what ≡ false → IsKept outer new new.start most
+pub first_kept : (outer : List Open) (o new : Open) (first most : ℕ) → IsKept outer o first most →
+    is_nothing o.what ≡ true → is_nothing new.what ≡ false → IsKept outer new new.start most
 first_kept outer o new first most k h n = record {
   none = λ x. absurd (cc (n, x));
   only = λ e. (refl, (k.only e).1);
@@ -161,7 +196,10 @@ first_kept outer o new first most k h n = record {
 not_zero : (n m : ℕ) → n ≡ suc m → nat_eq n 0 ≡ false
 not_zero n m e = grind (arith, nat_tests)
 
-pub most_kept : (most : ℕ) (alone : Bool) (n : ℕ) (xs : List Open) → most ≡ most_bytes alone → alone ≡ nat_eq n 0 → n ≡ length xs → (xs ≡ [] → most ≡ most_bytes true) × ((q : Open) (rest : List Open) → xs ≡ q ∷ rest → most ≡ most_bytes false)
+pub most_kept : (most : ℕ) (alone : Bool) (n : ℕ) (xs : List Open) → most ≡ most_bytes alone →
+    alone ≡ nat_eq n 0 → n ≡ length xs →
+    (xs ≡ [] → most ≡ most_bytes true) × ((q : Open) (rest : List Open) → xs ≡ q ∷ rest →
+    most ≡ most_bytes false)
 most_kept most alone n [] e f l =
     (λ h. e ∙ ap most_bytes (f ∙ ap (λ m. nat_eq m 0) l), λ q rest h. absurd (cc))
 most_kept most alone n (x ∷ xs) e f l =

@@ -22,7 +22,8 @@ length-two a b =
     let g = length-word_bytes b in
     omega arith
 
-pub length-behind_two : (a b : ℕ) (c : List ℕ) → length (word_bytes a ++ (word_bytes b ++ c)) ≡ 8 + length c
+pub length-behind_two : (a b : ℕ) (c : List ℕ) → length (word_bytes a ++ (word_bytes b ++ c)) ≡ 8 +
+    length c
 length-behind_two a b c =
     let e0 = length-append (word_bytes a) (word_bytes b ++ c) in
     let e1 = length-append (word_bytes b) c in
@@ -81,13 +82,15 @@ properties_whole (property k f v ps) =
           omega arith),
     )
 
-pub members_joined : (vs ws : Trees) → member_encodings (join_members vs ws) ≡ member_encodings vs ++ member_encodings ws
+pub members_joined : (vs ws : Trees) → member_encodings (join_members vs ws) ≡ member_encodings vs
+    ++ member_encodings ws
 members_joined no_trees ws = refl
 members_joined (member v vs) ws =
     ap (λ l. encoding_of v ++ l) (members_joined vs ws)
     ∙ sym (append_assoc (encoding_of v) (member_encodings vs) (member_encodings ws))
 
-pub properties_joined : (ps qs : Properties) → property_encodings (join_properties ps qs) ≡ property_encodings ps ++ property_encodings qs
+pub properties_joined : (ps qs : Properties) →
+    property_encodings (join_properties ps qs) ≡ property_encodings ps ++ property_encodings qs
 properties_joined no_properties qs = refl
 properties_joined (property k f v ps) qs =
     let t = encoding_of v in
@@ -99,13 +102,17 @@ properties_joined (property k f v ps) qs =
     ∙ sym (append_assoc (word_bytes k) (word_bytes f ++ (t ++ a)) b)
 
 -- a pod from its parts
-pub framed_parts : (old front back a b c d : List ℕ) (type n : ℕ) → n ≡ length front + length back → a ≡ old ++ (word_bytes n ++ word_bytes type) → b ≡ a ++ front → c ≡ b ++ back → d ≡ c ++ padding n → d ≡ old ++ framed type (front ++ back)
+pub framed_parts : (old front back a b c d : List ℕ) (type n : ℕ) → n ≡ length front + length back →
+    a ≡ old ++ (word_bytes n ++ word_bytes type) → b ≡ a ++ front → c ≡ b ++ back →
+    d ≡ c ++ padding n → d ≡ old ++ framed type (front ++ back)
 framed_parts old front back a b c d type n l e1 e2 e3 e4 =
     e4
     ∙ ap (λ x. x ++ padding n) (e3 ∙ ap (λ x. x ++ back) (e2 ∙ ap (λ x. x ++ front) e1))
     ∙ (simp append_assoc)
-    ∙ ap (λ x. old ++ (word_bytes n ++ (word_bytes type ++ x))) (sym (append_assoc front back (padding n)))
-    ∙ ap (λ m. old ++ (word_bytes m ++ (word_bytes type ++ ((front ++ back) ++ padding m)))) (l ∙ sym (length-append front back))
+    ∙ ap (λ x. old ++ (word_bytes n ++ (word_bytes type ++ x)))
+    (sym (append_assoc front back (padding n)))
+    ∙ ap (λ m. old ++ (word_bytes m ++ (word_bytes type ++ ((front ++ back) ++ padding m))))
+    (l ∙ sym (length-append front back))
 
 pub wide_bytes_is : (n : ℕ) → to_le_bytes w64 n ≡ wide_bytes n
 unfolding wide_bytes
@@ -118,26 +125,35 @@ length-pointer t a =
     omega arith
 
 -- a pointer's pod from its parts
-pub pointer_parts : (t a : ℕ) (x y z : List ℕ) → x ≡ word_bytes 16 ++ word_bytes pointer_type → y ≡ word_bytes t ++ word_bytes 0 → z ≡ to_le_bytes w64 a → x ++ (y ++ z) ≡ encoding_of (pointer t a)
+pub pointer_parts : (t a : ℕ) (x y z : List ℕ) → x ≡ word_bytes 16 ++ word_bytes pointer_type →
+    y ≡ word_bytes t ++ word_bytes 0 → z ≡ to_le_bytes w64 a →
+    x ++ (y ++ z) ≡ encoding_of (pointer t a)
 pointer_parts t a x y z e f g =
     let body = word_bytes t ++ (word_bytes 0 ++ wide_bytes a) in
     ap (λ l. l ++ (y ++ z)) e
     ∙ append_assoc (word_bytes 16) (word_bytes pointer_type) (y ++ z)
     ∙ ap (λ l. word_bytes 16 ++ (word_bytes pointer_type ++ (l ++ z))) f
-    ∙ ap (λ l. word_bytes 16 ++ (word_bytes pointer_type ++ ((word_bytes t ++ word_bytes 0) ++ l))) (g ∙ wide_bytes_is a)
-    ∙ ap (λ l. word_bytes 16 ++ (word_bytes pointer_type ++ l)) (append_assoc (word_bytes t) (word_bytes 0) (wide_bytes a) ∙ sym (append-nil body))
-    ∙ ap (λ m. word_bytes m ++ (word_bytes pointer_type ++ (body ++ padding m))) (sym (length-pointer t a))
+    ∙ ap (λ l. word_bytes 16 ++ (word_bytes pointer_type ++ ((word_bytes t ++ word_bytes 0) ++ l)))
+    (g ∙ wide_bytes_is a)
+    ∙ ap (λ l. word_bytes 16 ++ (word_bytes pointer_type ++ l))
+    (append_assoc (word_bytes t) (word_bytes 0) (wide_bytes a) ∙ sym (append-nil body))
+    ∙ ap (λ m. word_bytes m ++ (word_bytes pointer_type ++ (body ++ padding m)))
+    (sym (length-pointer t a))
 
 -- the bodies of elements of one kind
-length-bodies : {T : Type 0} (k : Kind) (f : T → Fixed) (vs : List T) → ((x : T) → kind_of (f x) ≡ k) → length (fixed_bodies (map f vs)) ≡ length vs * body_size k
+length-bodies : {T : Type 0} (k : Kind) (f : T → Fixed) (vs : List T) →
+    ((x : T) → kind_of (f x) ≡ k) → length (fixed_bodies (map f vs)) ≡ length vs * body_size k
 length-bodies k f [] h = omega arith
 length-bodies k f (v ∷ vs) h =
     let e = length-append (fixed_body (f v)) (fixed_bodies (map f vs)) in
     let l = length-fixed (f v) ∙ ap body_size (h v) in
     let m = length-bodies k f vs h in
-    e ∙ ap (λ n. n + length (fixed_bodies (map f vs))) l ∙ ap (λ n. body_size k + n) m ∙ (omega arith)
+    e ∙ ap (λ n. n + length (fixed_bodies (map f vs))) l ∙ ap (λ n. body_size k + n) m
+    ∙ (omega arith)
 
-pub length-elements : {T : Type 0} (k : Kind) (f : T → Fixed) (vs : List T) (size : ℕ) → ((x : T) → kind_of (f x) ≡ k) → size ≡ body_size k → length (array_body k (map f vs)) ≡ 8 + length vs * size
+pub length-elements : {T : Type 0} (k : Kind) (f : T → Fixed) (vs : List T) (size : ℕ) →
+    ((x : T) → kind_of (f x) ≡ k) → size ≡ body_size k →
+    length (array_body k (map f vs)) ≡ 8 + length vs * size
 length-elements k f vs size h s =
     length-behind_two (body_size k) (type_number k) (fixed_bodies (map f vs))
     ∙ ap (λ n. 8 + n) (length-bodies k f vs h ∙ ap (λ n. length vs * n) (sym s))

@@ -3,16 +3,20 @@ use Rattle.std.proofs.Common.{◌≡◌, ℕ, ◌+◌, ◌≤◌, List, [], ◌�
 use Rattle.std.proofs.lemmas.List.{drop-append-le, length-take-le, take_at, take-append-drop, take-append-le}
 
 -- all of the first list, and a beginning of the second
-pub take_into : (xs ys zs : List ℕ) (n k : ℕ) → length xs ≡ n → k ≤ length ys → take (n + k) (xs ++ (ys ++ zs)) ≡ xs ++ take k ys
+pub take_into : (xs ys zs : List ℕ) (n k : ℕ) → length xs ≡ n → k ≤ length ys →
+    take (n + k) (xs ++ (ys ++ zs)) ≡ xs ++ take k ys
 take_into [] ys zs n k e h =
     let f : n + k ≡ k = omega arith in
     ap (λ i. take i (ys ++ zs)) f ∙ take-append-le k ys zs h
 take_into (x ∷ xs) ys zs n k e h =
     let f : n + k ≡ suc (length xs + k) = omega arith in
-    ap (λ i. take i (x ∷ (xs ++ (ys ++ zs)))) f ∙ ap (λ l. x ∷ l) (take_into xs ys zs (length xs) k refl h)
+    ap (λ i. take i (x ∷ (xs ++ (ys ++ zs)))) f
+    ∙ ap (λ l. x ∷ l) (take_into xs ys zs (length xs) k refl h)
 
 -- some in the first ones are written over
-pub take_over : (xs ys zs : List ℕ) (n at k : ℕ) → zs ≡ drop k xs → at + length ys ≡ k → k ≤ n → n ≤ length xs → take n (take at xs ++ (ys ++ zs)) ≡ take at (take n xs) ++ (ys ++ drop k (take n xs))
+pub take_over : (xs ys zs : List ℕ) (n at k : ℕ) → zs ≡ drop k xs → at + length ys ≡ k → k ≤ n →
+    n ≤ length xs → take n (take at xs ++ (ys ++ zs)) ≡ take at (take n xs) ++
+    (ys ++ drop k (take n xs))
 take_over xs ys zs n at k z e h m =
     let a = take n xs in
     let b = drop n xs in
@@ -32,7 +36,8 @@ take_over xs ys zs n at k z e h m =
     ∙ take_at (take at a ++ (ys ++ drop k a)) b n (omega arith)
 
 -- so many are there as before
-pub length-over : (xs ys zs : List ℕ) (at k : ℕ) → zs ≡ drop k xs → at + length ys ≡ k → k ≤ length xs → length (take at xs ++ (ys ++ zs)) ≡ length xs
+pub length-over : (xs ys zs : List ℕ) (at k : ℕ) → zs ≡ drop k xs → at + length ys ≡ k →
+    k ≤ length xs → length (take at xs ++ (ys ++ zs)) ≡ length xs
 length-over xs ys zs at k z e h =
     let l0 = length-take at xs in
     let l1 = length-append (take at xs) (ys ++ zs) in

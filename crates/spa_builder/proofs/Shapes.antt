@@ -11,7 +11,8 @@ use Rattle.spa_utils.specs.declared.errno.Errno.{Errno}
 is_one : (n : ℕ) → n ≤ 4 → (n ≡ 0) ⊎ ((n ≡ 1) ⊎ ((n ≡ 2) ⊎ ((n ≡ 3) ⊎ (n ≡ 4))))
 is_one n h = grind arith
 
-with_shape : (n : ℕ) → (n ≡ 0) ⊎ ((n ≡ 1) ⊎ ((n ≡ 2) ⊎ ((n ≡ 3) ⊎ (n ≡ 4)))) → (h : Shape) × (shape_of n ≡ Some h) × (n ≡ shape_number h)
+with_shape : (n : ℕ) → (n ≡ 0) ⊎ ((n ≡ 1) ⊎ ((n ≡ 2) ⊎ ((n ≡ 3) ⊎ (n ≡ 4)))) →
+    (h : Shape) × (shape_of n ≡ Some h) × (n ≡ shape_number h)
 with_shape n (inl e) = (none_choice, ap shape_of e, e)
 with_shape n (inr (inl e)) = (range_choice, ap shape_of e, e)
 with_shape n (inr (inr (inl e))) = (step_choice, ap shape_of e, e)
@@ -23,6 +24,13 @@ pub shape_with : (n : ℕ) → n ≤ 4 → (h : Shape) × (shape_of n ≡ Some h
 shape_with n h = with_shape n (is_one n h)
 
 -- what is begun with a shape is begun with its number
-pub begun_with : {A : Type 0} (n f : ℕ) (h : Shape) (s : State) (old new : Held) (r : Result A Errno) → shape_of n ≡ Some h → Makes (sized true (begun (open_choice h f []) s)) old new r → Makes (step s (push_choice n f)) old new r
+pub begun_with : {A : Type 0} (n f : ℕ) (h : Shape) (s : State) (old new : Held)
+    (r : Result A Errno) → shape_of n ≡ Some h → Makes (sized true (begun (open_choice h f []) s))
+    old new r → Makes (step s (push_choice n f)) old new r
 begun_with {A = A} n f h s old new r e m =
-    subst (λ (o : Option Shape). Makes {A = A} (elim o as (λ _. Outcome) [ Some k ↦ sized true (begun (open_choice k f []) s) | None ↦ Inval ]) old new r) (sym e) m
+    subst (λ (o : Option Shape). Makes {A = A}
+    (elim o as (λ _. Outcome) [
+      | Some k ↦ sized true (begun (open_choice k f []) s)
+      | None ↦
+          Inval
+    ]) old new r) (sym e) m

@@ -15,7 +15,8 @@ use Rattle.spa_builder.specs.Innermost.{has_room_for}
 use Rattle.spa_builder.proofs.Lengths.{length-word_bytes, length-behind_two, members_whole, properties_whole}
 
 -- what an array keeps of its elements has the bytes of all
-pub kept_bodies : (k : Kind) (xs : List Fixed) → (k ≡ none_kind → fixed_bodies xs ≡ []) → fixed_bodies xs ≡ fixed_bodies (kept_elements k xs)
+pub kept_bodies : (k : Kind) (xs : List Fixed) → (k ≡ none_kind → fixed_bodies xs ≡ []) →
+    fixed_bodies xs ≡ fixed_bodies (kept_elements k xs)
 kept_bodies none_kind xs h = h refl
 kept_bodies bool_kind xs h = refl
 kept_bodies id_kind xs h = refl
@@ -27,7 +28,8 @@ kept_bodies rectangle_kind xs h = refl
 kept_bodies fraction_kind xs h = refl
 kept_bodies fd_kind xs h = refl
 
-pub length-array_body : (k : Kind) (xs : List Fixed) → length (array_body k xs) ≡ 8 + length (fixed_bodies xs)
+pub length-array_body : (k : Kind) (xs : List Fixed) →
+    length (array_body k xs) ≡ 8 + length (fixed_bodies xs)
 length-array_body k xs = length-behind_two (body_size k) (type_number k) (fixed_bodies xs)
 
 pub length-body : (p : Partial) → IsFair p → length (body_so_far p) ≡ own_size p
@@ -51,12 +53,15 @@ length-body (open_choice s f xs) h =
     omega arith
 
 pub length-so_far : (p : Partial) → IsFair p → length (so_far p) ≡ 8 + own_size p
-length-so_far p h = let e = length-behind_two 0 (type_of_partial p) (body_so_far p) in let f = length-body p h in omega arith
+length-so_far p h = let e = length-behind_two 0 (type_of_partial p) (body_so_far p) in let f =
+    length-body p h in omega arith
 
 -- a tree that takes any tree is so many words of 64 bits long
-pub own_whole : (p : Partial) (ps : List Partial) → IsTrue (takes_trees (p ∷ ps)) → (n : ℕ) × (own_size p ≡ 8 * n)
+pub own_whole : (p : Partial) (ps : List Partial) → IsTrue (takes_trees (p ∷ ps)) →
+    (n : ℕ) × (own_size p ≡ 8 * n)
 own_whole (open_struct vs) ps h = members_whole vs
-own_whole (open_object t i qs) ps h = let m = properties_whole qs in let e = m.1 in let f = length-behind_two t i (property_encodings qs) in (1 + m.0, omega arith)
+own_whole (open_object t i qs) ps h = let m = properties_whole qs in let e = m.1 in let f =
+    length-behind_two t i (property_encodings qs) in (1 + m.0, omega arith)
 own_whole (open_property t i qs k f) ps h =
     let m = properties_whole qs in
     let e = m.1 in
@@ -65,7 +70,8 @@ own_whole (open_property t i qs k f) ps h =
 own_whole (open_array xs) ps h = absurd (cc)
 own_whole (open_choice k f xs) ps h = absurd (cc)
 
-pub all_whole : (ps : List Partial) → IsTrue (takes_trees ps) → IsNested ps → (n : ℕ) × (length (all_so_far ps) ≡ 8 * n)
+pub all_whole : (ps : List Partial) → IsTrue (takes_trees ps) → IsNested ps →
+    (n : ℕ) × (length (all_so_far ps) ≡ 8 * n)
 all_whole [] h k = (0, refl)
 all_whole (p ∷ ps) h k =
     let m = all_whole ps k.1 k.2 in
@@ -93,7 +99,9 @@ at_least_8 p ps =
     omega arith
 
 -- Trees that take any tree: all fit where the outermost does, whose size is what is behind its header.
-holders_fit : (p : Partial) (ps : List Partial) (inside n : ℕ) → inside ≡ 8 * n → IsTrue (takes_trees (p ∷ ps)) → IsNested (p ∷ ps) → all_fit inside (p ∷ ps) ≡ nat_lt (length (all_so_far (p ∷ ps)) - 8 + inside) (2 ^ 32)
+holders_fit : (p : Partial) (ps : List Partial) (inside n : ℕ) → inside ≡ 8 * n →
+    IsTrue (takes_trees (p ∷ ps)) → IsNested (p ∷ ps) →
+    all_fit inside (p ∷ ps) ≡ nat_lt (length (all_so_far (p ∷ ps)) - 8 + inside) (2 ^ 32)
 holders_fit p [] inside n e h k =
     let sf = length-so_far p k.0 in
     let l : own_size p + inside ≡ length (so_far p) - 8 + inside = omega arith in
@@ -108,7 +116,8 @@ holders_fit p (q ∷ qs) inside n e h k =
     let sf = length-so_far p k.0 in
     let m = at_least_8 q qs in
     ap (λ b. nat_lt (own + inside) (2 ^ 32) && b) ih
-    ∙ both_fit (own + inside) (length (all_so_far (q ∷ qs)) - 8 + extent (own + inside)) (length (all_so_far (p ∷ q ∷ qs)) - 8 + inside) (2 ^ 32) (omega arith) (omega arith)
+    ∙ both_fit (own + inside) (length (all_so_far (q ∷ qs)) - 8 + extent (own + inside))
+    (length (all_so_far (p ∷ q ∷ qs)) - 8 + inside) (2 ^ 32) (omega arith) (omega arith)
 
 -- The rule for all open trees is one test on the outermost.
 pub one_size_decides : (ps : List Partial) → IsNested ps → all_fit 0 ps ≡ has_room_for 0 ps
@@ -126,45 +135,60 @@ one_size_decides (p ∷ q ∷ qs) k =
     let whole = (own + 0 + 7) / 8 in
     let ih = holders_fit q qs (extent (own + 0)) (1 + whole) (omega arith) k.1 k.2 in
     ap (λ b. nat_lt (own + 0) (2 ^ 32) && b) ih
-    ∙ both_fit (own + 0) (length (all_so_far (q ∷ qs)) - 8 + extent (own + 0)) (length (all_so_far (q ∷ qs)) - 8 + extent (own + 0)) (2 ^ 32) (omega arith) refl
-    ∙ same_test (length (all_so_far (q ∷ qs)) - 8 + extent (own + 0)) (length (all_so_far (p ∷ q ∷ qs)) - 8 + 0) (2 ^ 32) (2 ^ 32 - 7) (λ h. omega arith) (λ h. omega arith)
+    ∙ both_fit (own + 0) (length (all_so_far (q ∷ qs)) - 8 + extent (own + 0))
+    (length (all_so_far (q ∷ qs)) - 8 + extent (own + 0)) (2 ^ 32) (omega arith) refl
+    ∙ same_test (length (all_so_far (q ∷ qs)) - 8 + extent (own + 0))
+    (length (all_so_far (p ∷ q ∷ qs)) - 8 + 0) (2 ^ 32) (2 ^ 32 - 7) (λ h. omega arith)
+    (λ h. omega arith)
 
 -- with so many bytes more in trees that are as many
-pub room_later : (ps qs : List Partial) (more : ℕ) → length qs ≡ length ps → length (all_so_far qs) ≡ length (all_so_far ps) + more → has_room_for 0 qs ≡ has_room_for more ps
+pub room_later : (ps qs : List Partial) (more : ℕ) → length qs ≡ length ps →
+    length (all_so_far qs) ≡ length (all_so_far ps) + more →
+    has_room_for 0 qs ≡ has_room_for more ps
 room_later [] [] more e f = refl
 room_later [] (q ∷ qs) more e f = absurd (cc)
 room_later (p ∷ ps) [] more e f = absurd (cc)
-room_later (p ∷ []) (q ∷ []) more e f = let m = at_least_8 p [] in ap (λ n. nat_lt n (2 ^ 32)) (omega arith)
+room_later (p ∷ []) (q ∷ []) more e f = let m = at_least_8 p [] in
+    ap (λ n. nat_lt n (2 ^ 32)) (omega arith)
 room_later (p ∷ []) (q ∷ r ∷ qs) more e f = absurd (omega arith)
 room_later (p ∷ s ∷ ps) (q ∷ []) more e f = absurd (omega arith)
-room_later (p ∷ s ∷ ps) (q ∷ r ∷ qs) more e f = let m = at_least_8 p (s ∷ ps) in ap (λ n. nat_lt n (2 ^ 32 - 7)) (omega arith)
+room_later (p ∷ s ∷ ps) (q ∷ r ∷ qs) more e f = let m = at_least_8 p (s ∷ ps) in
+    ap (λ n. nat_lt n (2 ^ 32 - 7)) (omega arith)
 
 -- with a new tree of so many bytes, header and all
-pub room_begun : (p : Partial) (ps : List Partial) (n : ℕ) → n ≤ 2 → length (so_far p) ≡ 8 + 8 * n → IsTrue (takes_trees ps) → IsNested ps → has_room_for 0 (p ∷ ps) ≡ has_room_for (8 + 8 * n) ps
-room_begun p [] n u l h k = same_test (length (all_so_far (p ∷ [])) - 8 + 0) 0 (2 ^ 32) 1 (λ x. omega arith) (λ x. omega arith)
+pub room_begun : (p : Partial) (ps : List Partial) (n : ℕ) → n ≤ 2 → length (so_far p) ≡ 8 + 8 * n →
+    IsTrue (takes_trees ps) → IsNested ps → has_room_for 0 (p ∷ ps) ≡ has_room_for (8 + 8 * n) ps
+room_begun p [] n u l h k = same_test (length (all_so_far (p ∷ [])) - 8 + 0) 0 (2 ^ 32) 1
+    (λ x. omega arith) (λ x. omega arith)
 room_begun p (q ∷ []) n u l h k =
     let w = all_whole (q ∷ []) h k in
     let we = w.1 in
     let m = at_least_8 q [] in
     let len = length-append (all_so_far (q ∷ [])) (so_far p) in
-    same_test (length (all_so_far (p ∷ q ∷ [])) - 8 + 0) (length (all_so_far (q ∷ [])) - 8 + (8 + 8 * n)) (2 ^ 32 - 7) (2 ^ 32) (λ x. omega arith) (λ x. omega arith)
+    same_test (length (all_so_far (p ∷ q ∷ [])) - 8 + 0)
+    (length (all_so_far (q ∷ [])) - 8 + (8 + 8 * n)) (2 ^ 32 - 7) (2 ^ 32) (λ x. omega arith)
+    (λ x. omega arith)
 room_begun p (q ∷ r ∷ qs) n u l h k =
     let m = at_least_8 q (r ∷ qs) in
     let len = length-append (all_so_far (q ∷ r ∷ qs)) (so_far p) in
     ap (λ x. nat_lt x (2 ^ 32 - 7)) (omega arith)
 
 -- what a size that fits says of the bytes
-pub small_now : (ps : List Partial) → 0 < length ps → IsTrue (has_room_for 0 ps) → (8 ≤ length (all_so_far ps)) × (length (all_so_far ps) < 2 ^ 33)
+pub small_now : (ps : List Partial) → 0 < length ps → IsTrue (has_room_for 0 ps) →
+    (8 ≤ length (all_so_far ps)) × (length (all_so_far ps) < 2 ^ 33)
 small_now [] h t = absurd (omega arith)
 small_now (p ∷ []) h t = let m = at_least_8 p [] in let l = ltb-true _ _ t in (m, omega arith)
-small_now (p ∷ q ∷ qs) h t = let m = at_least_8 p (q ∷ qs) in let l = ltb-true _ _ t in (m, omega arith)
+small_now (p ∷ q ∷ qs) h t = let m = at_least_8 p (q ∷ qs) in let l = ltb-true _ _ t in
+    (m, omega arith)
 
-pub room_one : (ps : List Partial) (more n : ℕ) → length ps ≡ 1 → n ≡ length (all_so_far ps) - 8 + more → nat_lt n (2 ^ 32) ≡ has_room_for more ps
+pub room_one : (ps : List Partial) (more n : ℕ) → length ps ≡ 1 →
+    n ≡ length (all_so_far ps) - 8 + more → nat_lt n (2 ^ 32) ≡ has_room_for more ps
 room_one [] more n l e = absurd (cc)
 room_one (p ∷ []) more n l e = ap (λ m. nat_lt m (2 ^ 32)) e
 room_one (p ∷ q ∷ qs) more n l e = absurd (omega arith)
 
-pub room_more : (ps : List Partial) (more n : ℕ) → 0 < length ps → length ps ≢ 1 → n ≡ length (all_so_far ps) - 8 + more → nat_lt n (2 ^ 32 - 7) ≡ has_room_for more ps
+pub room_more : (ps : List Partial) (more n : ℕ) → 0 < length ps → length ps ≢ 1 →
+    n ≡ length (all_so_far ps) - 8 + more → nat_lt n (2 ^ 32 - 7) ≡ has_room_for more ps
 room_more [] more n z l e = absurd (omega arith)
 room_more (p ∷ []) more n z l e = absurd (l refl)
 room_more (p ∷ q ∷ qs) more n z l e = ap (λ m. nat_lt m (2 ^ 32 - 7)) e
@@ -174,11 +198,13 @@ at_least [] h = absurd (omega arith)
 at_least (p ∷ ps) h = at_least_8 p ps
 
 -- a closed tree takes no more than it took when it was open
-pub inside_fit : (ps : List Partial) (n m : ℕ) → n ≡ 8 * m → takes_trees ps ≡ true → IsNested ps → all_fit n ps ≡ has_room_for n ps
+pub inside_fit : (ps : List Partial) (n m : ℕ) → n ≡ 8 * m → takes_trees ps ≡ true → IsNested ps →
+    all_fit n ps ≡ has_room_for n ps
 inside_fit [] n m e h k = refl
 inside_fit (p ∷ []) n m e h k = holders_fit p [] n m e h k
 inside_fit (p ∷ q ∷ qs) n m e h k =
     let w = all_whole (p ∷ q ∷ qs) h k in
     let we = w.1 in
     let l = at_least_8 p (q ∷ qs) in
-    holders_fit p (q ∷ qs) n m e h k ∙ same_test _ _ (2 ^ 32) (2 ^ 32 - 7) (λ x. omega arith) (λ x. omega arith)
+    holders_fit p (q ∷ qs) n m e h k ∙ same_test _ _ (2 ^ 32) (2 ^ 32 - 7) (λ x. omega arith)
+    (λ x. omega arith)

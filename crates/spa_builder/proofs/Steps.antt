@@ -24,23 +24,37 @@ use borrow.Author.Tests.{ltb-true}
 
 -- ---- what the model says of a call that is settled
 
-pub sized_goes : {A : Type 0} (b : Bool) (o : Option State) (t : State) (old new : Held) (x : A) → b ≡ true → o ≡ Some t → all_fit 0 t.opened ≡ true → IsAt new t → Makes (sized b o) old new (Ok x)
+pub sized_goes : {A : Type 0} (b : Bool) (o : Option State) (t : State) (old new : Held) (x : A) →
+    b ≡ true → o ≡ Some t → all_fit 0 t.opened ≡ true → IsAt new t →
+    Makes (sized b o) old new (Ok x)
 sized_goes b o t old new x e f g h =
-    subst (λ c. Makes (sized c o) old new (Ok x)) (sym e) (subst (λ p. Makes (sized true p) old new (Ok x)) (sym f) (subst (λ c. Makes (cond c (Accepts t) Nospc) old new (Ok x)) (sym g) h))
+    subst (λ c. Makes (sized c o) old new (Ok x)) (sym e)
+    (subst (λ p. Makes (sized true p) old new (Ok x)) (sym f)
+    (subst (λ c. Makes (cond c (Accepts t) Nospc) old new (Ok x)) (sym g) h))
 
-pub sized_nomem : {A : Type 0} (b : Bool) (o : Option State) (t : State) (old new : Held) (r : Result A Errno) → b ≡ true → o ≡ Some t → all_fit 0 t.opened ≡ true → r ≡ Err NOMEM → new ≡ old → Makes (sized b o) old new r
+pub sized_nomem : {A : Type 0} (b : Bool) (o : Option State) (t : State) (old new : Held)
+    (r : Result A Errno) → b ≡ true → o ≡ Some t → all_fit 0 t.opened ≡ true → r ≡ Err NOMEM →
+    new ≡ old → Makes (sized b o) old new r
 sized_nomem {A = A} b o t old new r e f g i k =
-    subst (Makes {A = A} (sized b o) old new) (sym i) (subst (λ c. Makes {A = A} (sized c o) old new (Err NOMEM)) (sym e) (subst (λ p. Makes {A = A} (sized true p) old new (Err NOMEM)) (sym f) (subst (λ c. Makes {A = A} (cond c (Accepts t) Nospc) old new (Err NOMEM)) (sym g) (refl, k))))
+    subst (Makes {A = A} (sized b o) old new) (sym i)
+    (subst (λ c. Makes {A = A} (sized c o) old new (Err NOMEM)) (sym e)
+    (subst (λ p. Makes {A = A} (sized true p) old new (Err NOMEM)) (sym f)
+    (subst (λ c. Makes {A = A} (cond c (Accepts t) Nospc) old new (Err NOMEM)) (sym g)
+    (refl, k))))
 
-pub sized_nospc : (A : Type 0) (b : Bool) (o : Option State) (t : State) (old : Held) → o ≡ Some t → (b && all_fit 0 t.opened) ≡ false → Makes {A = A} (sized b o) old old (Err NOSPC)
+pub sized_nospc : (A : Type 0) (b : Bool) (o : Option State) (t : State) (old : Held) → o ≡ Some t →
+    (b && all_fit 0 t.opened) ≡ false → Makes {A = A} (sized b o) old old (Err NOSPC)
 sized_nospc A b o t old f g =
-    subst (λ p. Makes {A = A} (sized b p) old old (Err NOSPC)) (sym f) (subst (λ c. Makes {A = A} (cond c (Accepts t) Nospc) old old (Err NOSPC)) (sym g) (refl, refl))
+    subst (λ p. Makes {A = A} (sized b p) old old (Err NOSPC)) (sym f)
+    (subst (λ c. Makes {A = A} (cond c (Accepts t) Nospc) old old (Err NOSPC)) (sym g)
+    (refl, refl))
 
 pub lt_test : (a b : ℕ) → a < b → nat_lt a b ≡ true
 lt_test a b h = grind (arith, nat_tests)
 
 -- what `?` passes on
-pub is_nomem : {A : Type 0} (r : Result A Errno) (e : Errno) → IsErrAnd r (λ y. y ≡ e) → e ≡ NOMEM → r ≡ Err NOMEM
+pub is_nomem : {A : Type 0} (r : Result A Errno) (e : Errno) → IsErrAnd r (λ y. y ≡ e) → e ≡ NOMEM →
+    r ≡ Err NOMEM
 is_nomem r e h i = let p = err_from_is_err_and r h in rw (p.1, p.2, i) refl
 
 pub and_false : (b c : Bool) → c ≡ false → (b && c) ≡ false
@@ -52,7 +66,8 @@ and_false false c e = refl
 abbrev pub after : Trees → List Partial → Tree → State
 after closed ps v = record { closed = closed_with closed ps v; opened = filled ps v }
 
-pub placed_is : (closed : Trees) (ps : List Partial) (v : Tree) → takes_trees ps ≡ true → placed closed ps v ≡ Some (after closed ps v)
+pub placed_is : (closed : Trees) (ps : List Partial) (v : Tree) → takes_trees ps ≡ true →
+    placed closed ps v ≡ Some (after closed ps v)
 placed_is closed [] v h = refl
 placed_is closed (open_struct vs ∷ ps) v h = refl
 placed_is closed (open_object t i qs ∷ ps) v h = absurd (cc)
@@ -60,30 +75,48 @@ placed_is closed (open_property t i qs k f ∷ ps) v h = refl
 placed_is closed (open_array xs ∷ ps) v h = absurd (cc)
 placed_is closed (open_choice k f xs ∷ ps) v h = absurd (cc)
 
-grown : (n : ℕ) (base a b t : List ℕ) → b ≡ a ++ t → base ++ (word_bytes 0 ++ (word_bytes n ++ b)) ≡ (base ++ (word_bytes 0 ++ (word_bytes n ++ a))) ++ t
+grown : (n : ℕ) (base a b t : List ℕ) → b ≡ a ++ t → base ++ (word_bytes 0 ++ (word_bytes n ++ b)) ≡
+    (base ++ (word_bytes 0 ++ (word_bytes n ++ a))) ++ t
 grown n base a b t e = rw e (simp append_assoc)
 
-one_more : (vs : Trees) (v : Tree) → member_encodings (with_tree vs v) ≡ member_encodings vs ++ encoding_of v
-one_more vs v = members_joined vs (member v no_trees) ∙ ap (λ l. member_encodings vs ++ l) (append-nil (encoding_of v))
+one_more : (vs : Trees) (v : Tree) → member_encodings (with_tree vs v) ≡ member_encodings vs ++
+    encoding_of v
+one_more vs v = members_joined vs (member v no_trees)
+    ∙ ap (λ l. member_encodings vs ++ l) (append-nil (encoding_of v))
 
-property_more : (t i : ℕ) (ps : Properties) (k f : ℕ) (v : Tree) → word_bytes t ++ (word_bytes i ++ property_encodings (with_property ps k f v)) ≡ (word_bytes t ++ (word_bytes i ++ (property_encodings ps ++ (word_bytes k ++ word_bytes f)))) ++ encoding_of v
+property_more : (t i : ℕ) (ps : Properties) (k f : ℕ) (v : Tree) →
+    word_bytes t ++ (word_bytes i ++ property_encodings (with_property ps k f v)) ≡
+    (word_bytes t ++ (word_bytes i ++ (property_encodings ps ++ (word_bytes k ++ word_bytes f)))) ++
+    encoding_of v
 property_more t i ps k f v =
-    ap (λ l. word_bytes t ++ (word_bytes i ++ l)) (properties_joined ps (property k f v no_properties) ∙ ap (λ l. property_encodings ps ++ (word_bytes k ++ (word_bytes f ++ l))) (append-nil (encoding_of v)))
+    ap (λ l. word_bytes t ++ (word_bytes i ++ l))
+    (properties_joined ps (property k f v no_properties)
+    ∙ ap (λ l. property_encodings ps ++ (word_bytes k ++ (word_bytes f ++ l)))
+    (append-nil (encoding_of v)))
     ∙ simp append_assoc
 
 -- in an open tree
-grows : (p : Partial) (ps : List Partial) (v : Tree) → takes_trees (p ∷ ps) ≡ true → all_so_far (filled (p ∷ ps) v) ≡ all_so_far (p ∷ ps) ++ encoding_of v
-grows (open_struct vs) ps v h = grown struct_type (all_so_far ps) (member_encodings vs) (member_encodings (with_tree vs v)) (encoding_of v) (one_more vs v)
+grows : (p : Partial) (ps : List Partial) (v : Tree) → takes_trees (p ∷ ps) ≡ true →
+    all_so_far (filled (p ∷ ps) v) ≡ all_so_far (p ∷ ps) ++ encoding_of v
+grows (open_struct vs) ps v h = grown struct_type (all_so_far ps) (member_encodings vs)
+    (member_encodings (with_tree vs v)) (encoding_of v) (one_more vs v)
 grows (open_object t i qs) ps v h = absurd (cc)
-grows (open_property t i qs k f) ps v h = grown object_type (all_so_far ps) _ _ (encoding_of v) (property_more t i qs k f v)
+grows (open_property t i qs k f) ps v h = grown object_type (all_so_far ps) _ _ (encoding_of v)
+    (property_more t i qs k f v)
 grows (open_array xs) ps v h = absurd (cc)
 grows (open_choice k f xs) ps v h = absurd (cc)
 
-pub added_bytes : (closed : Trees) (ps : List Partial) (v : Tree) → takes_trees ps ≡ true → member_encodings (closed_with closed ps v) ++ all_so_far (filled ps v) ≡ (member_encodings closed ++ all_so_far ps) ++ encoding_of v
-added_bytes closed [] v h = append-nil (member_encodings (with_tree closed v)) ∙ one_more closed v ∙ ap (λ l. l ++ encoding_of v) (sym (append-nil (member_encodings closed)))
-added_bytes closed (p ∷ ps) v h = ap (λ l. member_encodings closed ++ l) (grows p ps v h) ∙ sym (append_assoc (member_encodings closed) (all_so_far (p ∷ ps)) (encoding_of v))
+pub added_bytes : (closed : Trees) (ps : List Partial) (v : Tree) → takes_trees ps ≡ true →
+    member_encodings (closed_with closed ps v) ++ all_so_far (filled ps v) ≡
+    (member_encodings closed ++ all_so_far ps) ++ encoding_of v
+added_bytes closed [] v h = append-nil (member_encodings (with_tree closed v)) ∙ one_more closed v
+    ∙ ap (λ l. l ++ encoding_of v) (sym (append-nil (member_encodings closed)))
+added_bytes closed (p ∷ ps) v h = ap (λ l. member_encodings closed ++ l) (grows p ps v h)
+    ∙ sym (append_assoc (member_encodings closed) (all_so_far (p ∷ ps)) (encoding_of v))
 
-added_frames : (closed : Trees) (ps : List Partial) (v : Tree) → frames_of (length (member_encodings closed)) (filled ps v) ≡ frames_of (length (member_encodings (closed_with closed ps v))) (filled ps v)
+added_frames : (closed : Trees) (ps : List Partial) (v : Tree) →
+    frames_of (length (member_encodings closed)) (filled ps v) ≡ frames_of
+    (length (member_encodings (closed_with closed ps v))) (filled ps v)
 added_frames closed [] v = refl
 added_frames closed (p ∷ ps) v = refl
 
@@ -103,14 +136,21 @@ length-filled (open_property t i qs l f ∷ ps) v = refl
 length-filled (open_array xs ∷ ps) v = refl
 length-filled (open_choice l f xs ∷ ps) v = refl
 
-pub added_fit : (ps : List Partial) (v : Tree) (n : ℕ) → n ≡ extent (length (encoded_body v)) → takes_trees ps ≡ true → IsNested ps → all_fit 0 (filled ps v) ≡ has_room_for n ps
+pub added_fit : (ps : List Partial) (v : Tree) (n : ℕ) → n ≡ extent (length (encoded_body v)) →
+    takes_trees ps ≡ true → IsNested ps → all_fit 0 (filled ps v) ≡ has_room_for n ps
 added_fit [] v n l h k = refl
 added_fit (p ∷ ps) v n l h k =
     one_size_decides (filled (p ∷ ps) v) (added_nested (p ∷ ps) v k)
-    ∙ room_later (p ∷ ps) (filled (p ∷ ps) v) n (length-filled (p ∷ ps) v) (ap length (grows p ps v h) ∙ length-append (all_so_far (p ∷ ps)) (encoding_of v) ∙ ap (λ m. length (all_so_far (p ∷ ps)) + m) (length-framed (type_of v) (encoded_body v) ∙ sym l))
+    ∙ room_later (p ∷ ps) (filled (p ∷ ps) v) n (length-filled (p ∷ ps) v)
+    (ap length (grows p ps v h) ∙ length-append (all_so_far (p ∷ ps)) (encoding_of v)
+    ∙ ap (λ m. length (all_so_far (p ∷ ps)) + m) (length-framed (type_of v) (encoded_body v)
+    ∙ sym l))
 
 -- the bytes got the value's encoding_of, and the frames know it
-pub is_after : (closed : Trees) (ps : List Partial) (v : Tree) (front : List ℕ) (new : Held) → front ≡ member_encodings closed ++ all_so_far ps → IsNested ps → takes_trees ps ≡ true → new.bytes ≡ front ++ encoding_of v → new.frames ≡ frames_of (length (member_encodings closed)) (filled ps v) → all_fit 0 (filled ps v) ≡ true → IsAt new (after closed ps v)
+pub is_after : (closed : Trees) (ps : List Partial) (v : Tree) (front : List ℕ) (new : Held) →
+    front ≡ member_encodings closed ++ all_so_far ps → IsNested ps → takes_trees ps ≡ true →
+    new.bytes ≡ front ++ encoding_of v → new.frames ≡ frames_of (length (member_encodings closed))
+    (filled ps v) → all_fit 0 (filled ps v) ≡ true → IsAt new (after closed ps v)
 is_after closed ps v front new at nested h b f g = record {
   bytes = b ∙ ap (λ l. l ++ encoding_of v) at ∙ sym (added_bytes closed ps v h);
   frames = f ∙ added_frames closed ps v;
@@ -118,46 +158,74 @@ is_after closed ps v front new at nested h b f g = record {
   fit = g;
 }
 
-pub base_and_more : (old : Held) (s : State) → IsAt old s → length old.bytes ≡ length (member_encodings s.closed) + length (all_so_far s.opened)
-base_and_more old s at = ap length at.bytes ∙ length-append (member_encodings s.closed) (all_so_far s.opened)
+pub base_and_more : (old : Held) (s : State) → IsAt old s →
+    length old.bytes ≡ length (member_encodings s.closed) + length (all_so_far s.opened)
+base_and_more old s at = ap length at.bytes
+    ∙ length-append (member_encodings s.closed) (all_so_far s.opened)
 
 -- what the test of room asks
-pub has_its_room : (old : Held) (s : State) → IsAt old s → (base : ℕ) × (ps : List Partial) × (old.frames ≡ frames_of base ps) × (length old.bytes ≡ base + length (all_so_far ps)) × IsTrue (has_room_for 0 ps)
-has_its_room old s at = (length (member_encodings s.closed), s.opened, at.frames, base_and_more old s at, sym (one_size_decides s.opened at.nested) ∙ at.fit)
+pub has_its_room : (old : Held) (s : State) → IsAt old s →
+    (base : ℕ) × (ps : List Partial) × (old.frames ≡ frames_of base ps) ×
+    (length old.bytes ≡ base + length (all_so_far ps)) × IsTrue (has_room_for 0 ps)
+has_its_room old s at = (
+  length (member_encodings s.closed),
+  s.opened,
+  at.frames,
+  base_and_more old
+      s at,
+  sym (one_size_decides s.opened at.nested) ∙ at.fit,
+)
 
 -- ---- a tree that is begun
 
-pub begun_is : (s : State) (p : Partial) → takes_trees s.opened ≡ true → begun p s ≡ Some (record { closed = s.closed; opened = p ∷ s.opened })
-begun_is s p h = ap (λ b. cond b (Some (record { closed = s.closed; opened = p ∷ s.opened })) None) h
+pub begun_is : (s : State) (p : Partial) → takes_trees s.opened ≡ true →
+    begun p s ≡ Some (record { closed = s.closed; opened = p ∷ s.opened })
+begun_is s p h = ap (λ b. cond b (Some (record { closed = s.closed; opened = p ∷ s.opened })) None)
+    h
 
 pub begun_not : (s : State) (p : Partial) → takes_trees s.opened ≡ false → begun p s ≡ None
-begun_not s p h = ap (λ b. cond b (Some (record { closed = s.closed; opened = p ∷ s.opened })) None) h
+begun_not s p h = ap (λ b. cond b (Some (record { closed = s.closed; opened = p ∷ s.opened })) None)
+    h
 
-pub begun_fit : (p : Partial) (s : State) (old : Held) (n m : ℕ) → n ≤ 2 → length (so_far p) ≡ 8 + 8 * n → m ≡ length (so_far p) → IsFair p → takes_trees s.opened ≡ true → IsAt old s → all_fit 0 (p ∷ s.opened) ≡ has_room_for m s.opened
+pub begun_fit : (p : Partial) (s : State) (old : Held) (n m : ℕ) → n ≤ 2 →
+    length (so_far p) ≡ 8 + 8 * n → m ≡ length (so_far p) → IsFair p → takes_trees s.opened ≡ true →
+    IsAt old s → all_fit 0 (p ∷ s.opened) ≡ has_room_for m s.opened
 begun_fit p s old n m u l e f h at =
-    one_size_decides (p ∷ s.opened) (f, h, at.nested) ∙ room_begun p s.opened n u l h at.nested ∙ ap (λ x. has_room_for x s.opened) (omega arith)
+    one_size_decides (p ∷ s.opened) (f, h, at.nested) ∙ room_begun p s.opened n u l h at.nested
+    ∙ ap (λ x. has_room_for x s.opened) (omega arith)
 
-pub is_begun : (old new : Held) (s : State) (p : Partial) (start : ℕ) → IsAt old s → IsFair p → takes_trees s.opened ≡ true → start ≡ length old.bytes → new.bytes ≡ old.bytes ++ so_far p → new.frames ≡ old.frames ++ (record { start = start; what = what_of p }) ∷ [] → all_fit 0 (p ∷ s.opened) ≡ true → IsAt new (record { closed = s.closed; opened = p ∷ s.opened })
+pub is_begun : (old new : Held) (s : State) (p : Partial) (start : ℕ) → IsAt old s → IsFair p →
+    takes_trees s.opened ≡ true → start ≡ length old.bytes → new.bytes ≡ old.bytes ++ so_far p →
+    new.frames ≡ old.frames ++ (record { start = start; what = what_of p }) ∷ [] →
+    all_fit 0 (p ∷ s.opened) ≡ true → IsAt new (record { closed = s.closed; opened = p ∷ s.opened })
 is_begun old new s p start at f h e b g fit = record {
-  bytes = b ∙ ap (λ l. l ++ so_far p) at.bytes ∙ append_assoc (member_encodings s.closed) (all_so_far s.opened) (so_far p);
-  frames = g ∙ ap (λ l. l ++ (record { start = start; what = what_of p }) ∷ []) at.frames ∙ ap (λ n. frames_of (length (member_encodings s.closed)) s.opened ++ (record { start = n; what = what_of p }) ∷ []) (e ∙ base_and_more old s at);
+  bytes = b ∙ ap (λ l. l ++ so_far p) at.bytes
+      ∙ append_assoc (member_encodings s.closed) (all_so_far s.opened) (so_far p);
+  frames = g ∙ ap (λ l. l ++ (record { start = start; what = what_of p }) ∷ []) at.frames
+      ∙ ap (λ n. frames_of (length (member_encodings s.closed)) s.opened ++
+      (record { start = n; what = what_of p }) ∷ []) (e ∙ base_and_more old s at);
   nested = (f, h, at.nested);
   fit = fit;
 }
 
 -- ---- a tree that is closed
 
-pub goes_ok : {A : Type 0} (o : Option State) (t : State) (old new : Held) (x : A) → o ≡ Some t → IsAt new t → Makes (taken o) old new (Ok x)
+pub goes_ok : {A : Type 0} (o : Option State) (t : State) (old new : Held) (x : A) → o ≡ Some t →
+    IsAt new t → Makes (taken o) old new (Ok x)
 goes_ok o t old new x e h = subst (λ p. Makes (taken p) old new (Ok x)) (sym e) h
 
-pub goes_nomem : {A : Type 0} (o : Option State) (t : State) (old new : Held) (r : Result A Errno) → o ≡ Some t → r ≡ Err NOMEM → new ≡ old → Makes (taken o) old new r
-goes_nomem {A = A} o t old new r e i k = subst (Makes {A = A} (taken o) old new) (sym i) (subst (λ p. Makes {A = A} (taken p) old new (Err NOMEM)) (sym e) (refl, k))
+pub goes_nomem : {A : Type 0} (o : Option State) (t : State) (old new : Held) (r : Result A Errno) →
+    o ≡ Some t → r ≡ Err NOMEM → new ≡ old → Makes (taken o) old new r
+goes_nomem {A = A} o t old new r e i k = subst (Makes {A = A} (taken o) old new) (sym i)
+    (subst (λ p. Makes {A = A} (taken p) old new (Err NOMEM)) (sym e) (refl, k))
 
-pub goes_inval : (A : Type 0) (o : Option State) (old : Held) → o ≡ None → Makes {A = A} (taken o) old old (Err INVAL)
+pub goes_inval : (A : Type 0) (o : Option State) (old : Held) → o ≡ None →
+    Makes {A = A} (taken o) old old (Err INVAL)
 goes_inval A o old e = subst (λ p. Makes {A = A} (taken p) old old (Err INVAL)) (sym e) (refl, refl)
 
 -- what is known where a frame is innermost
-pub record Closing (old : Held) (s : State) (o : Open) (p : Partial) (rest : List Partial) : Type 0 where
+pub record Closing (old : Held) (s : State) (o : Open) (p : Partial) (rest : List Partial) :
+    Type 0 where
   pub opened : s.opened ≡ p ∷ rest
   pub start : o.start ≡ length (member_encodings s.closed ++ all_so_far rest)
   pub what : o.what ≡ what_of p
@@ -175,18 +243,29 @@ both_true : (a b : Bool) → (a && b) ≡ true → (a ≡ true) × (b ≡ true)
 both_true true b e = (refl, e)
 both_true false b e = absurd (cc)
 
-pub closing : (old : Held) (closed : Trees) (ops : List Partial) (o : Open) → IsAt old (record { closed = closed; opened = ops }) → Some o ≡ innermost_of (length (member_encodings closed)) ops → (p : Partial) × (rest : List Partial) × Closing old (record { closed = closed; opened = ops }) o p rest
+pub closing : (old : Held) (closed : Trees) (ops : List Partial) (o : Open) →
+    IsAt old (record { closed = closed; opened = ops }) →
+    Some o ≡ innermost_of (length (member_encodings closed)) ops →
+    (p : Partial) × (rest : List Partial) × Closing old (record { closed = closed; opened = ops }) o
+    p rest
 closing old closed [] o at e = absurd (cc)
 closing old closed (p ∷ rest) o at e =
-    let i : o ≡ record { start = length (member_encodings closed) + length (all_so_far rest); what = what_of p } = cc in
-    let st : o.start ≡ length (member_encodings closed) + length (all_so_far rest) = ap (λ (x : Open). x.start) i in
+    let i : o ≡ record {
+      start = length (member_encodings closed) + length (all_so_far rest);
+      what =
+          what_of p;
+    } = cc in
+    let st : o.start ≡ length (member_encodings closed) + length (all_so_far rest) =
+    ap (λ (x : Open). x.start) i in
     let la = length-append (member_encodings closed) (all_so_far rest) in
-    let b : old.bytes ≡ (member_encodings closed ++ all_so_far rest) ++ so_far p = at.bytes ∙ sym (append_assoc (member_encodings closed) (all_so_far rest) (so_far p)) in
+    let b : old.bytes ≡ (member_encodings closed ++ all_so_far rest) ++ so_far p = at.bytes
+    ∙ sym (append_assoc (member_encodings closed) (all_so_far rest) (so_far p)) in
     let lb = ap length b ∙ length-append (member_encodings closed ++ all_so_far rest) (so_far p) in
     let k = at.nested in
     let sf = length-so_far p k.0 in
     let own = length-body p k.0 in
-    let f = both_true (nat_lt (own_size p + 0) (2 ^ 32)) (all_fit (extent (own_size p + 0)) rest) at.fit in
+    let f = both_true (nat_lt (own_size p + 0) (2 ^ 32)) (all_fit (extent (own_size p + 0)) rest)
+    at.fit in
     let small : own_size p + 0 < 2 ^ 32 = ltb-true (own_size p + 0) (2 ^ 32) f.0 in
     let zero : own_size p + 0 ≡ own_size p = omega arith in (
       p,
@@ -196,7 +275,8 @@ closing old closed (p ∷ rest) o at e =
         start = st ∙ sym la;
         what = ap (λ (x : Open). x.what) i;
         bytes = b;
-        frames = at.frames ∙ ap (λ x. frames_of (length (member_encodings closed)) rest ++ x ∷ []) (sym i);
+        frames = at.frames ∙ ap (λ x. frames_of (length (member_encodings closed)) rest ++ x ∷ [])
+            (sym i);
         size = omega arith;
         long = omega arith;
         small = omega arith;
@@ -207,23 +287,34 @@ closing old closed (p ∷ rest) o at e =
       },
     )
 
-pub patched : (front body b : List ℕ) (k n start : ℕ) → start ≡ length front → n ≡ length body → b ≡ (front ++ (word_bytes 0 ++ (word_bytes k ++ body))) ++ padding n → take start b ++ (word_bytes n ++ drop (start + 4) b) ≡ front ++ framed k body
+pub patched : (front body b : List ℕ) (k n start : ℕ) → start ≡ length front → n ≡ length body →
+    b ≡ (front ++ (word_bytes 0 ++ (word_bytes k ++ body))) ++ padding n →
+    take start b ++ (word_bytes n ++ drop (start + 4) b) ≡ front ++ framed k body
 patched front body b k n start s m e =
     let z = padding n in
     let e1 : b ≡ front ++ (word_bytes 0 ++ (word_bytes k ++ (body ++ z))) = e ∙ simp append_assoc in
-    let e2 : b ≡ (front ++ word_bytes 0) ++ (word_bytes k ++ (body ++ z)) = e1 ∙ sym (append_assoc front (word_bytes 0) (word_bytes k ++ (body ++ z))) in
-    let t = ap (take start) e1 ∙ take_at front (word_bytes 0 ++ (word_bytes k ++ (body ++ z))) start (sym s) in
+    let e2 : b ≡ (front ++ word_bytes 0) ++ (word_bytes k ++ (body ++ z)) = e1
+    ∙ sym (append_assoc front (word_bytes 0) (word_bytes k ++ (body ++ z))) in
+    let t = ap (take start) e1 ∙ take_at front (word_bytes 0 ++ (word_bytes k ++ (body ++ z))) start
+    (sym s) in
     let l = length-append front (word_bytes 0) in
     let l0 = length-word_bytes 0 in
-    let d = ap (drop (start + 4)) e2 ∙ drop_at (front ++ word_bytes 0) (word_bytes k ++ (body ++ z)) (start + 4) (omega arith) in
-    ap (λ x. x ++ (word_bytes n ++ drop (start + 4) b)) t ∙ ap (λ x. front ++ (word_bytes n ++ x)) d ∙ ap (λ i. front ++ (word_bytes i ++ (word_bytes k ++ (body ++ padding i)))) m
+    let d = ap (drop (start + 4)) e2 ∙ drop_at (front ++ word_bytes 0) (word_bytes k ++ (body ++ z))
+    (start + 4) (omega arith) in
+    ap (λ x. x ++ (word_bytes n ++ drop (start + 4) b)) t ∙ ap (λ x. front ++ (word_bytes n ++ x)) d
+    ∙ ap (λ i. front ++ (word_bytes i ++ (word_bytes k ++ (body ++ padding i)))) m
 
 -- the encoding of the choice that a tree becomes
-choice_encoding : (h : Shape) (f : ℕ) (x : Fixed) (xs : List Fixed) (v : Tree) (b : Bool) → cond b None (Some (choice h f (kind_of x) x xs)) ≡ Some v → framed choice_type (body_so_far (open_choice h f (x ∷ xs))) ≡ encoding_of v
+choice_encoding : (h : Shape) (f : ℕ) (x : Fixed) (xs : List Fixed) (v : Tree) (b : Bool) →
+    cond b None (Some (choice h f (kind_of x) x xs)) ≡ Some v →
+    framed choice_type (body_so_far (open_choice h f (x ∷ xs))) ≡ encoding_of v
 choice_encoding h f x xs v true e = absurd (cc)
-choice_encoding h f x xs v false e = let i : v ≡ choice h f (kind_of x) x xs = cc in ap encoding_of (sym i)
+choice_encoding h f x xs v false e = let i : v ≡ choice h f (kind_of x) x xs = cc in
+    ap encoding_of (sym i)
 
-choice_size : (h : Shape) (f : ℕ) (x : Fixed) (xs : List Fixed) (v : Tree) (b : Bool) → cond b None (Some (choice h f (kind_of x) x xs)) ≡ Some v → length (encoded_body v) ≡ own_size (open_choice h f (x ∷ xs))
+choice_size : (h : Shape) (f : ℕ) (x : Fixed) (xs : List Fixed) (v : Tree) (b : Bool) →
+    cond b None (Some (choice h f (kind_of x) x xs)) ≡ Some v →
+    length (encoded_body v) ≡ own_size (open_choice h f (x ∷ xs))
 choice_size h f x xs v true e = absurd (cc)
 choice_size h f x xs v false e =
     let i : v ≡ choice h f (kind_of x) x xs = cc in
@@ -233,40 +324,60 @@ same_none : (b : Bool) → let o : Option State = None in cond b o o ≡ o
 same_none true = refl
 same_none false = refl
 
-pub finished_encoding : (p : Partial) (v : Tree) → finished p ≡ Some v → IsFair p → framed (type_of_partial p) (body_so_far p) ≡ encoding_of v
+pub finished_encoding : (p : Partial) (v : Tree) → finished p ≡ Some v → IsFair p →
+    framed (type_of_partial p) (body_so_far p) ≡ encoding_of v
 finished_encoding (open_struct vs) v e f = let i : v ≡ struct vs = cc in ap encoding_of (sym i)
-finished_encoding (open_object t i ps) v e f = let x : v ≡ object t i ps = cc in ap encoding_of (sym x)
+finished_encoding (open_object t i ps) v e f = let x : v ≡ object t i ps = cc in
+    ap encoding_of (sym x)
 finished_encoding (open_property t i ps k g) v e f = absurd (cc)
 finished_encoding (open_array xs) v e f =
     let x : v ≡ array_of xs = cc in
-    ap (λ l. framed array_type (word_bytes (body_size (child_kind xs)) ++ (word_bytes (type_number (child_kind xs)) ++ l))) (kept_bodies (child_kind xs) xs f) ∙ ap encoding_of (sym x)
+    ap (λ l. framed array_type
+    (word_bytes (body_size (child_kind xs)) ++ (word_bytes (type_number (child_kind xs)) ++ l)))
+    (kept_bodies (child_kind xs) xs f) ∙ ap encoding_of (sym x)
 finished_encoding (open_choice h g []) v e f = absurd (cc)
-finished_encoding (open_choice h g (x ∷ xs)) v e f = choice_encoding h g x xs v (nat_lt (length (x ∷ xs)) (least_count h)) e
+finished_encoding (open_choice h g (x ∷ xs)) v e f =
+    choice_encoding h g x xs v (nat_lt (length (x ∷ xs)) (least_count h)) e
 
-pub finished_size : (p : Partial) (v : Tree) → finished p ≡ Some v → IsFair p → length (encoded_body v) ≡ own_size p
-finished_size (open_struct vs) v e f = let i : v ≡ struct vs = cc in ap (λ x. length (encoded_body x)) i
-finished_size (open_object t i ps) v e f = let x : v ≡ object t i ps = cc in ap (λ x. length (encoded_body x)) x
+pub finished_size : (p : Partial) (v : Tree) → finished p ≡ Some v → IsFair p →
+    length (encoded_body v) ≡ own_size p
+finished_size (open_struct vs) v e f = let i : v ≡ struct vs = cc in
+    ap (λ x. length (encoded_body x)) i
+finished_size (open_object t i ps) v e f = let x : v ≡ object t i ps = cc in
+    ap (λ x. length (encoded_body x)) x
 finished_size (open_property t i ps k g) v e f = absurd (cc)
-finished_size (open_array xs) v e f = let x : v ≡ array_of xs = cc in ap (λ x. length (encoded_body x)) x
+finished_size (open_array xs) v e f = let x : v ≡ array_of xs = cc in
+    ap (λ x. length (encoded_body x)) x
 finished_size (open_choice h g []) v e f = absurd (cc)
-finished_size (open_choice h g (x ∷ xs)) v e f = choice_size h g x xs v (nat_lt (length (x ∷ xs)) (least_count h)) e
+finished_size (open_choice h g (x ∷ xs)) v e f =
+    choice_size h g x xs v (nat_lt (length (x ∷ xs)) (least_count h)) e
 
-pub closes_is : (closed : Trees) (ops : List Partial) (p : Partial) (rest : List Partial) (frame : ℕ) (v : Tree) → ops ≡ p ∷ rest → frame ≡ length ops → finished p ≡ Some v → takes_trees rest ≡ true → closes closed ops frame ≡ Some (after closed rest v)
+pub closes_is : (closed : Trees) (ops : List Partial) (p : Partial) (rest : List Partial)
+    (frame : ℕ) (v : Tree) → ops ≡ p ∷ rest → frame ≡ length ops → finished p ≡ Some v →
+    takes_trees rest ≡ true → closes closed ops frame ≡ Some (after closed rest v)
 closes_is closed ops p rest frame v e f g h =
     ap (λ l. closes closed l frame) e
-    ∙ ap (λ b. cond b (elim (finished p) as (λ _. Option State) [ Some w ↦ placed closed rest w | None ↦ None ]) None) (eq-eqb frame (length (p ∷ rest)) (f ∙ ap length e))
-    ∙ ap (λ (x : Option Tree). elim x as (λ _. Option State) [ Some w ↦ placed closed rest w | None ↦ None ]) g
+    ∙ ap (λ b. cond b (elim (finished p) as (λ _. Option State)
+    [ Some w ↦ placed closed rest w | None ↦ None ]) None)
+    (eq-eqb frame (length (p ∷ rest)) (f ∙ ap length e))
+    ∙ ap (λ (x : Option Tree). elim x as (λ _. Option State)
+    [ Some w ↦ placed closed rest w | None ↦ None ]) g
     ∙ placed_is closed rest v h
 
-pub closes_not : (closed : Trees) (ops : List Partial) (p : Partial) (rest : List Partial) (frame : ℕ) → ops ≡ p ∷ rest → finished p ≡ None → closes closed ops frame ≡ None
+pub closes_not : (closed : Trees) (ops : List Partial) (p : Partial) (rest : List Partial)
+    (frame : ℕ) → ops ≡ p ∷ rest → finished p ≡ None → closes closed ops frame ≡ None
 closes_not closed ops p rest frame e g =
     ap (λ l. closes closed l frame) e
-    ∙ ap (λ (x : Option Tree). cond (nat_eq frame (length (p ∷ rest))) (elim x as (λ _. Option State) [ Some w ↦ placed closed rest w | None ↦ None ]) None) g
+    ∙ ap (λ (x : Option Tree). cond (nat_eq frame (length (p ∷ rest)))
+    (elim x as (λ _. Option State) [ Some w ↦ placed closed rest w | None ↦ None ]) None) g
     ∙ same_none (nat_eq frame (length (p ∷ rest)))
 
-pub closes_other : (closed : Trees) (ops : List Partial) (frame : ℕ) → nat_eq frame (length ops) ≡ false → closes closed ops frame ≡ None
+pub closes_other : (closed : Trees) (ops : List Partial) (frame : ℕ) →
+    nat_eq frame (length ops) ≡ false → closes closed ops frame ≡ None
 closes_other closed [] frame e = refl
-closes_other closed (p ∷ rest) frame e = ap (λ b. cond b (elim (finished p) as (λ _. Option State) [ Some w ↦ placed closed rest w | None ↦ None ]) None) e
+closes_other closed (p ∷ rest) frame e =
+    ap (λ b. cond b (elim (finished p) as (λ _. Option State)
+    [ Some w ↦ placed closed rest w | None ↦ None ]) None) e
 
 pub none_open : (base : ℕ) (ops : List Partial) → None ≡ innermost_of base ops → ops ≡ []
 none_open base [] e = refl
@@ -281,20 +392,29 @@ is_no_value (Some v) e = absurd (cc)
 is_no_value None e = refl
 
 -- so a value that an open tree becomes leaves every size as it is
-pub closed_fit : (rest : List Partial) (p : Partial) (v : Tree) → finished p ≡ Some v → IsFair p → takes_trees rest ≡ true → IsNested rest → all_fit (extent (own_size p)) rest ≡ true → all_fit 0 (filled rest v) ≡ true
+pub closed_fit : (rest : List Partial) (p : Partial) (v : Tree) → finished p ≡ Some v → IsFair p →
+    takes_trees rest ≡ true → IsNested rest → all_fit (extent (own_size p)) rest ≡ true →
+    all_fit 0 (filled rest v) ≡ true
 closed_fit rest p v e f h k fit =
     added_fit rest v (extent (own_size p)) (ap extent (sym (finished_size p v e f))) h k
     ∙ sym (inside_fit rest (extent (own_size p)) (1 + (own_size p + 7) / 8) (omega arith) h k)
     ∙ fit
 
-pub is_closed : (old new : Held) (s : State) (o : Open) (p : Partial) (rest : List Partial) (v : Tree) → Closing old s o p rest → finished p ≡ Some v → new.bytes ≡ (member_encodings s.closed ++ all_so_far rest) ++ framed (type_of_partial p) (body_so_far p) → new.frames ≡ frames_of (length (member_encodings s.closed)) (filled rest v) → IsAt new (after s.closed rest v)
+pub is_closed : (old new : Held) (s : State) (o : Open) (p : Partial) (rest : List Partial)
+    (v : Tree) → Closing old s o p rest → finished p ≡ Some v →
+    new.bytes ≡ (member_encodings s.closed ++ all_so_far rest) ++ framed (type_of_partial p)
+    (body_so_far p) → new.frames ≡ frames_of (length (member_encodings s.closed)) (filled rest v) →
+    IsAt new (after s.closed rest v)
 is_closed old new s o p rest v k e b f =
-    is_after s.closed rest v (member_encodings s.closed ++ all_so_far rest) new refl k.nested k.takes
-    (b ∙ ap (λ l. (member_encodings s.closed ++ all_so_far rest) ++ l) (finished_encoding p v e k.fair)) f (closed_fit rest p v e k.fair k.takes k.nested k.fit)
+    is_after s.closed rest v (member_encodings s.closed ++ all_so_far rest) new refl k.nested
+    k.takes
+    (b ∙ ap (λ l. (member_encodings s.closed ++ all_so_far rest) ++ l)
+    (finished_encoding p v e k.fair)) f (closed_fit rest p v e k.fair k.takes k.nested k.fit)
 
 -- ---- a key
 
-pub takes_key_is : (ops : List Partial) → takes_key ops ≡ true → (t : ℕ) × (i : ℕ) × (qs : Properties) × (ps : List Partial) × (ops ≡ open_object t i qs ∷ ps)
+pub takes_key_is : (ops : List Partial) → takes_key ops ≡ true →
+    (t : ℕ) × (i : ℕ) × (qs : Properties) × (ps : List Partial) × (ops ≡ open_object t i qs ∷ ps)
 takes_key_is [] h = absurd (cc)
 takes_key_is (open_struct vs ∷ ps) h = absurd (cc)
 takes_key_is (open_object t i qs ∷ ps) h = (t, i, qs, ps, refl)
@@ -302,7 +422,8 @@ takes_key_is (open_property t i qs k f ∷ ps) h = absurd (cc)
 takes_key_is (open_array xs ∷ ps) h = absurd (cc)
 takes_key_is (open_choice k f xs ∷ ps) h = absurd (cc)
 
-pub keyed_not : (closed : Trees) (ops : List Partial) (k f : ℕ) → takes_key ops ≡ false → keyed closed ops k f ≡ None
+pub keyed_not : (closed : Trees) (ops : List Partial) (k f : ℕ) → takes_key ops ≡ false →
+    keyed closed ops k f ≡ None
 keyed_not closed [] k f h = refl
 keyed_not closed (open_struct vs ∷ ps) k f h = refl
 keyed_not closed (open_object t i qs ∷ ps) k f h = absurd (cc)
@@ -310,34 +431,52 @@ keyed_not closed (open_property t i qs l g ∷ ps) k f h = refl
 keyed_not closed (open_array xs ∷ ps) k f h = refl
 keyed_not closed (open_choice l g xs ∷ ps) k f h = refl
 
-pub key_more : (t i : ℕ) (qs : Properties) (k f : ℕ) (ps : List Partial) → all_so_far (open_property t i qs k f ∷ ps) ≡ all_so_far (open_object t i qs ∷ ps) ++ (word_bytes k ++ word_bytes f)
+pub key_more : (t i : ℕ) (qs : Properties) (k f : ℕ) (ps : List Partial) →
+    all_so_far (open_property t i qs k f ∷ ps) ≡ all_so_far (open_object t i qs ∷ ps) ++
+    (word_bytes k ++ word_bytes f)
 key_more t i qs k f ps = simp append_assoc
 
-pub keyed_fit : (t i : ℕ) (qs : Properties) (k f : ℕ) (ps : List Partial) → IsNested (open_object t i qs ∷ ps) → all_fit 0 (open_property t i qs k f ∷ ps) ≡ has_room_for 8 (open_object t i qs ∷ ps)
+pub keyed_fit : (t i : ℕ) (qs : Properties) (k f : ℕ) (ps : List Partial) →
+    IsNested (open_object t i qs ∷ ps) → all_fit 0 (open_property t i qs k f ∷ ps) ≡ has_room_for 8
+    (open_object t i qs ∷ ps)
 keyed_fit t i qs k f ps n =
     let e0 = length-append (word_bytes k) (word_bytes f) in
     let e1 = length-word_bytes k in
     let e2 = length-word_bytes f in
     let e3 = length-append (all_so_far (open_object t i qs ∷ ps)) (word_bytes k ++ word_bytes f) in
-    one_size_decides (open_property t i qs k f ∷ ps) n ∙ room_later (open_object t i qs ∷ ps) (open_property t i qs k f ∷ ps) 8 refl (ap length (key_more t i qs k f ps) ∙ omega arith)
+    one_size_decides (open_property t i qs k f ∷ ps) n
+    ∙ room_later (open_object t i qs ∷ ps) (open_property t i qs k f ∷ ps) 8 refl
+    (ap length (key_more t i qs k f ps) ∙ omega arith)
 
-pub is_keyed : (new : Held) (closed : Trees) (t i : ℕ) (qs : Properties) (k f : ℕ) (ps : List Partial) (old : List ℕ) → old ≡ member_encodings closed ++ all_so_far (open_object t i qs ∷ ps) → IsNested (open_object t i qs ∷ ps) → new.bytes ≡ old ++ (word_bytes k ++ word_bytes f) → new.frames ≡ frames_of (length (member_encodings closed)) (open_property t i qs k f ∷ ps) → all_fit 0 (open_property t i qs k f ∷ ps) ≡ true → IsAt new (record { closed = closed; opened = open_property t i qs k f ∷ ps })
+pub is_keyed : (new : Held) (closed : Trees) (t i : ℕ) (qs : Properties) (k f : ℕ)
+    (ps : List Partial) (old : List ℕ) →
+    old ≡ member_encodings closed ++ all_so_far (open_object t i qs ∷ ps) →
+    IsNested (open_object t i qs ∷ ps) → new.bytes ≡ old ++ (word_bytes k ++ word_bytes f) →
+    new.frames ≡ frames_of (length (member_encodings closed)) (open_property t i qs k f ∷ ps) →
+    all_fit 0 (open_property t i qs k f ∷ ps) ≡ true →
+    IsAt new (record { closed = closed; opened = open_property t i qs k f ∷ ps })
 is_keyed new closed t i qs k f ps old e n b g fit = record {
-  bytes = b ∙ ap (λ l. l ++ (word_bytes k ++ word_bytes f)) e ∙ append_assoc (member_encodings closed) (all_so_far (open_object t i qs ∷ ps)) (word_bytes k ++ word_bytes f) ∙ ap (λ l. member_encodings closed ++ l) (sym (key_more t i qs k f ps));
+  bytes = b ∙ ap (λ l. l ++ (word_bytes k ++ word_bytes f)) e
+      ∙ append_assoc (member_encodings closed) (all_so_far (open_object t i qs ∷ ps))
+      (word_bytes k ++ word_bytes f)
+      ∙ ap (λ l. member_encodings closed ++ l) (sym (key_more t i qs k f ps));
   frames = g;
   nested = n;
   fit = fit;
 }
 
-pub sized_inval : (A : Type 0) (b : Bool) (o : Option State) (old : Held) → o ≡ None → Makes {A = A} (sized b o) old old (Err INVAL)
-sized_inval A b o old e = subst (λ p. Makes {A = A} (sized b p) old old (Err INVAL)) (sym e) (refl, refl)
+pub sized_inval : (A : Type 0) (b : Bool) (o : Option State) (old : Held) → o ≡ None →
+    Makes {A = A} (sized b o) old old (Err INVAL)
+sized_inval A b o old e = subst (λ p. Makes {A = A} (sized b p) old old (Err INVAL)) (sym e)
+    (refl, refl)
 
 -- ---- the builder
 
 pub at_start : (xs : List ℕ) (fs : List Open) → xs ≡ [] → fs ≡ [] → IsAt (held xs fs) start
 at_start xs fs b f = record { bytes = b; frames = f; nested = tt; fit = refl }
 
-kept_one : {A : Type 0} (o : Outcome) (old new : Held) (r : Result A Errno) → IsHeld old → Makes o old new r → IsHeld new
+kept_one : {A : Type 0} (o : Outcome) (old new : Held) (r : Result A Errno) → IsHeld old →
+    Makes o old new r → IsHeld new
 kept_one (Accepts s) old new (Ok x) h m = (s, m)
 kept_one (Accepts s) old new (Err e) h m = subst IsHeld (sym m.1) h
 kept_one Inval old new (Ok x) h m = absurd m
@@ -346,11 +485,13 @@ kept_one Nospc old new (Ok x) h m = absurd m
 kept_one Nospc old new (Err e) h m = subst IsHeld (sym m.1) h
 
 -- whatever a call makes, the builder holds a state
-pub kept : {A : Type 0} (o : State → Outcome) (old new : Held) (r : Result A Errno) → IsHeld old → ((s : State) → IsAt old s → Makes (o s) old new r) → IsHeld new
+pub kept : {A : Type 0} (o : State → Outcome) (old new : Held) (r : Result A Errno) → IsHeld old →
+    ((s : State) → IsAt old s → Makes (o s) old new r) → IsHeld new
 kept o old new r h f = kept_one (o h.0) old new r h (f h.0 h.1)
 
 -- a tree of no fixed size isn't an element
-pub no_element : (closed : Trees) (ps : List Partial) (v : Tree) → ((x : Fixed) → v ≢ fixed x) → takes_trees ps ≡ false → placed closed ps v ≡ None
+pub no_element : (closed : Trees) (ps : List Partial) (v : Tree) → ((x : Fixed) → v ≢ fixed x) →
+    takes_trees ps ≡ false → placed closed ps v ≡ None
 no_element closed [] v n h = absurd (cc)
 no_element closed (open_struct vs ∷ ps) v n h = absurd (cc)
 no_element closed (open_object t i qs ∷ ps) v n h = refl
@@ -377,15 +518,22 @@ no_element closed (open_choice k f xs ∷ ps) (object x y z) n h = refl
 pub spells : (h : Held) (s : State) → IsAt h s → Spells h.bytes s
 spells h s at = record {
   begin = (all_so_far s.opened, at.bytes);
-  all = λ e. at.bytes ∙ ap (λ l. member_encodings s.closed ++ all_so_far l) e ∙ append-nil (member_encodings s.closed);
+  all = λ e. at.bytes ∙ ap (λ l. member_encodings s.closed ++ all_so_far l) e
+      ∙ append-nil (member_encodings s.closed);
 }
 
 -- what the fields of the builder make, its value makes
-pub through : {A : Type 0} (o : State → Outcome) (old old' new : Held) (r : Result A Errno) → old ≡ old' → ((s : State) → IsAt old s → Makes (o s) old new r) → (s : State) → IsAt old' s → Makes (o s) old' new r
+pub through : {A : Type 0} (o : State → Outcome) (old old' new : Held) (r : Result A Errno) →
+    old ≡ old' → ((s : State) → IsAt old s → Makes (o s) old new r) → (s : State) → IsAt old' s →
+    Makes (o s) old' new r
 through o old old' new r e f = subst (λ h. (s : State) → IsAt h s → Makes (o s) h new r) e f
 
-pub nul_refused : (b : Bool) (o : Outcome) (old : Held) → b ≡ true → Makes {A = Unit {0}} (cond b Inval o) old old (Err INVAL)
-nul_refused b o old e = subst (λ c. Makes {A = Unit {0}} (cond c Inval o) old old (Err INVAL)) (sym e) (refl, refl)
+pub nul_refused : (b : Bool) (o : Outcome) (old : Held) → b ≡ true →
+    Makes {A = Unit {0}} (cond b Inval o) old old (Err INVAL)
+nul_refused b o old e = subst (λ c. Makes {A = Unit {0}} (cond c Inval o) old old (Err INVAL))
+    (sym e) (refl, refl)
 
-pub without_nul : {A : Type 0} (b : Bool) (o : Outcome) (old new : Held) (r : Result A Errno) → b ≡ false → Makes o old new r → Makes (cond b Inval o) old new r
-without_nul {A = A} b o old new r e m = subst (λ c. Makes {A = A} (cond c Inval o) old new r) (sym e) m
+pub without_nul : {A : Type 0} (b : Bool) (o : Outcome) (old new : Held) (r : Result A Errno) →
+    b ≡ false → Makes o old new r → Makes (cond b Inval o) old new r
+without_nul {A = A} b o old new r e m = subst (λ c. Makes {A = A} (cond c Inval o) old new r)
+    (sym e) m

@@ -10,12 +10,12 @@ ghost use Rattle.spa_builder.specs.Answers.{Makes, Spells};
 
 use crate::building::{add_elements, add_encoding, add_fixed, add_key, add_pod, begin, close};
 use crate::bytes::pointer_pod;
-use crate::elements::SHAPE_MAX;
 use crate::frames::Frames;
 use crate::heads::{array_head, choice_head, object_head, struct_head};
 use crate::open::What;
 use crate::written::Written;
 use spa_bytes::POINTER_LEN;
+use spa_fixed::FLAGS_SHAPE;
 use spa_utils::{Errno, Fd, Float32, Float64, Fraction, Frame, Id, Rectangle, SpaTypes};
 use spa_value::ValueArray;
 use std::marker::Model;
@@ -219,7 +219,7 @@ impl Builder {
         ensures step { (s : State) → IsAt self.old s → Makes (step s (push_choice shape flags)) self.old self.new result }
         ensures frame { (s : State) → IsAt self.old s → IfOk result (λ f. f.0 ≡ length s.opened + 1) }
     {
-        if shape > SHAPE_MAX {
+        if shape > FLAGS_SHAPE {
             return Err(Errno::INVAL);
         }
         begin(

@@ -9,17 +9,8 @@ ghost use Rattle.spa_builder.specs.Framed.{is_nothing};
 ghost use Rattle.spa_builder.specs.Innermost.{innermost_of, is_first, takes_element, takes_elements, with_element};
 
 use crate::open::{Open, What};
+use spa_fixed::{NONE_SHAPE, RANGE_SHAPE, STEP_SHAPE};
 use spa_utils::SpaTypes;
-
-/// The shape words of choices that take no more values than they need.
-const NONE: u32 = 0;
-
-const RANGE: u32 = 1;
-
-const STEP: u32 = 2;
-
-/// The greatest shape word, that of flags.
-pub(crate) const SHAPE_MAX: u32 = 4;
 
 /// The least counts of values of a range and of a step; one is the least for the others.
 const RANGE_COUNT: u32 = 3;
@@ -49,9 +40,9 @@ fn has_place(shape: u32, count: u32) -> bool
     ensures { (h : Shape) → shape ≡ shape_number h → result ≡ has_place h count }
 {
     match shape {
-        NONE => count < 1,
-        RANGE => count < RANGE_COUNT,
-        STEP => count < STEP_COUNT,
+        NONE_SHAPE => count < 1,
+        RANGE_SHAPE => count < RANGE_COUNT,
+        STEP_SHAPE => count < STEP_COUNT,
         _ => true,
     }
 }
@@ -94,8 +85,8 @@ pub(crate) fn is_finished(what: What) -> bool
 {
     match what {
         What::Nothing | What::Property => false,
-        What::Choice(RANGE, _, count) => count >= RANGE_COUNT,
-        What::Choice(STEP, _, count) => count >= STEP_COUNT,
+        What::Choice(RANGE_SHAPE, _, count) => count >= RANGE_COUNT,
+        What::Choice(STEP_SHAPE, _, count) => count >= STEP_COUNT,
         What::Choice(_, _, count) => count >= 1,
         _ => true,
     }

@@ -2,4 +2,5 @@
 mod calls;
 mod forms;
 mod objects;
+mod refused;
 mod shown;

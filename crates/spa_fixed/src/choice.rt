@@ -22,19 +22,19 @@ use spa_utils::{Choice, ChoiceEnum, ChoiceFlags, SpaTypes};
 use std::alloc::Global;
 
 /// The shape word of a choice with no alternative.
-const NONE_SHAPE: u32 = 0;
+pub const NONE_SHAPE: u32 = 0;
 
 /// The shape word of a choice with a minimum and a maximum.
-const RANGE_SHAPE: u32 = 1;
+pub const RANGE_SHAPE: u32 = 1;
 
 /// The shape word of a choice with a minimum, a maximum and a step.
-const STEP_SHAPE: u32 = 2;
+pub const STEP_SHAPE: u32 = 2;
 
 /// The shape word of a choice with alternatives.
-const ENUM_SHAPE: u32 = 3;
+pub const ENUM_SHAPE: u32 = 3;
 
 /// The shape word of a choice with flags.
-const FLAGS_SHAPE: u32 = 4;
+pub const FLAGS_SHAPE: u32 = 4;
 
 /// How many values a choice has beside a list of any length, at most: default, minimum, maximum and step.
 const MOST_FIRST: usize = 4;

@@ -10,7 +10,9 @@ mod fixed_sized;
 mod pod;
 
 pub use array::{next_element, open_array, put_array, read_array};
-pub use choice::{put_choice, read_choice};
+pub use choice::{
+    ENUM_SHAPE, FLAGS_SHAPE, NONE_SHAPE, RANGE_SHAPE, STEP_SHAPE, put_choice, read_choice,
+};
 pub use fault::{DeserializeError, Fault, FaultKind, Refusal};
 pub use fixed::{CanonicalFixedSizedPod, ChoiceElement};
 pub use fixed_sized::FixedSizedPod;

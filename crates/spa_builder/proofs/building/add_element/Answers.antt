@@ -19,7 +19,8 @@ pub returns-then-not-takes_element : goal.returns-then-not-takes_element
 returns-then-not-takes_element c s x at ty b el =
     let old : Held = held c.args.bytes.now c.args.frames.now in
     let base = length (member_encodings s.closed) in
-    let z = closing old s.closed s.opened c.in-Some.open at (c.in-Some.ensures.last base s.opened (at.frames)) in
+    let z = closing old s.closed s.opened c.in-Some.open at
+    (c.in-Some.ensures.last base s.opened (at.frames)) in
     let p = z.0 in
     let ps = z.1 in
     let k = z.2 in
@@ -27,14 +28,17 @@ returns-then-not-takes_element c s x at ty b el =
     let nested : IsNested (p ∷ ps) = subst IsNested k.opened at.nested in
     let len = ap length b in
     let one = small_body x _ len c.requires.body in
-    let t : takes_element p x ≡ false = sym (c.takes_element.ensures p x k.what (sym ty)) ∙ c.if-not-takes_element.true in
-    sized_inval _ _ _ old (ap (λ l. placed s.closed l (fixed x)) k.opened ∙ element_not s.closed p ps x h t)
+    let t : takes_element p x ≡ false = sym (c.takes_element.ensures p x k.what (sym ty))
+    ∙ c.if-not-takes_element.true in
+    sized_inval _ _ _ old (ap (λ l. placed s.closed l (fixed x)) k.opened
+    ∙ element_not s.closed p ps x h t)
 
 pub returns-then-not-has_room : goal.returns-then-not-has_room
 returns-then-not-has_room c s x at ty b el =
     let old : Held = held c.args.bytes.now c.args.frames.now in
     let base = length (member_encodings s.closed) in
-    let z = closing old s.closed s.opened c.in-Some.open at (c.in-Some.ensures.last base s.opened (at.frames)) in
+    let z = closing old s.closed s.opened c.in-Some.open at
+    (c.in-Some.ensures.last base s.opened (at.frames)) in
     let p = z.0 in
     let ps = z.1 in
     let k = z.2 in
@@ -42,17 +46,22 @@ returns-then-not-has_room c s x at ty b el =
     let nested : IsNested (p ∷ ps) = subst IsNested k.opened at.nested in
     let len = ap length b in
     let one = small_body x _ len c.requires.body in
-    let t : takes_element p x ≡ true = sym (c.takes_element.ensures p x k.what (sym ty)) ∙ c.if-not-takes_element.false in
+    let t : takes_element p x ≡ true = sym (c.takes_element.ensures p x k.what (sym ty))
+    ∙ c.if-not-takes_element.false in
     let is = ap (λ l. placed s.closed l (fixed x)) k.opened ∙ element_placed s.closed p ps x h t in
-    let room = sym (c.has_room.ensures base s.opened (at.frames) (c.len.ensures ∙ base_and_more old s at)) ∙ c.if-not-has_room.true in
-    let fit = element_fit p ps x _ (sym len) h t nested ∙ ap (has_room_for (length c.args.body.now)) (sym k.opened) ∙ room in
-    sized_nospc _ _ _ (record { closed = s.closed; opened = with_element p x ∷ ps }) old is (and_false _ _ fit)
+    let room = sym (c.has_room.ensures base s.opened (at.frames)
+    (c.len.ensures ∙ base_and_more old s at)) ∙ c.if-not-has_room.true in
+    let fit = element_fit p ps x _ (sym len) h t nested
+    ∙ ap (has_room_for (length c.args.body.now)) (sym k.opened) ∙ room in
+    sized_nospc _ _ _ (record { closed = s.closed; opened = with_element p x ∷ ps }) old is
+    (and_false _ _ fit)
 
 pub returns-in_err-append : goal.returns-in_err-append
 returns-in_err-append c s x at ty b el =
     let old : Held = held c.args.bytes.now c.args.frames.now in
     let base = length (member_encodings s.closed) in
-    let z = closing old s.closed s.opened c.in-Some.open at (c.in-Some.ensures.last base s.opened (at.frames)) in
+    let z = closing old s.closed s.opened c.in-Some.open at
+    (c.in-Some.ensures.last base s.opened (at.frames)) in
     let p = z.0 in
     let ps = z.1 in
     let k = z.2 in
@@ -60,18 +69,25 @@ returns-in_err-append c s x at ty b el =
     let nested : IsNested (p ∷ ps) = subst IsNested k.opened at.nested in
     let len = ap length b in
     let one = small_body x _ len c.requires.body in
-    let t : takes_element p x ≡ true = sym (c.takes_element.ensures p x k.what (sym ty)) ∙ c.if-not-takes_element.false in
+    let t : takes_element p x ≡ true = sym (c.takes_element.ensures p x k.what (sym ty))
+    ∙ c.if-not-takes_element.false in
     let is = ap (λ l. placed s.closed l (fixed x)) k.opened ∙ element_placed s.closed p ps x h t in
-    let room = sym (c.has_room.ensures base s.opened (at.frames) (c.len.ensures ∙ base_and_more old s at)) ∙ c.if-not-has_room.false in
-    let fit = element_fit p ps x _ (sym len) h t nested ∙ ap (has_room_for (length c.args.body.now)) (sym k.opened) ∙ room in
-    sized_nomem _ _ (record { closed = s.closed; opened = with_element p x ∷ ps }) old _ _ one is fit (is_nomem c.from_residual.result _ c.from_residual.ensures.1 c.in_err-append.ensures.memory) (ap (λ l. held l c.args.frames.now) c.in_err-append.ensures.unchanged)
+    let room = sym (c.has_room.ensures base s.opened (at.frames)
+    (c.len.ensures ∙ base_and_more old s at)) ∙ c.if-not-has_room.false in
+    let fit = element_fit p ps x _ (sym len) h t nested
+    ∙ ap (has_room_for (length c.args.body.now)) (sym k.opened) ∙ room in
+    sized_nomem _ _ (record { closed = s.closed; opened = with_element p x ∷ ps }) old _ _ one is
+    fit (is_nomem c.from_residual.result _ c.from_residual.ensures.1
+    c.in_err-append.ensures.memory)
+    (ap (λ l. held l c.args.frames.now) c.in_err-append.ensures.unchanged)
 
 pub overflow_sub-had : goal.overflow_sub-had
 overflow_sub-had c =
     let old : Held = held c.args.bytes.now c.args.frames.now in
     let s = c.requires.holds.0 in
     let at = c.requires.holds.1 in
-    let k = closing old s.closed s.opened c.in-Some.open at (c.in-Some.ensures.last (length (member_encodings s.closed)) s.opened (at.frames)) in
+    let k = closing old s.closed s.opened c.in-Some.open at
+    (c.in-Some.ensures.last (length (member_encodings s.closed)) s.opened (at.frames)) in
     let l = k.2.long in
     let e : c.len-had.result ≡ length c.args.bytes.now = c.len-had.ensures in
     omega arith
@@ -81,7 +97,8 @@ set_child-requires c =
     let old : Held = held c.args.bytes.now c.args.frames.now in
     let s = c.requires.holds.0 in
     let at = c.requires.holds.1 in
-    let k = closing old s.closed s.opened c.in-Some.open at (c.in-Some.ensures.last (length (member_encodings s.closed)) s.opened (at.frames)) in
+    let k = closing old s.closed s.opened c.in-Some.open at
+    (c.in-Some.ensures.last (length (member_encodings s.closed)) s.opened (at.frames)) in
     let l = k.2.long in
     let e : c.len-had.result ≡ length c.args.bytes.now = c.len-had.ensures in
     let f = ap length c.in_ok-append.ensures.ok ∙ length-append c.args.bytes.now c.args.body.now in
@@ -91,7 +108,8 @@ pub returns : goal.returns
 returns c s x at ty b el =
     let old : Held = held c.args.bytes.now c.args.frames.now in
     let base = length (member_encodings s.closed) in
-    let z = closing old s.closed s.opened c.in-Some.open at (c.in-Some.ensures.last base s.opened (at.frames)) in
+    let z = closing old s.closed s.opened c.in-Some.open at
+    (c.in-Some.ensures.last base s.opened (at.frames)) in
     let p = z.0 in
     let ps = z.1 in
     let k = z.2 in
@@ -99,16 +117,26 @@ returns c s x at ty b el =
     let nested : IsNested (p ∷ ps) = subst IsNested k.opened at.nested in
     let len = ap length b in
     let one = small_body x _ len c.requires.body in
-    let t : takes_element p x ≡ true = sym (c.takes_element.ensures p x k.what (sym ty)) ∙ c.if-not-takes_element.false in
+    let t : takes_element p x ≡ true = sym (c.takes_element.ensures p x k.what (sym ty))
+    ∙ c.if-not-takes_element.false in
     let is = ap (λ l. placed s.closed l (fixed x)) k.opened ∙ element_placed s.closed p ps x h t in
-    let room = sym (c.has_room.ensures base s.opened (at.frames) (c.len.ensures ∙ base_and_more old s at)) ∙ c.if-not-has_room.false in
-    let fit = element_fit p ps x _ (sym len) h t nested ∙ ap (has_room_for (length c.args.body.now)) (sym k.opened) ∙ room in
+    let room = sym (c.has_room.ensures base s.opened (at.frames)
+    (c.len.ensures ∙ base_and_more old s at)) ∙ c.if-not-has_room.false in
+    let fit = element_fit p ps x _ (sym len) h t nested
+    ∙ ap (has_room_for (length c.args.body.now)) (sym k.opened) ∙ room in
     let front = member_encodings s.closed ++ all_so_far ps in
     let new : Held = held c.set_child.new.bytes c.set_innermost.new.self in
     let had : c.len-had.result ≡ length c.args.bytes.now = c.len-had.ensures in
-    let mid = c.in_ok-append.ensures.ok ∙ ap (λ l. l ++ c.args.body.now) k.bytes ∙ ap (λ l. (front ++ so_far p) ++ l) (sym b) in
+    let mid = c.in_ok-append.ensures.ok ∙ ap (λ l. l ++ c.args.body.now) k.bytes
+    ∙ ap (λ l. (front ++ so_far p) ++ l) (sym b) in
     let size = sym len ∙ length-fixed x in
-    let bytes = element_bytes p x front c.append.new.self c.set_child.new.bytes (c.len-had.result - 8) (length c.args.body.now) c.args.type_ c.is_first.result (sym ty) h (c.is_first.ensures p k.what) mid (ap (λ n. n - 8) (had ∙ ap length k.bytes)) size c.set_child.ensures.first c.set_child.ensures.later in
-    let frames = c.set_innermost.ensures base p (with_element p x) ps (at.frames ∙ ap (frames_of base) k.opened) (c.with_element.ensures.with p x k.what (sym ty) t) in
-    sized_goes _ _ (record { closed = s.closed; opened = with_element p x ∷ ps }) old new _ one is fit
+    let bytes = element_bytes p x front c.append.new.self c.set_child.new.bytes
+    (c.len-had.result - 8) (length c.args.body.now) c.args.type_ c.is_first.result (sym ty) h
+    (c.is_first.ensures p k.what) mid (ap (λ n. n - 8) (had ∙ ap length k.bytes)) size
+    c.set_child.ensures.first c.set_child.ensures.later in
+    let frames = c.set_innermost.ensures base p (with_element p x) ps
+    (at.frames ∙ ap (frames_of base) k.opened)
+    (c.with_element.ensures.with p x k.what (sym ty) t) in
+    sized_goes _ _ (record { closed = s.closed; opened = with_element p x ∷ ps }) old new _ one is
+    fit
     (is_element new s.closed p ps x nested t bytes frames fit)

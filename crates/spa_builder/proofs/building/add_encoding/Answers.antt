@@ -15,17 +15,33 @@ admit-requires c =
 pub returns-in_err-admit : goal.returns-in_err-admit
 returns-in_err-admit c s v at k b n =
     let old : Held = held c.args.bytes.now c.args.frames.now in
-    let size : IsSizeOf c.args.size v = record { exact = λ x. sym k; large = λ x. subst (λ m. size_limit ≤ m) (sym k) x } in
-    not_admitted s v old _ _ _ c.from_residual.ensures.1 at size n (c.in_err-admit.ensures (length (member_encodings s.closed)) s.opened (at.frames) (c.len.ensures ∙ base_and_more old s at))
+    let size : IsSizeOf c.args.size v =
+    record { exact = λ x. sym k; large = λ x. subst (λ m. size_limit ≤ m) (sym k) x } in
+    not_admitted s v old _ _ _ c.from_residual.ensures.1 at size n
+    (c.in_err-admit.ensures (length (member_encodings s.closed)) s.opened (at.frames)
+    (c.len.ensures ∙ base_and_more old s at))
 
 pub returns-in_err-append : goal.returns-in_err-append
 returns-in_err-append c s v at k b n =
     let old : Held = held c.args.bytes.now c.args.frames.now in
-    let size : IsSizeOf c.args.size v = record { exact = λ x. sym k; large = λ x. subst (λ m. size_limit ≤ m) (sym k) x } in
-    admitted_nomem s v old _ _ _ _ at size (c.in_ok-admit.ensures (length (member_encodings s.closed)) s.opened (at.frames) (c.len.ensures ∙ base_and_more old s at)) (passed _ _ c.from_residual-in_err-append.ensures.1 ∙ ap (λ e. Err e) c.in_err-append.ensures.memory) (ap (λ l. held l c.args.frames.now) c.in_err-append.ensures.unchanged)
+    let size : IsSizeOf c.args.size v =
+    record { exact = λ x. sym k; large = λ x. subst (λ m. size_limit ≤ m) (sym k) x } in
+    admitted_nomem s v old _ _ _ _ at size
+    (c.in_ok-admit.ensures (length (member_encodings s.closed)) s.opened (at.frames)
+    (c.len.ensures ∙ base_and_more old s at))
+    (passed _ _ c.from_residual-in_err-append.ensures.1
+    ∙ ap (λ e. Err e) c.in_err-append.ensures.memory)
+    (ap (λ l. held l c.args.frames.now) c.in_err-append.ensures.unchanged)
 
 pub returns : goal.returns
 returns c s v at k b n =
     let old : Held = held c.args.bytes.now c.args.frames.now in
-    let size : IsSizeOf c.args.size v = record { exact = λ x. sym k; large = λ x. subst (λ m. size_limit ≤ m) (sym k) x } in
-    admitted s v old (held c.append.new.self c.fill.new.frames) _ _ _ at size (c.in_ok-admit.ensures (length (member_encodings s.closed)) s.opened (at.frames) (c.len.ensures ∙ base_and_more old s at)) (c.in_ok-append.ensures.ok ∙ ap (λ l. c.args.bytes.now ++ l) (sym b)) (λ t. c.fill.ensures (length (member_encodings s.closed)) s.opened v t at.frames (c.innermost-innermost.ensures.last (length (member_encodings s.closed)) s.opened at.frames))
+    let size : IsSizeOf c.args.size v =
+    record { exact = λ x. sym k; large = λ x. subst (λ m. size_limit ≤ m) (sym k) x } in
+    admitted s v old (held c.append.new.self c.fill.new.frames) _ _ _ at size
+    (c.in_ok-admit.ensures (length (member_encodings s.closed)) s.opened (at.frames)
+    (c.len.ensures ∙ base_and_more old s at))
+    (c.in_ok-append.ensures.ok ∙ ap (λ l. c.args.bytes.now ++ l) (sym b))
+    (λ t. c.fill.ensures (length (member_encodings s.closed)) s.opened v t at.frames
+    (c.innermost-innermost.ensures.last (length (member_encodings s.closed)) s.opened
+    at.frames))

@@ -22,9 +22,21 @@ returns-in_err-admit g c s at =
     let x = g.T.CanonicalFixedSizedPod.fixed c.args.value.now in
     let v = fixed x in
     let k = g.met.T.CanonicalFixedSizedPod.its_kind c.args.value.now in
-    let l : g.T.CanonicalFixedSizedPod.SIZE ≡ length (fixed_body x) = g.met.T.CanonicalFixedSizedPod.its_size ∙ ap body_size (sym k) ∙ sym (length-fixed x) in
-    let size : IsSizeOf c.SIZE-2.result v = record { exact = λ y. c.SIZE-2.ensures ∙ l; large = λ y. subst (λ m. size_limit ≤ m) (c.SIZE-2.ensures ∙ l) y } in
-    not_admitted s v old _ _ _ c.from_residual.ensures.1 at size (no_place s.closed s.opened x (sym (c.takes_elements.ensures (length (member_encodings s.closed)) s.opened (c.innermost-innermost.ensures.last (length (member_encodings s.closed)) s.opened (at.frames))) ∙ c.if-takes_elements.false)) (c.in_err-admit.ensures (length (member_encodings s.closed)) s.opened (at.frames) (c.len.ensures ∙ base_and_more old s at))
+    let l : g.T.CanonicalFixedSizedPod.SIZE ≡ length (fixed_body x) =
+    g.met.T.CanonicalFixedSizedPod.its_size ∙ ap body_size (sym k) ∙ sym (length-fixed x) in
+    let size : IsSizeOf c.SIZE-2.result v =
+    record {
+      exact = λ y. c.SIZE-2.ensures ∙ l;
+      large =
+          λ y. subst (λ m. size_limit ≤ m) (c.SIZE-2.ensures ∙ l) y;
+    } in
+    not_admitted s v old _ _ _ c.from_residual.ensures.1 at size
+    (no_place s.closed s.opened x
+    (sym (c.takes_elements.ensures (length (member_encodings s.closed)) s.opened
+    (c.innermost-innermost.ensures.last (length (member_encodings s.closed)) s.opened
+    (at.frames))) ∙ c.if-takes_elements.false))
+    (c.in_err-admit.ensures (length (member_encodings s.closed)) s.opened (at.frames)
+    (c.len.ensures ∙ base_and_more old s at))
 
 pub returns-in_err-put_plain : goal.returns-in_err-put_plain
 returns-in_err-put_plain g c s at =
@@ -32,9 +44,20 @@ returns-in_err-put_plain g c s at =
     let x = g.T.CanonicalFixedSizedPod.fixed c.args.value.now in
     let v = fixed x in
     let k = g.met.T.CanonicalFixedSizedPod.its_kind c.args.value.now in
-    let l : g.T.CanonicalFixedSizedPod.SIZE ≡ length (fixed_body x) = g.met.T.CanonicalFixedSizedPod.its_size ∙ ap body_size (sym k) ∙ sym (length-fixed x) in
-    let size : IsSizeOf c.SIZE-2.result v = record { exact = λ y. c.SIZE-2.ensures ∙ l; large = λ y. subst (λ m. size_limit ≤ m) (c.SIZE-2.ensures ∙ l) y } in
-    admitted_nomem s v old _ _ _ _ at size (c.in_ok-admit.ensures (length (member_encodings s.closed)) s.opened (at.frames) (c.len.ensures ∙ base_and_more old s at)) (passed _ _ c.from_residual-in_err-put_plain.ensures.1 ∙ ap (λ e. Err e) c.in_err-put_plain.ensures.memory) (ap (λ l. held l c.args.frames.now) c.in_err-put_plain.ensures.unchanged)
+    let l : g.T.CanonicalFixedSizedPod.SIZE ≡ length (fixed_body x) =
+    g.met.T.CanonicalFixedSizedPod.its_size ∙ ap body_size (sym k) ∙ sym (length-fixed x) in
+    let size : IsSizeOf c.SIZE-2.result v =
+    record {
+      exact = λ y. c.SIZE-2.ensures ∙ l;
+      large =
+          λ y. subst (λ m. size_limit ≤ m) (c.SIZE-2.ensures ∙ l) y;
+    } in
+    admitted_nomem s v old _ _ _ _ at size
+    (c.in_ok-admit.ensures (length (member_encodings s.closed)) s.opened (at.frames)
+    (c.len.ensures ∙ base_and_more old s at))
+    (passed _ _ c.from_residual-in_err-put_plain.ensures.1
+    ∙ ap (λ e. Err e) c.in_err-put_plain.ensures.memory)
+    (ap (λ l. held l c.args.frames.now) c.in_err-put_plain.ensures.unchanged)
 
 pub returns : goal.returns
 returns g c s at =
@@ -42,6 +65,19 @@ returns g c s at =
     let x = g.T.CanonicalFixedSizedPod.fixed c.args.value.now in
     let v = fixed x in
     let k = g.met.T.CanonicalFixedSizedPod.its_kind c.args.value.now in
-    let l : g.T.CanonicalFixedSizedPod.SIZE ≡ length (fixed_body x) = g.met.T.CanonicalFixedSizedPod.its_size ∙ ap body_size (sym k) ∙ sym (length-fixed x) in
-    let size : IsSizeOf c.SIZE-2.result v = record { exact = λ y. c.SIZE-2.ensures ∙ l; large = λ y. subst (λ m. size_limit ≤ m) (c.SIZE-2.ensures ∙ l) y } in
-    admitted s v old (held c.put_plain.new.bytes c.fill.new.frames) _ _ _ at size (c.in_ok-admit.ensures (length (member_encodings s.closed)) s.opened (at.frames) (c.len.ensures ∙ base_and_more old s at)) (c.in_ok-put_plain.ensures.ok ∙ ap (λ t. c.args.bytes.now ++ framed t (fixed_body x)) (g.met.T.CanonicalFixedSizedPod.its_type ∙ ap type_number (sym k))) (λ t. c.fill.ensures (length (member_encodings s.closed)) s.opened v t at.frames (c.innermost-innermost.ensures.last (length (member_encodings s.closed)) s.opened at.frames))
+    let l : g.T.CanonicalFixedSizedPod.SIZE ≡ length (fixed_body x) =
+    g.met.T.CanonicalFixedSizedPod.its_size ∙ ap body_size (sym k) ∙ sym (length-fixed x) in
+    let size : IsSizeOf c.SIZE-2.result v =
+    record {
+      exact = λ y. c.SIZE-2.ensures ∙ l;
+      large =
+          λ y. subst (λ m. size_limit ≤ m) (c.SIZE-2.ensures ∙ l) y;
+    } in
+    admitted s v old (held c.put_plain.new.bytes c.fill.new.frames) _ _ _ at size
+    (c.in_ok-admit.ensures (length (member_encodings s.closed)) s.opened (at.frames)
+    (c.len.ensures ∙ base_and_more old s at))
+    (c.in_ok-put_plain.ensures.ok ∙ ap (λ t. c.args.bytes.now ++ framed t (fixed_body x))
+    (g.met.T.CanonicalFixedSizedPod.its_type ∙ ap type_number (sym k)))
+    (λ t. c.fill.ensures (length (member_encodings s.closed)) s.opened v t at.frames
+    (c.innermost-innermost.ensures.last (length (member_encodings s.closed)) s.opened
+    at.frames))

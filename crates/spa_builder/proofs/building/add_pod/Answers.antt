@@ -17,21 +17,39 @@ returns-in_err-admit c s v at k b n =
     let old : Held = held c.args.bytes.now c.args.frames.now in
     let l = ap length b ∙ length-append c.args.front.now c.args.back.now in
     let m = c.saturating_add-size.ensures in
-    let size : IsSizeOf c.saturating_add-size.result v = record { exact = λ x. omega arith; large = λ x. omega arith } in
-    not_admitted s v old _ _ _ c.from_residual.ensures.1 at size n (c.in_err-admit.ensures (length (member_encodings s.closed)) s.opened (at.frames) (c.len.ensures ∙ base_and_more old s at))
+    let size : IsSizeOf c.saturating_add-size.result v =
+    record { exact = λ x. omega arith; large = λ x. omega arith } in
+    not_admitted s v old _ _ _ c.from_residual.ensures.1 at size n
+    (c.in_err-admit.ensures (length (member_encodings s.closed)) s.opened (at.frames)
+    (c.len.ensures ∙ base_and_more old s at))
 
 pub returns-in_err-put_pod : goal.returns-in_err-put_pod
 returns-in_err-put_pod c s v at k b n =
     let old : Held = held c.args.bytes.now c.args.frames.now in
     let l = ap length b ∙ length-append c.args.front.now c.args.back.now in
     let m = c.saturating_add-size.ensures in
-    let size : IsSizeOf c.saturating_add-size.result v = record { exact = λ x. omega arith; large = λ x. omega arith } in
-    admitted_nomem s v old _ _ _ _ at size (c.in_ok-admit.ensures (length (member_encodings s.closed)) s.opened (at.frames) (c.len.ensures ∙ base_and_more old s at)) (passed _ _ c.from_residual-in_err-put_pod.ensures.1 ∙ ap (λ e. Err e) c.in_err-put_pod.ensures.memory) (ap (λ l. held l c.args.frames.now) c.in_err-put_pod.ensures.unchanged)
+    let size : IsSizeOf c.saturating_add-size.result v =
+    record { exact = λ x. omega arith; large = λ x. omega arith } in
+    admitted_nomem s v old _ _ _ _ at size
+    (c.in_ok-admit.ensures (length (member_encodings s.closed)) s.opened (at.frames)
+    (c.len.ensures ∙ base_and_more old s at))
+    (passed _ _ c.from_residual-in_err-put_pod.ensures.1
+    ∙ ap (λ e. Err e) c.in_err-put_pod.ensures.memory)
+    (ap (λ l. held l c.args.frames.now) c.in_err-put_pod.ensures.unchanged)
 
 pub returns : goal.returns
 returns c s v at k b n =
     let old : Held = held c.args.bytes.now c.args.frames.now in
     let l = ap length b ∙ length-append c.args.front.now c.args.back.now in
     let m = c.saturating_add-size.ensures in
-    let size : IsSizeOf c.saturating_add-size.result v = record { exact = λ x. omega arith; large = λ x. omega arith } in
-    admitted s v old (held c.put_pod.new.bytes c.fill.new.frames) _ _ _ at size (c.in_ok-admit.ensures (length (member_encodings s.closed)) s.opened (at.frames) (c.len.ensures ∙ base_and_more old s at)) (c.in_ok-put_pod.ensures.ok ∙ ap (λ t. c.args.bytes.now ++ framed t (c.args.front.now ++ c.args.back.now)) (sym k) ∙ ap (λ l. c.args.bytes.now ++ framed (type_of v) l) (sym b)) (λ t. c.fill.ensures (length (member_encodings s.closed)) s.opened v t at.frames (c.innermost-innermost.ensures.last (length (member_encodings s.closed)) s.opened at.frames))
+    let size : IsSizeOf c.saturating_add-size.result v =
+    record { exact = λ x. omega arith; large = λ x. omega arith } in
+    admitted s v old (held c.put_pod.new.bytes c.fill.new.frames) _ _ _ at size
+    (c.in_ok-admit.ensures (length (member_encodings s.closed)) s.opened (at.frames)
+    (c.len.ensures ∙ base_and_more old s at))
+    (c.in_ok-put_pod.ensures.ok
+    ∙ ap (λ t. c.args.bytes.now ++ framed t (c.args.front.now ++ c.args.back.now)) (sym k)
+    ∙ ap (λ l. c.args.bytes.now ++ framed (type_of v) l) (sym b))
+    (λ t. c.fill.ensures (length (member_encodings s.closed)) s.opened v t at.frames
+    (c.innermost-innermost.ensures.last (length (member_encodings s.closed)) s.opened
+    at.frames))

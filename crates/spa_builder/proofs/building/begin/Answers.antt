@@ -25,7 +25,8 @@ returns-then-not-has_room-clause-step g c s p at w b f =
     let l : length (so_far p) ≡ 8 + 8 * n.0 = ap length (sym b) ∙ c.requires.size ∙ n.2 in
     let fit : all_fit 0 (p ∷ s.opened) ≡ false =
     begun_fit p s old n.0 _ n.1 l (sym c.requires.size ∙ ap length b) f takes at
-    ∙ sym (c.has_room.ensures base s.opened at.frames (c.len-start.ensures ∙ base_and_more old s at))
+    ∙ sym (c.has_room.ensures base s.opened at.frames
+    (c.len-start.ensures ∙ base_and_more old s at))
     ∙ c.if-not-has_room.true in
     sized_nospc _ true _ _ old (begun_is s p takes) fit
 
@@ -40,7 +41,8 @@ returns-in_err-append_array-clause-step g c s p at w b f =
     let l : length (so_far p) ≡ 8 + 8 * n.0 = ap length (sym b) ∙ c.requires.size ∙ n.2 in
     let fit : all_fit 0 (p ∷ s.opened) ≡ true =
     begun_fit p s old n.0 _ n.1 l (sym c.requires.size ∙ ap length b) f takes at
-    ∙ sym (c.has_room.ensures base s.opened at.frames (c.len-start.ensures ∙ base_and_more old s at))
+    ∙ sym (c.has_room.ensures base s.opened at.frames
+    (c.len-start.ensures ∙ base_and_more old s at))
     ∙ c.if-not-has_room.false in
     sized_nomem true _ _ old _ _ refl (begun_is s p takes) fit
     (passed _ _ c.from_residual.ensures.1 ∙ ap (λ e. Err e) c.in_err-append_array.ensures.memory)
@@ -57,14 +59,16 @@ returns-in_default-clause-step g c s p at w b f =
     let l : length (so_far p) ≡ 8 + 8 * n.0 = ap length (sym b) ∙ c.requires.size ∙ n.2 in
     let fit : all_fit 0 (p ∷ s.opened) ≡ true =
     begun_fit p s old n.0 _ n.1 l (sym c.requires.size ∙ ap length b) f takes at
-    ∙ sym (c.has_room.ensures base s.opened at.frames (c.len-start.ensures ∙ base_and_more old s at))
+    ∙ sym (c.has_room.ensures base s.opened at.frames
+    (c.len-start.ensures ∙ base_and_more old s at))
     ∙ c.if-not-has_room.false in
     let back =
     c.truncate.ensures
     ∙ ap (take c.len-start.result) c.in_ok-append_array.ensures.ok
     ∙ take_at c.args.bytes.now c.args.head c.len-start.result (sym c.len-start.ensures) in
     sized_nomem true _ _ old _ _ refl (begun_is s p takes) fit refl
-    (ap (λ l. held l c.push.new.self) back ∙ ap (λ l. held c.args.bytes.now l) c.in_default.ensures.unchanged)
+    (ap (λ l. held l c.push.new.self) back
+    ∙ ap (λ l. held c.args.bytes.now l) c.in_default.ensures.unchanged)
 
 pub returns-clause-step : goal.returns-clause-step
 returns-clause-step g c s p at w b f =
@@ -77,7 +81,8 @@ returns-clause-step g c s p at w b f =
     let l : length (so_far p) ≡ 8 + 8 * n.0 = ap length (sym b) ∙ c.requires.size ∙ n.2 in
     let fit : all_fit 0 (p ∷ s.opened) ≡ true =
     begun_fit p s old n.0 _ n.1 l (sym c.requires.size ∙ ap length b) f takes at
-    ∙ sym (c.has_room.ensures base s.opened at.frames (c.len-start.ensures ∙ base_and_more old s at))
+    ∙ sym (c.has_room.ensures base s.opened at.frames
+    (c.len-start.ensures ∙ base_and_more old s at))
     ∙ c.if-not-has_room.false in
     let new : Held = held c.append_array.new.self c.push.new.self in
     let written = c.in_ok-append_array.ensures.ok ∙ ap (λ l. c.args.bytes.now ++ l) b in
@@ -92,6 +97,7 @@ returns-clause-frame g c s at =
     let e = c.len.ensures in
     let e1 =
     ap length c.in-Ok.ensures.ok
-    ∙ length-append c.args.frames.now ((record { start = c.len-start.result; what = c.args.what }) ∷ []) in
+    ∙ length-append c.args.frames.now
+    ((record { start = c.len-start.result; what = c.args.what }) ∷ []) in
     let e2 = ap length at.frames ∙ length-frames_of (length (member_encodings s.closed)) s.opened in
     omega arith

@@ -5,4 +5,5 @@ use Rattle.spa_builder.proofs.Steps.{kept}
 use Rattle.spa_builder.proofs.builder.Builder.add_float.Goals as goal
 
 pub invariant_of-self : goal.invariant_of-self
-invariant_of-self c = kept (λ s. step s (add (fixed (float c.args.value.0)))) _ _ c.add_fixed.result c.self.invariant c.add_fixed.ensures
+invariant_of-self c = kept (λ s. step s (add (fixed (float c.args.value.0)))) _ _ c.add_fixed.result
+    c.self.invariant c.add_fixed.ensures

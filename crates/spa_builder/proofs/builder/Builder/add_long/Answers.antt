@@ -6,4 +6,5 @@ use Rattle.spa_builder.proofs.Steps.{kept}
 use Rattle.spa_builder.proofs.builder.Builder.add_long.Goals as goal
 
 pub invariant_of-self : goal.invariant_of-self
-invariant_of-self c = kept (λ s. step s (add (fixed (long (to_z w64 (of_z w64 c.args.value)))))) _ _ c.add_fixed.result c.self.invariant c.add_fixed.ensures
+invariant_of-self c = kept (λ s. step s (add (fixed (long (to_z w64 (of_z w64 c.args.value)))))) _ _
+    c.add_fixed.result c.self.invariant c.add_fixed.ensures

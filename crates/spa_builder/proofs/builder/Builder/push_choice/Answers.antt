@@ -10,9 +10,15 @@ use Rattle.spa_builder.proofs.builder.Builder.push_choice.Goals as goal
 pub invariant_of-self : goal.invariant_of-self
 invariant_of-self c =
     let h = shape_with c.args.shape (omega arith) in
-    kept (λ s. step s (push_choice c.args.shape c.args.flags)) _ _ c.begin.result c.self.invariant (λ s at. begun_with c.args.shape c.args.flags h.0 s _ _ c.begin.result h.1 (c.begin.ensures.step s (open_choice h.0 c.args.flags []) at (ap (λ n. Choice n None 0) h.2) (c.choice_head.ensures h.0 h.2) tt))
+    kept (λ s. step s (push_choice c.args.shape c.args.flags)) _ _ c.begin.result c.self.invariant
+    (λ s at. begun_with c.args.shape c.args.flags h.0 s _ _ c.begin.result h.1
+    (c.begin.ensures.step s (open_choice h.0 c.args.flags []) at (ap (λ n. Choice n None 0) h.2)
+    (c.choice_head.ensures h.0 h.2) tt))
 
 pub returns-clause-step : goal.returns-clause-step
 returns-clause-step c =
     let h = shape_with c.args.shape (omega arith) in
-    through (λ s. step s (push_choice c.args.shape c.args.flags)) _ _ _ c.begin.result c.self.view_is (λ s at. begun_with c.args.shape c.args.flags h.0 s _ _ c.begin.result h.1 (c.begin.ensures.step s (open_choice h.0 c.args.flags []) at (ap (λ n. Choice n None 0) h.2) (c.choice_head.ensures h.0 h.2) tt))
+    through (λ s. step s (push_choice c.args.shape c.args.flags)) _ _ _ c.begin.result
+    c.self.view_is (λ s at. begun_with c.args.shape c.args.flags h.0 s _ _ c.begin.result h.1
+    (c.begin.ensures.step s (open_choice h.0 c.args.flags []) at (ap (λ n. Choice n None 0) h.2)
+    (c.choice_head.ensures h.0 h.2) tt))

@@ -7,7 +7,8 @@ use Rattle.spa_builder.proofs.frames.Frames.has_room.Goals as goal
 pub overflow_sub-result : goal.overflow_sub-result
 overflow_sub-result c =
     let w = c.requires.within in
-    let h : is_nothing c.self.inside.innermost.what ≡ false = sym c.is_nothing.ensures ∙ c.if-is_nothing.false in
+    let h : is_nothing c.self.inside.innermost.what ≡ false = sym c.is_nothing.ensures
+    ∙ c.if-is_nothing.false in
     let o = outermost_kept _ _ _ _ w.0 w.1 c.self.invariant h (c.self.view_is ∙ w.2) in
     let p = o.place in
     let e = w.3 in
@@ -16,7 +17,8 @@ overflow_sub-result c =
 pub overflow_add-result : goal.overflow_add-result
 overflow_add-result c =
     let w = c.requires.within in
-    let h : is_nothing c.self.inside.innermost.what ≡ false = sym c.is_nothing.ensures ∙ c.if-is_nothing.false in
+    let h : is_nothing c.self.inside.innermost.what ≡ false = sym c.is_nothing.ensures
+    ∙ c.if-is_nothing.false in
     let o = outermost_kept _ _ _ _ w.0 w.1 c.self.invariant h (c.self.view_is ∙ w.2) in
     let p = o.place in
     let e = w.3 in
@@ -26,7 +28,8 @@ overflow_add-result c =
 
 pub returns : goal.returns
 returns c base ps e f =
-    let h : is_nothing c.self.inside.innermost.what ≡ false = sym c.is_nothing.ensures ∙ c.if-is_nothing.false in
+    let h : is_nothing c.self.inside.innermost.what ≡ false = sym c.is_nothing.ensures
+    ∙ c.if-is_nothing.false in
     let o : Outermost c.self.inside.first c.self.inside.most base ps =
     outermost_kept _ _ _ _ base ps c.self.invariant h (c.self.view_is ∙ e) in
     let p = o.place in

@@ -22,7 +22,9 @@ returns-clause-ok g c =
     let ok = c.make_room.new.bytes.ok.0 in
     let at : back ≡ drop (n + g.row.N) d = Post-is n (n + g.row.N) d (omega arith) in
     let whole = length-over d new back n (n + g.row.N) at (omega arith) (omega arith) in
-    ap (take (n + c.args.count)) (with_items_is c.make_room.new.bytes (take n d ++ (new ++ back)) (omega arith))
+    ap (take (n + c.args.count))
+    (with_items_is c.make_room.new.bytes (take n d ++ (new ++ back)) (omega arith))
     ∙ take_into (take n d) new back n c.args.count (omega arith) (omega arith)
-    ∙ ap (λ x. x ++ take c.args.count new) (ap (take n) v ∙ c.make_room.ensures.kept ∙ c.self.view_is)
+    ∙ ap (λ x. x ++ take c.args.count new) (ap (take n) v ∙ c.make_room.ensures.kept
+    ∙ c.self.view_is)
     ∙ ap (λ x. c.args.self.now ++ take c.args.count x) c.copy_from_slice.ensures.after

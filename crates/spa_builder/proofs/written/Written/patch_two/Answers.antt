@@ -21,7 +21,8 @@ returns c =
     let at : back ≡ drop (c.args.at + 8) d = Post-is c.args.at (c.args.at + 8) d (omega arith) in
     let new = c.copy_from_slice.new.self in
     let whole = length-over d new back c.args.at (c.args.at + 8) at (omega arith) (omega arith) in
-    ap (take n) (with_items_is c.self.inside.bytes (take c.args.at d ++ (new ++ back)) (omega arith))
+    ap (take n) (with_items_is c.self.inside.bytes (take c.args.at d ++ (new ++ back))
+    (omega arith))
     ∙ take_over d new back n c.args.at (c.args.at + 8) at (omega arith) (omega arith) (omega arith)
     ∙ ap (λ x. take c.args.at x ++ (new ++ drop (c.args.at + 8) x)) (ap (take n) v ∙ c.self.view_is)
     ∙ ap (λ x. take c.args.at c.args.self.now ++ (x ++ drop (c.args.at + 8) c.args.self.now)) e

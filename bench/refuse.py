@@ -1,8 +1,9 @@
 #!/usr/bin/env python3
-"""refuse.py: runs the built program with each of its requests of memory refused in turn.
+"""refuse.py [PROGRAM ..]: runs the built programs with each of their requests of memory refused in turn.
 
-Each word of the program runs on each pod of examples/, on all of them one after another, and on a list whose last pod is
-short. A run must end as it does with memory, or write nothing and say that it is out of memory. Status 1 where one doesn't.
+Each word of podtool runs on each pod of examples/, on all of them one after another, and on a list whose last pod is
+short; meet runs on pairs of objects, of which some meet and some don't. A run must end as it does with memory, or write
+nothing and say that it is out of memory. Status 1 where one doesn't.
 """
 
 import os
@@ -13,46 +14,77 @@ import sys
 import tempfile
 
 HERE = pathlib.Path(__file__).resolve().parent
-PROGRAM = HERE.parent / "crates/podtool/out/podtool"
-OUT_OF_MEMORY = (1, b"", b"podtool: out of memory\n")
+PROGRAMS = ("podtool", "meet")
+
+# An object of type 5 whose key 1 is a Range of Ints, and pods that follow it, by what they are.
+RANGE = (56, 15, 5, 3, 1, 0, 28, 19, 1, 0, 4, 4, 5, 2, 10, 0)
+OTHERS = {
+    "an Enum of 12 and 4": (56, 15, 5, 7, 1, 0, 28, 19, 3, 0, 4, 4, 12, 12, 4, 0),
+    "an Enum of 12 alone": (48, 15, 5, 7, 1, 0, 20, 19, 3, 0, 4, 4, 12, 0),
+    "a Long": (32, 15, 5, 7, 1, 0, 8, 5, 5, 0),
+    "a Step": (56, 15, 5, 7, 1, 0, 32, 19, 2, 0, 4, 4, 5, 2, 10, 1),
+    "another Range": (56, 15, 5, 7, 1, 0, 28, 19, 1, 0, 4, 4, 20, 8, 20, 0),
+    "another type": (8, 15, 6, 7),
+    "another key": (48, 15, 5, 7, 2, 0, 24, 19, 3, 0, 4, 2, 1, 0),
+    "a struct": (0, 14),
+    "nothing": (),
+}
+
+
+def pairs():
+    """The inputs of meet by name: each pair in both orders."""
+    made = {}
+    for name, words in OTHERS.items():
+        for first, second, order in ((RANGE, words, "second"), (words, RANGE, "first")):
+            both = first + second
+            made[f"{name}, {order}"] = struct.pack(f"<{len(both)}I", *both)
+    return made
 
 
 def inputs():
-    """The inputs by name."""
+    """The inputs of podtool by name."""
     pods = {it.name: it.read_bytes() for it in sorted((HERE.parent / "examples").glob("*.pod"))}
     short = struct.pack("<10I", 16, 14, 4, 4, 3, 0, 8, 14, 4, 4)
     return {**pods, "all examples": b"".join(pods.values()), "a short pod": short}
 
 
-def run(word, given, library=None, refused=0):
+def run(command, given, library=None, refused=0):
     """What a run ends with, and whether a request was refused in it."""
     ends, mark = os.pipe()
     env = {**os.environ, "LD_PRELOAD": library, "REFUSED": str(refused), "MARK": str(mark)} if library else None
-    ran = subprocess.run([PROGRAM, word], input=given, capture_output=True, env=env, pass_fds=(mark,))
+    ran = subprocess.run(command, input=given, capture_output=True, env=env, pass_fds=(mark,))
     os.close(mark)
     with os.fdopen(ends, "rb") as it:
         return (ran.returncode, ran.stdout, ran.stderr), it.read() != b""
 
 
-def main():
+def runs_of(program):
+    """Each command of the program, with the name and the bytes of its input."""
+    built = HERE.parent / f"crates/{program}/out/{program}"
+    given, words = (pairs(), [()]) if program == "meet" else (inputs(), [("rewrite",), ("fixate",), ("show",)])
+    return [((built, *word), name, it) for name, it in given.items() for word in words]
+
+
+def main(programs):
     runs = wrong = 0
     with tempfile.TemporaryDirectory() as room:
         library = f"{room}/refuse.so"
         subprocess.run(["cc", "-O1", "-shared", "-fPIC", "-o", library, HERE / "refuse.c", "-ldl"], check=True)
-        for name, given in inputs().items():
-            for word in ("rewrite", "fixate", "show"):
-                wanted, _ = run(word, given)
+        for program in programs or PROGRAMS:
+            out_of_memory = (1, b"", f"{program}: out of memory\n".encode())
+            for command, name, given in runs_of(program):
+                wanted, _ = run(command, given)
                 number, was_refused = 0, True
                 while was_refused:
                     number += 1
-                    found, was_refused = run(word, given, library, number)
+                    found, was_refused = run(command, given, library, number)
                     runs += was_refused
-                    if found != wanted and not (was_refused and found == OUT_OF_MEMORY):
+                    if found != wanted and not (was_refused and found == out_of_memory):
                         wrong += 1
-                        print(f"{word} of {name}, request {number}: {found}")
+                        print(f"{program} {' '.join(command[1:])} of {name}, request {number}: {found}")
     print(f"{runs} runs with a refused request, {wrong} of them wrong")
     return 1 if wrong or not runs else 0
 
 
 if __name__ == "__main__":
-    sys.exit(main())
+    sys.exit(main(sys.argv[1:]))

@@ -46,8 +46,8 @@ fn has_met(alloc: Global, met: &Object, id: u32, wanted: &[Given]) -> Result<boo
     Ok(*met == object(alloc, TYPE, id, 0, wanted)?)
 }
 
-/// The answer for two objects. Lack of memory ends the test.
-pub(crate) fn answer_of(
+/// The answer for two objects, or that memory ran out.
+fn first_answer(
     alloc: Global,
     a: &Object,
     b: &Object,
@@ -55,6 +55,18 @@ pub(crate) fn answer_of(
     match negotiate(alloc, a, b) {
         Err(NegotiateError::OutOfMemory) => Err(AllocError),
         answer => Ok(answer),
+    }
+}
+
+/// The answer for two objects. Where memory ran out, they are asked once more: a run of the tests may refuse one request.
+pub(crate) fn answer_of(
+    alloc: Global,
+    a: &Object,
+    b: &Object,
+) -> Result<Result<Object, NegotiateError>, AllocError> {
+    match first_answer(alloc, a, b) {
+        Err(_) => first_answer(alloc, a, b),
+        answer => answer,
     }
 }
 
@@ -82,10 +94,18 @@ fn found(alloc: Global, row: Row) -> Result<(bool, bool), AllocError> {
     Ok((answered, swapped))
 }
 
+/// The same, once more where memory ran out for the objects themselves.
+fn found_again(alloc: Global, row: Row) -> Result<(bool, bool), AllocError> {
+    match found(alloc, row) {
+        Err(_) => found(alloc, row),
+        answers => answers,
+    }
+}
+
 /// Each row's answers come.
 pub(crate) fn assert_rows(rt: &impl Abort, alloc: Global, rows: &[Row]) -> Result<(), Fail> {
     for row in rows {
-        let (answered, swapped) = found(alloc, *row)?;
+        let (answered, swapped) = found_again(alloc, *row)?;
         assert!(rt; answered, "{}", row.case);
         assert!(rt; swapped, "{}, in the other order", row.case);
     }

@@ -1,5 +1,6 @@
 //! The tests, by subject.
 mod keys;
+mod many;
 mod pods;
 mod refusals;
 mod shared;

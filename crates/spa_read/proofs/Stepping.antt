@@ -1,21 +1,32 @@
 -- How the calls of a reader of members or properties add up: what the author of a visitor cites.
-use Rattle.std.proofs.Common.{◌≡◌, ℕ, ◌≤◌, Bool, true, false, List, [], ◌∷◌, ◌++◌, length, drop, take, refl, sym, ◌∙◌, ap, append_assoc}
+use Rattle.std.proofs.Common.{◌≡◌, ℕ, ◌<◌, ◌≤◌, Bool, true, false, List, [], ◌∷◌, ◌++◌, length, drop, take, refl, sym, subst, ◌∙◌, ap, arith, append_assoc, length-drop}
+use Rattle.std.specs.Prelude.{⊤}
 use Rattle.std.proofs.lemmas.List.{append-nil}
-use Rattle.spa_format.specs.Words.{word_at, header_size}
+use Rattle.spa_format.specs.Words.{word_at, header_size, extent}
 use Rattle.spa_format.specs.Tree.{Tree, struct, struct_type, Trees, no_trees, member, join_members, Properties, no_properties, property, join_properties}
-use Rattle.spa_format.specs.Pod.{AreMembers, AreProperties}
+use Rattle.spa_format.specs.Pod.{AreMembers, AreProperties, IsPod}
 use Rattle.spa_format.specs.Front.{front_of}
 use Rattle.spa_format.proofs.Fronts.{front_and_rest}
-use Rattle.spa_format.proofs.Sequences.{members_joined, props_joined}
+use Rattle.spa_format.proofs.Sequences.{members_joined, members_push, props_joined}
 use Rattle.spa_read.specs.Opening.{BeginsWith}
 use Rattle.spa_read.specs.Reading.{IsRead}
 use Rattle.spa_read.specs.Members.{Ahead, AheadIn, AllMembers, AllProperties, AtEnd, Further, FurtherIn, ObjectReader, Reader, TakesField, TakesProperty}
+use Rattle.spa_read.specs.declared.visitor.Visit.{Visit}
+use Rattle.spa_read.specs.Visiting.{IsVisited}
 use Rattle.spa_read.proofs.Bodies.{first_property, HasKey}
 use Rattle.spa_read.proofs.Steps.{parted}
 
 -- what was read begins the input, and the rest follows
 begun_with : (input rest : List ℕ) (P : Tree → Type 0) → (r : IsRead input rest P) → BeginsWith input r.value rest
 begun_with input rest P r = record { begins = r.begins; follows = r.follows }
+
+-- and is shorter
+rest_shorter : (input rest : List ℕ) (P : Tree → Type 0) → IsRead input rest P → length rest < length input
+rest_shorter input rest P r =
+    let size = word_at input 0 in
+    let there = r.begins.there.whole in
+    let behind = ap length r.follows ∙ length-drop (extent size) input in
+    omega arith
 
 -- Members of a struct.
 
@@ -81,6 +92,63 @@ all_field a b P Q f more =
 
 pub all_as : (a : Reader) (P Q : Trees → Type 0) → ((vs : Trees) → P vs → Q vs) → AllMembers a P → AllMembers a Q
 all_as a P Q to m = record { members = m.members; are = m.are; holds = to m.members m.holds }
+
+-- all that was left, where the reader has come to its end
+pub all_left : (a b : Reader) → Further a b → AtEnd b → AllMembers a (λ _. ⊤)
+all_left a b f e =
+    let h = f.ahead e.good in
+    let whole : a.left ≡ h.seen = h.left ∙ ap (λ l. h.seen ++ l) e.none_left ∙ append-nil h.seen in
+    record { members = h.members; are = subst (AreMembers h.members) (sym whole) h.are; holds = tt }
+
+-- a member is shorter than what was left
+pub field_shorter : (a b : Reader) (P : Tree → Type 0) → TakesField a b P → length b.left < length a.left
+field_shorter a b P f = rest_shorter a.left b.left P f.field
+
+-- a reader's calls took these members, and it hasn't failed
+pub record AheadBy (lent now : Reader) (vs : Trees) : Type 0 where
+  pub seen : List ℕ
+  pub good : lent.failed ≡ false
+  pub left : lent.left ≡ seen ++ now.left
+  pub are : AreMembers vs seen
+  pub after : now.after ≡ lent.after
+
+-- or it has
+pub record Took (lent now : Reader) (vs : Trees) : Type 0 where
+  pub ahead : now.failed ≡ false → AheadBy lent now vs
+
+pub took_none : (r : Reader) → Took r r no_trees
+took_none r = record {
+  ahead = λ good. record { seen = []; good = good; left = refl; are = refl; after = refl };
+}
+
+pub took_further : (a b : Reader) (vs : Trees) → Took a b vs → Further a b
+took_further a b vs t = record {
+  ahead = λ good.
+      let h = t.ahead good in
+      record { members = vs; seen = h.seen; good = h.good; left = h.left; are = h.are; after = h.after };
+}
+
+pub took_field : (a b c : Reader) (vs : Trees) (v : Tree) → Took a b vs → TakesField b c (λ w. v ≡ w) →
+    Took a c (join_members vs (member v no_trees))
+took_field a b c vs v t f = record {
+  ahead = λ good.
+      let h = t.ahead f.was_good in
+      let front = front_of b.left in
+      let whole = parted b.left f.field.value c.left (begun_with b.left c.left (λ w. v ≡ w) f.field) in
+      record {
+        seen = h.seen ++ front;
+        good = h.good;
+        left = h.left ∙ ap (λ l. h.seen ++ l) whole ∙ sym (append_assoc h.seen front c.left);
+        are = members_push vs v h.seen front h.are (subst (IsPod front) (sym f.field.holds) f.field.begins.pod);
+        after = f.after ∙ h.after;
+      };
+}
+
+pub took_all : (a b : Reader) (vs : Trees) → Took a b vs → AtEnd b → AllMembers a (λ ws. ws ≡ vs)
+took_all a b vs t e =
+    let h = t.ahead e.good in
+    let whole : a.left ≡ h.seen = h.left ∙ ap (λ l. h.seen ++ l) e.none_left ∙ append-nil h.seen in
+    record { members = vs; are = subst (AreMembers vs) (sym whole) h.are; holds = refl }
 
 -- Properties of an object.
 
@@ -148,3 +216,85 @@ all_property a b key flags P Q t more =
 
 pub all_as_in : (a : ObjectReader) (P Q : Properties → Type 0) → ((ps : Properties) → P ps → Q ps) → AllProperties a P → AllProperties a Q
 all_as_in a P Q to m = record { properties = m.properties; are = m.are; holds = to m.properties m.holds }
+
+-- all that was left, where the reader has come to its end
+pub all_left_in : (a b : ObjectReader) → FurtherIn a b → AtEnd b.reader → AllProperties a (λ _. ⊤)
+all_left_in a b f e =
+    let h = f.ahead e.good in
+    let whole : a.reader.left ≡ h.seen = h.left ∙ ap (λ l. h.seen ++ l) e.none_left ∙ append-nil h.seen in
+    record { properties = h.properties; are = subst (AreProperties h.properties) (sym whole) h.are; holds = tt }
+
+-- a property is shorter than what was left
+pub property_shorter : (a b : ObjectReader) (key flags : ℕ) (P : Tree → Type 0) → TakesProperty a b key flags P →
+    length b.reader.left < length a.reader.left
+property_shorter a b key flags P t =
+    let behind = rest_shorter (drop header_size a.reader.left) b.reader.left P t.value in
+    let cut = length-drop 8 a.reader.left in
+    omega arith
+
+-- an object's reader's calls took these properties, and it hasn't failed
+pub record AheadInBy (lent now : ObjectReader) (ps : Properties) : Type 0 where
+  pub seen : List ℕ
+  pub good : lent.reader.failed ≡ false
+  pub left : lent.reader.left ≡ seen ++ now.reader.left
+  pub are : AreProperties ps seen
+  pub after : now.reader.after ≡ lent.reader.after
+
+-- or it has
+pub record TookIn (lent now : ObjectReader) (ps : Properties) : Type 0 where
+  pub ahead : now.reader.failed ≡ false → AheadInBy lent now ps
+  pub same_type : now.type ≡ lent.type
+  pub same_id : now.id ≡ lent.id
+
+pub took_none_in : (r : ObjectReader) → TookIn r r no_properties
+took_none_in r = record {
+  ahead = λ good. record { seen = []; good = good; left = refl; are = refl; after = refl };
+  same_type = refl;
+  same_id = refl;
+}
+
+pub took_further_in : (a b : ObjectReader) (ps : Properties) → TookIn a b ps → FurtherIn a b
+took_further_in a b ps t = record {
+  ahead = λ good.
+      let h = t.ahead good in
+      record { properties = ps; seen = h.seen; good = h.good; left = h.left; are = h.are; after = h.after };
+}
+
+pub took_property : (a b c : ObjectReader) (ps : Properties) (key flags : ℕ) (v : Tree) → TookIn a b ps →
+    TakesProperty b c key flags (λ w. v ≡ w) → c.type ≡ b.type → c.id ≡ b.id →
+    TookIn a c (join_properties ps (property key flags v no_properties))
+took_property a b c ps key flags v t f x y = record {
+  ahead = λ good.
+      let h = t.ahead f.was_good in
+      let behind = drop header_size b.reader.left in
+      let k : HasKey b.reader.left behind key flags = record { long = f.header; is_behind = refl; key = f.its_key; flags = f.its_flags } in
+      let one = first_property b.reader.left behind c.reader.left key flags f.value.value k (begun_with behind c.reader.left (λ w. v ≡ w) f.value) in
+      let its_bytes = subst (λ w. AreProperties (property key flags w no_properties) one.here) (sym f.value.holds) one.its_bytes in
+      record {
+        seen = h.seen ++ one.here;
+        good = h.good;
+        left = h.left ∙ ap (λ l. h.seen ++ l) one.parts ∙ sym (append_assoc h.seen one.here c.reader.left);
+        are = props_joined ps (property key flags v no_properties) h.seen one.here h.are its_bytes;
+        after = f.after ∙ h.after;
+      };
+  same_type = x ∙ t.same_type;
+  same_id = y ∙ t.same_id;
+}
+
+pub took_all_in : (a b : ObjectReader) (ps : Properties) → TookIn a b ps → AtEnd b.reader → AllProperties a (λ qs. qs ≡ ps)
+took_all_in a b ps t e =
+    let h = t.ahead e.good in
+    let whole : a.reader.left ≡ h.seen = h.left ∙ ap (λ l. h.seen ++ l) e.none_left ∙ append-nil h.seen in
+    record { properties = ps; are = subst (AreProperties ps) (sym whole) h.are; holds = refl }
+
+-- Whatever is read.
+
+-- some value is read
+pub read_any : (input rest : List ℕ) (P : Tree → Type 0) → IsRead input rest P → IsRead input rest (λ _. ⊤)
+read_any input rest P r = record { value = r.value; begins = r.begins; follows = r.follows; holds = tt }
+
+-- some value was visited
+pub visited_any : {E X : Type 0} (t : ℕ) (visits : Visit E → X → Type 0) (input rest : List ℕ) (x : X) →
+    IsVisited t visits input rest x → IsRead input rest (λ _. ⊤)
+visited_any t visits input rest x r =
+    record { value = r.handed.value; begins = r.handed.begins; follows = r.follows; holds = tt }

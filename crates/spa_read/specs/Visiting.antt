@@ -8,6 +8,7 @@ use Rattle.spa_format.specs.Tree.{Tree, fixed, string, bytes, bitmap, array, poi
 use Rattle.spa_format.specs.Pod.{IsBody}
 use Rattle.spa_format.specs.Front.{Begins, HasFront, rest_of}
 use Rattle.spa_fixed.specs.declared.fault.DeserializeError.{DeserializeError}
+use Rattle.spa_fixed.specs.declared.fault.DeserializeError.TheVariants as error
 use Rattle.spa_value.specs.View.{choice_view}
 use Rattle.spa_read.specs.Asking.{array_of, of_type, RefusesAsked}
 use Rattle.spa_read.specs.declared.visitor.Visit.{Visit}
@@ -69,3 +70,11 @@ pub data RefusesArrayVisit {E : Type 0} (k : Kind) (fixed : E → Fixed) (declin
 pub data RefusesInside (unopened : Type 0) (type : ℕ) (input : List ℕ) : Type 0 where
   outside : unopened → RefusesInside unopened type input
   inside : HasFront input → word_at input 4 ≡ type → RefusesInside unopened type input
+
+-- What the visitor that makes values declines: the elements of an array, and what it has no memory for.
+abbrev pub DeclinesValue : {E : Type 0} → Visit E → DeserializeError (Bor (List ℕ)) → Type 0
+DeclinesValue (visit.String s) e = e ≡ error.OutOfMemory
+DeclinesValue (visit.Bytes b) e = e ≡ error.OutOfMemory
+DeclinesValue (visit.Bitmap b) e = e ≡ error.OutOfMemory
+DeclinesValue (visit.Array xs) e = e ≡ error.UnsupportedType
+DeclinesValue _ e = ⊥

@@ -61,6 +61,20 @@ impl<'de> ObjectPodDeserializer<'de> {
         })
     }
 
+    /// The object's type.
+    pub(crate) fn type_(&self) -> u32
+        ensures { result ≡ self.now.type }
+    {
+        self.type_
+    }
+
+    /// The object's id.
+    pub(crate) fn id(&self) -> u32
+        ensures { result ≡ self.now.id }
+    {
+        self.id
+    }
+
     /// Reads the next property's value as one of this type, with its key and flags; at the end there is none.
     ///
     /// A refusal is `Nom` with `Short`, at the key, where fewer bytes are left than a key and flags; that of the type, of what
@@ -71,6 +85,7 @@ impl<'de> ObjectPodDeserializer<'de> {
     ) -> Result<Option<(P, u32, PropertyFlags)>, DeserializeError<&'de [u8]>>
         ensures property { IfOk result (λ read. MatchOption read ((self.new ≡ self.old) × AtEnd self.old.reader) (λ x. TakesProperty self.old self.new x.1 x.2.0 (λ value. P.reads value x.0))) }
         ensures same { FurtherIn self.old self.new }
+        ensures object { (self.new.type ≡ self.old.type) × (self.new.id ≡ self.old.id) }
         ensures failed { OnErr result (self.new.reader.failed ≡ true) }
         // A reader that has failed stays so,
         ensures stays { self.old.reader.failed ≡ true → IsErrAnd result (λ e. e ≡ error.FailedReader) }

@@ -11,19 +11,24 @@ use std::alloc::{AllocError, Global};
 use std::test::Fail;
 
 /// The words of what `singles` writes.
-const SINGLES: &str = "0 1 4 2 0 0 4 2 1 0 4 3 7 0 4 4 765 0 8 5 2557891634 305419896 4 6 1078530011 0 8 7 1413754136 1074340347 8 10 640 480 8 11 16 9 8 18 7 0 16 17 10 0 3545534740 32658";
+const SINGLES: &str =
+    "0 1 4 2 0 0 4 2 1 0 4 3 7 0 4 4 765 0 8 5 2557891634 305419896 4 6 1078530011 0 8 7 1413754136 1074340347 8 10 640 480 8 11 16 9 8 18 7 0 16 17 10 0 3545534740 32658";
 
 /// The words of what `lent` writes.
-const LENT: &str = "10 8 875770417 943142453 57 0 1 8 0 0 8 8 875770417 3618357 9 9 875770417 943142453 57 0 0 9 8 9 875770417 943142453 3 12 197121 0 0 12";
+const LENT: &str =
+    "10 8 875770417 943142453 57 0 1 8 0 0 8 8 875770417 3618357 9 9 875770417 943142453 57 0 0 9 8 9 875770417 943142453 3 12 197121 0 0 12";
 
 /// The words of what `lists` writes.
-const LISTS: &str = "8 13 0 1 16 13 4 2 0 1 16 13 4 3 1 2 20 13 4 4 10 15 19 0 32 13 8 5 1 0 2 0 3 0 16 13 4 6 1065353216 1074580685 24 13 8 7 0 1072693248 2576980378 1073846681 24 13 8 10 800 600 1920 1080 24 13 8 11 1 2 2 3 24 13 8 18 10 0 20 0";
+const LISTS: &str =
+    "8 13 0 1 16 13 4 2 0 1 16 13 4 3 1 2 20 13 4 4 10 15 19 0 32 13 8 5 1 0 2 0 3 0 16 13 4 6 1065353216 1074580685 24 13 8 7 0 1072693248 2576980378 1073846681 24 13 8 10 800 600 1920 1080 24 13 8 11 1 2 2 3 24 13 8 18 10 0 20 0";
 
 /// The words of what `ranges` writes.
-const RANGES: &str = "20 19 0 0 4 4 5 0 28 19 1 0 4 4 5 2 10 0 32 19 2 0 4 4 5 2 10 1 28 19 1 0 4 6 1138491392 1121714176 1146880000 0 40 19 1 0 8 7 0 1081835520 0 1079738368 0 1082884096 40 19 1 0 8 5 440 0 110 0 880 0 20 19 0 5 4 4 7 0 20 19 0 0 4 2 1 0";
+const RANGES: &str =
+    "20 19 0 0 4 4 5 0 28 19 1 0 4 4 5 2 10 0 32 19 2 0 4 4 5 2 10 1 28 19 1 0 4 6 1138491392 1121714176 1146880000 0 40 19 1 0 8 7 0 1081835520 0 1079738368 0 1082884096 40 19 1 0 8 5 440 0 110 0 880 0 20 19 0 5 4 4 7 0 20 19 0 0 4 2 1 0";
 
 /// The words of what `alternatives` writes.
-const ALTERNATIVES: &str = "48 19 3 0 8 18 5 0 2 0 10 0 1 0 40 19 3 0 8 11 1 2 2 3 1 3 32 19 3 0 4 4 5 2 10 1 32 19 3 0 4 3 5 2 10 1 40 19 3 0 8 10 800 600 1920 1080 300 200 32 19 4 0 4 4 5 2 10 1";
+const ALTERNATIVES: &str =
+    "48 19 3 0 8 18 5 0 2 0 10 0 1 0 40 19 3 0 8 11 1 2 2 3 1 3 32 19 3 0 4 4 5 2 10 1 32 19 3 0 4 3 5 2 10 1 40 19 3 0 8 10 800 600 1920 1080 300 200 32 19 4 0 4 4 5 2 10 1";
 
 /// Values of fixed size, and a pointer, one behind another.
 fn singles(alloc: Global) -> Result<Vec<u8>, GenError> {
@@ -35,7 +40,13 @@ fn singles(alloc: Global) -> Result<Vec<u8>, GenError> {
     let out = put(out, &1311768467425612850i64)?;
     let out = put(out, &Float32(1078530011))?;
     let out = put(out, &Float64(4614256656552045848))?;
-    let out = put(out, &Rectangle { width: 640, height: 480 })?;
+    let out = put(
+        out,
+        &Rectangle {
+            width: 640,
+            height: 480,
+        },
+    )?;
     let out = put(out, &Fraction { num: 16, denom: 9 })?;
     let out = put(out, &Fd(7))?;
     put(out, &(10u32, 140268587487508u64))
@@ -63,7 +74,10 @@ fn lists(alloc: Global) -> Result<Vec<u8>, GenError> {
     let out = put(out, &[Float32(1065353216), Float32(1074580685)].as_slice())?;
     let doubles = [Float64(4607182418800017408), Float64(4612136378390124954)];
     let out = put(out, &doubles.as_slice())?;
-    let out = put(out, &[rectangle(800, 600), rectangle(1920, 1080)].as_slice())?;
+    let out = put(
+        out,
+        &[rectangle(800, 600), rectangle(1920, 1080)].as_slice(),
+    )?;
     let out = put(out, &[fraction(1, 2), fraction(2, 3)].as_slice())?;
     put(out, &[Fd(10), Fd(20)].as_slice())
 }
@@ -126,7 +140,11 @@ fn ranges(alloc: Global) -> Result<Vec<u8>, GenError> {
     let out = put(Vec::new(alloc), &plain(ChoiceEnum::None(5)))?;
     let out = put(out, &range(5, 2, 10))?;
     let out = put(out, &steps())?;
-    let floats = range(Float32(1138491392), Float32(1121714176), Float32(1146880000));
+    let floats = range(
+        Float32(1138491392),
+        Float32(1121714176),
+        Float32(1146880000),
+    );
     let out = put(out, &floats)?;
     let out = put(out, &doubles())?;
     let out = put(out, &range(440i64, 110, 880))?;
@@ -137,7 +155,10 @@ fn ranges(alloc: Global) -> Result<Vec<u8>, GenError> {
 
 /// Choices of any number of values, one behind another.
 fn alternatives(alloc: Global) -> Result<Vec<u8>, GenError> {
-    let out = put(Vec::new(alloc), &any_of(alloc, Fd(5), &[Fd(2), Fd(10), Fd(1)])?)?;
+    let out = put(
+        Vec::new(alloc),
+        &any_of(alloc, Fd(5), &[Fd(2), Fd(10), Fd(1)])?,
+    )?;
     let fractions = [fraction(2, 3), fraction(1, 3)];
     let out = put(out, &any_of(alloc, fraction(1, 2), &fractions)?)?;
     let out = put(out, &any_of(alloc, 5, &[2, 10, 1])?)?;
@@ -183,24 +204,40 @@ fn a_text_is_written(rt: HostRuntime) -> Result<(), Fail> {
 }
 
 /// Why a pod isn't written to an output of so many bytes.
-fn refusal<P: PodSerialize, const N: usize>(pod: &P) -> Option<GenError> {
-    laws::pods_are_written_where_they_fit::<P, N>(ArrayVec::new(), pod).err()
+fn refusal<P: PodSerialize, const N: usize>(out: ArrayVec<u8, N>, pod: &P) -> Option<GenError> {
+    laws::pods_are_written_where_they_fit(out, pod).err()
 }
 
 #[test]
 fn what_fits_is_written(rt: HostRuntime) {
-    assert!(rt; refusal::<_, 16>(&"foo").is_none());
-    assert!(rt; refusal::<_, 40>(&steps()).is_none());
-    assert!(rt; refusal::<_, 32>(&[10, 15, 19].as_slice()).is_none());
-    assert!(rt; refusal::<_, 24>(&(7u32, 4096u64)).is_none());
+    assert!(rt; refusal(ArrayVec::<u8, 16>::new(), &"foo").is_none());
+    assert!(rt; refusal(ArrayVec::<u8, 40>::new(), &steps()).is_none());
+    assert!(rt; refusal(ArrayVec::<u8, 32>::new(), &[10, 15, 19].as_slice()).is_none());
+    assert!(rt; refusal(ArrayVec::<u8, 24>::new(), &(7u32, 4096u64)).is_none());
 }
 
 #[test]
 fn what_does_not_fit_is_refused(rt: HostRuntime) {
-    assert_refused(&rt, refusal::<_, 15>(&"foo"), GenError::Full);
-    assert_refused(&rt, refusal::<_, 39>(&steps()), GenError::Full);
-    assert_refused(&rt, refusal::<_, 31>(&[10, 15, 19].as_slice()), GenError::Full);
-    assert_refused(&rt, refusal::<_, 23>(&(7u32, 4096u64)), GenError::Full);
+    assert_refused(
+        &rt,
+        refusal(ArrayVec::<u8, 15>::new(), &"foo"),
+        GenError::Full,
+    );
+    assert_refused(
+        &rt,
+        refusal(ArrayVec::<u8, 39>::new(), &steps()),
+        GenError::Full,
+    );
+    assert_refused(
+        &rt,
+        refusal(ArrayVec::<u8, 31>::new(), &[10, 15, 19].as_slice()),
+        GenError::Full,
+    );
+    assert_refused(
+        &rt,
+        refusal(ArrayVec::<u8, 23>::new(), &(7u32, 4096u64)),
+        GenError::Full,
+    );
 }
 
 #[test]

@@ -5,12 +5,10 @@ ghost use Rattle.libspa.specs.Tree.{array};
 
 use crate::compare::{assert_refused, assert_words, assert_written};
 use arrayvec::ArrayVec;
-use libspa::pod::serialize::{GenError, PodOutput, PodSerialize, PodSerializer, SerializeSuccess};
 use libspa::pod::FixedSizedPod;
+use libspa::pod::serialize::{GenError, PodOutput, PodSerialize, PodSerializer, SerializeSuccess};
 use libspa::utils::{Float32, Id, Rectangle};
-use spa_uses::{
-    Cover, Device, Level, Mode, Pair, Screen, Size, Song, put_mode, tagged_number,
-};
+use spa_uses::{Cover, Device, Level, Mode, Pair, Screen, Size, Song, put_mode, tagged_number};
 use std::test::Fail;
 
 /// A type of one's own that says nothing.
@@ -134,12 +132,12 @@ fn a_mode_is_put_where_it_fits(rt: HostRuntime) -> Result<(), Fail> {
 }
 
 /// Why a device isn't written to an output of so many bytes.
-fn refusal<const N: usize>() -> Option<GenError> {
-    PodSerializer::serialize(ArrayVec::<u8, N>::new(), &DEVICE).err()
+fn refusal<const N: usize>(out: ArrayVec<u8, N>) -> Option<GenError> {
+    PodSerializer::serialize(out, &DEVICE).err()
 }
 
 #[test]
 fn an_object_is_written_where_it_fits(rt: HostRuntime) {
-    assert!(rt; refusal::<64>().is_none());
-    assert_refused(&rt, refusal::<63>(), GenError::Full);
+    assert!(rt; refusal(ArrayVec::<u8, 64>::new()).is_none());
+    assert_refused(&rt, refusal(ArrayVec::<u8, 63>::new()), GenError::Full);
 }

@@ -89,18 +89,26 @@ impl PodSerialize for RefusedProperty {
 }
 
 /// Why a pod isn't written to an output of so many bytes.
-fn refusal<P: PodSerialize, const N: usize>(pod: &P) -> Option<GenError> {
-    PodSerializer::serialize(ArrayVec::<u8, N>::new(), pod).err()
+fn refusal<P: PodSerialize, const N: usize>(out: ArrayVec<u8, N>, pod: &P) -> Option<GenError> {
+    PodSerializer::serialize(out, pod).err()
 }
 
 #[test]
 fn a_long_array_is_too_large(rt: HostRuntime) {
-    assert_refused(&rt, refusal::<_, 16>(&Promised(1073741822)), GenError::TooLarge);
+    assert_refused(
+        &rt,
+        refusal(ArrayVec::<u8, 16>::new(), &Promised(1073741822)),
+        GenError::TooLarge,
+    );
 }
 
 #[test]
 fn an_array_without_its_elements_has_a_wrong_count(rt: HostRuntime) {
-    assert_refused(&rt, refusal::<_, 16>(&Promised(1073741821)), GenError::WrongCount);
+    assert_refused(
+        &rt,
+        refusal(ArrayVec::<u8, 16>::new(), &Promised(1073741821)),
+        GenError::WrongCount,
+    );
 }
 
 #[test]
@@ -110,15 +118,27 @@ fn an_array_of_none_is_whole(rt: HostRuntime) -> Result<(), Fail> {
 
 #[test]
 fn a_third_element_of_two_has_a_wrong_count(rt: HostRuntime) {
-    assert_refused(&rt, refusal::<_, 64>(&Third), GenError::Failed);
+    assert_refused(
+        &rt,
+        refusal(ArrayVec::<u8, 64>::new(), &Third),
+        GenError::Failed,
+    );
 }
 
 #[test]
 fn a_struct_with_a_refused_member_has_failed(rt: HostRuntime) {
-    assert_refused(&rt, refusal::<_, 64>(&Refused), GenError::Failed);
+    assert_refused(
+        &rt,
+        refusal(ArrayVec::<u8, 64>::new(), &Refused),
+        GenError::Failed,
+    );
 }
 
 #[test]
 fn an_object_with_a_refused_property_has_failed(rt: HostRuntime) {
-    assert_refused(&rt, refusal::<_, 64>(&RefusedProperty), GenError::Failed);
+    assert_refused(
+        &rt,
+        refusal(ArrayVec::<u8, 64>::new(), &RefusedProperty),
+        GenError::Failed,
+    );
 }

@@ -10,7 +10,7 @@ use Rattle.std.specs.declared.cmp.Ordering.TheVariants.{Less, Equal, Greater}
 use Rattle.std.proofs.lemmas.Cmp.{ranked, int_ranked, tied_itself}
 use Rattle.std.proofs.lemmas.List.{map-append, take_more}
 use Rattle.std.proofs.lemmas.List.Elements.{Contains-append_left, Contains-push, Contains-push_cases}
-use Rattle.spa_format.specs.Kind.{Fixed, none, bool, id, int, long, float, double, rectangle, fraction, fd}
+use Rattle.spa_format.specs.Kind.{bool_kind, id_kind, int_kind, long_kind, float_kind, double_kind, rectangle_kind, fraction_kind, fd_kind, type_number, Fixed, none, bool, id, int, long, float, double, rectangle, fraction, fd}
 use Rattle.spa_format.specs.Tree.{Tree, fixed}
 use Rattle.spa_negotiate.specs.declared.numbers.Numbers.{Numbers}
 use Rattle.spa_negotiate.specs.Numbering.{numbers_of, tree_numbers, numbers_cmp, Has, HasAll, IsAdded}
@@ -18,12 +18,15 @@ use Rattle.spa_negotiate.specs.Numbering.{numbers_of, tree_numbers, numbers_cmp,
 -- the content with these numbers
 fixed_of : Numbers → Fixed
 fixed_of n =
-    if n.type_ == 2 then bool (n.first == 1) else if n.type_ == 3 then id n.first
-    else if n.type_ == 4 then int n.signed else if n.type_ == 5 then long n.signed
-    else if n.type_ == 6 then float n.first else if n.type_ == 7 then double n.first
-    else if n.type_ == 10 then rectangle n.first n.second
-    else if n.type_ == 11 then fraction n.first n.second
-    else if n.type_ == 18 then fd n.signed else none
+    if n.type_ == type_number bool_kind then bool (n.first == 1)
+    else if n.type_ == type_number id_kind then id n.first
+    else if n.type_ == type_number int_kind then int n.signed
+    else if n.type_ == type_number long_kind then long n.signed
+    else if n.type_ == type_number float_kind then float n.first
+    else if n.type_ == type_number double_kind then double n.first
+    else if n.type_ == type_number rectangle_kind then rectangle n.first n.second
+    else if n.type_ == type_number fraction_kind then fraction n.first n.second
+    else if n.type_ == type_number fd_kind then fd n.signed else none
 
 fixed_of-numbers_of : (x : Fixed) → fixed_of (numbers_of x) ≡ x
 unfolding fixed_of
@@ -84,7 +87,7 @@ tied_numbers a =
     let second = tied_itself nat_cmp_total a.second in
     rw (type_, signed, first, second) refl
 
--- a fixed value, or any other value, is the same as its content is
+-- the content of a value of fixed size
 content_of : Tree → Fixed
 content_of (fixed x) = x
 content_of _ = none

@@ -61,7 +61,17 @@ pub mod pod {
     /// Reading values.
     pub mod deserialize {
         pub use spa_fixed::{DeserializeError, Fault, FaultKind};
-        pub use spa_read::{DeserializeSuccess, PodDeserialize, PodDeserializer};
+        pub use spa_read::{
+            ArrayPodDeserializer, DeserializeSuccess, Never, ObjectPodDeserializer, PodDeserialize,
+            PodDeserializer, StructPodDeserializer, ValueVisitor, Visit, Visitor,
+        };
+        pub use spa_visitors::{
+            BitmapVisitor, BoolVisitor, BytesVisitor, ChoiceBoolVisitor, ChoiceDoubleVisitor,
+            ChoiceFdVisitor, ChoiceFloatVisitor, ChoiceFractionVisitor, ChoiceIdVisitor,
+            ChoiceIntVisitor, ChoiceLongVisitor, ChoiceRectangleVisitor, DoubleVisitor, FdVisitor,
+            FloatVisitor, FractionVisitor, IdVisitor, IntVisitor, LongVisitor, NoneVisitor,
+            PointerVisitor, RectangleVisitor, StringVisitor, VecVisitor,
+        };
     }
 
     /// Taking pods one by one.

@@ -1,13 +1,12 @@
 -- What the refusals of a typed read say.
-use Rattle.std.proofs.Common.{◌≡◌, ◌≢◌, ℕ, ◌≤◌, List, length, Result, Ok, Err, refl, sym, ap, ◌∙◌, subst, inl, inr, ⊎_elim}
-use Rattle.std.specs.Prelude.{IfErr, ⊤}
+use Rattle.std.proofs.Common.{◌≡◌, ◌≢◌, ℕ, List, refl, sym, ap, ◌∙◌, subst, inl, ⊎_elim}
+use Rattle.std.specs.Prelude.{⊤}
 use Rattle.std.specs.Borrow.{Bor}
-use Rattle.spa_format.specs.Words.{word_at, body_of, header_size}
-use Rattle.spa_format.specs.Kind.{Kind, Fixed, type_number}
-use Rattle.spa_format.specs.Tree.{Tree, Shape, array, choice, type_of, array_type, choice_type}
+use Rattle.spa_format.specs.Words.{word_at, body_of}
+use Rattle.spa_format.specs.Tree.{Tree, array, type_of}
 use Rattle.spa_format.specs.Pod.{IsBody}
 use Rattle.spa_format.specs.Front.{HasFront, Begins, front_of}
-use Rattle.spa_format.specs.Faults.{Fault, IsWrongSize, StandsAtFront, Short, Text, InvalidType, InvalidChoiceType, MissingChoiceValues, WrongSize, at_front}
+use Rattle.spa_format.specs.Faults.{Fault, IsWrongSize, Text, InvalidType, InvalidChoiceType, MissingChoiceValues, WrongSize, at_front}
 use Rattle.spa_format.proofs.Refused as format
 use Rattle.spa_format.proofs.Unique.{one_value}
 use Rattle.spa_fixed.specs.declared.fault.FaultKind.{FaultKind}

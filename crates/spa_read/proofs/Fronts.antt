@@ -1,17 +1,17 @@
 -- Whole pods of one type: what is read of an opened front, and what is refused of it.
-use Rattle.std.proofs.Common.{◌≡◌, ◌≢◌, ℕ, ◌<◌, ◌≤◌, List, length, drop, refl, sym, ap, ◌∙◌, subst, inl, inr, arith, length-drop}
+use Rattle.std.proofs.Common.{◌≡◌, ◌≢◌, ℕ, ◌<◌, ◌≤◌, List, length, refl, sym, ap, ◌∙◌, subst, inr}
 use Rattle.std.specs.Borrow.{Bor}
 use Rattle.spa_format.specs.Words.{word_at, body_of, header_size}
-use Rattle.spa_format.specs.Kind.{Kind, Fixed, type_number, body_size, kind_of, IsFixedBody}
+use Rattle.spa_format.specs.Kind.{Kind, Fixed, type_number, kind_of, IsFixedBody}
 use Rattle.spa_format.specs.Tree.{Tree, Trees, Properties, struct, object, choice, type_of, fixed, array_type, choice_type, struct_type, object_type}
 use Rattle.spa_format.specs.Pod.{AreProperties, IsBody}
-use Rattle.spa_format.specs.Faults.{WrongSize, short_array, short_choice, of_array, choice_header_size, IsWrongArray}
+use Rattle.spa_format.specs.Faults.{short_array, short_choice, of_array, choice_header_size, IsWrongArray}
 use Rattle.spa_format.proofs.WordLemmas.{word_at-drop}
 use Rattle.spa_fixed.specs.declared.fault.FaultKind.TheVariants as fault_kind
 use Rattle.spa_fixed.specs.declared.fault.DeserializeError.TheVariants as error
 use Rattle.spa_bytes.specs.Opening.{Opens}
 use Rattle.spa_read.specs.Reading.{IsRead}
-use Rattle.spa_read.specs.Asking.{Asked, array_of, choice_of, asked_type, BeginsOther, IsAsked, RefusesAsked}
+use Rattle.spa_read.specs.Asking.{array_of, choice_of, IsAsked, RefusesAsked}
 use Rattle.spa_read.specs.Members.{AllMembers, AllProperties, AtEnd, Further, FurtherIn, ObjectReader, OpensObject, OpensStruct, Reader}
 use Rattle.spa_read.proofs.Asking.{asked_refused, size_refused}
 use Rattle.spa_read.proofs.Steps.{pod_read}

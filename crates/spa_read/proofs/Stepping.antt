@@ -1,16 +1,15 @@
 -- How the calls of a reader of members or properties add up: what the author of a visitor cites.
-use Rattle.std.proofs.Common.{◌≡◌, ℕ, ◌<◌, ◌≤◌, Bool, true, false, List, [], ◌∷◌, ◌++◌, length, drop, take, refl, sym, subst, ◌∙◌, ap, arith, append_assoc, length-drop}
+use Rattle.std.proofs.Common.{◌≡◌, ℕ, ◌<◌, true, false, List, [], ◌++◌, length, drop, refl, sym, subst, ◌∙◌, ap, arith, append_assoc, length-drop}
 use Rattle.std.specs.Prelude.{⊤}
 use Rattle.std.proofs.lemmas.List.{append-nil}
 use Rattle.spa_format.specs.Words.{word_at, header_size, extent}
-use Rattle.spa_format.specs.Tree.{Tree, struct, struct_type, Trees, no_trees, member, join_members, Properties, no_properties, property, join_properties}
+use Rattle.spa_format.specs.Tree.{Tree, Trees, no_trees, member, join_members, Properties, no_properties, property, join_properties}
 use Rattle.spa_format.specs.Pod.{AreMembers, AreProperties, IsPod}
 use Rattle.spa_format.specs.Front.{front_of}
-use Rattle.spa_format.proofs.Fronts.{front_and_rest}
 use Rattle.spa_format.proofs.Sequences.{members_joined, members_push, props_joined}
 use Rattle.spa_read.specs.Opening.{BeginsWith}
 use Rattle.spa_read.specs.Reading.{IsRead}
-use Rattle.spa_read.specs.Members.{Ahead, AheadIn, AllMembers, AllProperties, AtEnd, Further, FurtherIn, ObjectReader, Reader, TakesField, TakesProperty}
+use Rattle.spa_read.specs.Members.{AllMembers, AllProperties, AtEnd, Further, FurtherIn, ObjectReader, Reader, TakesField, TakesProperty}
 use Rattle.spa_read.specs.declared.visitor.Visit.{Visit}
 use Rattle.spa_read.specs.Visiting.{IsVisited}
 use Rattle.spa_read.proofs.Bodies.{first_property, HasKey}
@@ -92,6 +91,17 @@ all_field a b P Q f more =
 
 pub all_as : (a : Reader) (P Q : Trees → Type 0) → ((vs : Trees) → P vs → Q vs) → AllMembers a P → AllMembers a Q
 all_as a P Q to m = record { members = m.members; are = m.are; holds = to m.members m.holds }
+
+-- a member of this value, and these members behind it
+pub all_member : (a b : Reader) (v : Tree) (ws : Trees) → TakesField a b (λ w. w ≡ v) → AllMembers b (λ vs. vs ≡ ws) →
+    AllMembers a (λ vs. vs ≡ member v ws)
+all_member a b v ws f more =
+    let all = all_field a b (λ w. w ≡ v) (λ vs. vs ≡ ws) f more in
+    record {
+      members = all.members;
+      are = all.are;
+      holds = all.holds.is ∙ ap (λ w. member w all.holds.others) all.holds.first_is ∙ ap (member v) all.holds.others_are;
+    }
 
 -- all that was left, where the reader has come to its end
 pub all_left : (a b : Reader) → Further a b → AtEnd b → AllMembers a (λ _. ⊤)
@@ -216,6 +226,18 @@ all_property a b key flags P Q t more =
 
 pub all_as_in : (a : ObjectReader) (P Q : Properties → Type 0) → ((ps : Properties) → P ps → Q ps) → AllProperties a P → AllProperties a Q
 all_as_in a P Q to m = record { properties = m.properties; are = m.are; holds = to m.properties m.holds }
+
+-- a property of this value, and these properties behind it
+pub all_under : (a b : ObjectReader) (key flags : ℕ) (v : Tree) (qs : Properties) → TakesProperty a b key flags (λ w. w ≡ v) →
+    AllProperties b (λ ps. ps ≡ qs) → AllProperties a (λ ps. ps ≡ property key flags v qs)
+all_under a b key flags v qs t more =
+    let all = all_property a b key flags (λ w. w ≡ v) (λ ps. ps ≡ qs) t more in
+    record {
+      properties = all.properties;
+      are = all.are;
+      holds = all.holds.is ∙ ap (λ w. property key flags w all.holds.others) all.holds.first_is
+      ∙ ap (property key flags v) all.holds.others_are;
+    }
 
 -- all that was left, where the reader has come to its end
 pub all_left_in : (a b : ObjectReader) → FurtherIn a b → AtEnd b.reader → AllProperties a (λ _. ⊤)

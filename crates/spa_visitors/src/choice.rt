@@ -158,7 +158,10 @@ impl<'de> Visitor<'de> for ChoiceFloatVisitor {
 
     ghost declines = { λ _ given e. DeclinesOthers (λ (x : _). visit.Choice (choice_value.Float x)) given e };
 
-    fn visit(&self, given: Visit<'de, Never>) -> Result<Choice<Float32>, DeserializeError<&'de [u8]>>
+    fn visit(
+        &self,
+        given: Visit<'de, Never>,
+    ) -> Result<Choice<Float32>, DeserializeError<&'de [u8]>>
         ensures made { IfOk result (λ x. given.entry ≡ visit.Choice (choice_value.Float x)) }
         ensures declined { IfErr result (DeclinesOthers (λ (x : _). visit.Choice (choice_value.Float x)) given.entry) }
     {
@@ -202,7 +205,10 @@ impl<'de> Visitor<'de> for ChoiceDoubleVisitor {
 
     ghost declines = { λ _ given e. DeclinesOthers (λ (x : _). visit.Choice (choice_value.Double x)) given e };
 
-    fn visit(&self, given: Visit<'de, Never>) -> Result<Choice<Float64>, DeserializeError<&'de [u8]>>
+    fn visit(
+        &self,
+        given: Visit<'de, Never>,
+    ) -> Result<Choice<Float64>, DeserializeError<&'de [u8]>>
         ensures made { IfOk result (λ x. given.entry ≡ visit.Choice (choice_value.Double x)) }
         ensures declined { IfErr result (DeclinesOthers (λ (x : _). visit.Choice (choice_value.Double x)) given.entry) }
     {
@@ -290,7 +296,10 @@ impl<'de> Visitor<'de> for ChoiceRectangleVisitor {
 
     ghost declines = { λ _ given e. DeclinesOthers (λ (x : _). visit.Choice (choice_value.Rectangle x)) given e };
 
-    fn visit(&self, given: Visit<'de, Never>) -> Result<Choice<Rectangle>, DeserializeError<&'de [u8]>>
+    fn visit(
+        &self,
+        given: Visit<'de, Never>,
+    ) -> Result<Choice<Rectangle>, DeserializeError<&'de [u8]>>
         ensures made { IfOk result (λ x. given.entry ≡ visit.Choice (choice_value.Rectangle x)) }
         ensures declined { IfErr result (DeclinesOthers (λ (x : _). visit.Choice (choice_value.Rectangle x)) given.entry) }
     {
@@ -334,7 +343,10 @@ impl<'de> Visitor<'de> for ChoiceFractionVisitor {
 
     ghost declines = { λ _ given e. DeclinesOthers (λ (x : _). visit.Choice (choice_value.Fraction x)) given e };
 
-    fn visit(&self, given: Visit<'de, Never>) -> Result<Choice<Fraction>, DeserializeError<&'de [u8]>>
+    fn visit(
+        &self,
+        given: Visit<'de, Never>,
+    ) -> Result<Choice<Fraction>, DeserializeError<&'de [u8]>>
         ensures made { IfOk result (λ x. given.entry ≡ visit.Choice (choice_value.Fraction x)) }
         ensures declined { IfErr result (DeclinesOthers (λ (x : _). visit.Choice (choice_value.Fraction x)) given.entry) }
     {

@@ -76,12 +76,19 @@ const ROWS: &[(&str, &[u32], &str)] = &[
     ("bool", &[4, 2, 7, 9], "true"),
     ("id", &[4, 3, 5, 0], "Id(5)"),
     ("int", &[4, 4, 4294967295, 0], "-1"),
-    ("int", &[4, 4, 3, 0, 4, 4], "3"),
     ("long", &[8, 5, 4294967295, 0], "4294967295"),
     ("float", &[4, 6, 1138491392, 0], "Float32(1138491392)"),
     ("double", &[8, 7, 0, 1], "Float64(4294967296)"),
-    ("rectangle", &[8, 10, 31, 14], "Rectangle { width: 31, height: 14 }"),
-    ("fraction", &[8, 11, 31, 14], "Fraction { num: 31, denom: 14 }"),
+    (
+        "rectangle",
+        &[8, 10, 31, 14],
+        "Rectangle { width: 31, height: 14 }",
+    ),
+    (
+        "fraction",
+        &[8, 11, 31, 14],
+        "Fraction { num: 31, denom: 14 }",
+    ),
     ("fd", &[8, 18, 9, 0], "Fd(9)"),
     ("str", &[8, 8, 0x34333231, 0x00373635], "\"1234567\""),
     ("str", &[1, 8, 0, 0], "\"\""),
@@ -98,18 +105,62 @@ const ROWS: &[(&str, &[u32], &str)] = &[
     ("longs", &[16, 13, 8, 5, 5, 0], "[5]"),
     ("floats", &[12, 13, 4, 6, 5, 0], "[Float32(5)]"),
     ("doubles", &[16, 13, 8, 7, 5, 0], "[Float64(5)]"),
-    ("rectangles", &[16, 13, 8, 10, 31, 14], "[Rectangle { width: 31, height: 14 }]"),
-    ("fractions", &[16, 13, 8, 11, 31, 14], "[Fraction { num: 31, denom: 14 }]"),
+    (
+        "rectangles",
+        &[16, 13, 8, 10, 31, 14],
+        "[Rectangle { width: 31, height: 14 }]",
+    ),
+    (
+        "fractions",
+        &[16, 13, 8, 11, 31, 14],
+        "[Fraction { num: 31, denom: 14 }]",
+    ),
     ("fds", &[16, 13, 8, 18, 9, 0], "[Fd(9)]"),
-    ("choice of bools", &[24, 19, 3, 0, 4, 2, 7, 0], "Choice(ChoiceFlags(0), Enum { default: true, alternatives: [false] })"),
-    ("choice of ids", &[24, 19, 4, 1, 4, 3, 1, 2], "Choice(ChoiceFlags(1), Flags { default: Id(1), flags: [Id(2)] })"),
-    ("choice of ints", &[28, 19, 1, 0, 4, 4, 5, 2, 10, 0], "Choice(ChoiceFlags(0), Range { default: 5, min: 2, max: 10 })"),
-    ("choice of longs", &[24, 19, 0, 0, 8, 5, 5, 0], "Choice(ChoiceFlags(0), None(5))"),
-    ("choice of floats", &[20, 19, 0, 0, 4, 6, 5, 0], "Choice(ChoiceFlags(0), None(Float32(5)))"),
-    ("choice of doubles", &[24, 19, 0, 0, 8, 7, 5, 0], "Choice(ChoiceFlags(0), None(Float64(5)))"),
-    ("choice of rectangles", &[24, 19, 0, 0, 8, 10, 31, 14], "Choice(ChoiceFlags(0), None(Rectangle { width: 31, height: 14 }))"),
-    ("choice of fractions", &[24, 19, 0, 0, 8, 11, 31, 14], "Choice(ChoiceFlags(0), None(Fraction { num: 31, denom: 14 }))"),
-    ("choice of fds", &[24, 19, 0, 0, 8, 18, 9, 0], "Choice(ChoiceFlags(0), None(Fd(9)))"),
+    (
+        "choice of bools",
+        &[24, 19, 3, 0, 4, 2, 7, 0],
+        "Choice(ChoiceFlags(0), Enum { default: true, alternatives: [false] })",
+    ),
+    (
+        "choice of ids",
+        &[24, 19, 4, 1, 4, 3, 1, 2],
+        "Choice(ChoiceFlags(1), Flags { default: Id(1), flags: [Id(2)] })",
+    ),
+    (
+        "choice of ints",
+        &[28, 19, 1, 0, 4, 4, 5, 2, 10, 0],
+        "Choice(ChoiceFlags(0), Range { default: 5, min: 2, max: 10 })",
+    ),
+    (
+        "choice of longs",
+        &[24, 19, 0, 0, 8, 5, 5, 0],
+        "Choice(ChoiceFlags(0), None(5))",
+    ),
+    (
+        "choice of floats",
+        &[20, 19, 0, 0, 4, 6, 5, 0],
+        "Choice(ChoiceFlags(0), None(Float32(5)))",
+    ),
+    (
+        "choice of doubles",
+        &[24, 19, 0, 0, 8, 7, 5, 0],
+        "Choice(ChoiceFlags(0), None(Float64(5)))",
+    ),
+    (
+        "choice of rectangles",
+        &[24, 19, 0, 0, 8, 10, 31, 14],
+        "Choice(ChoiceFlags(0), None(Rectangle { width: 31, height: 14 }))",
+    ),
+    (
+        "choice of fractions",
+        &[24, 19, 0, 0, 8, 11, 31, 14],
+        "Choice(ChoiceFlags(0), None(Fraction { num: 31, denom: 14 }))",
+    ),
+    (
+        "choice of fds",
+        &[24, 19, 0, 0, 8, 18, 9, 0],
+        "Choice(ChoiceFlags(0), None(Fd(9)))",
+    ),
     // Other types.
     ("long", &[4, 4, 3, 0], "Tag"),
     ("ids", &[20, 13, 4, 4, 10, 15, 19, 0], "Tag"),
@@ -117,7 +168,11 @@ const ROWS: &[(&str, &[u32], &str)] = &[
     ("slice", &[0, 12], "Tag"),
     ("bitmap", &[0, 9], "Tag"),
     ("choice of ints", &[4, 4, 3, 0], "Tag"),
-    ("choice of longs", &[28, 19, 1, 0, 4, 4, 5, 2, 10, 0], "UnsupportedType"),
+    (
+        "choice of longs",
+        &[28, 19, 1, 0, 4, 4, 5, 2, 10, 0],
+        "UnsupportedType",
+    ),
     // Bodies that are none of their type.
     ("int", &[8, 4, 3, 0], "WrongSize"),
     ("str", &[4, 8, 0x00620061, 0], "Text"),
@@ -127,9 +182,21 @@ const ROWS: &[(&str, &[u32], &str)] = &[
     ("ints", &[14, 13, 4, 4, 10, 0], "WrongSize"),
     ("nones", &[16, 13, 0, 1, 7, 7], "WrongSize"),
     ("choice of ints", &[8, 19, 0, 0], "WrongSize"),
-    ("choice of ints", &[20, 19, 5, 0, 4, 4, 7, 0], "InvalidChoiceType"),
-    ("choice of ints", &[24, 19, 1, 0, 4, 4, 5, 2], "MissingChoiceValues"),
-    ("choice of ints", &[20, 19, 0, 0, 4, 99, 7, 0], "InvalidType"),
+    (
+        "choice of ints",
+        &[20, 19, 5, 0, 4, 4, 7, 0],
+        "InvalidChoiceType",
+    ),
+    (
+        "choice of ints",
+        &[24, 19, 1, 0, 4, 4, 5, 2],
+        "MissingChoiceValues",
+    ),
+    (
+        "choice of ints",
+        &[20, 19, 0, 0, 4, 99, 7, 0],
+        "InvalidType",
+    ),
 ];
 
 #[test]
@@ -144,13 +211,11 @@ fn each_type_reads_its_pods(rt: HostRuntime) -> Result<(), Fail> {
 
 /// Each beginning of a pod that is no whole one is short for the type that reads the pod.
 fn short_by(alloc: Global, name: &str, input: &[u8]) -> Result<bool, AllocError> {
-    let mut len = 0;
-    while len < input.len() {
+    for len in 0..input.len() {
         let found = named(alloc, name, &input[..len])?;
         if found.as_str() != "Short" {
             return Ok(false);
         }
-        len += 1;
     }
     Ok(true)
 }
@@ -158,11 +223,9 @@ fn short_by(alloc: Global, name: &str, input: &[u8]) -> Result<bool, AllocError>
 #[test]
 fn beginnings_of_pods_are_short(rt: HostRuntime) -> Result<(), Fail> {
     for (name, words, wanted) in ROWS {
-        if *words != &[4, 4, 3, 0, 4, 4] {
-            let input = bytes_of(rt.alloc(), words)?;
-            let short = short_by(rt.alloc(), name, input.as_slice())?;
-            assert!(rt; short, "{name} at {words:?}, {wanted}");
-        }
+        let input = bytes_of(rt.alloc(), words)?;
+        let short = short_by(rt.alloc(), name, input.as_slice())?;
+        assert!(rt; short, "{name} at {words:?}, {wanted}");
     }
     Ok(())
 }

@@ -2,9 +2,7 @@
 ghost use Rattle.std.specs.Prelude.{⊤};
 
 use spa_fixed::{DeserializeError, FixedSizedPod};
-use spa_read::{
-    ArrayPodDeserializer, DeserializeSuccess, PodDeserialize, PodDeserializer,
-};
+use spa_read::{ArrayPodDeserializer, DeserializeSuccess, PodDeserialize, PodDeserializer};
 use spa_spelling::bytes_of;
 use std::alloc::Global;
 use std::test::Fail;
@@ -87,13 +85,13 @@ impl<'de> PodDeserialize<'de> for Early {
     }
 }
 
-/// The name of a read's refusal.
-fn refusal<'de, P: PodDeserialize<'de>>(alloc: Global, input: &'de [u8]) -> &'static str {
+/// Is the read refused with this name?
+fn is_refused<'de, P: PodDeserialize<'de>>(alloc: Global, input: &'de [u8], name: &str) -> bool {
     let read: Result<(&'de [u8], P), DeserializeError<&'de [u8]>> =
         PodDeserializer::deserialize_from(alloc, input);
     match read {
-        Ok(_) => "none",
-        Err(e) => e.kind(),
+        Ok(_) => false,
+        Err(e) => e.kind() == name,
     }
 }
 
@@ -101,9 +99,9 @@ fn refusal<'de, P: PodDeserialize<'de>>(alloc: Global, input: &'de [u8]) -> &'st
 fn elements_are_read_one_by_one(rt: HostRuntime) -> Result<(), Fail> {
     let input = bytes_of(rt.alloc(), &[20, 13, 4, 4, 10, 15, 19, 0])?;
     let bytes = input.as_slice();
-    assert_eq!(rt; refusal::<Levels>(rt.alloc(), bytes), "FailedReader");
-    assert_eq!(rt; refusal::<Early>(rt.alloc(), bytes), "UnreadMembers");
+    assert!(rt; is_refused::<Levels>(rt.alloc(), bytes, "FailedReader"));
+    assert!(rt; is_refused::<Early>(rt.alloc(), bytes, "UnreadMembers"));
     let units = bytes_of(rt.alloc(), &[8, 13, 0, 1])?;
-    assert_eq!(rt; refusal::<Levels>(rt.alloc(), units.as_slice()), "Tag");
+    assert!(rt; is_refused::<Levels>(rt.alloc(), units.as_slice(), "Tag"));
     Ok(())
 }

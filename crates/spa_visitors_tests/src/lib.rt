@@ -6,8 +6,6 @@ mod answers;
 #[cfg(test)]
 mod elements;
 #[cfg(test)]
-mod fronts;
-#[cfg(test)]
 mod objects;
 #[cfg(test)]
 mod structs;

@@ -78,8 +78,9 @@ impl<'de> PodDeserialize<'de> for Device<'de> {
 
 /// What a read of a device answers.
 fn device_said(alloc: Global, input: &[u8]) -> Result<String, Fail> {
-    let read: Result<(&[u8], Device), DeserializeError<&[u8]>> =
-        PodDeserializer::deserialize_from(alloc, input);
+    let read: Result<(&[u8], Device), DeserializeError<&[u8]>> = PodDeserializer::deserialize_from(
+        alloc, input,
+    );
     match read {
         Ok((_, device)) => Ok(format!(in alloc; "{} {}", device.name, device.volume.0)?),
         Err(DeserializeError::PropertyWrongKey(key)) => Ok(format!(in alloc; "not {key}")?),
@@ -111,10 +112,7 @@ fn an_object_by_its_keys(rt: HostRuntime) -> Result<(), Fail> {
             "UnreadMembers",
         ),
         // The second key is short.
-        (
-            &[36, 15, 5, 3, 1, 0, 5, 8, 809138024, 0, 2, 0],
-            "Short",
-        ),
+        (&[36, 15, 5, 3, 1, 0, 5, 8, 809138024, 0, 2, 0], "Short"),
         // The object has no id.
         (&[4, 15, 5, 0], "WrongSize"),
     ];
@@ -199,8 +197,9 @@ impl<'de> PodDeserialize<'de> for Asking {
 
 /// Is the front read so?
 fn asks(alloc: Global, input: &[u8]) -> bool {
-    let read: Result<(&[u8], Asking), DeserializeError<&[u8]>> =
-        PodDeserializer::deserialize_from(alloc, input);
+    let read: Result<(&[u8], Asking), DeserializeError<&[u8]>> = PodDeserializer::deserialize_from(
+        alloc, input,
+    );
     read.is_ok()
 }
 

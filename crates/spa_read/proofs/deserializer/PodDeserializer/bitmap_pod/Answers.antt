@@ -1,8 +1,8 @@
-use Rattle.std.proofs.Common.{refl, sym}
+use Rattle.std.proofs.Common.{refl}
 use Rattle.std.proofs.lemmas.Result.{err_from_is_err_and}
 use Rattle.spa_format.specs.Tree.{bitmap, bitmap_type}
 use Rattle.spa_read.specs.Asking.{of_type}
-use Rattle.spa_read.proofs.Asking.{body_refused_as, front_refused}
+use Rattle.spa_read.proofs.Asking.{front_refused}
 use Rattle.spa_read.proofs.Fronts.{read_as}
 use Rattle.spa_read.proofs.deserializer.PodDeserializer.bitmap_pod.Goals as goal
 

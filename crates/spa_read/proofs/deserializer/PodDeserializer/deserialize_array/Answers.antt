@@ -1,6 +1,5 @@
-use Rattle.std.proofs.Common.{refl, sym, subst, map}
+use Rattle.std.proofs.Common.{subst}
 use Rattle.std.proofs.lemmas.Result.{err_from_is_err_and}
-use Rattle.spa_format.specs.Tree.{array}
 use Rattle.spa_format.specs.Front.{Begins}
 use Rattle.spa_read.specs.Visiting.{declined_array}
 use Rattle.spa_read.proofs.deserializer.PodDeserializer.deserialize_array.Goals as goal

@@ -1,7 +1,7 @@
-use Rattle.std.proofs.Common.{◌≡◌, refl, sym, subst}
+use Rattle.std.proofs.Common.{refl}
 use Rattle.std.proofs.lemmas.Result.{err_from_is_err_and}
 use Rattle.spa_read.specs.Asking.{of_type}
-use Rattle.spa_read.specs.Visiting.{RefusesVisit, declined, unread}
+use Rattle.spa_read.specs.Visiting.{declined, unread}
 use Rattle.spa_read.proofs.Asking.{body_refused_as, front_refused}
 use Rattle.spa_read.proofs.Steps.{pod_read}
 use Rattle.spa_read.proofs.deserializer.PodDeserializer.deserialize_as.Goals as goal

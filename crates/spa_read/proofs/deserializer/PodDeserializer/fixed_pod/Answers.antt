@@ -1,9 +1,7 @@
-use Rattle.std.proofs.Common.{refl, sym, ap, ◌∙◌, subst}
+use Rattle.std.proofs.Common.{refl, ◌∙◌, subst}
 use Rattle.std.proofs.lemmas.Result.{err_from_is_err_and}
 use Rattle.spa_bytes.specs.Opening.{Opens}
 use Rattle.spa_format.specs.Kind.{type_number}
-use Rattle.spa_format.specs.Tree.{fixed}
-use Rattle.spa_format.specs.Pod.{IsBody}
 use Rattle.spa_read.specs.Asking.{LacksFront, of_type}
 use Rattle.spa_read.proofs.Asking.{body_refused_as, front_refused}
 use Rattle.spa_read.proofs.Fronts.{fixed_read}

@@ -1,4 +1,4 @@
-use Rattle.std.proofs.Common.{refl, sym}
+use Rattle.std.proofs.Common.{refl}
 use Rattle.std.proofs.lemmas.Result.{err_from_is_err_and}
 use Rattle.spa_format.specs.Tree.{pointer, pointer_type}
 use Rattle.spa_read.specs.Asking.{of_type}

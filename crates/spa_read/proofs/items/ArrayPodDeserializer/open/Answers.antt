@@ -1,4 +1,3 @@
-use Rattle.std.proofs.Common.{refl}
 use Rattle.spa_read.proofs.Fronts.{wrong_array_refused}
 use Rattle.spa_read.proofs.items.ArrayPodDeserializer.open.Goals as goal
 

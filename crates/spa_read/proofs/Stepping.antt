@@ -236,7 +236,7 @@ all_under a b key flags v qs t more =
       properties = all.properties;
       are = all.are;
       holds = all.holds.is ∙ ap (λ w. property key flags w all.holds.others) all.holds.first_is
-      ∙ ap (property key flags v) all.holds.others_are;
+          ∙ ap (property key flags v) all.holds.others_are;
     }
 
 -- all that was left, where the reader has come to its end

@@ -1,12 +1,13 @@
 //! What types of a program's own are written as.
 ghost use Rattle.std.specs.Prelude.{[], ◌∷◌};
 ghost use Rattle.libspa.specs.Kind as kind;
-ghost use Rattle.libspa.specs.Tree.{array};
+ghost use Rattle.libspa.specs.Tree.{array, fixed, member, no_properties, no_trees, object, property, struct};
 
 use crate::compare::{assert_refused, assert_words, assert_written};
 use arrayvec::ArrayVec;
-use libspa::pod::FixedSizedPod;
+use bitflags::Flags;
 use libspa::pod::serialize::{GenError, PodOutput, PodSerialize, PodSerializer, SerializeSuccess};
+use libspa::pod::{FixedSizedPod, PropertyFlags};
 use libspa::utils::{Float32, Id, Rectangle};
 use spa_uses::{Cover, Device, Level, Mode, Pair, Screen, Size, Song, put_mode, tagged_number};
 use std::test::Fail;
@@ -44,6 +45,42 @@ impl PodSerialize for Silences {
         elements.serialize_element(&Silence)?;
         elements.serialize_element(&Silence)?;
         elements.end()
+    }
+}
+
+/// An id in a struct, refused as `Io` where the answer isn't its encoding's length.
+struct Counted;
+
+impl PodSerialize for Counted {
+    ghost value = { λ _. struct (member (fixed (kind.id 3)) no_trees) };
+
+    fn serialize<O: PodOutput>(
+        &self,
+        serializer: PodSerializer<O>,
+    ) -> Result<SerializeSuccess<O>, GenError> {
+        let mut members = serializer.serialize_struct()?;
+        if members.serialize_field(&Id(3))? != 16 {
+            return Err(GenError::Io);
+        }
+        members.end()
+    }
+}
+
+/// The same in an object, with its key and flags.
+struct CountedProperty;
+
+impl PodSerialize for CountedProperty {
+    ghost value = { λ _. object 5 3 (property 1 0 (fixed (kind.id 3)) no_properties) };
+
+    fn serialize<O: PodOutput>(
+        &self,
+        serializer: PodSerializer<O>,
+    ) -> Result<SerializeSuccess<O>, GenError> {
+        let mut properties = serializer.serialize_object(5, 3)?;
+        if properties.serialize_property(1, &Id(3), PropertyFlags::empty())? != 24 {
+            return Err(GenError::Io);
+        }
+        properties.end()
     }
 }
 
@@ -140,4 +177,10 @@ fn refusal<const N: usize>(out: ArrayVec<u8, N>) -> Option<GenError> {
 fn an_object_is_written_where_it_fits(rt: HostRuntime) {
     assert!(rt; refusal(ArrayVec::<u8, 64>::new()).is_none());
     assert_refused(&rt, refusal(ArrayVec::<u8, 63>::new()), GenError::Full);
+}
+
+#[test]
+fn members_are_counted(rt: HostRuntime) -> Result<(), Fail> {
+    assert_written(&rt, rt.alloc(), &Counted, "16 14 4 3 3 0")?;
+    assert_written(&rt, rt.alloc(), &CountedProperty, "32 15 5 3 1 0 4 3 3 0")
 }

@@ -1,0 +1,71 @@
+-- Structs and objects whose copies are begun, one within another: docs/FORMAT.md, "Values".
+use Rattle.std.specs.Prelude.{◌≡◌, ℕ, ◌+◌, ◌*◌, ◌<◌, ◌≤◌, Bool, true, false, List, [], ◌∷◌, ◌++◌, Option, Some, None, length, sum_by, vec_len, vec_capacity}
+use Rattle.spa_format.specs.Tree.{Tree, struct, object, member, property, join_members, join_properties, node_count, member_node_count, property_node_count}
+use Rattle.spa_value.specs.View.{view}
+use Rattle.spa_value.specs.Views.{views, property_views}
+use Rattle.spa_value.specs.declared.value.Value.{Value}
+use Rattle.spa_value.specs.declared.nested_copies.Copying.{Copying}
+use Rattle.spa_value.specs.declared.nested_copies.Copying.TheVariants as copying
+use Rattle.spa_value.specs.declared.nested_copies.Begun.{Begun}
+use Rattle.spa_value.specs.declared.nested_copies.Begun.TheVariants as begun
+use Rattle.spa_value.specs.declared.nested_copies.Copies.{Copies}
+
+-- the value of the copies made so far
+abbrev pub so_far : Copying → Tree
+so_far (copying.Struct s) = struct (views s.copies.items)
+so_far (copying.Object o) = object o.type_ o.id (property_views o.copies.items)
+
+-- the same with what is left behind them: what is copied
+abbrev pub whole : Copying → Tree
+whole (copying.Struct s) = struct (views (s.copies.items ++ s.left.now))
+whole (copying.Object o) = object o.type_ o.id (property_views (o.copies.items ++ o.left.now))
+
+-- the same with this value in between, which the begun member or property will hold
+abbrev pub completed : Copying → Tree → Tree
+completed (copying.Struct s) v = struct (join_members (views s.copies.items) (member v (views s.left.now)))
+completed (copying.Object o) v =
+    object o.type_ o.id (join_properties (property_views o.copies.items) (property o.key o.flags.0 v (property_views o.left.now)))
+
+-- how many values are left in it
+abbrev pub values_left : Copying → ℕ
+values_left (copying.Struct s) = member_node_count (views s.left.now)
+values_left (copying.Object o) = property_node_count (property_views o.left.now)
+
+-- there is room for one more copy
+abbrev pub HasPlace : Copying → Type 0
+HasPlace (copying.Struct s) = vec_len s.copies < vec_capacity s.copies
+HasPlace (copying.Object o) = vec_len o.copies < vec_capacity o.copies
+
+-- a value is copied, or the copy of what it holds is begun
+abbrev pub Begins : Value → Begun → Type 0
+Begins v (begun.Whole copy) = view copy ≡ view v
+Begins v (begun.Within inner) = (whole inner ≡ view v) × (values_left inner + 1 ≡ node_count (view v))
+
+-- copies are made to the end, or up to a struct or an object in it, whose copy is begun
+abbrev pub CopiesOn : Copying → Option Copying → Copying → Type 0
+CopiesOn from None to = so_far to ≡ whole from
+CopiesOn from (Some inner) to =
+    (completed to (whole inner) ≡ whole from) × (values_left to + values_left inner + 1 ≤ values_left from)
+
+-- what the outermost will be, once the innermost is this value: the outermost is first
+abbrev pub completes : List Copying → Tree → Tree
+completes [] v = v
+completes (outer ∷ inner) v = completed outer (completes inner v)
+
+-- what is copied in all
+abbrev pub copied : Copies → Tree
+copied c = completes c.around.items (whole c.inner)
+
+-- steps that are left: each copies some values, or ends the innermost
+abbrev pub steps_left : Copies → ℕ
+steps_left c = 2 * (values_left c.inner + sum_by values_left c.around.items) + length c.around.items
+
+-- after a step less is left of the same, or the outermost is copied
+abbrev pub Steps : Bool → Copies → Copies → Type 0
+Steps true from to = (copied to ≡ copied from) × (steps_left to < steps_left from)
+Steps false from to = so_far to.inner ≡ copied from
+
+-- the innermost, which is copied, is put into the one around it, where there is one
+abbrev pub Ends : Bool → Copies → Copies → Type 0
+Ends true from to = (outer : Copying) × (from.around.items ≡ to.around.items ++ outer ∷ []) × (whole to.inner ≡ completed outer (so_far from.inner)) × (values_left to.inner ≡ values_left outer)
+Ends false from to = (from.around.items ≡ []) × (so_far to.inner ≡ so_far from.inner)

@@ -147,3 +147,59 @@ fn a_header_for_each_eight_bytes(rt: HostRuntime) -> Result<(), Fail> {
 fn assert_len(rt: &impl Abort, len: usize) {
     assert_eq!(rt; len, 2400);
 }
+
+/// What stands first in a struct, or what an object's first property holds.
+fn first_inside(value: &Value) -> Option<&Value> {
+    match value {
+        Value::Struct(members) => members.as_slice().first(),
+        Value::Object(object) => match object.properties.as_slice().first() {
+            Some(property) => Some(&property.value),
+            None => None,
+        },
+        _ => None,
+    }
+}
+
+/// Whether this many structs or objects stand in one another, each first in the one around it, and None in the last.
+fn nests(value: &Value, depth: u32) -> bool {
+    let mut innermost = value;
+    for _ in 0..depth {
+        let Some(inner) = first_inside(innermost) else {
+            return false;
+        };
+        innermost = inner;
+    }
+    matches!(innermost, Value::None)
+}
+
+/// Whether the clone of what is read nests as deep. Both are taken apart.
+fn clone_nests(alloc: Global, input: &[u8], depth: u32) -> Result<bool, Fail> {
+    let Ok((_, value)) = PodDeserializer::deserialize_any_from(alloc, input) else {
+        return Err(Fail::from("it isn't read"));
+    };
+    let copied: Result<_, _> = value.clone();
+    discard(value);
+    let copy = copied?;
+    let is_as_deep = nests(&copy, depth);
+    discard(copy);
+    Ok(is_as_deep)
+}
+
+/// Compares how deep clones nest with how deep their sources do.
+fn assert_clones(rt: &impl Abort, alloc: Global, depth: u32) -> Result<(), Fail> {
+    let structs = nested(alloc, depth, &[0, 1])?;
+    let is_struct = clone_nests(alloc, structs.as_slice(), depth)?;
+    assert!(rt; is_struct);
+    let objects = nested_objects(alloc, depth, &[0, 1])?;
+    let is_object = clone_nests(alloc, objects.as_slice(), depth)?;
+    assert!(rt; is_object);
+    Ok(())
+}
+
+#[test]
+fn depth_ends_no_clone(rt: HostRuntime) -> Result<(), Fail> {
+    for depth in DEPTHS {
+        assert_clones(&rt, rt.alloc(), depth)?;
+    }
+    Ok(())
+}

@@ -22,6 +22,8 @@ pub use Rattle.spa_visitors.specs.Declining
 pub use Rattle.spa_write.specs.Written
 pub use Rattle.spa_write.specs.Success
 pub use Rattle.spa_write.specs.Unfinished
+pub use Rattle.spa_scan.specs.Canonical
+pub use Rattle.spa_scan.specs.Depth
 pub use Rattle.spa_rewrite.specs.Rewriting
 pub use Rattle.spa_view.specs.View as Seen
 pub use Rattle.spa_view.specs.Tests

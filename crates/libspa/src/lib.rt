@@ -32,7 +32,8 @@ pub mod utils {
 pub mod pod {
     pub use spa_fixed::{CanonicalFixedSizedPod, ChoiceElement, FixedSizedPod};
     pub use spa_format::{laws, view_laws};
-    pub use spa_rewrite::{accept_all, rewrite, rewrite_all, rewrite_in_parts};
+    pub use spa_rewrite::{accept_all, is_canonical, rewrite, rewrite_all, rewrite_in_parts};
+    pub use spa_scan::nests_within;
     pub use spa_utils::Frame;
     pub use spa_value::{
         Bitmap, ChoiceValue, Object, Property, PropertyFlags, Value, ValueArray, discard,

@@ -4,3 +4,4 @@ pub mod Refusals
 pub mod Rewritten
 pub mod Nesting
 pub mod Stretches
+pub mod Own

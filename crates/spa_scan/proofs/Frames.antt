@@ -3,11 +3,11 @@ use Rattle.std.proofs.Common.{◌≡◌, ℕ, ◌+◌, ◌<◌, ◌≤◌, ◌-�
 use Rattle.std.proofs.Math.Seq.{take-add}
 use Rattle.std.proofs.lemmas.List.{length-take-le, take_at, nil_from_length, take-append-drop}
 use Rattle.spa_format.specs.Words.{word_at, word_bytes, padded_size, extent, padding, body_of, header_size}
-use Rattle.spa_format.specs.Tree.{struct_type, Tree, type_of, struct, no_trees, member, Trees, Properties, property, no_properties}
+use Rattle.spa_format.specs.Tree.{struct_type, Tree, type_of, struct, no_trees, member, Trees, property, no_properties}
 use Rattle.spa_format.specs.Pod.{IsBody}
 use Rattle.spa_format.specs.Encoding.{framed, encoded_body, property_encodings}
 use Rattle.spa_format.specs.Typed.{IsBytes}
-use Rattle.spa_format.specs.Front.{HasFront, front_of, rest_of}
+use Rattle.spa_format.specs.Front.{HasFront, front_of}
 use Rattle.spa_format.proofs.Fronts.{front_of_whole, length-body_of, front_and_rest}
 use Rattle.spa_format.proofs.Short.{padded_above}
 use Rattle.spa_bytes.specs.Opening.{Opens}
@@ -19,7 +19,7 @@ use Rattle.spa_format.specs.Words.{wide_at, wide_bytes}
 use Rattle.spa_format.specs.Tree.{object, object_type, pointer, pointer_type}
 use Rattle.spa_format.specs.Pod.{AreMembers, AreProperties}
 use Rattle.spa_format.proofs.WordLemmas.{wide_at-drop}
-use Rattle.spa_format.specs.Kind.{none, Kind, bool_kind, Fixed, IsFixedBody, type_number, body_size, content}
+use Rattle.spa_format.specs.Kind.{none, Kind, bool_kind, IsFixedBody, type_number, body_size, content}
 use Rattle.spa_format.specs.Tree.{fixed}
 use Rattle.spa_format.proofs.WordLemmas.{IsBytes-drop, IsBytes-take, word_at-drop, word_at-take}
 use Rattle.spa_format.proofs.FixedKinds.{kind_of_content}
@@ -222,3 +222,7 @@ stretch_front input first rest e c l = of_values input first rest c.values c.mem
     of_values input first rest (member v vs) m e l =
         let all : input ≡ m.0 ++ (m.1 ++ rest) = e ∙ ap (λ x. x ++ rest) m.2 ∙ append_assoc m.0 m.1 rest in
         (front_of_whole input m.0 (m.1 ++ rest) (type_of v) (IsBody v) all m.3).0
+
+pub body_bytes : (input body rest : List ℕ) (type : ℕ) → IsBytes input → Opens input type body rest → IsBytes body
+body_bytes input body rest type h o =
+    subst IsBytes (sym o.its_body) (IsBytes-take (word_at input 0) (drop 8 input) (IsBytes-drop 8 input h))

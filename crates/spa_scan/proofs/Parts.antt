@@ -1,20 +1,20 @@
 -- Bodies: texts, elements, arrays, choices.
-use Rattle.std.proofs.Common.{◌≡◌, ◌≢◌, ℕ, ◌+◌, ◌*◌, ◌<◌, ◌≤◌, ◌-◌, ◌/◌, inl, inr, List, [], ◌∷◌, ◌++◌, length, take, drop, get_or, zero, suc, refl, sym, ap, ◌∙◌, subst, arith, length-append, length-drop, append_assoc}
+use Rattle.std.proofs.Common.{◌≡◌, ◌≢◌, ℕ, ◌+◌, ◌*◌, ◌<◌, ◌≤◌, ◌-◌, ◌/◌, inl, inr, List, [], ◌∷◌, ◌++◌, length, take, drop, get_or, zero, suc, refl, sym, ap, ◌∙◌, subst, arith, length-drop, append_assoc}
 use Rattle.std.specs.Prelude.{Contains, slice_index}
 use Rattle.std.proofs.lemmas.List.{drop-drop, get_or-drop, get_or_past, length-take-le, nil_from_length, take-append-drop, take_all}
 use Rattle.std.proofs.lemmas.Bool.{cases_lt}
 use Rattle.std.proofs.Math.Nat.{mul-div_cancel}
 use Rattle.std.proofs.lemmas.Str.{IsUtf8-from_ascii}
 use Rattle.std.specs.Str.{IsAscii}
-use Rattle.spa_format.specs.Words.{word_at, word_bytes, header_size}
+use Rattle.spa_format.specs.Words.{word_at, word_bytes}
 use Rattle.spa_format.specs.Kind.{Kind, bool_kind, Fixed, body_size, type_number, content, fixed_body}
-use Rattle.spa_format.specs.Tree.{Tree, array, choice, choice_type, array_type, Shape, none_choice, range_choice, step_choice, enum_choice, flags_choice, shape_number}
-use Rattle.spa_format.specs.Pod.{AreElements, IsArray, IsText, IsBody, IsChoice, least_count, values_taken}
+use Rattle.spa_format.specs.Tree.{array, choice, choice_type, array_type, Shape, none_choice, range_choice, step_choice, enum_choice, flags_choice, shape_number}
+use Rattle.spa_format.specs.Pod.{IsArray, least_count, values_taken}
 use Rattle.spa_format.specs.Normal.{kept_flags}
-use Rattle.spa_format.specs.Encoding.{array_body, fixed_bodies}
+use Rattle.spa_format.specs.Encoding.{array_body}
 use Rattle.spa_format.specs.Typed.{IsBytes}
 use Rattle.spa_format.proofs.WordLemmas.{IsBytes-drop, IsBytes-take, word_at-take}
-use Rattle.spa_format.proofs.FixedKinds.{same_kind, kind_of_content}
+use Rattle.spa_format.proofs.FixedKinds.{same_kind}
 use Rattle.spa_format.proofs.Elements.{length_of_elements}
 use Rattle.spa_scan.specs.Canonical.{AreCanonicalElements, IsCanonicalArray, IsCanonicalBody, IsCanonicalText, IsFixedLen, IsPlainByte, IsPlainFor}
 use Rattle.spa_scan.proofs.Words.{content_kept, two_words_back}

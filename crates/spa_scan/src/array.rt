@@ -16,7 +16,8 @@ const WORD_LEN: usize = 4;
 
 /// Whether the body of an array is as its elements are written.
 pub(crate) fn is_array(body: &[u8]) -> bool
-    ensures { result ≡ true → IsCanonicalArray body.now }
+    ensures canonical { result ≡ true → IsCanonicalArray body.now }
+    ensures found { IsCanonicalArray body.now → result ≡ true }
 {
     if body.len() < HEADER_LEN {
         return false;
@@ -43,7 +44,8 @@ pub(crate) fn is_array(body: &[u8]) -> bool
 /// Whether the body of a choice is as its values are written: their count is that of its shape, and a choice without
 /// alternatives has no flags.
 pub(crate) fn is_choice(body: &[u8]) -> bool
-    ensures { result ≡ true → IsCanonicalBody choice_type body.now }
+    ensures canonical { result ≡ true → IsCanonicalBody choice_type body.now }
+    ensures found { IsCanonicalBody choice_type body.now → result ≡ true }
 {
     if body.len() < CHOICE_HEADER {
         return false;
@@ -74,7 +76,8 @@ pub(crate) fn is_choice(body: &[u8]) -> bool
 
 /// Whether the bodies of truth values are each 0 or 1.
 fn are_bools(elements: &[u8]) -> bool
-    ensures { result ≡ true → AreCanonicalElements bool_kind elements.now }
+    ensures canonical { result ≡ true → AreCanonicalElements bool_kind elements.now }
+    ensures found { AreCanonicalElements bool_kind elements.now → result ≡ true }
 {
     let mut left = elements;
     while !left.is_empty() {

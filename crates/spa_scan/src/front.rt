@@ -1,7 +1,8 @@
 //! Pods at the front of an input: those of fixed size, and any with zeros as padding.
-ghost use Rattle.std.specs.Prelude.{◌≡◌, ◌+◌, ◌<◌, ◌≤◌, IfSome, length, true};
+ghost use Rattle.std.specs.Prelude.{◌≡◌, ◌+◌, ◌<◌, ◌≤◌, IfNone, IfSome, List, length, true, ℕ};
+ghost use Rattle.spa_format.specs.Kind.{Kind, body_size, type_number};
 ghost use Rattle.spa_format.specs.Words.{padded_size};
-ghost use Rattle.spa_scan.specs.Canonical.{BeginsCanonical, HasZeros, IsFixedLen, OpensPadded};
+ghost use Rattle.spa_scan.specs.Canonical.{BeginsCanonical, HasZeros, IsFixedLen, IsSized, OpensPadded};
 
 use spa_bytes::{Front, HEADER_LEN, SECOND_WORD, open, u32_at, u64_at};
 use spa_utils::SpaTypes;
@@ -29,6 +30,7 @@ const SECOND_OF_BODY: usize = 12;
 pub(crate) fn padded_front(input: &[u8]) -> Option<Front<'_>>
     ensures padded { IfSome result (λ front. OpensPadded input.now front.type_ front.body.now front.rest.now) }
     ensures shorter { IfSome result (λ front. length front.rest.now + 8 ≤ length input.now) }
+    ensures missed { IfNone result ((rest : List ℕ) → ¬ (BeginsCanonical input.now rest)) }
 {
     let Some(front) = open(input) else {
         return None;
@@ -45,7 +47,8 @@ pub(crate) fn padded_front(input: &[u8]) -> Option<Front<'_>>
 #[inline(always)]
 fn has_zeros(behind: &[u8], size: usize) -> bool
     requires room { padded_size size ≤ length behind.now }
-    ensures { result ≡ true → HasZeros behind.now size }
+    ensures zeros { result ≡ true → HasZeros behind.now size }
+    ensures found { HasZeros behind.now size → result ≡ true }
 {
     let over = size % HEADER_LEN;
     if over == 0 {
@@ -60,6 +63,7 @@ fn has_zeros(behind: &[u8], size: usize) -> bool
 pub(crate) fn fixed_front(input: &[u8]) -> Option<&[u8]>
     ensures taken { IfSome result (λ rest. BeginsCanonical input.now rest.now) }
     ensures shorter { IfSome result (λ rest. length rest.now + 16 ≤ length input.now) }
+    ensures missed { IfNone result ((rest : List ℕ) (c : BeginsCanonical input.now rest) → ¬ (IsSized c.value)) }
 {
     if input.len() < SHORT_POD {
         return None;
@@ -88,7 +92,8 @@ pub(crate) fn fixed_front(input: &[u8]) -> Option<&[u8]>
 /// How long the bodies of this type are, in bytes, where it is a kind of fixed size, and else a number past all of these.
 #[inline(always)]
 pub(crate) fn fixed_len(type_: u32) -> u32
-    ensures { result < 9 → IsFixedLen type_ result }
+    ensures is_len { result < 9 → IsFixedLen type_ result }
+    ensures found { (k : Kind) → type_ ≡ type_number k → result ≡ body_size k }
 {
     match SpaTypes(type_) {
         SpaTypes::None => 0,

@@ -3,7 +3,9 @@
 
 mod array;
 mod front;
+mod nesting;
 mod scan;
 mod text;
 
-pub use scan::{canonical_front, canonical_stretch};
+pub use nesting::nests_within;
+pub use scan::{LEVELS, canonical_front, canonical_stretch};

@@ -1,7 +1,8 @@
 //! Pods that are their own rewriting, found by one look that writes nothing and takes no memory.
-ghost use Rattle.std.specs.Prelude.{◌≡◌, ◌+◌, ◌<◌, ◌≤◌, ◌++◌, IfSome, length, true};
+ghost use Rattle.std.specs.Prelude.{◌≡◌, ◌+◌, ◌<◌, ◌≤◌, ◌++◌, IfNone, IfSome, List, length, true, ℕ};
 ghost use Rattle.spa_format.specs.Front.{HasFront};
-ghost use Rattle.spa_scan.specs.Canonical.{AreCanonical, AreCanonicalProperties, BeginsCanonical, IsCanonicalBody};
+ghost use Rattle.spa_scan.specs.Canonical.{AreCanonical, AreCanonicalProperties, BeginsCanonical, IsCanonicalBody, IsSized};
+ghost use Rattle.spa_scan.specs.Depth.{AreShallow, AreShallowProperties, IsShallowBody, depth_of, levels_looked_into};
 
 use crate::array::{is_array, is_choice};
 use crate::front::{fixed_front, padded_front};
@@ -11,16 +12,18 @@ use spa_utils::SpaTypes;
 
 /// How deep structs and objects may stand in one another to be looked into, structs at the end of a struct aside. The look
 /// calls itself at each level: this bounds the stack that it takes.
-const LEVELS: u32 = 1000;
+pub const LEVELS: u32 = 1000;
 
 /// What follows the pod at the front, where a look over its bytes finds that it is its own rewriting: its padding is zeros,
 /// its truth values are 0 or 1, its choices hold no surplus values, its pointers take 16 bytes, and the same holds of its
 /// members. It takes no memory.
 ///
-/// `None` says nothing: structs and objects that stand too deep in one another are not looked into.
+/// `None` says that it isn't, or that structs and objects stand more than `LEVELS` deep in one another: these may not be looked
+/// into.
 pub fn canonical_front(input: &[u8]) -> Option<&[u8]>
     ensures taken { IfSome result (λ rest. BeginsCanonical input.now rest.now) }
     ensures shorter { IfSome result (λ rest. length rest.now + 8 ≤ length input.now) }
+    ensures missed { IfNone result ((rest : List ℕ) (c : BeginsCanonical input.now rest) → levels_looked_into < depth_of c.value) }
 {
     if let Some(rest) = fixed_front(input) {
         return Some(rest);
@@ -51,7 +54,8 @@ pub fn canonical_stretch(input: &[u8]) -> (&[u8], &[u8])
 /// Whether the bytes are pods one after another that are their own rewritings.
 #[cycle(scan)]
 fn are_members(body: &[u8], levels: u32) -> bool
-    ensures { result ≡ true → AreCanonical body.now }
+    ensures canonical { result ≡ true → AreCanonical body.now }
+    ensures found { AreShallow levels body.now → result ≡ true }
 {
     let mut left = body;
     while !left.is_empty() {
@@ -77,7 +81,8 @@ fn are_members(body: &[u8], levels: u32) -> bool
 /// The same of properties.
 #[cycle(scan)]
 fn are_properties(body: &[u8], levels: u32) -> bool
-    ensures { result ≡ true → AreCanonicalProperties body.now }
+    ensures canonical { result ≡ true → AreCanonicalProperties body.now }
+    ensures found { AreShallowProperties levels body.now → result ≡ true }
 {
     let mut left = body;
     while !left.is_empty() {
@@ -103,7 +108,8 @@ fn are_properties(body: &[u8], levels: u32) -> bool
 /// Whether a body of this type is as the value that it says is written.
 #[cycle(scan)]
 fn is_body(type_: u32, body: &[u8], levels: u32) -> bool
-    ensures { result ≡ true → IsCanonicalBody type_ body.now }
+    ensures canonical { result ≡ true → IsCanonicalBody type_ body.now }
+    ensures found { (c : IsShallowBody levels type_ body.now) → ¬ (IsSized c.its.value) → result ≡ true }
 {
     match SpaTypes(type_) {
         SpaTypes::String => is_text(body),

@@ -6,7 +6,8 @@ use spa_read::text_of;
 
 /// Whether the body of a string is a text without NUL, and one NUL behind it.
 pub(crate) fn is_text(body: &[u8]) -> bool
-    ensures { result ≡ true → IsCanonicalText body.now }
+    ensures canonical { result ≡ true → IsCanonicalText body.now }
+    ensures found { IsCanonicalText body.now → result ≡ true }
 {
     let Some((last, text)) = body.split_last() else {
         return false;

@@ -1,5 +1,6 @@
 //! The tests, by subject.
 mod calls_together;
+mod canonical;
 mod fixation;
 mod hostile;
 mod reading;

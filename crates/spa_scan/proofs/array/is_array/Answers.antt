@@ -1,37 +1,38 @@
-use Rattle.std.proofs.Common.{◌≡◌, ◌<◌, ◌*◌, ◌/◌, ◌%◌, ap, sym, ◌∙◌, subst, arith, refl, drop, length}
-use Rattle.std.proofs.lemmas.Bool.{eqb-true}
-use Rattle.spa_format.specs.Kind.{bool_kind, body_size, type_number}
+use Rattle.std.proofs.Common.{◌≡◌, ◌*◌, ◌%◌, ap, sym, ◌∙◌, subst, arith, drop, length}
+use Rattle.std.proofs.lemmas.Bool.{eq-eqb, eqb-true}
+use Rattle.spa_format.specs.Kind.{bool_kind, body_size}
 use Rattle.spa_format.specs.Typed.{IsBytes}
 use Rattle.spa_format.proofs.FixedKinds.{same_kind}
 use Rattle.spa_format.proofs.WordLemmas.{IsBytes-drop}
-use Rattle.spa_scan.specs.Canonical.{IsFixedLen}
+use Rattle.spa_scan.specs.Canonical.{AreCanonicalElements}
+use Rattle.spa_scan.proofs.Missed.{made_array}
 use Rattle.spa_scan.proofs.Parts.{array_found, bools_found, elements_found, no_elements}
 use Rattle.spa_scan.proofs.array.is_array.Goals as goal
 
-pub returns-then-type_ : goal.returns-then-type_
-returns-then-type_ c =
+pub returns-then-type_-clause-canonical : goal.returns-then-type_-clause-canonical
+returns-then-type_-clause-canonical c =
     let bytes : IsBytes c.args.body.now = λ i. omega (arith, c.type_inv.body i) in
     let same = c.if-size-fixed_len.false in
     let is = c.in-4.is in
-    let f = c.fixed_len.ensures (omega arith) in
+    let f = c.fixed_len.ensures.is_len (omega arith) in
     λ e. array_found _ _ _ _ bytes c.if-body-lt-HEADER_LEN.false c.u32_at-type_.ensures c.u32_at-size.ensures (f.0, f.1, same ∙ f.2) c.split_at.ensures.back
-    (λ k n s. bools_found k _ _ n c.if-type_.true (c.are_bools.ensures e))
+    (λ k n s. bools_found k _ _ n c.if-type_.true (c.are_bools.ensures.canonical e))
 
-pub returns-in-0 : goal.returns-in-0
-returns-in-0 c =
+pub returns-in-0-clause-canonical : goal.returns-in-0-clause-canonical
+returns-in-0-clause-canonical c =
     let bytes : IsBytes c.args.body.now = λ i. omega (arith, c.type_inv.body i) in
     let same = c.if-size-fixed_len.false in
     let is = c.in-0.is in
-    let f = c.fixed_len.ensures (omega arith) in
+    let f = c.fixed_len.ensures.is_len (omega arith) in
     λ e. array_found _ _ _ _ bytes c.if-body-lt-HEADER_LEN.false c.u32_at-type_.ensures c.u32_at-size.ensures (f.0, f.1, same ∙ f.2) c.split_at.ensures.back
     (λ k n s. no_elements k _ (eqb-true _ _ (sym c.is_empty.ensures ∙ e)))
 
-pub returns-else-type_ : goal.returns-else-type_
-returns-else-type_ c =
+pub returns-else-type_-clause-canonical : goal.returns-else-type_-clause-canonical
+returns-else-type_-clause-canonical c =
     let bytes : IsBytes c.args.body.now = λ i. omega (arith, c.type_inv.body i) in
     let same = c.if-size-fixed_len.false in
     let is = c.in-4.is in
-    let f = c.fixed_len.ensures (omega arith) in
+    let f = c.fixed_len.ensures.is_len (omega arith) in
     let back = c.split_at.ensures.back in
     let elements = c.split_at.result.1.now in
     λ e.
@@ -39,12 +40,12 @@ returns-else-type_ c =
     array_found _ _ _ _ bytes c.if-body-lt-HEADER_LEN.false c.u32_at-type_.ensures c.u32_at-size.ensures (f.0, f.1, same ∙ f.2) back
     (λ k n s. elements_found k _ 4 elements (subst IsBytes (sym back) (IsBytes-drop 8 _ bytes)) n (sym is ∙ s) c.if-type_.false (omega arith) (omega arith))
 
-pub returns-in-8 : goal.returns-in-8
-returns-in-8 c =
+pub returns-in-8-clause-canonical : goal.returns-in-8-clause-canonical
+returns-in-8-clause-canonical c =
     let bytes : IsBytes c.args.body.now = λ i. omega (arith, c.type_inv.body i) in
     let same = c.if-size-fixed_len.false in
     let is = c.in-8.is in
-    let f = c.fixed_len.ensures (omega arith) in
+    let f = c.fixed_len.ensures.is_len (omega arith) in
     let back = c.split_at.ensures.back in
     let elements = c.split_at.result.1.now in
     λ e.
@@ -54,3 +55,30 @@ returns-in-8 c =
     let eight : 8 ≡ body_size k = sym is ∙ s in
     elements_found k _ 8 elements (subst IsBytes (sym back) (IsBytes-drop 8 _ bytes)) n eight
     (λ two. absurd (let four : 8 ≡ 4 = eight ∙ ap body_size (same_kind k bool_kind (sym n ∙ two)) in omega arith)) (omega arith) (omega arith))
+
+pub returns-then-type_-clause-found : goal.returns-then-type_-clause-found
+returns-then-type_-clause-found c = λ a.
+    let m = made_array _ a in
+    let is : m.kind ≡ bool_kind = same_kind _ _ (sym m.its_type ∙ sym c.u32_at-type_.ensures ∙ c.if-type_.true) in
+    c.are_bools.ensures.found (subst (AreCanonicalElements bool_kind) (sym c.split_at.ensures.back) (subst (λ k. AreCanonicalElements k (drop 8 c.args.body.now)) is m.elements))
+
+pub returns-in-0-clause-found : goal.returns-in-0-clause-found
+returns-in-0-clause-found c = λ a.
+    let m = made_array _ a in
+    let size : body_size m.kind ≡ 0 = sym m.its_size ∙ sym c.u32_at-size.ensures ∙ c.in-0.is in
+    let whole : length c.split_at.result.1.now ≡ m.count * 0 = ap length c.split_at.ensures.back ∙ m.whole ∙ ap (λ n. m.count * n) size in
+    c.is_empty.ensures ∙ eq-eqb _ 0 (omega arith)
+
+pub returns-else-type_-clause-found : goal.returns-else-type_-clause-found
+returns-else-type_-clause-found c = λ a.
+    let m = made_array _ a in
+    let size : body_size m.kind ≡ 4 = sym m.its_size ∙ sym c.u32_at-size.ensures ∙ c.in-4.is in
+    let whole : length c.split_at.result.1.now ≡ m.count * 4 = ap length c.split_at.ensures.back ∙ m.whole ∙ ap (λ n. m.count * n) size in
+    eq-eqb _ 0 (omega arith)
+
+pub returns-in-8-clause-found : goal.returns-in-8-clause-found
+returns-in-8-clause-found c = λ a.
+    let m = made_array _ a in
+    let size : body_size m.kind ≡ 8 = sym m.its_size ∙ sym c.u32_at-size.ensures ∙ c.in-8.is in
+    let whole : length c.split_at.result.1.now ≡ m.count * 8 = ap length c.split_at.ensures.back ∙ m.whole ∙ ap (λ n. m.count * n) size in
+    eq-eqb _ 0 (omega arith)

@@ -1,99 +1,201 @@
-use Rattle.std.proofs.Common.{◌≡◌, refl, sym, ap, ◌∙◌, subst, arith, rules}
-use Rattle.std.proofs.lemmas.Bool.{eqb-true}
+use Rattle.std.proofs.Common.{◌≡◌, refl, sym, ◌∙◌, subst, arith, rules, drop, ◌-◌}
+use Rattle.std.proofs.lemmas.Bool.{eq-eqb, eqb-false, eqb-true}
 use Rattle.spa_format.specs.Typed.{IsBytes}
 use Rattle.spa_format.specs.Tree.{bitmap, bytes, string, struct}
 use Rattle.spa_format.proofs.WordLemmas.{IsBytes-drop}
-use Rattle.spa_scan.specs.Canonical.{AreCanonical, IsCanonicalBody}
-use Rattle.spa_scan.proofs.Frames.{canonical_front, none_left, none_left_either, none_of, object_of, one_more, one_more_property, pointer_of, rest_bytes, struct_last}
+use Rattle.spa_format.specs.Front.{rest_of}
+use Rattle.spa_scan.specs.Canonical.{BeginsCanonical, IsCanonicalBody}
+use Rattle.spa_scan.specs.Depth.{AreShallowProperties}
+use Rattle.spa_scan.proofs.Frames.{body_bytes, canonical_front, none_left, none_left_either, none_of, object_of, one_more, one_more_property, pointer_of, rest_bytes, struct_last}
 use Rattle.spa_scan.proofs.Parts.{array_body_of}
+use Rattle.spa_scan.proofs.Shallow.{pointer_of_body, shallow_last, shallow_member, shallow_object, shallow_properties_rest, shallow_property, shallow_rest, shallow_struct}
+use Rattle.spa_scan.proofs.Depths.{not_both}
+use Rattle.spa_scan.proofs.Made.{made_members, made_properties}
 use Rattle.spa_scan.proofs.scan.+scan.Goals as goal
 
+pub are_members-loop-left-init : goal.are_members-loop-left-init
+are_members-loop-left-init t c = (λ i. omega (arith, c.type_inv.body i), λ r. r, λ r. r)
+
 pub are_members-loop-left-preserved-in-Some : goal.are_members-loop-left-preserved-in-Some
-are_members-loop-left-preserved-in-Some t c = λ r.
-    c.loop-left.invariant (one_more _ _ c.in-Some.ensures.taken r)
+are_members-loop-left-preserved-in-Some t c =
+    let bytes = c.loop-left.invariant.0 in
+    let taken = c.in-Some.ensures.taken in
+    let some = eqb-false _ 0 (sym c.is_empty.ensures ∙ c.loop-left-test.true) in (
+      rest_bytes _ _ bytes taken,
+      λ r.
+          c.loop-left.invariant.1 (one_more _ _ taken r),
+      λ s.
+          shallow_rest _ _ _ bytes (omega (arith, some)) taken.begins.follows (c.loop-left.invariant.2 s),
+    )
 
 pub are_members-loop-left-preserved-then-is_empty :
     goal.are_members-loop-left-preserved-then-is_empty
-are_members-loop-left-preserved-then-is_empty t c = λ r.
-    c.loop-left.invariant
-    (struct_last _ _ _ _ c.in-Some-padded_front.ensures.padded c.if-front.true
-    (eqb-true _ _ (sym c.if-is_empty.ensures)) r)
+are_members-loop-left-preserved-then-is_empty t c =
+    let bytes = c.loop-left.invariant.0 in
+    let padded = c.in-Some-padded_front.ensures.padded in
+    let some = eqb-false _ 0 (sym c.is_empty.ensures ∙ c.loop-left-test.true) in (
+      body_bytes _ _ _ _ bytes padded.opens,
+      λ r.
+          c.loop-left.invariant.1
+          (struct_last _ _ _ _ padded c.if-front.true (eqb-true _ _ (sym c.if-is_empty.ensures)) r),
+      λ s.
+          shallow_last _ _ _ _ _ bytes (omega (arith, some)) padded.opens c.if-front.true (c.loop-left.invariant.2 s),
+    )
 
 pub are_members-loop-left-preserved : goal.are_members-loop-left-preserved
-are_members-loop-left-preserved t c = λ r.
-    c.loop-left.invariant
-    (one_more _ _
-    (canonical_front _ _ _ _ c.in-Some-padded_front.ensures.padded
-    (c.is_body.ensures c.if-not-is_body.false)) r)
+are_members-loop-left-preserved t c =
+    let bytes = c.loop-left.invariant.0 in
+    let padded = c.in-Some-padded_front.ensures.padded in
+    let some = eqb-false _ 0 (sym c.is_empty.ensures ∙ c.loop-left-test.true) in
+    let front = canonical_front _ _ _ _ padded (c.is_body.ensures.canonical c.if-not-is_body.false) in (
+      rest_bytes _ _ bytes front,
+      λ r.
+          c.loop-left.invariant.1 (one_more _ _ front r),
+      λ s.
+          shallow_rest _ _ _ bytes (omega (arith, some)) padded.opens.its_rest (c.loop-left.invariant.2 s),
+    )
 
-pub are_members-returns : goal.are_members-returns
-are_members-returns t c = λ _.
-    c.loop-left.invariant (none_left _ (eqb-true _ _ (sym c.is_empty.ensures ∙ c.loop-left-test.false)))
+pub are_members-returns-clause-canonical : goal.are_members-returns-clause-canonical
+are_members-returns-clause-canonical t c = λ _.
+    c.loop-left.invariant.1 (none_left _ (eqb-true _ _ (sym c.is_empty.ensures ∙ c.loop-left-test.false)))
 
 pub are_properties-loop-left-init : goal.are_properties-loop-left-init
-are_properties-loop-left-init t c = (λ i. omega (arith, c.type_inv.body i), λ r. r)
+are_properties-loop-left-init t c = (λ i. omega (arith, c.type_inv.body i), λ r. r, λ r. r)
 
 pub are_properties-loop-left-preserved-in-Some : goal.are_properties-loop-left-preserved-in-Some
 are_properties-loop-left-preserved-in-Some t c =
     let back = c.split_at.ensures.back in
-    let behind : IsBytes c.split_at.result.1.now = subst IsBytes (sym back) (IsBytes-drop 8 _ c.loop-left.invariant.0) in
-    let front = c.in-Some.ensures.taken in (
+    let bytes = c.loop-left.invariant.0 in
+    let behind : IsBytes c.split_at.result.1.now = subst IsBytes (sym back) (IsBytes-drop 8 _ bytes) in
+    let front = c.in-Some.ensures.taken in
+    let long = c.if-left-lt-HEADER_LEN.false in (
       rest_bytes _ _ behind front,
       λ r.
-          c.loop-left.invariant.1
-          (one_more_property _ _ _ c.loop-left.invariant.0 c.if-left-lt-HEADER_LEN.false back front r),
+          c.loop-left.invariant.1 (one_more_property _ _ _ bytes long back front r),
+      λ s.
+          shallow_properties_rest _ _ _ _ bytes (omega (arith, long)) back front.begins.follows (c.loop-left.invariant.2 s),
     )
 
 pub are_properties-loop-left-preserved : goal.are_properties-loop-left-preserved
 are_properties-loop-left-preserved t c =
     let back = c.split_at.ensures.back in
-    let behind : IsBytes c.split_at.result.1.now = subst IsBytes (sym back) (IsBytes-drop 8 _ c.loop-left.invariant.0) in
-    let front =
-    canonical_front _ _ _ _ c.in-Some-padded_front.ensures.padded
-    (c.is_body.ensures c.if-not-is_body.false) in (
+    let bytes = c.loop-left.invariant.0 in
+    let behind : IsBytes c.split_at.result.1.now = subst IsBytes (sym back) (IsBytes-drop 8 _ bytes) in
+    let padded = c.in-Some-padded_front.ensures.padded in
+    let long = c.if-left-lt-HEADER_LEN.false in
+    let front = canonical_front _ _ _ _ padded (c.is_body.ensures.canonical c.if-not-is_body.false) in (
       rest_bytes _ _ behind front,
       λ r.
-          c.loop-left.invariant.1
-          (one_more_property _ _ _ c.loop-left.invariant.0 c.if-left-lt-HEADER_LEN.false back front r),
+          c.loop-left.invariant.1 (one_more_property _ _ _ bytes long back front r),
+      λ s.
+          shallow_properties_rest _ _ _ _ bytes (omega (arith, long)) back padded.opens.its_rest (c.loop-left.invariant.2 s),
     )
 
-pub are_properties-returns : goal.are_properties-returns
-are_properties-returns t c = λ _.
+pub are_properties-returns-clause-canonical : goal.are_properties-returns-clause-canonical
+are_properties-returns-clause-canonical t c = λ _.
     c.loop-left.invariant.1 (none_left_either _ (eqb-true _ _ (sym c.is_empty.ensures ∙ c.loop-left-test.false)))
 
-pub is_body-returns-in-String : goal.is_body-returns-in-String
-is_body-returns-in-String t c = λ e.
-    let s = c.is_text.ensures e in
+pub is_body-returns-in-String-clause-canonical : goal.is_body-returns-in-String-clause-canonical
+is_body-returns-in-String-clause-canonical t c = λ e.
+    let s = c.is_text.ensures.canonical e in
     record { value = string s.0; its_type = sym (let is : c.args.type_ ≡ 8 = search rules in is); its_body = (s.1, s.2); same = s.2 }
 
-pub is_body-returns-in-Bytes : goal.is_body-returns-in-Bytes
-is_body-returns-in-Bytes t c = λ _.
+pub is_body-returns-in-Bytes-clause-canonical : goal.is_body-returns-in-Bytes-clause-canonical
+is_body-returns-in-Bytes-clause-canonical t c = λ _.
     record { value = bytes c.args.body.now; its_type = sym (let is : c.args.type_ ≡ 9 = search rules in is); its_body = refl; same = refl }
 
-pub is_body-returns-in-Bitmap : goal.is_body-returns-in-Bitmap
-is_body-returns-in-Bitmap t c = λ _.
+pub is_body-returns-in-Bitmap-clause-canonical : goal.is_body-returns-in-Bitmap-clause-canonical
+is_body-returns-in-Bitmap-clause-canonical t c = λ _.
     record { value = bitmap c.args.body.now; its_type = sym (let is : c.args.type_ ≡ 12 = search rules in is); its_body = refl; same = refl }
 
-pub is_body-returns-in-Array : goal.is_body-returns-in-Array
-is_body-returns-in-Array t c = λ e.
-    subst (λ k. IsCanonicalBody k c.args.body.now) (sym (let is : c.args.type_ ≡ 13 = search rules in is)) (array_body_of _ (c.is_array.ensures e))
+pub is_body-returns-in-Array-clause-canonical : goal.is_body-returns-in-Array-clause-canonical
+is_body-returns-in-Array-clause-canonical t c = λ e.
+    subst (λ k. IsCanonicalBody k c.args.body.now) (sym (let is : c.args.type_ ≡ 13 = search rules in is)) (array_body_of _ (c.is_array.ensures.canonical e))
 
-pub is_body-returns-then-levels-gt0 : goal.is_body-returns-then-levels-gt0
-is_body-returns-then-levels-gt0 t c = λ e.
-    let r = c.are_members.ensures e in
+pub is_body-returns-then-levels-gt0-clause-canonical : goal.is_body-returns-then-levels-gt0-clause-canonical
+is_body-returns-then-levels-gt0-clause-canonical t c = λ e.
+    let r = c.are_members.ensures.canonical e in
     record { value = struct r.values; its_type = sym (let is : c.args.type_ ≡ 14 = search rules in is); its_body = r.members; same = r.same }
 
-pub is_body-returns-else-body-lt-HEADER_LEN : goal.is_body-returns-else-body-lt-HEADER_LEN
-is_body-returns-else-body-lt-HEADER_LEN t c =
+pub is_body-returns-else-body-lt-HEADER_LEN-clause-canonical : goal.is_body-returns-else-body-lt-HEADER_LEN-clause-canonical
+is_body-returns-else-body-lt-HEADER_LEN-clause-canonical t c =
     let bytes : IsBytes c.args.body.now = λ i. omega (arith, c.type_inv.body i) in
     λ e.
     object_of _ _ _ bytes c.if-body-lt-HEADER_LEN.false c.split_at.ensures.back (let is : c.args.type_ ≡ 15 = search rules in is)
-    (c.are_properties.ensures e)
+    (c.are_properties.ensures.canonical e)
 
-pub is_body-returns-then-body-eq-POINTER_LEN : goal.is_body-returns-then-body-eq-POINTER_LEN
-is_body-returns-then-body-eq-POINTER_LEN t c =
+pub is_body-returns-then-body-eq-POINTER_LEN-clause-canonical : goal.is_body-returns-then-body-eq-POINTER_LEN-clause-canonical
+is_body-returns-then-body-eq-POINTER_LEN-clause-canonical t c =
     let bytes : IsBytes c.args.body.now = λ i. omega (arith, c.type_inv.body i) in
     λ e. pointer_of _ _ bytes c.if-body-eq-POINTER_LEN.true (let is : c.args.type_ ≡ 17 = search rules in is) (sym c.u32_at.ensures ∙ eqb-true _ _ e)
 
-pub is_body-returns-in-None : goal.is_body-returns-in-None
-is_body-returns-in-None t c = λ e. none_of _ _ (let is : c.args.type_ ≡ 1 = search rules in is) (eqb-true _ _ (sym c.is_empty.ensures ∙ e))
+pub is_body-returns-in-None-clause-canonical : goal.is_body-returns-in-None-clause-canonical
+is_body-returns-in-None-clause-canonical t c = λ e. none_of _ _ (let is : c.args.type_ ≡ 1 = search rules in is) (eqb-true _ _ (sym c.is_empty.ensures ∙ e))
+
+pub are_members-returns-in_default-padded_front-clause-found :
+    goal.are_members-returns-in_default-padded_front-clause-found
+are_members-returns-in_default-padded_front-clause-found t c = λ s.
+    let bytes = c.loop-left.invariant.0 in
+    let some = eqb-false _ 0 (sym c.is_empty.ensures ∙ c.loop-left-test.true) in
+    let m = made_members _ bytes (omega (arith, some)) (c.loop-left.invariant.2 s).pods in
+    absurd (c.in_default-padded_front.ensures.missed _ m.first)
+
+pub are_members-returns-then-not-is_body-clause-found :
+    goal.are_members-returns-then-not-is_body-clause-found
+are_members-returns-then-not-is_body-clause-found t c = λ s.
+    let bytes = c.loop-left.invariant.0 in
+    let some = eqb-false _ 0 (sym c.is_empty.ensures ∙ c.loop-left-test.true) in
+    let b =
+    shallow_member _ _ _ _ _ bytes (omega (arith, some)) (c.loop-left.invariant.2 s) c.in_default.ensures.missed
+    c.in-Some-padded_front.ensures.padded.opens in
+    absurd (not_both _ c.if-not-is_body.true (c.is_body.ensures.found b.found b.other))
+
+pub are_properties-returns-then-left-lt-HEADER_LEN-clause-found :
+    goal.are_properties-returns-then-left-lt-HEADER_LEN-clause-found
+are_properties-returns-then-left-lt-HEADER_LEN-clause-found t c = λ s.
+    let some = eqb-false _ 0 (sym c.is_empty.ensures ∙ c.loop-left-test.true) in
+    let m = made_properties _ c.loop-left.invariant.0 (omega (arith, some)) (c.loop-left.invariant.2 s).properties in
+    absurd (let l = m.header in let k = c.if-left-lt-HEADER_LEN.true in omega arith)
+
+pub are_properties-returns-in_default-padded_front-clause-found :
+    goal.are_properties-returns-in_default-padded_front-clause-found
+are_properties-returns-in_default-padded_front-clause-found t c = λ s.
+    let some = eqb-false _ 0 (sym c.is_empty.ensures ∙ c.loop-left-test.true) in
+    let m = made_properties _ c.loop-left.invariant.0 (omega (arith, some)) (c.loop-left.invariant.2 s).properties in
+    absurd
+    (c.in_default-padded_front.ensures.missed _
+    (subst (λ b. BeginsCanonical b (rest_of (drop 8 c.loop-left.left.now))) (sym c.split_at.ensures.back) m.first))
+
+pub are_properties-returns-then-not-is_body-clause-found :
+    goal.are_properties-returns-then-not-is_body-clause-found
+are_properties-returns-then-not-is_body-clause-found t c = λ s.
+    let back = c.split_at.ensures.back in
+    let bytes = c.loop-left.invariant.0 in
+    let behind : IsBytes c.split_at.result.1.now = subst IsBytes (sym back) (IsBytes-drop 8 _ bytes) in
+    let long = c.if-left-lt-HEADER_LEN.false in
+    let b =
+    shallow_property _ _ _ _ _ _ bytes behind (omega (arith, long)) back (c.loop-left.invariant.2 s) c.in_default.ensures.missed
+    c.in-Some-padded_front.ensures.padded.opens in
+    absurd (not_both _ c.if-not-is_body.true (c.is_body.ensures.found b.found b.other))
+
+pub is_body-returns-then-levels-gt0-clause-found :
+    goal.is_body-returns-then-levels-gt0-clause-found
+is_body-returns-then-levels-gt0-clause-found t c = λ s _.
+    c.are_members.ensures.found (shallow_struct _ _ _ (let is : c.args.type_ ≡ 14 = search rules in is) s).1
+
+pub is_body-returns-else-body-lt-HEADER_LEN-clause-found :
+    goal.is_body-returns-else-body-lt-HEADER_LEN-clause-found
+is_body-returns-else-body-lt-HEADER_LEN-clause-found t c = λ s _.
+    let o = shallow_object _ _ _ (let is : c.args.type_ ≡ 15 = search rules in is) s in
+    c.are_properties.ensures.found (subst (AreShallowProperties (c.args.levels - 1)) (sym c.split_at.ensures.back) o.2)
+
+pub is_body-returns-then-body-eq-POINTER_LEN-clause-found :
+    goal.is_body-returns-then-body-eq-POINTER_LEN-clause-found
+is_body-returns-then-body-eq-POINTER_LEN-clause-found t c = λ s _.
+    eq-eqb _ 0
+    (c.u32_at.ensures ∙ (pointer_of_body _ _ (let is : c.args.type_ ≡ 17 = search rules in is) s.its).1)
+
+pub is_body-returns-else-body-eq-POINTER_LEN-clause-found :
+    goal.is_body-returns-else-body-eq-POINTER_LEN-clause-found
+is_body-returns-else-body-eq-POINTER_LEN-clause-found t c = λ s _.
+    eq-eqb _ 16 (pointer_of_body _ _ (let is : c.args.type_ ≡ 17 = search rules in is) s.its).0

@@ -1,4 +1,4 @@
-use Rattle.std.proofs.Common.{◌≡◌, ◌∙◌, ◌<◌, sym, subst, arith, refl, length}
+use Rattle.std.proofs.Common.{◌<◌, sym, subst, arith, refl, length}
 use Rattle.spa_format.specs.Front.{HasFront}
 use Rattle.spa_scan.specs.Canonical.{AreCanonical}
 use Rattle.spa_scan.proofs.Frames.{more_stretch, no_stretch, stretch_front, stretch_parts}

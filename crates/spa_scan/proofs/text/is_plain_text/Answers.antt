@@ -1,4 +1,4 @@
-use Rattle.std.proofs.Common.{◌≡◌, ◌≤◌, ap, arith, length, subst, sym}
+use Rattle.std.proofs.Common.{◌≤◌, arith, length, subst}
 use Rattle.spa_scan.specs.Canonical.{IsPlainFor}
 use Rattle.spa_scan.proofs.Parts.{end_plain, plain_more, shorter_end, whole_end}
 use Rattle.spa_scan.proofs.text.is_plain_text.Goals as goal

@@ -1,0 +1,67 @@
+-- How deep structs and objects stand in one another in a value: docs/FORMAT.md, "Values".
+use Rattle.std.specs.Prelude.{◌≡◌, ℕ, suc, zero, ◌+◌, ◌≤◌, ◌⊎◌, List, [], ◌∷◌, drop, max}
+use Rattle.spa_format.specs.Words.{body_of, header_size, word_at}
+use Rattle.spa_format.specs.Front.{HasFront}
+use Rattle.spa_format.specs.Walk.{property_walk, walk}
+use Rattle.spa_format.specs.Tree.{Tree, fixed, string, bytes, bitmap, array, choice, pointer, struct, object, struct_type, object_type, Trees, no_trees, member, Properties, no_properties, property}
+use Rattle.spa_scan.specs.Canonical.{AreCanonical, AreCanonicalProperties, IsCanonicalBody}
+
+-- One for a struct or an object, and what its deepest member or property has. No other value holds pods.
+abbrev mutual
+  pub depth_of : Tree → ℕ
+  depth_of (fixed x) = 0
+  depth_of (string s) = 0
+  depth_of (bytes s) = 0
+  depth_of (bitmap s) = 0
+  depth_of (array k xs) = 0
+  depth_of (choice s f k x xs) = 0
+  depth_of (pointer t a) = 0
+  depth_of (struct vs) = 1 + member_depth vs
+  depth_of (object t i ps) = 1 + property_depth ps
+
+  pub member_depth : Trees → ℕ
+  member_depth no_trees = 0
+  member_depth (member v vs) = max (depth_of v) (member_depth vs)
+
+  pub property_depth : Properties → ℕ
+  property_depth no_properties = 0
+  property_depth (property key flags v ps) = max (depth_of v) (property_depth ps)
+
+-- some of these bytes are so
+abbrev pub SomeOf : (List ℕ → Type 0) → List (List ℕ) → Type 0
+SomeOf P [] = ⊥
+SomeOf P (b ∷ bs) = P b ⊎ SomeOf P bs
+
+-- At the front of any bytes more than so many structs and objects stand in one another: in these a walk over whole pods finds such ones.
+unfoldable pub NestsDeeper : ℕ → List ℕ → Type 0
+NestsDeeper zero b = HasFront b × ((word_at b 4 ≡ struct_type) ⊎ (word_at b 4 ≡ object_type))
+NestsDeeper (suc n) b =
+    HasFront b
+    × (((word_at b 4 ≡ struct_type) × SomeOf (NestsDeeper n) (walk (body_of b)))
+    ⊎ ((word_at b 4 ≡ object_type) × SomeOf (λ p. NestsDeeper n (drop header_size p)) (property_walk (drop header_size (body_of b)))))
+
+-- the same of a body of this type
+abbrev pub IsDeepBody : ℕ → ℕ → List ℕ → Type 0
+IsDeepBody zero type body = (type ≡ struct_type) ⊎ (type ≡ object_type)
+IsDeepBody (suc n) type body =
+    ((type ≡ struct_type) × SomeOf (NestsDeeper n) (walk body))
+    ⊎ ((type ≡ object_type) × SomeOf (λ p. NestsDeeper n (drop header_size p)) (property_walk (drop header_size body)))
+
+-- how many levels of a pod are looked into
+abbrev pub levels_looked_into : ℕ
+levels_looked_into = 1000
+
+-- a body that is as its value is written, which nests in so many levels at most
+pub record IsShallowBody (levels type : ℕ) (body : List ℕ) : Type 0 where
+  pub its : IsCanonicalBody type body
+  pub shallow : depth_of its.value ≤ levels
+
+-- pods one after another that are their own rewritings and nest no deeper
+pub record AreShallow (levels : ℕ) (body : List ℕ) : Type 0 where
+  pub pods : AreCanonical body
+  pub shallow : member_depth pods.values ≤ levels
+
+-- the same with key and flags before each
+pub record AreShallowProperties (levels : ℕ) (body : List ℕ) : Type 0 where
+  pub properties : AreCanonicalProperties body
+  pub shallow : property_depth properties.values ≤ levels

@@ -4,7 +4,7 @@ ghost use Rattle.spa_fixed.specs.declared.fault.FaultKind.TheVariants as fault_k
 ghost use Rattle.spa_format.specs.Kind as k;
 ghost use Rattle.spa_format.specs.Kind.{Fixed, Kind, body_size, content, fixed_body, kind_of, type_number};
 ghost use Rattle.spa_format.specs.Typed.{IsTypedFixed};
-ghost use Rattle.std.proofs.Common.{arith};
+ghost use Rattle.std.proofs.Common.{ap, arith, ◌∙◌};
 
 use crate::fault::{Fault, FaultKind};
 use spa_bytes::{two_words, u32_at, u64_at, wide_body, word_body};
@@ -90,6 +90,8 @@ pub trait CanonicalFixedSizedPod: Sealed + Copy {
     ghost its_size: { SIZE ≡ body_size kind };
 
     ghost its_kind: { (x : Self) → kind_of (fixed x) ≡ kind };
+
+    ghost same: { (x y : Self) → fixed x ≡ fixed y → x ≡ y };
 }
 
 /// One of the nine types that a choice may be over, which are the ten without `()`.
@@ -118,6 +120,8 @@ impl CanonicalFixedSizedPod for () {
 
     ghost its_kind = { λ _. refl };
 
+    ghost same = { λ _ _ _. refl };
+
     fn padded_body(&self) -> [u8; WIDE_LEN] {
         [0; WIDE_LEN]
     }
@@ -145,6 +149,8 @@ impl CanonicalFixedSizedPod for bool {
     ghost its_size = { refl };
 
     ghost its_kind = { λ _. refl };
+
+    ghost same = { λ _ _ e. Prim.cc e };
 
     fn padded_body(&self) -> [u8; WIDE_LEN] {
         word_body(u32::from(*self))
@@ -180,6 +186,8 @@ impl CanonicalFixedSizedPod for Id {
 
     ghost its_kind = { λ _. refl };
 
+    ghost same = { λ x y e. let same_number : x.0 ≡ y.0 = Prim.cc e in ap (λ n. record { 0 = n }) same_number };
+
     fn padded_body(&self) -> [u8; WIDE_LEN] {
         word_body(self.0)
     }
@@ -213,6 +221,8 @@ impl CanonicalFixedSizedPod for i32 {
     ghost its_size = { refl };
 
     ghost its_kind = { λ _. refl };
+
+    ghost same = { λ _ _ e. Prim.cc e };
 
     fn padded_body(&self) -> [u8; WIDE_LEN] {
         word_body(self.cast_unsigned())
@@ -248,6 +258,8 @@ impl CanonicalFixedSizedPod for i64 {
 
     ghost its_kind = { λ _. refl };
 
+    ghost same = { λ _ _ e. Prim.cc e };
+
     fn padded_body(&self) -> [u8; WIDE_LEN] {
         wide_body(self.cast_unsigned())
     }
@@ -281,6 +293,8 @@ impl CanonicalFixedSizedPod for Float32 {
     ghost its_size = { refl };
 
     ghost its_kind = { λ _. refl };
+
+    ghost same = { λ x y e. let same_number : x.0 ≡ y.0 = Prim.cc e in ap (λ n. record { 0 = n }) same_number };
 
     fn padded_body(&self) -> [u8; WIDE_LEN] {
         word_body(self.0)
@@ -316,6 +330,8 @@ impl CanonicalFixedSizedPod for Float64 {
 
     ghost its_kind = { λ _. refl };
 
+    ghost same = { λ x y e. let same_number : x.0 ≡ y.0 = Prim.cc e in ap (λ n. record { 0 = n }) same_number };
+
     fn padded_body(&self) -> [u8; WIDE_LEN] {
         wide_body(self.0)
     }
@@ -349,6 +365,8 @@ impl CanonicalFixedSizedPod for Rectangle {
     ghost its_size = { refl };
 
     ghost its_kind = { λ _. refl };
+
+    ghost same = { λ x y e. let first : x.width ≡ y.width = Prim.cc e in let second : x.height ≡ y.height = Prim.cc e in ap (λ n. record { width = n; height = x.height }) first ∙ ap (λ n. record { width = y.width; height = n }) second };
 
     fn padded_body(&self) -> [u8; WIDE_LEN] {
         two_words(self.width, self.height)
@@ -387,6 +405,8 @@ impl CanonicalFixedSizedPod for Fraction {
 
     ghost its_kind = { λ _. refl };
 
+    ghost same = { λ x y e. let first : x.num ≡ y.num = Prim.cc e in let second : x.denom ≡ y.denom = Prim.cc e in ap (λ n. record { num = n; denom = x.denom }) first ∙ ap (λ n. record { num = y.num; denom = n }) second };
+
     fn padded_body(&self) -> [u8; WIDE_LEN] {
         two_words(self.num, self.denom)
     }
@@ -423,6 +443,8 @@ impl CanonicalFixedSizedPod for Fd {
     ghost its_size = { refl };
 
     ghost its_kind = { λ _. refl };
+
+    ghost same = { λ x y e. let same_number : x.0 ≡ y.0 = Prim.cc e in ap (λ n. record { 0 = n }) same_number };
 
     fn padded_body(&self) -> [u8; WIDE_LEN] {
         wide_body(self.0.cast_unsigned())

@@ -1,8 +1,8 @@
 -- Readers of a struct's members and of an object's properties: what they have left, and what their calls take.
-use Rattle.std.specs.Prelude.{◌≡◌, ◌≢◌, ℕ, ◌+◌, ◌*◌, ◌≤◌, Bool, true, false, List, [], ◌++◌, length, drop, take}
+use Rattle.std.specs.Prelude.{◌≡◌, ◌≢◌, ℕ, ◌+◌, ◌*◌, ◌≤◌, Bool, true, false, List, [], ◌∷◌, ◌++◌, length, drop, map, take}
 use Rattle.spa_format.specs.Words.{word_at, header_size}
 use Rattle.spa_format.specs.Kind.{Kind, Fixed, IsFixedBody, body_size, type_number}
-use Rattle.spa_format.specs.Tree.{Tree, Trees, Properties, array_type, object_type, struct_type}
+use Rattle.spa_format.specs.Tree.{Tree, Trees, Properties, array, array_type, object_type, struct_type}
 use Rattle.spa_format.specs.Pod.{AreMembers, AreProperties}
 use Rattle.spa_bytes.specs.Opening.{Opens}
 use Rattle.std.specs.Borrow.{Bor}
@@ -135,3 +135,19 @@ pub record TakesElement {C X : Type 0} (k : Kind) (fixed : C → Fixed) (made_of
   pub made : x ≡ made_of canonical
   pub left : new.reader.left ≡ drop (body_size k) old.reader.left
   pub after : new.reader.after ≡ old.reader.after
+
+-- these elements are taken, one call after another, and this reader is left
+abbrev pub TakesElements : {C X : Type 0} → Kind → (C → Fixed) → (C → X) → ArrayReader → List X → ArrayReader → Type 0
+TakesElements k fixed made_of old [] new = new ≡ old
+TakesElements k fixed made_of old (x ∷ xs) new =
+    (next : ArrayReader) × TakesElement k fixed made_of old next x × TakesElements k fixed made_of next xs new
+
+-- the array that a list is written as, each of it by the value that stands for it
+abbrev pub list_tree : {C X : Type 0} → Kind → (C → Fixed) → (X → C) → List X → Tree
+list_tree k fixed stands_for xs = array k (map (λ x. fixed (stands_for x)) xs)
+
+-- this value is an array, and the list is made of its elements, of all of them in their order
+pub record IsMadeOf {C X : Type 0} (k : Kind) (fixed : C → Fixed) (made_of : C → X) (xs : List X) (v : Tree) : Type 0 where
+  pub elements : List C
+  pub value : v ≡ array k (map fixed elements)
+  pub made : xs ≡ map made_of elements

@@ -116,8 +116,8 @@ impl<'de> PodDeserializer<'de> {
 
     /// Hands no value to the visitor.
     ///
-    /// Refusals: `Nom` with `Short` where the front isn't there, `Nom` with `Tag` where it is of another type, `WrongSize` where the body has another size; else the
-    /// visitor's.
+    /// Refusals: `Nom` with `Short` where the front isn't there, `Nom` with `Tag` where it is of another type,
+    /// `WrongSize` where the body has another size; else the visitor's.
     pub fn deserialize_none<V: Visitor<'de>>(
         self,
         visitor: V,
@@ -130,8 +130,8 @@ impl<'de> PodDeserializer<'de> {
 
     /// Hands a truth value to the visitor.
     ///
-    /// Refusals: `Nom` with `Short` where the front isn't there, `Nom` with `Tag` where it is of another type, `WrongSize` where the body has another size; else the
-    /// visitor's.
+    /// Refusals: `Nom` with `Short` where the front isn't there, `Nom` with `Tag` where it is of another type,
+    /// `WrongSize` where the body has another size; else the visitor's.
     pub fn deserialize_bool<V: Visitor<'de>>(
         self,
         visitor: V,
@@ -144,8 +144,8 @@ impl<'de> PodDeserializer<'de> {
 
     /// Hands a signed number of 32 bits to the visitor.
     ///
-    /// Refusals: `Nom` with `Short` where the front isn't there, `Nom` with `Tag` where it is of another type, `WrongSize` where the body has another size; else the
-    /// visitor's.
+    /// Refusals: `Nom` with `Short` where the front isn't there, `Nom` with `Tag` where it is of another type,
+    /// `WrongSize` where the body has another size; else the visitor's.
     pub fn deserialize_int<V: Visitor<'de>>(
         self,
         visitor: V,
@@ -158,8 +158,8 @@ impl<'de> PodDeserializer<'de> {
 
     /// Hands a signed number of 64 bits to the visitor.
     ///
-    /// Refusals: `Nom` with `Short` where the front isn't there, `Nom` with `Tag` where it is of another type, `WrongSize` where the body has another size; else the
-    /// visitor's.
+    /// Refusals: `Nom` with `Short` where the front isn't there, `Nom` with `Tag` where it is of another type,
+    /// `WrongSize` where the body has another size; else the visitor's.
     pub fn deserialize_long<V: Visitor<'de>>(
         self,
         visitor: V,
@@ -172,8 +172,8 @@ impl<'de> PodDeserializer<'de> {
 
     /// Hands a float of 32 bits to the visitor.
     ///
-    /// Refusals: `Nom` with `Short` where the front isn't there, `Nom` with `Tag` where it is of another type, `WrongSize` where the body has another size; else the
-    /// visitor's.
+    /// Refusals: `Nom` with `Short` where the front isn't there, `Nom` with `Tag` where it is of another type,
+    /// `WrongSize` where the body has another size; else the visitor's.
     pub fn deserialize_float<V: Visitor<'de>>(
         self,
         visitor: V,
@@ -186,8 +186,8 @@ impl<'de> PodDeserializer<'de> {
 
     /// Hands a float of 64 bits to the visitor.
     ///
-    /// Refusals: `Nom` with `Short` where the front isn't there, `Nom` with `Tag` where it is of another type, `WrongSize` where the body has another size; else the
-    /// visitor's.
+    /// Refusals: `Nom` with `Short` where the front isn't there, `Nom` with `Tag` where it is of another type,
+    /// `WrongSize` where the body has another size; else the visitor's.
     pub fn deserialize_double<V: Visitor<'de>>(
         self,
         visitor: V,
@@ -198,10 +198,10 @@ impl<'de> PodDeserializer<'de> {
         self.deserialize_as(SpaTypes::Double.0, visitor)
     }
 
-    /// Hands a text, which is a part of the input to the visitor.
+    /// Hands a text, which is a part of the input, to the visitor.
     ///
-    /// Refusals: `Nom` with `Short` where the front isn't there, `Nom` with `Tag` where it is of another type, `Nom` with `Text` where the body is no text with one NUL behind it; else the
-    /// visitor's.
+    /// Refusals: `Nom` with `Short` where the front isn't there, `Nom` with `Tag` where it is of another type, `Nom`
+    /// with `Text` where the body is no text with one NUL behind it; else the visitor's.
     pub fn deserialize_str<V: Visitor<'de>>(
         self,
         visitor: V,
@@ -212,7 +212,7 @@ impl<'de> PodDeserializer<'de> {
         self.deserialize_as(SpaTypes::String.0, visitor)
     }
 
-    /// Hands bytes, which are a part of the input to the visitor.
+    /// Hands bytes, which are a part of the input, to the visitor.
     ///
     /// Refusals: `Nom` with `Short` where the front isn't there, `Nom` with `Tag` where it is of another type; else the
     /// visitor's.
@@ -226,7 +226,7 @@ impl<'de> PodDeserializer<'de> {
         self.deserialize_as(SpaTypes::Bytes.0, visitor)
     }
 
-    /// Hands the bytes of a bitmap, which are a part of the input to the visitor.
+    /// Hands the bytes of a bitmap, which are a part of the input, to the visitor.
     ///
     /// Refusals: `Nom` with `Short` where the front isn't there, `Nom` with `Tag` where it is of another type; else the
     /// visitor's.
@@ -242,8 +242,8 @@ impl<'de> PodDeserializer<'de> {
 
     /// Hands a width and a height to the visitor.
     ///
-    /// Refusals: `Nom` with `Short` where the front isn't there, `Nom` with `Tag` where it is of another type, `WrongSize` where the body has another size; else the
-    /// visitor's.
+    /// Refusals: `Nom` with `Short` where the front isn't there, `Nom` with `Tag` where it is of another type,
+    /// `WrongSize` where the body has another size; else the visitor's.
     pub fn deserialize_rectangle<V: Visitor<'de>>(
         self,
         visitor: V,
@@ -256,8 +256,8 @@ impl<'de> PodDeserializer<'de> {
 
     /// Hands a numerator and a denominator to the visitor.
     ///
-    /// Refusals: `Nom` with `Short` where the front isn't there, `Nom` with `Tag` where it is of another type, `WrongSize` where the body has another size; else the
-    /// visitor's.
+    /// Refusals: `Nom` with `Short` where the front isn't there, `Nom` with `Tag` where it is of another type,
+    /// `WrongSize` where the body has another size; else the visitor's.
     pub fn deserialize_fraction<V: Visitor<'de>>(
         self,
         visitor: V,
@@ -270,8 +270,8 @@ impl<'de> PodDeserializer<'de> {
 
     /// Hands an id to the visitor.
     ///
-    /// Refusals: `Nom` with `Short` where the front isn't there, `Nom` with `Tag` where it is of another type, `WrongSize` where the body has another size; else the
-    /// visitor's.
+    /// Refusals: `Nom` with `Short` where the front isn't there, `Nom` with `Tag` where it is of another type,
+    /// `WrongSize` where the body has another size; else the visitor's.
     pub fn deserialize_id<V: Visitor<'de>>(
         self,
         visitor: V,
@@ -284,8 +284,8 @@ impl<'de> PodDeserializer<'de> {
 
     /// Hands a file descriptor's index to the visitor.
     ///
-    /// Refusals: `Nom` with `Short` where the front isn't there, `Nom` with `Tag` where it is of another type, `WrongSize` where the body has another size; else the
-    /// visitor's.
+    /// Refusals: `Nom` with `Short` where the front isn't there, `Nom` with `Tag` where it is of another type,
+    /// `WrongSize` where the body has another size; else the visitor's.
     pub fn deserialize_fd<V: Visitor<'de>>(
         self,
         visitor: V,
@@ -298,8 +298,8 @@ impl<'de> PodDeserializer<'de> {
 
     /// Hands a type number and an address to the visitor.
     ///
-    /// Refusals: `Nom` with `Short` where the front isn't there, `Nom` with `Tag` where it is of another type, `WrongSize` where the body has neither 12 nor 16 bytes; else the
-    /// visitor's.
+    /// Refusals: `Nom` with `Short` where the front isn't there, `Nom` with `Tag` where it is of another type,
+    /// `WrongSize` where the body has neither 12 nor 16 bytes; else the visitor's.
     pub fn deserialize_pointer<V: Visitor<'de>>(
         self,
         visitor: V,
@@ -312,8 +312,9 @@ impl<'de> PodDeserializer<'de> {
 
     /// Hands a choice over any of the nine types of fixed size that have bytes to the visitor.
     ///
-    /// Refusals: `Nom` with `Short` where the front isn't there, `Nom` with `Tag` where it is of another type, `WrongSize`, `InvalidType` of the values, `InvalidChoiceType`, `MissingChoiceValues` and `OutOfMemory`; else the
-    /// visitor's.
+    /// Refusals: `Nom` with `Short` where the front isn't there, `Nom` with `Tag` where it is of another type;
+    /// `WrongSize`, `InvalidChoiceType` and `MissingChoiceValues` as its body has them, `InvalidType` where its values
+    /// are of another type than these nine; `OutOfMemory`; else the visitor's.
     pub fn deserialize_choice<V: Visitor<'de>>(
         self,
         visitor: V,

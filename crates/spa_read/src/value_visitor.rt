@@ -10,7 +10,7 @@ use crate::members::StructPodDeserializer;
 use crate::properties::ObjectPodDeserializer;
 use crate::visitor::{Never, Visit, Visitor};
 use spa_fixed::DeserializeError;
-use spa_value::{Object, Property, Value};
+use spa_value::{Object, Property, Value, discard};
 use std::alloc::Global;
 
 /// Makes a value of what it is handed, and of a struct's members and an object's properties. It declines the elements of an
@@ -71,15 +71,12 @@ impl<'de> Visitor<'de> for ValueVisitor {
         reader: &mut ObjectPodDeserializer<'de>,
     ) -> Result<Value, DeserializeError<&'de [u8]>> {
         let properties = read_properties(self.alloc, reader)?;
-        Ok(Value::Object(Object {
-            type_: reader.type_(),
-            id: reader.id(),
-            properties,
-        }))
+        Ok(object_of(reader, properties))
     }
 }
 
-/// The values of all members that are left.
+/// The values of all members that are left. Where one is refused, those before it are taken apart by a loop: they may be nested
+/// deep.
 fn read_members<'de>(
     alloc: Global,
     reader: &mut StructPodDeserializer<'de>,
@@ -89,16 +86,25 @@ fn read_members<'de>(
 {
     let mut members = Vec::new(alloc);
     loop {
-        let Some(member) = reader.deserialize_field::<Value>()? else {
-            return Ok(members);
-        };
-        if members.push(member).is_err() {
-            return Err(DeserializeError::OutOfMemory);
+        match reader.deserialize_field::<Value>() {
+            Ok(Some(member)) => {
+                if members.reserve(1).is_err() {
+                    discard(member);
+                    discard(Value::Struct(members));
+                    return Err(DeserializeError::OutOfMemory);
+                }
+                members.push_reserved(member);
+            }
+            Ok(None) => return Ok(members),
+            Err(why) => {
+                discard(Value::Struct(members));
+                return Err(why);
+            }
         }
     }
 }
 
-/// All properties that are left.
+/// All properties that are left. Where one is refused, those before it are taken apart by a loop.
 fn read_properties<'de>(
     alloc: Global,
     reader: &mut ObjectPodDeserializer<'de>,
@@ -109,11 +115,31 @@ fn read_properties<'de>(
 {
     let mut properties = Vec::new(alloc);
     loop {
-        let Some((value, key, flags)) = reader.deserialize_property::<Value>()? else {
-            return Ok(properties);
-        };
-        if properties.push(Property { key, flags, value }).is_err() {
-            return Err(DeserializeError::OutOfMemory);
+        match reader.deserialize_property::<Value>() {
+            Ok(Some((value, key, flags))) => {
+                if properties.reserve(1).is_err() {
+                    discard(value);
+                    discard(object_of(reader, properties));
+                    return Err(DeserializeError::OutOfMemory);
+                }
+                properties.push_reserved(Property { key, flags, value });
+            }
+            Ok(None) => return Ok(properties),
+            Err(why) => {
+                discard(object_of(reader, properties));
+                return Err(why);
+            }
         }
     }
+}
+
+/// The object of these properties.
+fn object_of(reader: &ObjectPodDeserializer, properties: Vec<Property>) -> Value
+    ensures { view result ≡ object reader.now.type reader.now.id (property_views properties.items) }
+{
+    Value::Object(Object {
+        type_: reader.type_(),
+        id: reader.id(),
+        properties,
+    })
 }

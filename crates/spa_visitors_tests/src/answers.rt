@@ -22,7 +22,7 @@ fn answer<'de, P: PodDeserialize<'de> + Debug>(
 }
 
 /// A read by one type, by its name.
-fn named(alloc: Global, name: &str, input: &[u8]) -> Result<String, AllocError> {
+pub(crate) fn named(alloc: Global, name: &str, input: &[u8]) -> Result<String, AllocError> {
     match name {
         "none" => answer::<()>(alloc, input),
         "bool" => answer::<bool>(alloc, input),

@@ -1,7 +1,8 @@
 //! Arrays, element by element.
-ghost use Rattle.std.specs.Prelude.{⊤};
+ghost use Rattle.std.specs.Prelude.{⊤, IfOk};
+ghost use Rattle.spa_read.specs.Members.{IsMadeOf, TakesElements};
 
-use spa_fixed::{DeserializeError, FixedSizedPod};
+use spa_fixed::{CanonicalFixedSizedPod, DeserializeError, FixedSizedPod};
 use spa_read::{ArrayPodDeserializer, DeserializeSuccess, PodDeserialize, PodDeserializer};
 use spa_spelling::bytes_of;
 use std::alloc::Global;
@@ -103,5 +104,105 @@ fn elements_are_read_one_by_one(rt: HostRuntime) -> Result<(), Fail> {
     assert!(rt; is_refused::<Early>(rt.alloc(), bytes, "UnreadMembers"));
     let units = bytes_of(rt.alloc(), &[8, 13, 0, 1])?;
     assert!(rt; is_refused::<Levels>(rt.alloc(), units.as_slice(), "Tag"));
+    Ok(())
+}
+
+/// A mark, which says nothing.
+#[derive(Drop)]
+struct Mark;
+
+impl FixedSizedPod for Mark {
+    type CanonicalType = ();
+
+    ghost to_canonical = { λ _. tt };
+
+    ghost of_canonical = { λ _. record {} };
+
+    fn as_canonical_type(&self) {}
+
+    fn from_canonical_type(_canonical: &()) -> Mark {
+        Mark
+    }
+}
+
+/// All elements of an array.
+#[derive(Drop)]
+struct List<E>(Vec<E>);
+
+/// So many elements.
+fn taken<'de, E: FixedSizedPod + Drop>(
+    reader: &mut ArrayPodDeserializer<'de, E>,
+    count: u32,
+) -> Result<Vec<E>, DeserializeError<&'de [u8]>>
+    ensures { IfOk result (λ elements. TakesElements E.CanonicalType.kind E.CanonicalType.fixed E.of_canonical reader.old elements.items reader.new) }
+{
+    let mut elements = Vec::new(reader.allocator());
+    for _ in 0..count {
+        let element = reader.deserialize_element()?;
+        if elements.reserve(1).is_err() {
+            return Err(DeserializeError::OutOfMemory);
+        }
+        elements.push_reserved(element);
+    }
+    Ok(elements)
+}
+
+impl<'de, E: FixedSizedPod + Drop> PodDeserialize<'de> for List<E> {
+    ghost reads = { λ value it. IsMadeOf E.CanonicalType.kind E.CanonicalType.fixed E.of_canonical it.0.items value };
+
+    fn deserialize(
+        deserializer: PodDeserializer<'de>,
+    ) -> Result<(List<E>, DeserializeSuccess<'de>), DeserializeError<&'de [u8]>> {
+        let (mut reader, count) = deserializer.new_array_deserializer::<E>()?;
+        let elements = taken(&mut reader, count)?;
+        let success = reader.end()?;
+        Ok((List(elements), success))
+    }
+}
+
+/// A mark, of an array of them.
+#[derive(Drop)]
+struct First;
+
+impl<'de> PodDeserialize<'de> for First {
+    ghost reads = { λ _ _. ⊤ };
+
+    fn deserialize(
+        deserializer: PodDeserializer<'de>,
+    ) -> Result<(First, DeserializeSuccess<'de>), DeserializeError<&'de [u8]>> {
+        let (mut reader, _) = deserializer.new_array_deserializer::<Mark>()?;
+        match reader.deserialize_element() {
+            Ok(_) => Err(DeserializeError::UnsupportedType),
+            Err(e) => Err(e),
+        }
+    }
+}
+
+/// The steps of each level.
+fn steps(alloc: Global, input: &[u8]) -> Result<Vec<i32>, DeserializeError<&[u8]>> {
+    let (_, list): (&[u8], List<Level>) = PodDeserializer::deserialize_from(alloc, input)?;
+    let steps: Vec<i32> = list.0.iter().map(|level| level.steps).collect(alloc)?;
+    Ok(steps)
+}
+
+/// How many marks are read of an array of them.
+fn marks(alloc: Global, input: &[u8]) -> Option<usize> {
+    let read: Result<(&[u8], List<Mark>), DeserializeError<&[u8]>> =
+        PodDeserializer::deserialize_from(alloc, input);
+    match read {
+        Ok((_, list)) => Some(list.0.len()),
+        Err(_) => None,
+    }
+}
+
+#[test]
+fn all_elements_are_read(rt: HostRuntime) -> Result<(), Fail> {
+    let input = bytes_of(rt.alloc(), &[20, 13, 4, 4, 10, 15, 19, 0])?;
+    let found = steps(rt.alloc(), input.as_slice())?;
+    assert_eq!(rt; found.as_slice(), [10, 15, 19].as_slice());
+    // Three marks, as they are written: they have no bytes.
+    let input = bytes_of(rt.alloc(), &[8, 13, 0, 1])?;
+    assert_eq!(rt; marks(rt.alloc(), input.as_slice()), Some(0));
+    assert!(rt; is_refused::<First>(rt.alloc(), input.as_slice(), "NoElementLeft"));
     Ok(())
 }

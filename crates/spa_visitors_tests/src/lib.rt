@@ -4,10 +4,14 @@
 #[cfg(test)]
 mod answers;
 #[cfg(test)]
+mod built;
+#[cfg(test)]
 mod elements;
 #[cfg(test)]
 mod objects;
 #[cfg(test)]
 mod structs;
+#[cfg(test)]
+mod telling;
 #[cfg(test)]
 mod visitors;

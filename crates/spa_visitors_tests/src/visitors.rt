@@ -2,13 +2,16 @@
 ghost use Rattle.std.specs.Prelude.{⊤, ◌≡◌, IfOk};
 ghost use Rattle.spa_read.specs.Reading.{IsRead};
 
+use crate::telling::TellingVisitor;
 use spa_fixed::DeserializeError;
 use spa_read::{DeserializeSuccess, PodDeserialize, PodDeserializer, ValueVisitor};
 use spa_spelling::bytes_of;
 use spa_visitors::{
-    BitmapVisitor, BoolVisitor, BytesVisitor, ChoiceIntVisitor, ChoiceLongVisitor, DoubleVisitor,
-    FdVisitor, FloatVisitor, FractionVisitor, IdVisitor, IntVisitor, LongVisitor, NoneVisitor,
-    PointerVisitor, RectangleVisitor, StringVisitor, VecVisitor,
+    BitmapVisitor, BoolVisitor, BytesVisitor, ChoiceBoolVisitor, ChoiceDoubleVisitor,
+    ChoiceFdVisitor, ChoiceFloatVisitor, ChoiceFractionVisitor, ChoiceIdVisitor, ChoiceIntVisitor,
+    ChoiceLongVisitor, ChoiceRectangleVisitor, DoubleVisitor, FdVisitor, FloatVisitor,
+    FractionVisitor, IdVisitor, IntVisitor, LongVisitor, NoneVisitor, PointerVisitor,
+    RectangleVisitor, StringVisitor, VecVisitor,
 };
 use std::alloc::{AllocError, Global};
 use std::fmt::Debug;
@@ -32,9 +35,9 @@ fn told<'de, T: Debug + Drop, const CALL: u8>(
     }
 }
 
-/// The calls for types of fixed size.
+/// The calls for lone numbers but floats.
 #[tactic(auto, using(spa_read::proofs::Stepping::visited_any, spa_read::proofs::Stepping::read_any))]
-fn fixed_call<'de, const CALL: u8>(
+fn number_call<'de, const CALL: u8>(
     alloc: Global,
     deserializer: PodDeserializer<'de>,
 ) -> Result<(Answer<CALL>, DeserializeSuccess<'de>), DeserializeError<&'de [u8]>>
@@ -61,6 +64,19 @@ fn fixed_call<'de, const CALL: u8>(
             let (made, success) = deserializer.deserialize_long(LongVisitor)?;
             told(alloc, made, success)
         }
+        _ => pair_call::<CALL>(alloc, deserializer),
+    }
+}
+
+/// The calls for floats, pairs of numbers and file descriptors.
+#[tactic(auto, using(spa_read::proofs::Stepping::visited_any, spa_read::proofs::Stepping::read_any))]
+fn pair_call<'de, const CALL: u8>(
+    alloc: Global,
+    deserializer: PodDeserializer<'de>,
+) -> Result<(Answer<CALL>, DeserializeSuccess<'de>), DeserializeError<&'de [u8]>>
+    ensures { IfOk result (λ it. IsRead deserializer.entry it.1 (λ _. ⊤)) }
+{
+    match CALL {
         6 => {
             let (made, success) = deserializer.deserialize_float(FloatVisitor)?;
             told(alloc, made, success)
@@ -122,7 +138,7 @@ fn plain_call<'de, const CALL: u8>(
     }
 }
 
-/// The calls with the visitor that makes values, and with a visitor of something else.
+/// The calls with the visitor that makes values, with a visitor of something else, and with one that tells what is read.
 #[tactic(auto, using(spa_read::proofs::Stepping::visited_any, spa_read::proofs::Stepping::read_any))]
 fn value_call<'de, const CALL: u8>(
     alloc: Global,
@@ -147,8 +163,70 @@ fn value_call<'de, const CALL: u8>(
             let (made, success) = deserializer.deserialize_int(BoolVisitor)?;
             told(alloc, made, success)
         }
-        _ => {
+        22 => {
+            let (made, success) = deserializer.deserialize_struct(TellingVisitor)?;
+            told(alloc, made, success)
+        }
+        23 => {
+            let (made, success) = deserializer.deserialize_object(TellingVisitor)?;
+            told(alloc, made, success)
+        }
+        _ => choice_call::<CALL>(alloc, deserializer),
+    }
+}
+
+/// The calls with visitors of choices: 40 and the type of the values.
+#[tactic(auto, using(spa_read::proofs::Stepping::visited_any, spa_read::proofs::Stepping::read_any))]
+fn choice_call<'de, const CALL: u8>(
+    alloc: Global,
+    deserializer: PodDeserializer<'de>,
+) -> Result<(Answer<CALL>, DeserializeSuccess<'de>), DeserializeError<&'de [u8]>>
+    ensures { IfOk result (λ it. IsRead deserializer.entry it.1 (λ _. ⊤)) }
+{
+    match CALL {
+        42 => {
+            let (made, success) = deserializer.deserialize_choice(ChoiceBoolVisitor)?;
+            told(alloc, made, success)
+        }
+        43 => {
+            let (made, success) = deserializer.deserialize_choice(ChoiceIdVisitor)?;
+            told(alloc, made, success)
+        }
+        45 => {
             let (made, success) = deserializer.deserialize_choice(ChoiceLongVisitor)?;
+            told(alloc, made, success)
+        }
+        46 => {
+            let (made, success) = deserializer.deserialize_choice(ChoiceFloatVisitor)?;
+            told(alloc, made, success)
+        }
+        47 => {
+            let (made, success) = deserializer.deserialize_choice(ChoiceDoubleVisitor)?;
+            told(alloc, made, success)
+        }
+        _ => paired_call::<CALL>(alloc, deserializer),
+    }
+}
+
+/// The same for pairs of numbers and file descriptors.
+#[tactic(auto, using(spa_read::proofs::Stepping::visited_any, spa_read::proofs::Stepping::read_any))]
+fn paired_call<'de, const CALL: u8>(
+    alloc: Global,
+    deserializer: PodDeserializer<'de>,
+) -> Result<(Answer<CALL>, DeserializeSuccess<'de>), DeserializeError<&'de [u8]>>
+    ensures { IfOk result (λ it. IsRead deserializer.entry it.1 (λ _. ⊤)) }
+{
+    match CALL {
+        50 => {
+            let (made, success) = deserializer.deserialize_choice(ChoiceRectangleVisitor)?;
+            told(alloc, made, success)
+        }
+        51 => {
+            let (made, success) = deserializer.deserialize_choice(ChoiceFractionVisitor)?;
+            told(alloc, made, success)
+        }
+        _ => {
+            let (made, success) = deserializer.deserialize_choice(ChoiceFdVisitor)?;
             told(alloc, made, success)
         }
     }
@@ -161,7 +239,7 @@ impl<'de, const CALL: u8> PodDeserialize<'de> for Answer<CALL> {
         deserializer: PodDeserializer<'de>,
     ) -> Result<(Answer<CALL>, DeserializeSuccess<'de>), DeserializeError<&'de [u8]>> {
         let alloc = deserializer.allocator();
-        fixed_call::<CALL>(alloc, deserializer)
+        number_call::<CALL>(alloc, deserializer)
     }
 }
 
@@ -199,6 +277,15 @@ fn called(alloc: Global, call: u8, input: &[u8]) -> Result<String, AllocError> {
         20 => answered::<20>(alloc, input),
         21 => answered::<21>(alloc, input),
         22 => answered::<22>(alloc, input),
+        23 => answered::<23>(alloc, input),
+        42 => answered::<42>(alloc, input),
+        43 => answered::<43>(alloc, input),
+        45 => answered::<45>(alloc, input),
+        46 => answered::<46>(alloc, input),
+        47 => answered::<47>(alloc, input),
+        50 => answered::<50>(alloc, input),
+        51 => answered::<51>(alloc, input),
+        58 => answered::<58>(alloc, input),
         _ => String::from_str(alloc, "no such call"),
     }
 }
@@ -236,13 +323,67 @@ const ROWS: &[(u8, &[u32], &str)] = &[
         &[20, 19, 0, 5, 4, 4, 7, 0],
         "Choice(Int(Choice(ChoiceFlags(0), None(7))))",
     ),
+    (22, &[16, 14, 4, 4, 3, 0], "\"Some(3) None\""),
+    (
+        23,
+        &[32, 15, 5, 3, 1, 16, 4, 4, 3, 0],
+        "\"Some((3, 1, PropertyFlags(16))) None\"",
+    ),
+    (
+        42,
+        &[24, 19, 3, 0, 4, 2, 7, 0],
+        "Choice(ChoiceFlags(0), Enum { default: true, alternatives: [false] })",
+    ),
+    (
+        43,
+        &[24, 19, 4, 1, 4, 3, 1, 2],
+        "Choice(ChoiceFlags(1), Flags { default: Id(1), flags: [Id(2)] })",
+    ),
+    (
+        45,
+        &[24, 19, 0, 0, 8, 5, 5, 0],
+        "Choice(ChoiceFlags(0), None(5))",
+    ),
+    (
+        46,
+        &[20, 19, 0, 0, 4, 6, 5, 0],
+        "Choice(ChoiceFlags(0), None(Float32(5)))",
+    ),
+    (
+        47,
+        &[24, 19, 0, 0, 8, 7, 5, 0],
+        "Choice(ChoiceFlags(0), None(Float64(5)))",
+    ),
+    (
+        50,
+        &[24, 19, 0, 0, 8, 10, 31, 14],
+        "Choice(ChoiceFlags(0), None(Rectangle { width: 31, height: 14 }))",
+    ),
+    (
+        51,
+        &[24, 19, 0, 0, 8, 11, 31, 14],
+        "Choice(ChoiceFlags(0), None(Fraction { num: 31, denom: 14 }))",
+    ),
+    (
+        58,
+        &[24, 19, 0, 0, 8, 18, 9, 0],
+        "Choice(ChoiceFlags(0), None(Fd(9)))",
+    ),
+    // An object as PipeWire's C builder makes it.
+    (
+        15,
+        &[
+            56, 15, 262146, 2, 257, 0, 5, 8, 809138024, 0, 65538, 0, 4, 6, 1138491392, 0,
+        ],
+        "Object(Object { type_: 262146, id: 2, properties: [Property { key: 257, flags: PropertyFlags(0), value: String(\"hw:0\") }, Property { key: 65538, flags: PropertyFlags(0), value: Float(Float32(1138491392)) }] })",
+    ),
     // What another call, or another visitor, takes.
     (4, &[4, 3, 5, 0], "Tag"),
     (13, &[12, 13, 4, 3, 5, 0], "Tag"),
     (14, &[8, 15, 5, 3], "Tag"),
     (15, &[4, 15, 5, 0], "WrongSize"),
     (21, &[4, 4, 3, 0], "UnsupportedType"),
-    (22, &[20, 19, 0, 5, 4, 4, 7, 0], "UnsupportedType"),
+    (45, &[20, 19, 0, 5, 4, 4, 7, 0], "UnsupportedType"),
     (14, &[16, 14, 4, 4, 3], "Short"),
 ];
 
@@ -252,6 +393,38 @@ fn each_call_hands_over_what_it_reads(rt: HostRuntime) -> Result<(), Fail> {
         let input = bytes_of(rt.alloc(), words)?;
         let found = called(rt.alloc(), *call, input.as_slice())?;
         assert_eq!(rt; found.as_str(), *wanted, "call {call} at {words:?}");
+    }
+    Ok(())
+}
+
+/// How deep a value is nested: deeper than a stack holds that grows with each level.
+const DEPTH: u32 = 100_000;
+
+/// These words, structs nested so deep, and these words behind them.
+fn deep(alloc: Global, before: &[u32], behind: &[u32]) -> Result<Vec<u8>, AllocError> {
+    let mut input = bytes_of(alloc, before)?;
+    for level in 0..DEPTH {
+        let size = (DEPTH - 1 - level) * 8;
+        input.extend_from_slice(&size.to_le_bytes())?;
+        input.extend_from_slice(&14u32.to_le_bytes())?;
+    }
+    for word in behind {
+        input.extend_from_slice(&word.to_le_bytes())?;
+    }
+    Ok(input)
+}
+
+/// What was made of the values before a refused one is taken apart without a stack that grows with each level.
+#[test]
+fn depth_before_a_refused_value(rt: HostRuntime) -> Result<(), Fail> {
+    let rows: [(u8, &[u32], &[u32]); 2] = [
+        (14, &[800_008, 14], &[0, 21]),
+        (15, &[800_032, 15, 5, 3, 1, 0], &[2, 0, 0, 21]),
+    ];
+    for (call, before, behind) in rows {
+        let input = deep(rt.alloc(), before, behind)?;
+        let found = called(rt.alloc(), call, input.as_slice())?;
+        assert_eq!(rt; found.as_str(), "InvalidType");
     }
     Ok(())
 }

@@ -3,8 +3,8 @@ use Rattle.spa_value.specs.Views.{property_views}
 use Rattle.spa_read.proofs.Stepping.{TookIn}
 use Rattle.spa_read.proofs.value_visitor.read_properties.Given as goal
 
-abbrev pub invariant-loop-properties : goal.invariant-loop-properties
-invariant-loop-properties l = TookIn l.fn.reader l.reader (property_views l.properties.items)
+abbrev pub invariant-loop-value : goal.invariant-loop-value
+invariant-loop-value l = TookIn l.fn.reader l.reader (property_views l.properties.items)
 
-abbrev pub decreases-loop-properties : goal.decreases-loop-properties
-decreases-loop-properties l = length l.reader.reader.left
+abbrev pub decreases-loop-value : goal.decreases-loop-value
+decreases-loop-value l = length l.reader.reader.left

@@ -1,0 +1,50 @@
+//! A visitor that tells what the readers of members and of properties answer.
+ghost use Rattle.std.specs.Prelude.{⊤, IfErr, IfOk};
+
+use spa_fixed::DeserializeError;
+use spa_read::{Never, ObjectPodDeserializer, StructPodDeserializer, Visit, Visitor};
+
+/// Reads two members or two properties, and tells what was answered. The text is in memory that the reader names.
+#[derive(Drop)]
+pub(crate) struct TellingVisitor;
+
+impl<'de> Visitor<'de> for TellingVisitor {
+    type Value = String;
+
+    type ArrayElem = Never;
+
+    ghost visits = { λ _ _ _. ⊤ };
+
+    ghost visits_struct = { λ _ _ _. ⊤ };
+
+    ghost visits_object = { λ _ _ _ _ _. ⊤ };
+
+    fn visit(&self, _given: Visit<'de, Never>) -> Result<String, DeserializeError<&'de [u8]>>
+        ensures made { IfOk result (λ it. ⊤) }
+        ensures declined { IfErr result (λ e. ⊤) }
+    {
+        Err(DeserializeError::UnsupportedType)
+    }
+
+    #[tactic(auto, using(spa_read::proofs::Stepping::further_trans, spa_read::proofs::Stepping::all_left))]
+    fn visit_struct(
+        &self,
+        reader: &mut StructPodDeserializer<'de>,
+    ) -> Result<String, DeserializeError<&'de [u8]>> {
+        let first = reader.deserialize_field::<i32>()?;
+        let second = reader.deserialize_field::<i32>()?;
+        let text = format!(in reader.allocator(); "{first:?} {second:?}")?;
+        Ok(text)
+    }
+
+    #[tactic(auto, using(spa_read::proofs::Stepping::further_in_trans, spa_read::proofs::Stepping::all_left_in))]
+    fn visit_object(
+        &self,
+        reader: &mut ObjectPodDeserializer<'de>,
+    ) -> Result<String, DeserializeError<&'de [u8]>> {
+        let first = reader.deserialize_property::<i32>()?;
+        let second = reader.deserialize_property::<i32>()?;
+        let text = format!(in reader.allocator(); "{first:?} {second:?}")?;
+        Ok(text)
+    }
+}

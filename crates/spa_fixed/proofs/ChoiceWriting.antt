@@ -103,3 +103,16 @@ choice_put k e f xs ys pod choice child bodies start n shape flags s t own read 
     et =
     choice_encoding k (map e xs) (map f ys) pod choice child bodies start n shape flags s t
     (length xs * read) st (ap (λ m. take (length xs * m) bodies) r ∙ b) p c h en es et
+
+-- how long the body is of a choice that holds these values
+pub length-choice : {T : Type 0} (shape flags : ℕ) (k : Kind) (f : T → Fixed) (s : ℕ) (vs : List T) →
+    ((v : T) → kind_of (f v) ≡ k) → s ≡ body_size k →
+    length (choice_body shape flags k (map f vs)) ≡ 16 + length vs * s
+length-choice shape flags k f s vs t z =
+    let l0 = length-append (word_bytes shape) (word_bytes flags ++ array_body k (map f vs)) in
+    let l1 = length-append (word_bytes flags) (array_body k (map f vs)) in
+    let l2 = length-word_bytes shape in
+    let l3 = length-word_bytes flags in
+    let l4 = array_length k (map f vs) in
+    let l5 = bodies_length k f s vs t z in
+    omega arith

@@ -10,9 +10,9 @@ use Rattle.spa_format.specs.Typed.{IsTypedFixed, AreOf}
 use Rattle.spa_format.proofs.FixedKinds.{length-fixed_body}
 use Rattle.spa_format.proofs.Elements.{fixed_bodies-append}
 use Rattle.spa_sink.specs.declared.gen_error.GenError.{GenError}
-use Rattle.spa_sink.specs.Writing.{Sent, none_sent, some_sent}
+use Rattle.spa_sink.specs.Writing.{Begun, Sent, none_sent, some_sent}
 use Rattle.spa_sink.proofs.Sending.{AppendsMore, RefusesAfter, RefusesLonger, sent_before}
-use Rattle.spa_sink.proofs.Sending.{refused_behind}
+use Rattle.spa_sink.proofs.Sending.{begun_as, begun_behind, begun_by, begun_first, refused_behind}
 
 -- the first values stand in the block
 pub record IsFilled {T : Type 0} (k : Kind) (f : T → Fixed) (s at i : ℕ) (block : List ℕ)
@@ -125,6 +125,26 @@ sent_refused after longer k f old mid new vs left chunk n bytes e h c b r =
     let e3 = ap length b in
     longer old new (length first + length bytes) (length (fixed_bodies (map f vs))) e (omega arith)
     (refused_behind after old mid new first (length bytes) e h.sent r)
+
+-- a beginning of one block, behind those before it
+pub sent_begun : {S : Type 0} {T : Type 0} {appends : S → List ℕ → S → Type 0}
+    (law : AppendsMore appends) (k : Kind) (f : T → Fixed) (old mid new : S)
+    (vs left chunk : List T) (n count : ℕ) (bytes : List ℕ) →
+    IsSent appends k f old mid vs left → chunk ≡ take n left → bytes ≡ fixed_bodies (map f chunk) →
+    appends mid (take count bytes) new → Begun appends old (fixed_bodies (map f vs)) new
+sent_begun law k f old mid new vs left chunk n count bytes h c b p =
+    let first = fixed_bodies (map f h.first) in
+    let rest = fixed_bodies (map f (drop n left)) in
+    let whole : left ≡ chunk ++ drop n left =
+    sym (take-append-drop n left) ∙ ap (λ x. x ++ drop n left) (sym c) in
+    let all =
+    ap (λ x. fixed_bodies (map f x)) (h.parts ∙ ap (λ x. h.first ++ x) whole)
+    ∙ bodies_of_parts f h.first (chunk ++ drop n left)
+    ∙ ap (λ x. first ++ x) (bodies_of_parts f chunk (drop n left))
+    ∙ ap (λ x. first ++ (x ++ rest)) (sym b) in
+    begun_as old new (first ++ (bytes ++ rest)) (fixed_bodies (map f vs)) (sym all)
+    (begun_behind law old mid new first (bytes ++ rest) h.sent
+    (begun_first mid new bytes rest (begun_by mid new count bytes p)))
 
 -- a value of a kind without bytes is typed
 units_typed : (x : Fixed) → body_size (kind_of x) ≡ 0 → IsTypedFixed x

@@ -1,10 +1,10 @@
 //! Arrays: their bodies read, and their pods written.
-ghost use Rattle.std.specs.Prelude.{◌≡◌, ◌+◌, ◌*◌, ◌<◌, ◌≤◌, IfErr, IfNone, IfOk, IfSome, OnOk, OnSome, drop, length, map, take};
+ghost use Rattle.std.specs.Prelude.{◌≡◌, ◌+◌, ◌*◌, ◌<◌, ◌≤◌, IfErr, IfNone, IfOk, IfSome, OnErr, OnOk, OnSome, drop, length, map, take};
 ghost use Rattle.spa_fixed.specs.Reading.{AreWhole, RefusesArray};
 ghost use Rattle.spa_format.specs.Faults.{IsWrongArray};
 ghost use Rattle.spa_format.specs.Kind.{IsFixedBody, body_size, content};
 ghost use Rattle.spa_format.specs.Pod.{AreElements, IsArray};
-ghost use Rattle.spa_sink.specs.Writing.{RefusesPiece};
+ghost use Rattle.spa_sink.specs.Writing.{Begun, RefusesPiece};
 ghost use Rattle.spa_format.specs.Encoding.{array_body, framed};
 ghost use Rattle.spa_format.specs.Tree.{array_type};
 ghost use Rattle.spa_format.specs.Typed.{AreOf};
@@ -106,7 +106,8 @@ pub fn read_array<T: CanonicalFixedSizedPod>(alloc: Global, body: &[u8]) -> Resu
 }
 
 /// Appends the pod of an array. It is refused with `TooLarge` where a size word would be 4294967296 or more, before a
-/// byte is appended, and else only where the sink refuses it. Of units only the child header is written.
+/// byte is appended, and else only where the sink refuses it, which has then taken a beginning of it. Of units only the
+/// child header is written.
 pub fn put_array<T: CanonicalFixedSizedPod, S: PodSink>(
     sink: &mut S,
     values: &[T],
@@ -114,6 +115,7 @@ pub fn put_array<T: CanonicalFixedSizedPod, S: PodSink>(
     ensures ok { OnOk result (S.appends sink.old (framed array_type (array_body T.kind (map T.fixed values.now))) sink.new) }
     ensures typed { OnOk result (AreOf T.kind (map T.fixed values.now)) }
     ensures fits { OnOk result (length (array_body T.kind (map T.fixed values.now)) < size_limit) }
+    ensures begun { OnErr result (Begun S.appends sink.old (framed array_type (array_body T.kind (map T.fixed values.now))) sink.new) }
     ensures refused { IfErr result (RefusesPiece ⊥ (size_limit ≤ length (array_body T.kind (map T.fixed values.now))) (λ e. S.refuses sink.old (length (framed array_type (array_body T.kind (map T.fixed values.now)))) sink.new e) sink.old sink.new) }
 {
     let Some(size) = body_len::<T>(HEADER_LEN, values.len()) else {

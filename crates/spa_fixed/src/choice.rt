@@ -1,11 +1,11 @@
 //! Choices: their bodies read, and their pods written.
-ghost use Rattle.std.specs.Prelude.{◌≡◌, ◌*◌, ◌<◌, ◌≤◌, ◌∷◌, ◌++◌, IfErr, IfOk, OnOk, drop, length, map, take};
+ghost use Rattle.std.specs.Prelude.{◌≡◌, ◌*◌, ◌<◌, ◌≤◌, ◌∷◌, ◌++◌, IfErr, IfOk, OnErr, OnOk, drop, length, map, take};
 ghost use Rattle.spa_fixed.specs.Choices.{choice_body, choice_tree};
 ghost use Rattle.spa_fixed.specs.Reading.{AreWhole, ReadsAs, RefusesChoice, RefusesValues};
 ghost use Rattle.spa_format.specs.Faults.{choice_header_size};
 ghost use Rattle.spa_format.specs.Kind.{IsFixedBody};
 ghost use Rattle.spa_format.specs.Pod.{AreElements, IsBody};
-ghost use Rattle.spa_sink.specs.Writing.{RefusesPiece};
+ghost use Rattle.spa_sink.specs.Writing.{Begun, RefusesPiece};
 ghost use Rattle.spa_format.specs.Encoding.{encoded_body, encoding_of, fixed_bodies, framed};
 ghost use Rattle.spa_format.specs.Tree.{choice_type, enum_choice, none_choice, range_choice, step_choice};
 ghost use Rattle.spa_format.specs.Typed.{AreOf, IsTyped};
@@ -203,6 +203,7 @@ fn put_values<T: CanonicalFixedSizedPod, S: PodSink>(
     ensures ok { OnOk result (S.appends sink.old (framed choice_type (choice_body shape flags T.kind (map (λ x. T.fixed x.now) first.now ++ map T.fixed more.now))) sink.new) }
     ensures typed { OnOk result ((flags < size_limit) × AreOf T.kind (map (λ x. T.fixed x.now) first.now ++ map T.fixed more.now)) }
     ensures fits { OnOk result (length (choice_body shape flags T.kind (map (λ x. T.fixed x.now) first.now ++ map T.fixed more.now)) < size_limit) }
+    ensures begun { OnErr result (Begun S.appends sink.old (framed choice_type (choice_body shape flags T.kind (map (λ x. T.fixed x.now) first.now ++ map T.fixed more.now))) sink.new) }
     ensures refused { IfErr result (RefusesPiece ⊥ (size_limit ≤ length (choice_body shape flags T.kind (map (λ x. T.fixed x.now) first.now ++ map T.fixed more.now))) (λ e. S.refuses sink.old (length (framed choice_type (choice_body shape flags T.kind (map (λ x. T.fixed x.now) first.now ++ map T.fixed more.now)))) sink.new e) sink.old sink.new) }
 {
     let first_len = first.len() * T::SIZE;
@@ -219,7 +220,8 @@ fn put_values<T: CanonicalFixedSizedPod, S: PodSink>(
 }
 
 /// Appends the pod of a choice, with its flags as it holds them. It is refused with `TooLarge` where a size word would be
-/// 4294967296 or more, before a byte is appended, and else only where the sink refuses it.
+/// 4294967296 or more, before a byte is appended, and else only where the sink refuses it, which has then taken a beginning
+/// of it.
 pub fn put_choice<T: ChoiceElement, S: PodSink>(
     sink: &mut S,
     choice: &Choice<T>,
@@ -227,6 +229,7 @@ pub fn put_choice<T: ChoiceElement, S: PodSink>(
     ensures ok { OnOk result (S.appends sink.old (encoding_of (choice_tree T.kind T.fixed choice.now)) sink.new) }
     ensures typed { OnOk result (IsTyped (choice_tree T.kind T.fixed choice.now)) }
     ensures fits { OnOk result (length (encoded_body (choice_tree T.kind T.fixed choice.now)) < size_limit) }
+    ensures begun { OnErr result (Begun S.appends sink.old (encoding_of (choice_tree T.kind T.fixed choice.now)) sink.new) }
     ensures refused { IfErr result (RefusesPiece ⊥ (size_limit ≤ length (encoded_body (choice_tree T.kind T.fixed choice.now))) (λ e. S.refuses sink.old (length (encoding_of (choice_tree T.kind T.fixed choice.now))) sink.new e) sink.old sink.new) }
 {
     let flags = choice.0.bits();

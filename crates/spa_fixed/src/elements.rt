@@ -1,6 +1,6 @@
 //! Elements on their way to a sink.
-ghost use Rattle.std.specs.Prelude.{◌≡◌, ◌+◌, ◌*◌, ◌<◌, ◌≤◌, ◌++◌, IfErr, IfNone, IfSome, OnOk, length, map, take};
-ghost use Rattle.spa_sink.specs.Writing.{Sent};
+ghost use Rattle.std.specs.Prelude.{◌≡◌, ◌+◌, ◌*◌, ◌<◌, ◌≤◌, ◌++◌, IfErr, IfNone, IfSome, OnErr, OnOk, length, map, take};
+ghost use Rattle.spa_sink.specs.Writing.{Begun, Sent};
 ghost use Rattle.spa_format.specs.Encoding.{fixed_bodies};
 ghost use Rattle.spa_format.specs.Typed.{AreOf};
 ghost use Rattle.spa_format.specs.Words.{padding, size_limit};
@@ -36,6 +36,7 @@ pub(crate) fn put_elements<T: CanonicalFixedSizedPod, S: PodSink>(
 ) -> Result<(), GenError>
     ensures ok { OnOk result (Sent S.appends sink.old (fixed_bodies (map T.fixed values.now)) sink.new) }
     ensures typed { OnOk result (AreOf T.kind (map T.fixed values.now)) }
+    ensures begun { OnErr result (Begun S.appends sink.old (fixed_bodies (map T.fixed values.now)) sink.new) }
     ensures cause { IfErr result (λ e. S.refuses sink.old (length (fixed_bodies (map T.fixed values.now))) sink.new e) }
 {
     if T::SIZE == 0 {
@@ -70,6 +71,7 @@ pub(crate) fn put_parts<T: CanonicalFixedSizedPod, S: PodSink>(
 ) -> Result<(), GenError>
     ensures ok { OnOk result (S.appends sink.old (header.now ++ (fixed_bodies (map T.fixed values.now) ++ padding size)) sink.new) }
     ensures typed { OnOk result (AreOf T.kind (map T.fixed values.now)) }
+    ensures begun { OnErr result (Begun S.appends sink.old (header.now ++ (fixed_bodies (map T.fixed values.now) ++ padding size)) sink.new) }
     ensures cause { IfErr result (λ e. S.refuses sink.old (length (header.now ++ (fixed_bodies (map T.fixed values.now) ++ padding size))) sink.new e) }
 {
     sink.append(header)?;

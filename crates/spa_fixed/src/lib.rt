@@ -8,6 +8,7 @@ mod fault;
 mod fixed;
 mod fixed_sized;
 mod pod;
+mod sizes;
 
 pub use array::{next_element, open_array, put_array, read_array};
 pub use choice::{
@@ -17,3 +18,4 @@ pub use fault::{DeserializeError, Fault, FaultKind, Refusal};
 pub use fixed::{CanonicalFixedSizedPod, ChoiceElement};
 pub use fixed_sized::FixedSizedPod;
 pub use pod::{LONGEST_POD_LEN, pod_bytes, put_fixed};
+pub use sizes::{array_size, choice_size, fixed_len};

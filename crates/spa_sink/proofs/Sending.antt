@@ -1,12 +1,12 @@
 -- Steps of the writers: what follows from the laws of a sink.
-use Rattle.std.proofs.Common.{◌≡◌, ℕ, ◌+◌, ◌≤◌, List, ◌++◌, length, sym, ap, ◌∙◌, subst, arith}
-use Rattle.std.proofs.Common.{append_assoc, length-append}
+use Rattle.std.proofs.Common.{◌≡◌, ℕ, ◌+◌, ◌≤◌, List, [], ◌++◌, length, take, drop, refl, sym, ap, ◌∙◌, subst, arith}
+use Rattle.std.proofs.Common.{append_assoc, length-append, take-append-drop}
 use Rattle.std.proofs.lemmas.List.{append-nil}
 use Rattle.spa_sink.specs.declared.gen_error.GenError.{GenError}
 use Rattle.spa_sink.specs.declared.gen_error.GenError.TheVariants.{Full, TooLarge, NulInText}
 use Rattle.spa_sink.specs.declared.gen_error.GenError.TheVariants.{WrongCount, Failed, Io}
 use Rattle.spa_sink.specs.declared.gen_error.GenError.TheVariants.{OutOfMemory}
-use Rattle.spa_sink.specs.Writing.{Sent, none_sent, some_sent, RefusesWrite}
+use Rattle.spa_sink.specs.Writing.{Begun, Sent, none_sent, some_sent, RefusesWrite}
 
 -- The laws of a sink, as its trait has them.
 
@@ -37,6 +37,15 @@ sent_behind {appends = appends} law a b c xs ys p (none_sent n e) =
     subst (λ l. appends a l c) (sym (append-nil xs) ∙ ap (λ l. xs ++ l) (sym n))
     (subst (appends a xs) e p)
 sent_behind law a b c xs ys p (some_sent q) = law a b c xs ys p q
+
+-- one part and another
+pub sent_twice : {S : Type 0} {appends : S → List ℕ → S → Type 0} (law : AppendsMore appends)
+    (a b c : S) (xs ys : List ℕ) → Sent appends a xs b → Sent appends b ys c → Sent appends a (xs ++ ys) c
+sent_twice {S = S} {appends = appends} law a b c xs ys (none_sent n e) q =
+    let P : List ℕ → Type 0 = λ l. Sent appends a (l ++ ys) c in
+    let Q : S → Type 0 = λ s. Sent appends s ys c in
+    subst P (sym n) (subst Q (sym e) q)
+sent_twice law a b c xs ys (some_sent p) q = some_sent (sent_behind law a b c xs ys p q)
 
 pub refused_behind : {S : Type 0} {appends : S → List ℕ → S → Type 0}
     {refuses : S → ℕ → S → GenError → Type 0} (law : RefusesAfter appends refuses) (a b c : S)
@@ -100,3 +109,45 @@ pub refused_encoding : {S : Type 0} (refuses : S → ℕ → S → GenError → 
     (xs ys : List ℕ) (e : GenError) → xs ≡ ys → refuses a (length xs) b e →
     refuses a (length ys) b e
 refused_encoding refuses a b xs ys e p r = subst (λ l. refuses a (length l) b e) p r
+
+-- Beginnings.
+
+-- nothing was sent
+pub begun_none : {S : Type 0} {appends : S → List ℕ → S → Type 0} (a b : S) (xs : List ℕ) →
+    a ≡ b → Begun appends a xs b
+begun_none a b xs e = record { first = []; left = xs; parts = refl; sent = none_sent refl e }
+
+-- as many of the first bytes as a sink took
+pub begun_by : {S : Type 0} {appends : S → List ℕ → S → Type 0} (a b : S) (n : ℕ) (xs : List ℕ) →
+    appends a (take n xs) b → Begun appends a xs b
+begun_by a b n xs p =
+    record { first = take n xs; left = drop n xs; parts = sym (take-append-drop n xs); sent = some_sent p }
+
+-- a beginning of the first of two parts
+pub begun_first : {S : Type 0} {appends : S → List ℕ → S → Type 0} (a b : S) (xs ys : List ℕ) →
+    Begun appends a xs b → Begun appends a (xs ++ ys) b
+begun_first a b xs ys h =
+    record {
+      first = h.first;
+      left = h.left ++ ys;
+      parts = ap (λ l. l ++ ys) h.parts ∙ append_assoc h.first h.left ys;
+      sent = h.sent;
+    }
+
+-- the first of two parts, and a beginning of the second
+pub begun_behind : {S : Type 0} {appends : S → List ℕ → S → Type 0} (law : AppendsMore appends)
+    (a b c : S) (xs ys : List ℕ) → Sent appends a xs b → Begun appends b ys c → Begun appends a (xs ++ ys) c
+begun_behind law a b c xs ys p h =
+    record {
+      first = xs ++ h.first;
+      left = h.left;
+      parts = ap (λ l. xs ++ l) h.parts ∙ sym (append_assoc xs h.first h.left);
+      sent = sent_twice law a b c xs h.first p h.sent;
+    }
+
+-- the same bytes, written otherwise
+pub begun_as : {S : Type 0} {appends : S → List ℕ → S → Type 0} (a b : S) (xs ys : List ℕ) →
+    xs ≡ ys → Begun appends a xs b → Begun appends a ys b
+begun_as {appends = appends} a b xs ys e h =
+    let P : List ℕ → Type 0 = λ l. Begun appends a l b in
+    subst P e h

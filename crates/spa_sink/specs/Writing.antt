@@ -1,5 +1,5 @@
 -- What a refused write says: docs/FORMAT.md, "Values that can be written".
-use Rattle.std.specs.Prelude.{◌≡◌, ℕ, List, []}
+use Rattle.std.specs.Prelude.{◌≡◌, ℕ, List, [], ◌++◌}
 use Rattle.spa_sink.specs.declared.gen_error.GenError.{GenError}
 use Rattle.spa_sink.specs.declared.gen_error.GenError.TheVariants.{Full, TooLarge, NulInText, WrongCount, Failed, Io, OutOfMemory}
 
@@ -30,3 +30,10 @@ MayRefuse refuses old n e = (new : _) × refuses old n new e
 pub data Sent {S : Type 0} (appends : S → List ℕ → S → Type 0) (old : S) (bytes : List ℕ) (new : S) : Type 0 where
   none_sent : bytes ≡ [] → old ≡ new → Sent appends old bytes new
   some_sent : appends old bytes new → Sent appends old bytes new
+
+-- a beginning of these bytes was sent, and nothing else
+pub record Begun {S : Type 0} (appends : S → List ℕ → S → Type 0) (old : S) (bytes : List ℕ) (new : S) : Type 0 where
+  pub first : List ℕ
+  pub left : List ℕ
+  pub parts : bytes ≡ first ++ left
+  pub sent : Sent appends old first new

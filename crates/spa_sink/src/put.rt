@@ -37,6 +37,7 @@ pub fn put_two<S: PodSink>(sink: &mut S, first: u32, second: u32) -> Result<(), 
 /// Appends zeros up to a multiple of 8, behind a body of this size.
 pub fn put_padding<S: PodSink>(sink: &mut S, size: usize) -> Result<(), GenError>
     ensures ok { OnOk result (S.appends sink.old (padding size) sink.new) }
+    ensures begun { OnErr result ((count : ℕ) × S.appends sink.old (take count (padding size)) sink.new) }
     ensures cause { IfErr result (λ e. S.refuses sink.old (length (padding size)) sink.new e) }
 {
     let zeros = [0; HEADER_LEN];

@@ -52,18 +52,6 @@ begun_size {content = content} a b start type body s p =
     ∙ ap (begun_length (content a ++ ((word_bytes 0 ++ word_bytes type) ++ body))) s
     ∙ begun_body (content a) (word_bytes 0 ++ word_bytes type) body (two_words_length 0 type)
 
--- there is room for the header
-pub room_for_header : {S : Type 0} {content : S → List ℕ} {refuses : Refusing S} (a b : S)
-    (start type : ℕ) (body : List ℕ) → start ≡ length (content a) →
-    IsExtended content refuses a ((word_bytes 0 ++ word_bytes type) ++ body) b →
-    start + header_size ≤ length (content b)
-room_for_header {content = content} a b start type body s p =
-    let e0 =
-    ap length p.bytes ∙ length-append (content a) ((word_bytes 0 ++ word_bytes type) ++ body) in
-    let e1 = length-append (word_bytes 0 ++ word_bytes type) body in
-    let e2 = two_words_length 0 type in
-    omega arith
-
 -- a pod that was begun and closed
 pub closed_encoding : {S : Type 0} {content : S → List ℕ} {refuses : Refusing S} (a b c : S)
     (start type : ℕ) (body : List ℕ) → IsWholeSize (length body) → start ≡ length (content a) →
@@ -104,17 +92,6 @@ pub past_limit : {S : Type 0} (content : S → List ℕ) (refuses : Refusing S) 
 past_limit content refuses b start l a type body p =
     let size = begun_size a b start type body p.place p.inside in
     omega (arith, l, size)
-
--- the refusal of a part of a pod
-pub inside_refused : {S : Type 0} {content : S → List ℕ} {appends : Appending S} {refuses : Refusing S}
-    {nul nul' large large' : Type 0} → IsSink appends refuses → (nul → nul') → (large → large') →
-    (a b c : S) (before : List ℕ) (n type : ℕ) (body : List ℕ) (e : GenError) →
-    IsExtended content refuses a before b → length before + n ≤ header_size + length body →
-    RefusesWrite nul large (refuses b n c) e →
-    RefusesWrite nul' large' (refuses a (length (framed type body)) c) e
-inside_refused s f g a b c before n type body e p le r =
-    let w = body_within type body in
-    part_refused s f g a b c (length before) n (length (framed type body)) e p.room (omega arith) r
 
 -- the refusal of the header
 pub header_refused : {S : Type 0} {appends : Appending S} {refuses : Refusing S} →

@@ -1,7 +1,9 @@
 pub mod Refusals
-pub mod Extending
 pub mod Frames
-pub mod Structs
-pub mod Objects
+pub mod MemberLists
+pub mod PropertyLists
+pub mod Pieces
+pub mod Measuring
+pub mod Stopping
 pub mod OpenPods
 pub mod OpenArrays

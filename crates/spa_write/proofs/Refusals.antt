@@ -26,6 +26,23 @@ refused_through n n' l l' o o' f g h Failed r = h Failed r
 refused_through n n' l l' o o' f g h Io r = h Io r
 refused_through n n' l l' o o' f g h OutOfMemory r = h OutOfMemory r
 
+-- why a value can't be written, for other facts
+pub unwritable_through : {nul nul' large large' : Type 0} → (nul → nul') → (large → large') → (e : GenError) →
+    RefusesWrite nul large (λ _. ⊥) e → RefusesWrite nul' large' (λ _. ⊥) e
+unwritable_through {nul = nul} {nul' = nul'} {large = large} {large' = large'} f g e r =
+    record { cause = refused_through nul nul' large large' (λ _. ⊥) (λ _. ⊥) f g (λ d h. h) e r.cause }
+
+-- what can be written isn't refused
+pub never_unwritable : {nul large : Type 0} → ¬ nul → ¬ large → (e : GenError) →
+    RefusesWrite nul large (λ _. ⊥) e → ⊥
+never_unwritable f g Full r = r.cause
+never_unwritable f g TooLarge r = g r.cause
+never_unwritable f g NulInText r = f r.cause
+never_unwritable f g WrongCount r = r.cause
+never_unwritable f g Failed r = r.cause
+never_unwritable f g Io r = r.cause
+never_unwritable f g OutOfMemory r = r.cause
+
 -- a sink's refusal is of no text and of no size
 pub sink_refused : {S : Type 0} {appends : Appending S} {refuses : Refusing S} →
     IsSink appends refuses → (nul large : Type 0) (a c : S) (n : ℕ) (e : GenError) → refuses a n c e →

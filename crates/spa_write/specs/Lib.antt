@@ -1,3 +1,4 @@
 pub mod Written
 pub mod Success
+pub mod Measured
 pub mod Unfinished

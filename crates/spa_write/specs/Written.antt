@@ -42,50 +42,11 @@ pub record IsExtended {S : Type 0} (content : S → List ℕ) (refuses : Refusin
   pub room : (after : S) (n : ℕ) (e : GenError) → refuses new n after e → refuses old (length added + n)
       after e
 
--- an output got the encoding of this value, which can be written
-pub record IsWritten {S : Type 0} (content : S → List ℕ) (refuses : Refusing S)
-    (old : S) (v : Tree) (new : S) : Type 0 where
-  pub encoding : IsExtended content refuses old (encoding_of v) new
-  pub typed : IsTyped v
-  pub writable : IsWritable v
-
--- an output got the encodings of these values, one after another
-pub record AreWritten {S : Type 0} (content : S → List ℕ) (refuses : Refusing S)
-    (old : S) (vs : Trees) (new : S) : Type 0 where
-  pub encodings : IsExtended content refuses old (member_encodings vs) new
-  pub typed : AllTyped vs
-  pub no_nul : ¬ (SomeHasNul vs)
-  pub fits : ¬ (SomeTooLarge vs)
-
--- an output got these properties, one after another
-pub record ArePropertiesWritten {S : Type 0} (content : S → List ℕ) (refuses : Refusing S)
-    (old : S) (ps : Properties) (new : S) : Type 0 where
-  pub encodings : IsExtended content refuses old (property_encodings ps) new
-  pub typed : AllPropertiesTyped ps
-  pub no_nul : ¬ (SomeValueHasNul ps)
-  pub fits : ¬ (SomeValueTooLarge ps)
-
--- why the encoding of this value was refused: a text in it holds NUL, a size word is past 32 bits, or the sink refused
--- so many bytes and was left as the second
-abbrev pub RefusesEncoding : {S : Type 0} → Refusing S → S → Tree → S → GenError → Type 0
-RefusesEncoding refuses old v new =
-    RefusesWrite (HasNul v) (IsTooLarge v) (refuses old (length (encoding_of v)) new)
-
--- the same of a value without members: for a text or a size it is refused before a byte is appended
+-- why the encoding of this value was refused: a text in it holds NUL or a size word is past 32 bits, and no byte was appended,
+-- or the sink refused so many bytes and was left as the second
 abbrev pub RefusesLeaf : {S : Type 0} → Refusing S → S → Tree → S → GenError → Type 0
 RefusesLeaf refuses old v new =
     RefusesPiece (HasNul v) (IsTooLarge v) (refuses old (length (encoding_of v)) new) old new
-
--- the same of values, one after another
-abbrev pub RefusesEncodings : {S : Type 0} → Refusing S → S → Trees → S → GenError → Type 0
-RefusesEncodings refuses old vs new =
-    RefusesWrite (SomeHasNul vs) (SomeTooLarge vs) (refuses old (length (member_encodings vs)) new)
-
--- the same of properties, one after another
-abbrev pub RefusesProperties : {S : Type 0} → Refusing S → S → Properties → S → GenError → Type 0
-RefusesProperties refuses old ps new =
-    RefusesWrite (SomeValueHasNul ps) (SomeValueTooLarge ps)
-    (refuses old (length (property_encodings ps)) new)
 
 -- how long the body is of a pod that begins at this place and ends with the bytes
 abbrev pub begun_length : List ℕ → ℕ → ℕ

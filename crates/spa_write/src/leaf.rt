@@ -1,7 +1,7 @@
 //! Values without members.
-ghost use Rattle.std.specs.Prelude.{◌≡◌, ◌≤◌, IfErr, OnOk, length, map};
+ghost use Rattle.std.specs.Prelude.{◌≡◌, ◌≤◌, IfErr, OnErr, OnOk, length, map};
 ghost use Rattle.spa_fixed.specs.Choices.{choice_tree};
-ghost use Rattle.spa_sink.specs.Writing.{RefusesWrite};
+ghost use Rattle.spa_sink.specs.Writing.{Begun, RefusesWrite};
 ghost use Rattle.spa_format.specs.Encoding.{encoding_of};
 ghost use Rattle.spa_format.specs.Tree as tree;
 ghost use Rattle.spa_format.specs.Writable.{HasNul, IsTooLarge};
@@ -15,10 +15,11 @@ use spa_utils::Choice;
 use spa_value::{ChoiceValue, Value, ValueArray};
 
 /// Appends the encoding of a value that is neither a struct nor an object. Where it is refused as `NulInText` or
-/// `TooLarge`, nothing is appended.
+/// `TooLarge`, nothing is appended; where the sink refuses it, the sink has taken a beginning of it.
 pub fn put_leaf<S: PodSink>(sink: &mut S, value: &Value) -> Result<(), GenError>
     requires { IsLeaf (view value.now) }
     ensures put { OnOk result (IsPut S.appends sink.old (view value.now) sink.new) }
+    ensures begun { OnErr result (Begun S.appends sink.old (encoding_of (view value.now)) sink.new) }
     ensures refused { IfErr result (RefusesLeaf S.refuses sink.old (view value.now) sink.new) }
 {
     match value {
@@ -49,6 +50,7 @@ pub(crate) fn put_number<T: CanonicalFixedSizedPod, S: PodSink>(
     value: &T,
 ) -> Result<(), GenError>
     ensures put { OnOk result (IsPut S.appends sink.old (tree.fixed (T.fixed value.now)) sink.new) }
+    ensures begun { OnErr result (Begun S.appends sink.old (encoding_of (tree.fixed (T.fixed value.now))) sink.new) }
     ensures refused { IfErr result (RefusesLeaf S.refuses sink.old (tree.fixed (T.fixed value.now)) sink.new) }
 {
     put_fixed(sink, value)
@@ -60,6 +62,7 @@ pub(crate) fn put_elements<T: CanonicalFixedSizedPod, S: PodSink>(
     values: &[T],
 ) -> Result<(), GenError>
     ensures put { OnOk result (IsPut S.appends sink.old (tree.array T.kind (map T.fixed values.now)) sink.new) }
+    ensures begun { OnErr result (Begun S.appends sink.old (encoding_of (tree.array T.kind (map T.fixed values.now))) sink.new) }
     ensures refused { IfErr result (RefusesLeaf S.refuses sink.old (tree.array T.kind (map T.fixed values.now)) sink.new) }
 {
     put_array(sink, values)
@@ -71,6 +74,7 @@ pub(crate) fn put_alternatives<T: ChoiceElement, S: PodSink>(
     choice: &Choice<T>,
 ) -> Result<(), GenError>
     ensures put { OnOk result (IsPut S.appends sink.old (choice_tree T.kind T.fixed choice.now) sink.new) }
+    ensures begun { OnErr result (Begun S.appends sink.old (encoding_of (choice_tree T.kind T.fixed choice.now)) sink.new) }
     ensures refused { IfErr result (RefusesLeaf S.refuses sink.old (choice_tree T.kind T.fixed choice.now) sink.new) }
 {
     put_choice(sink, choice)
@@ -79,6 +83,7 @@ pub(crate) fn put_alternatives<T: ChoiceElement, S: PodSink>(
 /// Appends the pod of an array.
 fn put_value_array<S: PodSink>(sink: &mut S, array: &ValueArray) -> Result<(), GenError>
     ensures put { OnOk result (IsPut S.appends sink.old (array_view array.now) sink.new) }
+    ensures begun { OnErr result (Begun S.appends sink.old (encoding_of (array_view array.now)) sink.new) }
     ensures refused { IfErr result (RefusesLeaf S.refuses sink.old (array_view array.now) sink.new) }
 {
     match array {
@@ -98,6 +103,7 @@ fn put_value_array<S: PodSink>(sink: &mut S, array: &ValueArray) -> Result<(), G
 /// Appends the pod of a choice.
 fn put_choice_value<S: PodSink>(sink: &mut S, choice: &ChoiceValue) -> Result<(), GenError>
     ensures put { OnOk result (IsPut S.appends sink.old (choice_view choice.now) sink.new) }
+    ensures begun { OnErr result (Begun S.appends sink.old (encoding_of (choice_view choice.now)) sink.new) }
     ensures refused { IfErr result (RefusesLeaf S.refuses sink.old (choice_view choice.now) sink.new) }
 {
     match choice {

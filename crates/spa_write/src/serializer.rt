@@ -11,7 +11,7 @@ ghost use Rattle.spa_format.specs.Typed.{IsTyped};
 ghost use Rattle.spa_format.specs.Writable.{HasNul, IsTooLarge, IsWritable};
 ghost use Rattle.spa_value.specs.View.{view};
 
-use crate::value::write_value;
+use crate::sized::write_sized;
 use spa_format::laws::encodings_read_back;
 use spa_sink::{GenError, PodOutput};
 use spa_value::Value;
@@ -95,9 +95,7 @@ impl PodSerialize for Value {
         serializer: PodSerializer<O>,
     ) -> Result<SerializeSuccess<O>, GenError> {
         let PodSerializer { mut out } = serializer;
-        let start = out.len();
-        write_value(&mut out, self)?;
-        let len = (out.len() - start) as u64;
+        let len = write_sized(&mut out, self)?;
         Ok(SerializeSuccess { out, len })
     }
 }

@@ -1,10 +1,10 @@
 use Rattle.std.proofs.Common.{refl, ◌∙◌, ◌++◌, ◌<◌, ◌≤◌, length, map, subst}
-use Rattle.std.proofs.lemmas.Result.{IfErr-weaker, on_ok_weaker}
+use Rattle.std.proofs.lemmas.Result.{IfErr-weaker, on_err_weaker, on_ok_weaker}
 use Rattle.spa_format.specs.Words.{size_limit}
 use Rattle.spa_format.specs.Encoding.{framed}
 use Rattle.spa_format.specs.Tree.{choice_type}
 use Rattle.spa_fixed.specs.Choices.{choice_body}
-use Rattle.spa_sink.proofs.Sending.{by_sink, refused_encoding}
+use Rattle.spa_sink.proofs.Sending.{begun_as, begun_none, by_sink, refused_encoding}
 use Rattle.spa_fixed.proofs.ElementWriting.{AreOf-append}
 use Rattle.spa_fixed.proofs.ChoiceWriting.{choice_length, choice_put}
 use Rattle.spa_fixed.proofs.choice.put_values.Goals as goal
@@ -19,6 +19,30 @@ returns-in_default-clause-refused g c =
     c.SIZE.result c.args.first.now c.args.more.now (λ r. met.its_kind r.now) met.its_kind
     met.its_size c.SIZE.ensures in
     record { cause = (subst (λ n. size_limit ≤ n) counted c.in_default.ensures.none, refl) }
+
+pub returns-in_default-clause-begun : goal.returns-in_default-clause-begun
+returns-in_default-clause-begun g c = begun_none _ _ _ refl
+
+pub returns-clause-begun : goal.returns-clause-begun
+returns-clause-begun g c =
+    let met = g.met.T.CanonicalFixedSizedPod in
+    let size =
+    c.in-Some.ensures.some ∙ choice_length c.args.shape c.args.flags g.T.CanonicalFixedSizedPod.kind
+    (λ r. g.T.CanonicalFixedSizedPod.fixed r.now) g.T.CanonicalFixedSizedPod.fixed
+    g.T.CanonicalFixedSizedPod.SIZE
+    c.SIZE.result c.args.first.now c.args.more.now (λ r. met.its_kind r.now) met.its_kind
+    met.its_size c.SIZE.ensures in
+    let encoding =
+    choice_put g.T.CanonicalFixedSizedPod.kind (λ r. g.T.CanonicalFixedSizedPod.fixed r.now)
+    g.T.CanonicalFixedSizedPod.fixed c.args.first.now c.args.more.now c.two_words.result
+    c.two_words-2.result c.two_words-3.result c.first_bodies.result c.start_of-start.result
+    c.in-Some.size c.args.shape c.args.flags c.SIZE-2.result c.TYPE.result
+    g.T.CanonicalFixedSizedPod.SIZE c.SIZE.result
+    c.start_of-start.ensures c.first_bodies.ensures.bodies c.SIZE.ensures c.two_words.ensures
+    c.two_words-2.ensures c.two_words-3.ensures size (c.SIZE-2.ensures ∙ met.its_size)
+    (c.TYPE.ensures ∙ met.its_type) in
+    on_err_weaker c.put_parts.result (λ p. begun_as c.args.sink.now _ _ _ encoding p)
+    c.put_parts.ensures.begun
 
 pub returns-clause-ok : goal.returns-clause-ok
 returns-clause-ok g c =

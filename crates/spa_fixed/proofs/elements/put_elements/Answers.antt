@@ -1,6 +1,6 @@
 use Rattle.std.proofs.Common.{◌∙◌, ◌*◌, length, take, ap, sym}
 use Rattle.spa_bytes.proofs.Passing.{passed_on}
-use Rattle.spa_fixed.proofs.ElementWriting.{sent_more, sent_refused, units_are, units_unsent}
+use Rattle.spa_fixed.proofs.ElementWriting.{sent_begun, sent_more, sent_refused, units_are, units_unsent}
 use Rattle.spa_fixed.proofs.elements.put_elements.Goals as goal
 
 pub loop-left-preserved : goal.loop-left-preserved
@@ -12,6 +12,16 @@ loop-left-preserved g c =
     c.in_ok-append.ensures.ok
     (ap (λ n. take (length c.split_at.result.0.now * n) c.block_of.result)
     c.SIZE-in-loop-left.ensures ∙ c.block_of.ensures.bodies) c.block_of.ensures.typed
+
+pub returns-in_err-append-clause-begun : goal.returns-in_err-append-clause-begun
+returns-in_err-append-clause-begun g c =
+    passed_on _ _ (λ _. _) c.from_residual.ensures.1
+    (sent_begun g.met.S.PodSink.appends_more
+    g.T.CanonicalFixedSizedPod.kind g.T.CanonicalFixedSizedPod.fixed c.args.sink.now
+    c.loop-left.sink _ c.args.values.now c.loop-left.left.now c.split_at.result.0.now _ _ _
+    c.loop-left.invariant c.split_at.ensures.front
+    (ap (λ n. take (length c.split_at.result.0.now * n) c.block_of.result)
+    c.SIZE-in-loop-left.ensures ∙ c.block_of.ensures.bodies) c.in_err-append.ensures.begun.1)
 
 pub returns-in_err-append-clause-cause : goal.returns-in_err-append-clause-cause
 returns-in_err-append-clause-cause g c =

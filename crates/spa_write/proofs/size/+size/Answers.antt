@@ -1,0 +1,108 @@
+use Rattle.std.proofs.Common.{◌≡◌, ◌∙◌, ◌+◌, ap, sym, arith}
+use Rattle.spa_bytes.proofs.Passing.{passed_on}
+use Rattle.spa_format.specs.Tree.{struct, object}
+use Rattle.spa_value.specs.declared.object.Object.{out-Object}
+use Rattle.spa_value.specs.View.{view}
+use Rattle.spa_value.specs.Views.{views, property_views}
+use Rattle.spa_value.proofs.ViewLaws.{view-struct, view-fields}
+use Rattle.spa_write.proofs.MemberLists.{measured_next, measured_none, member_unwritable, members_too_long, struct_measured, struct_unwritable}
+use Rattle.spa_write.proofs.PropertyLists.{object_measured, object_too_long, object_unwritable, properties_measured_next, properties_measured_none, properties_too_long, property_unwritable}
+use Rattle.spa_write.proofs.size.+size.Goals as goal
+
+pub encoded_len-returns-in_err-members_len-in-Struct-clause-cause :
+    goal.encoded_len-returns-in_err-members_len-in-Struct-clause-cause
+encoded_len-returns-in_err-members_len-in-Struct-clause-cause t c =
+    let is =
+    ap view c.in-Struct.is ∙ view-struct c.in-Struct.members
+    ∙ ap (λ l. struct (views l)) (sym c.as_slice.ensures.value) in
+    passed_on _ _ _ c.from_residual.ensures.1
+    (struct_unwritable (view c.args.value.now) (views c.as_slice.result.now) is _ c.in_err-members_len-in-Struct.ensures.cause)
+
+pub encoded_len-returns-in_ok-members_len-in-Struct-clause-measured :
+    goal.encoded_len-returns-in_ok-members_len-in-Struct-clause-measured
+encoded_len-returns-in_ok-members_len-in-Struct-clause-measured t c =
+    let is =
+    ap view c.in-Struct.is ∙ view-struct c.in-Struct.members
+    ∙ ap (λ l. struct (views l)) (sym c.as_slice.ensures.value) in
+    struct_measured (view c.args.value.now) (views c.as_slice.result.now) _ is c.in_ok-members_len-in-Struct.ensures.measured
+
+pub encoded_len-returns-in_err-len-in-Object-clause-cause : goal.encoded_len-returns-in_err-len-in-Object-clause-cause
+encoded_len-returns-in_err-len-in-Object-clause-cause t c =
+    let o = out-Object c.in-Object.object in
+    let is =
+    ap view c.in-Object.is ∙ view-fields c.in-Object.object
+    ∙ ap (λ l. object o.type_ o.id (property_views l)) (sym c.as_slice-in-Object.ensures.value) in
+    passed_on _ _ _ c.from_residual-in_err-len-in-Object.ensures.1
+    (object_unwritable (view c.args.value.now) o.type_ o.id (property_views c.as_slice-in-Object.result.now) is _ c.in_err-len-in-Object.ensures.cause)
+
+pub encoded_len-returns-in_err-sum_of-in-Object-clause-cause : goal.encoded_len-returns-in_err-sum_of-in-Object-clause-cause
+encoded_len-returns-in_err-sum_of-in-Object-clause-cause t c =
+    let o = out-Object c.in-Object.object in
+    let is =
+    ap view c.in-Object.is ∙ view-fields c.in-Object.object
+    ∙ ap (λ l. object o.type_ o.id (property_views l)) (sym c.as_slice-in-Object.ensures.value) in
+    passed_on _ _ _ c.from_residual-in_err-sum_of-in-Object.ensures.1
+    (object_too_long (view c.args.value.now) o.type_ o.id (property_views c.as_slice-in-Object.result.now) c.in_ok-len-in-Object.len is
+    c.in_ok-len-in-Object.ensures.measured _ c.in_err-sum_of-in-Object.ensures.long)
+
+pub encoded_len-returns-in_ok-sum_of-in-Object-clause-measured : goal.encoded_len-returns-in_ok-sum_of-in-Object-clause-measured
+encoded_len-returns-in_ok-sum_of-in-Object-clause-measured t c =
+    let o = out-Object c.in-Object.object in
+    let is =
+    ap view c.in-Object.is ∙ view-fields c.in-Object.object
+    ∙ ap (λ l. object o.type_ o.id (property_views l)) (sym c.as_slice-in-Object.ensures.value) in
+    object_measured (view c.args.value.now) o.type_ o.id (property_views c.as_slice-in-Object.result.now) c.in_ok-len-in-Object.len _ is
+    c.in_ok-len-in-Object.ensures.measured c.in_ok-sum_of-in-Object.ensures.sum c.in_ok-sum_of-in-Object.ensures.short
+
+pub members_len-loop-member-init : goal.members_len-loop-member-init
+members_len-loop-member-init t c = measured_none
+
+pub members_len-loop-member-preserved : goal.members_len-loop-member-preserved
+members_len-loop-member-preserved t c =
+    measured_next c.args.members.now c.loop-member.member-index c.member-item.result c.loop-member.total c.in_ok-len.len _
+    c.loop-member-test.true c.member-item.is c.loop-member.invariant c.in_ok-len.ensures.measured
+    c.in_ok-total.ensures.sum c.in_ok-total.ensures.short
+
+pub members_len-returns-in_err-len-clause-cause : goal.members_len-returns-in_err-len-clause-cause
+members_len-returns-in_err-len-clause-cause t c =
+    passed_on _ _ _ c.from_residual.ensures.1
+    (member_unwritable c.args.members.now c.loop-member.member-index c.member-item.result c.loop-member-test.true c.member-item.is
+    _ c.in_err-len.ensures.cause)
+
+pub members_len-returns-in_err-total-clause-cause : goal.members_len-returns-in_err-total-clause-cause
+members_len-returns-in_err-total-clause-cause t c =
+    passed_on _ _ _ c.from_residual-in_err-total.ensures.1
+    (members_too_long c.args.members.now c.loop-member.member-index c.member-item.result c.loop-member.total c.in_ok-len.len
+    c.loop-member-test.true c.member-item.is c.loop-member.invariant c.in_ok-len.ensures.measured _ c.in_err-total.ensures.long)
+
+pub properties_len-loop-property-init : goal.properties_len-loop-property-init
+properties_len-loop-property-init t c = properties_measured_none
+
+pub properties_len-loop-property-preserved : goal.properties_len-loop-property-preserved
+properties_len-loop-property-preserved t c =
+    let keyed = c.in_ok-keyed.ensures.sum in
+    let sum = c.in_ok-total.ensures.sum in
+    properties_measured_next c.args.properties.now c.loop-property.property-index c.property-item.result c.loop-property.total
+    c.in_ok-len.len _ c.loop-property-test.true c.property-item.is c.loop-property.invariant c.in_ok-len.ensures.measured
+    (omega (arith, keyed, sum)) c.in_ok-total.ensures.short
+
+pub properties_len-returns-in_err-len-clause-cause : goal.properties_len-returns-in_err-len-clause-cause
+properties_len-returns-in_err-len-clause-cause t c =
+    passed_on _ _ _ c.from_residual.ensures.1
+    (property_unwritable c.args.properties.now c.loop-property.property-index c.property-item.result c.loop-property-test.true
+    c.property-item.is _ c.in_err-len.ensures.cause)
+
+pub properties_len-returns-in_err-keyed-clause-cause : goal.properties_len-returns-in_err-keyed-clause-cause
+properties_len-returns-in_err-keyed-clause-cause t c =
+    passed_on _ _ _ c.from_residual-in_err-keyed.ensures.1
+    (properties_too_long c.args.properties.now c.loop-property.property-index c.property-item.result c.loop-property.total
+    (c.loop-property.total + 8) c.loop-property-test.true c.property-item.is c.loop-property.invariant (omega arith) _ c.in_err-keyed.ensures.long)
+
+pub properties_len-returns-in_err-total-clause-cause : goal.properties_len-returns-in_err-total-clause-cause
+properties_len-returns-in_err-total-clause-cause t c =
+    let keyed = c.in_ok-keyed.ensures.sum in
+    let size = c.in_ok-len.ensures.measured.size in
+    passed_on _ _ _ c.from_residual-in_err-total.ensures.1
+    (properties_too_long c.args.properties.now c.loop-property.property-index c.property-item.result c.loop-property.total
+    (c.in_ok-keyed.keyed + c.in_ok-len.len) c.loop-property-test.true c.property-item.is c.loop-property.invariant
+    (omega (arith, keyed, size)) _ c.in_err-total.ensures.long)

@@ -1,0 +1,48 @@
+-- Values that are measured before they are written, and what a sink takes of them: docs/FORMAT.md, "The encoding of a value".
+use Rattle.std.specs.Prelude.{◌≡◌, ℕ, ◌<◌, List, length}
+use Rattle.spa_sink.specs.declared.gen_error.GenError.{GenError}
+use Rattle.spa_sink.specs.Writing.{Begun, Sent}
+use Rattle.spa_format.specs.Words.{size_limit}
+use Rattle.spa_format.specs.Tree.{Tree, struct, Trees, Properties}
+use Rattle.spa_format.specs.Encoding.{encoding_of, member_encodings, property_encodings}
+use Rattle.spa_format.specs.Typed.{AllTyped, AllPropertiesTyped}
+use Rattle.spa_format.specs.Writable.{IsWritable, SomeValueHasNul, SomeValueTooLarge}
+use Rattle.spa_write.specs.Written.{Appending, Refusing}
+
+-- the value can be written, and its encoding has so many bytes
+pub record IsMeasured (v : Tree) (n : ℕ) : Type 0 where
+  pub size : n ≡ length (encoding_of v)
+  pub writable : IsWritable v
+
+-- a struct of these values can be written, and their encodings have so many bytes
+pub record AreMeasured (vs : Trees) (n : ℕ) : Type 0 where
+  pub size : n ≡ length (member_encodings vs)
+  pub short : n < size_limit
+  pub writable : IsWritable (struct vs)
+
+-- each of these properties can be written, and all of them behind one another fit a pod
+pub record PropertiesAreWritable (ps : Properties) : Type 0 where
+  pub short : length (property_encodings ps) < size_limit
+  pub no_nul : ¬ (SomeValueHasNul ps)
+  pub fits : ¬ (SomeValueTooLarge ps)
+
+-- the same, and they have so many bytes
+pub record PropertiesAreMeasured (ps : Properties) (n : ℕ) : Type 0 where
+  pub size : n ≡ length (property_encodings ps)
+  pub writable : PropertiesAreWritable ps
+
+-- a sink took the encodings of these values, one after another
+pub record ArePut {S : Type 0} (appends : Appending S) (old : S) (vs : Trees) (new : S) : Type 0 where
+  pub encodings : Sent appends old (member_encodings vs) new
+  pub typed : AllTyped vs
+
+-- a sink took these properties, one after another
+pub record ArePropertiesPut {S : Type 0} (appends : Appending S) (old : S) (ps : Properties) (new : S) : Type 0 where
+  pub encodings : Sent appends old (property_encodings ps) new
+  pub typed : AllPropertiesTyped ps
+
+-- a sink refused these bytes, of which it took a beginning
+pub record Stops {S : Type 0} (appends : Appending S) (refuses : Refusing S)
+    (old : S) (bytes : List ℕ) (new : S) (e : GenError) : Type 0 where
+  pub begun : Begun appends old bytes new
+  pub cause : refuses old (length bytes) new e

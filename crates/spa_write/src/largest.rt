@@ -1,0 +1,110 @@
+//! Which of a struct's members, or of an object's properties, is the largest, without counting what is in it.
+use spa_value::{Property, Value};
+
+/// How many values are counted in each member at first.
+const FIRST_BUDGET: usize = 16;
+
+/// How often the number is doubled, at most.
+const MOST_ROUNDS: u32 = 48;
+
+/// The place of the member with the most values in it, or one that has more than half as many; some other place where no
+/// member is a struct or an object. Its size alone need not be computed.
+///
+/// Values are counted in each member up to a number that doubles until at most one member has more: so the largest is
+/// never counted, but as far as the second largest goes.
+pub(crate) fn largest_member(members: &[Value]) -> usize {
+    let mut budget = FIRST_BUDGET;
+    let mut largest = members.len();
+    for _ in 0..MOST_ROUNDS {
+        match members_beyond(members, budget) {
+            (0, _) => return largest,
+            (1, place) => return place,
+            (_, place) => largest = place,
+        }
+        budget = budget.saturating_mul(2);
+    }
+    largest
+}
+
+/// The same of the value of a property.
+pub(crate) fn largest_property(properties: &[Property]) -> usize {
+    let mut budget = FIRST_BUDGET;
+    let mut largest = properties.len();
+    for _ in 0..MOST_ROUNDS {
+        match properties_beyond(properties, budget) {
+            (0, _) => return largest,
+            (1, place) => return place,
+            (_, place) => largest = place,
+        }
+        budget = budget.saturating_mul(2);
+    }
+    largest
+}
+
+/// Whether no member, one, or more than one consist of more than so many values, and the place of the last one found.
+fn members_beyond(members: &[Value], budget: usize) -> (u8, usize) {
+    let mut found = 0;
+    let mut place = 0;
+    for (index, member) in members.iter().enumerate() {
+        if is_nested(member) && left_of(member, budget).is_none() {
+            place = index;
+            if found == 1 {
+                return (2, place);
+            }
+            found = 1;
+        }
+    }
+    (found, place)
+}
+
+/// The same of the values of properties.
+fn properties_beyond(properties: &[Property], budget: usize) -> (u8, usize) {
+    let mut found = 0;
+    let mut place = 0;
+    for (index, property) in properties.iter().enumerate() {
+        if is_nested(&property.value) && left_of(&property.value, budget).is_none() {
+            place = index;
+            if found == 1 {
+                return (2, place);
+            }
+            found = 1;
+        }
+    }
+    (found, place)
+}
+
+/// Is it a struct or an object?
+fn is_nested(value: &Value) -> bool {
+    matches!(value, Value::Struct(_) | Value::Object(_))
+}
+
+/// How much of this number is left by as many values as the value consists of. None: it consists of more.
+#[cycle(count)]
+fn left_of(value: &Value, number: usize) -> Option<usize> {
+    let left = number.checked_sub(1)?;
+    match value {
+        Value::Struct(members) => left_of_members(members.as_slice(), left),
+        Value::Object(object) => left_of_properties(object.properties.as_slice(), left),
+        _ => Some(left),
+    }
+}
+
+/// The same of values one after another.
+#[cycle(count)]
+fn left_of_members(members: &[Value], number: usize) -> Option<usize> {
+    let mut left = number;
+    for member in members {
+        left = left_of(member, left)?;
+    }
+    Some(left)
+}
+
+/// The same of properties one after another.
+#[cycle(count)]
+fn left_of_properties(properties: &[Property], number: usize) -> Option<usize> {
+    let mut left = number;
+    for property in properties {
+        left = left_of(&property.value, left)?;
+    }
+    Some(left)
+}

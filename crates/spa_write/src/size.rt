@@ -1,0 +1,223 @@
+//! How long encodings are, before a byte of them is written.
+ghost use Rattle.std.specs.Prelude.{◌≡◌, ◌+◌, ◌<◌, ◌≤◌, ◌⊎◌, IfErr, IfOk, length, map};
+ghost use Rattle.spa_fixed.specs.Choices.{choice_tree};
+ghost use Rattle.spa_sink.specs.Writing.{RefusesWrite};
+ghost use Rattle.spa_sink.specs.declared.gen_error.GenError.TheVariants.{TooLarge};
+ghost use Rattle.spa_format.specs.Encoding.{property_encodings};
+ghost use Rattle.spa_format.specs.Tree as tree;
+ghost use Rattle.spa_format.specs.Words.{extent, size_limit};
+ghost use Rattle.spa_format.specs.Writable.{HasNul, IsTooLarge, SomeValueHasNul, SomeValueTooLarge};
+ghost use Rattle.spa_value.specs.View.{array_view, choice_view, view};
+ghost use Rattle.spa_value.specs.Views.{property_views, views};
+ghost use Rattle.spa_write.specs.Measured.{AreMeasured, IsMeasured, PropertiesAreMeasured};
+ghost use Rattle.spa_write.specs.Written.{IsLeaf};
+
+use spa_bytes::{HEADER_LEN, POINTER_LEN, extent_of};
+use spa_fixed::{CanonicalFixedSizedPod, ChoiceElement, array_size, choice_size, fixed_len};
+use spa_sink::GenError;
+use spa_utils::Choice;
+use spa_value::{ChoiceValue, Property, Value, ValueArray};
+
+/// A size word can't count so many bytes.
+const SIZE_LIMIT: u64 = 1 << 32;
+
+/// How many bytes a value's encoding has. It is refused as `NulInText` where a text in it holds NUL, and as `TooLarge`
+/// where a size word would be 4294967296 or more.
+#[cycle(size)]
+pub(crate) fn encoded_len(value: &Value) -> Result<u64, GenError>
+    ensures measured { IfOk result (λ n. IsMeasured (view value.now) n) }
+    ensures cause { IfErr result (λ e. RefusesWrite (HasNul (view value.now)) (IsTooLarge (view value.now)) (λ _. ⊥) e) }
+{
+    match value {
+        Value::Struct(members) => Ok(HEADER_LEN as u64 + members_len(members.as_slice())?),
+        Value::Object(object) => {
+            let len = properties_len(object.properties.as_slice())?;
+            Ok(HEADER_LEN as u64 + sum_of(HEADER_LEN as u64, len)?)
+        }
+        leaf => leaf_len(leaf),
+    }
+}
+
+/// How many bytes the encodings of these values have, which are to be the members of one struct.
+#[cycle(size)]
+pub(crate) fn members_len(members: &[Value]) -> Result<u64, GenError>
+    ensures measured { IfOk result (λ n. AreMeasured (views members.now) n) }
+    ensures cause { IfErr result (λ e. RefusesWrite (HasNul (tree.struct (views members.now))) (IsTooLarge (tree.struct (views members.now))) (λ _. ⊥) e) }
+{
+    let mut total = 0;
+    for member in members {
+        let len = encoded_len(member)?;
+        total = sum_of(total, len)?;
+    }
+    Ok(total)
+}
+
+/// How many bytes these properties have, which are to be in one object.
+#[cycle(size)]
+pub(crate) fn properties_len(properties: &[Property]) -> Result<u64, GenError>
+    ensures measured { IfOk result (λ n. PropertiesAreMeasured (property_views properties.now) n) }
+    ensures cause { IfErr result (λ e. RefusesWrite (SomeValueHasNul (property_views properties.now)) ((size_limit ≤ length (property_encodings (property_views properties.now))) ⊎ SomeValueTooLarge (property_views properties.now)) (λ _. ⊥) e) }
+{
+    let mut total = 0;
+    for property in properties {
+        let len = encoded_len(&property.value)?;
+        let keyed = sum_of(total, HEADER_LEN as u64)?;
+        total = sum_of(keyed, len)?;
+    }
+    Ok(total)
+}
+
+/// The sum, where a size word can count so many bytes.
+fn sum_of(total: u64, more: u64) -> Result<u64, GenError>
+    ensures sum { IfOk result (λ sum. sum ≡ total + more) }
+    ensures short { IfOk result (λ sum. sum < size_limit) }
+    ensures long { IfErr result (λ e. (e ≡ TooLarge) × (size_limit ≤ total + more)) }
+{
+    match total.checked_add(more) {
+        Some(sum) if sum < SIZE_LIMIT => Ok(sum),
+        _ => Err(GenError::TooLarge),
+    }
+}
+
+/// The same of a value that is neither a struct nor an object.
+fn leaf_len(value: &Value) -> Result<u64, GenError>
+    requires { IsLeaf (view value.now) }
+    ensures measured { IfOk result (λ n. IsMeasured (view value.now) n) }
+    ensures cause { IfErr result (λ e. RefusesWrite (HasNul (view value.now)) (IsTooLarge (view value.now)) (λ _. ⊥) e) }
+{
+    match value {
+        Value::None => number_len(&()),
+        Value::Bool(value) => number_len(value),
+        Value::Id(id) => number_len(id),
+        Value::Int(number) => number_len(number),
+        Value::Long(number) => number_len(number),
+        Value::Float(bits) => number_len(bits),
+        Value::Double(bits) => number_len(bits),
+        Value::String(text) => text_len(text.as_str()),
+        Value::Bytes(bytes) => bytes_len(bytes.as_slice()),
+        Value::Bitmap(bytes) => bitmap_len(bytes.as_slice()),
+        Value::Rectangle(rectangle) => number_len(rectangle),
+        Value::Fraction(fraction) => number_len(fraction),
+        Value::Fd(fd) => number_len(fd),
+        Value::ValueArray(array) => array_len(array),
+        Value::Choice(choice) => choice_len(choice),
+        Value::Pointer(type_, address) => pointer_len(*type_, *address),
+        Value::Struct(_) => unreachable!(),
+        Value::Object(_) => unreachable!(),
+    }
+}
+
+/// The length of the pod of a value of fixed size.
+fn number_len<T: CanonicalFixedSizedPod>(value: &T) -> Result<u64, GenError>
+    ensures measured { IfOk result (λ n. IsMeasured (tree.fixed (T.fixed value.now)) n) }
+    ensures cause { IfErr result (λ e. RefusesWrite (HasNul (tree.fixed (T.fixed value.now))) (IsTooLarge (tree.fixed (T.fixed value.now))) (λ _. ⊥) e) }
+{
+    Ok(fixed_len(value) as u64)
+}
+
+/// The length of a pod whose body has so many bytes.
+fn framed_len(size: usize) -> Result<u64, GenError>
+    ensures extent { IfOk result (λ n. n ≡ extent size) }
+    ensures short { IfOk result (λ _. size < size_limit) }
+    ensures long { IfErr result (λ e. (e ≡ TooLarge) × (size_limit ≤ size)) }
+{
+    match u32::try_from(size) {
+        Ok(size) => Ok(extent_of(size) as u64),
+        Err(_) => Err(GenError::TooLarge),
+    }
+}
+
+/// The length of the pod of a text.
+fn text_len(text: &str) -> Result<u64, GenError>
+    ensures measured { IfOk result (λ n. IsMeasured (tree.string text.now) n) }
+    ensures cause { IfErr result (λ e. RefusesWrite (HasNul (tree.string text.now)) (IsTooLarge (tree.string text.now)) (λ _. ⊥) e) }
+{
+    let bytes = text.as_bytes();
+    if bytes.contains(&0) {
+        return Err(GenError::NulInText);
+    }
+    framed_len(bytes.len() + 1)
+}
+
+/// The length of the pod of bytes.
+fn bytes_len(bytes: &[u8]) -> Result<u64, GenError>
+    ensures measured { IfOk result (λ n. IsMeasured (tree.bytes bytes.now) n) }
+    ensures cause { IfErr result (λ e. RefusesWrite (HasNul (tree.bytes bytes.now)) (IsTooLarge (tree.bytes bytes.now)) (λ _. ⊥) e) }
+{
+    framed_len(bytes.len())
+}
+
+/// The length of the pod of a bitmap.
+fn bitmap_len(bytes: &[u8]) -> Result<u64, GenError>
+    ensures measured { IfOk result (λ n. IsMeasured (tree.bitmap bytes.now) n) }
+    ensures cause { IfErr result (λ e. RefusesWrite (HasNul (tree.bitmap bytes.now)) (IsTooLarge (tree.bitmap bytes.now)) (λ _. ⊥) e) }
+{
+    framed_len(bytes.len())
+}
+
+/// The length of the pod of a pointer.
+fn pointer_len(type_: u32, address: u64) -> Result<u64, GenError>
+    ensures measured { IfOk result (λ n. IsMeasured (tree.pointer type_ address) n) }
+    ensures cause { IfErr result (λ e. RefusesWrite (HasNul (tree.pointer type_ address)) (IsTooLarge (tree.pointer type_ address)) (λ _. ⊥) e) }
+{
+    Ok((HEADER_LEN + POINTER_LEN) as u64)
+}
+
+/// The length of the pod of elements of one type of fixed size.
+fn elements_len<T: CanonicalFixedSizedPod>(values: &[T]) -> Result<u64, GenError>
+    ensures measured { IfOk result (λ n. IsMeasured (tree.array T.kind (map T.fixed values.now)) n) }
+    ensures cause { IfErr result (λ e. RefusesWrite (HasNul (tree.array T.kind (map T.fixed values.now))) (IsTooLarge (tree.array T.kind (map T.fixed values.now))) (λ _. ⊥) e) }
+{
+    match array_size(values) {
+        Some(size) => Ok(extent_of(size) as u64),
+        None => Err(GenError::TooLarge),
+    }
+}
+
+/// The length of the pod of a choice over one type of fixed size.
+fn alternatives_len<T: ChoiceElement>(choice: &Choice<T>) -> Result<u64, GenError>
+    ensures measured { IfOk result (λ n. IsMeasured (choice_tree T.kind T.fixed choice.now) n) }
+    ensures cause { IfErr result (λ e. RefusesWrite (HasNul (choice_tree T.kind T.fixed choice.now)) (IsTooLarge (choice_tree T.kind T.fixed choice.now)) (λ _. ⊥) e) }
+{
+    match choice_size(choice) {
+        Some(size) => Ok(extent_of(size) as u64),
+        None => Err(GenError::TooLarge),
+    }
+}
+
+/// The length of the pod of an array.
+fn array_len(array: &ValueArray) -> Result<u64, GenError>
+    ensures measured { IfOk result (λ n. IsMeasured (array_view array.now) n) }
+    ensures cause { IfErr result (λ e. RefusesWrite (HasNul (array_view array.now)) (IsTooLarge (array_view array.now)) (λ _. ⊥) e) }
+{
+    match array {
+        ValueArray::None(units) => elements_len(units.as_slice()),
+        ValueArray::Bool(values) => elements_len(values.as_slice()),
+        ValueArray::Id(ids) => elements_len(ids.as_slice()),
+        ValueArray::Int(numbers) => elements_len(numbers.as_slice()),
+        ValueArray::Long(numbers) => elements_len(numbers.as_slice()),
+        ValueArray::Float(bits) => elements_len(bits.as_slice()),
+        ValueArray::Double(bits) => elements_len(bits.as_slice()),
+        ValueArray::Rectangle(rectangles) => elements_len(rectangles.as_slice()),
+        ValueArray::Fraction(fractions) => elements_len(fractions.as_slice()),
+        ValueArray::Fd(fds) => elements_len(fds.as_slice()),
+    }
+}
+
+/// The length of the pod of a choice.
+fn choice_len(choice: &ChoiceValue) -> Result<u64, GenError>
+    ensures measured { IfOk result (λ n. IsMeasured (choice_view choice.now) n) }
+    ensures cause { IfErr result (λ e. RefusesWrite (HasNul (choice_view choice.now)) (IsTooLarge (choice_view choice.now)) (λ _. ⊥) e) }
+{
+    match choice {
+        ChoiceValue::Bool(values) => alternatives_len(values),
+        ChoiceValue::Id(ids) => alternatives_len(ids),
+        ChoiceValue::Int(numbers) => alternatives_len(numbers),
+        ChoiceValue::Long(numbers) => alternatives_len(numbers),
+        ChoiceValue::Float(bits) => alternatives_len(bits),
+        ChoiceValue::Double(bits) => alternatives_len(bits),
+        ChoiceValue::Rectangle(rectangles) => alternatives_len(rectangles),
+        ChoiceValue::Fraction(fractions) => alternatives_len(fractions),
+        ChoiceValue::Fd(fds) => alternatives_len(fds),
+    }
+}

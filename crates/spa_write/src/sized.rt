@@ -1,0 +1,172 @@
+//! Values with their members, written front to back: each size is computed before it is written.
+ghost use Rattle.std.specs.Prelude.{◌≡◌, ◌+◌, ◌<◌, ◌++◌, ℕ, IfErr, IfOk, IfSome, OnErr, OnOk, Some, drop, length, take};
+ghost use Rattle.spa_sink.specs.Writing.{Begun, RefusesPiece};
+ghost use Rattle.spa_format.specs.Encoding.{encoding_of, member_encodings, property_encodings};
+ghost use Rattle.spa_format.specs.Tree as tree;
+ghost use Rattle.spa_format.specs.Writable.{HasNul, IsTooLarge, IsWritable};
+ghost use Rattle.spa_value.specs.View.{view};
+ghost use Rattle.spa_value.specs.Views.{property_views, views};
+ghost use Rattle.spa_write.specs.Measured.{ArePropertiesPut, ArePut, PropertiesAreWritable, Stops};
+ghost use Rattle.spa_format.specs.Words.{header_size, size_limit, word_bytes};
+ghost use Rattle.spa_write.specs.Written.{IsLeaf, IsPut};
+
+use crate::largest::{largest_member, largest_property};
+use crate::leaf::put_leaf;
+use crate::size::{encoded_len, members_len, properties_len};
+use bitflags::Flags;
+use spa_bytes::{HEADER_LEN, joined, two_words};
+use spa_sink::{GenError, PodSink, put_two};
+use spa_utils::SpaTypes;
+use spa_value::{Property, Value};
+
+/// Appends the encoding of a value to any sink, front to back, and answers its length. A text with NUL and a size of
+/// 4294967296 or more are refused before a byte is appended. Where the sink refuses it, the sink has taken a beginning of
+/// the encoding. It takes no memory of its own.
+pub fn write_sized<S: PodSink>(sink: &mut S, value: &Value) -> Result<u64, GenError>
+    ensures put { OnOk result (IsPut S.appends sink.old (view value.now) sink.new) }
+    ensures count { IfOk result (λ n. n ≡ length (encoding_of (view value.now))) }
+    ensures begun { OnErr result (Begun S.appends sink.old (encoding_of (view value.now)) sink.new) }
+    ensures refused { IfErr result (RefusesPiece (HasNul (view value.now)) (IsTooLarge (view value.now)) (S.refuses sink.old (length (encoding_of (view value.now))) sink.new) sink.old sink.new) }
+{
+    let len = encoded_len(value)?;
+    put_value(sink, value, Some(len))?;
+    Ok(len)
+}
+
+/// Appends the encoding of a value, whose length may be known.
+#[cycle(put)]
+fn put_value<S: PodSink>(sink: &mut S, value: &Value, known: Option<u64>) -> Result<(), GenError>
+    requires writable { IsWritable (view value.now) }
+    requires known { IfSome known (λ n. n ≡ length (encoding_of (view value.now))) }
+    ensures put { OnOk result (IsPut S.appends sink.old (view value.now) sink.new) }
+    ensures stops { IfErr result (λ e. Stops S.appends S.refuses sink.old (encoding_of (view value.now)) sink.new e) }
+{
+    match value {
+        Value::Struct(members) => {
+            let size = len_of(value, known) - HEADER_LEN as u64;
+            put_two(sink, size as u32, SpaTypes::Struct.0)?;
+            put_members(sink, members.as_slice(), size)
+        }
+        Value::Object(object) => {
+            let size = len_of(value, known) - HEADER_LEN as u64;
+            put_four(sink, size as u32, SpaTypes::Object.0, object.type_, object.id)?;
+            put_properties(sink, object.properties.as_slice(), size - HEADER_LEN as u64)
+        }
+        leaf => put_checked_leaf(sink, leaf),
+    }
+}
+
+/// The length of a value's encoding, which is computed where it isn't known.
+fn len_of(value: &Value, known: Option<u64>) -> u64
+    requires writable { IsWritable (view value.now) }
+    requires known { IfSome known (λ n. n ≡ length (encoding_of (view value.now))) }
+    ensures { result ≡ length (encoding_of (view value.now)) }
+{
+    match known {
+        Some(len) => len,
+        None => match encoded_len(value) {
+            Ok(len) => len,
+            Err(_) => unreachable!(),
+        },
+    }
+}
+
+/// Appends the encodings of the members of one struct, which have so many bytes.
+///
+/// Each size is computed but that of the largest member, which gets what the others leave: so a value is measured only as
+/// part of a smaller member, and nesting of any depth takes a time that grows with the number of values and its logarithm.
+#[cycle(put)]
+fn put_members<S: PodSink>(sink: &mut S, members: &[Value], size: u64) -> Result<(), GenError>
+    requires writable { IsWritable (tree.struct (views members.now)) }
+    requires size { size ≡ length (member_encodings (views members.now)) }
+    ensures put { OnOk result (ArePut S.appends sink.old (views members.now) sink.new) }
+    ensures stops { IfErr result (λ e. Stops S.appends S.refuses sink.old (member_encodings (views members.now)) sink.new e) }
+{
+    let largest = largest_member(members);
+    let left = left_for_member(members, largest, size);
+    for (index, member) in members.iter().enumerate() {
+        put_value(sink, member, known_at(index, largest, left))?;
+    }
+    Ok(())
+}
+
+/// How many bytes of the encodings of all members are left for this one.
+fn left_for_member(members: &[Value], index: usize, size: u64) -> Option<u64>
+    ensures { IfSome result (λ n. size ≡ length (member_encodings (views (take index members.now))) + n + length (member_encodings (views (drop (index + 1) members.now)))) }
+{
+    if index >= members.len() {
+        return None;
+    }
+    let Ok(before) = members_len(&members[..index]) else {
+        return None;
+    };
+    let Ok(behind) = members_len(&members[index + 1..]) else {
+        return None;
+    };
+    size.checked_sub(before + behind)
+}
+
+/// Appends the properties of one object, which have so many bytes. Sizes are computed as those of members are.
+#[cycle(put)]
+fn put_properties<S: PodSink>(
+    sink: &mut S,
+    properties: &[Property],
+    size: u64,
+) -> Result<(), GenError>
+    requires writable { PropertiesAreWritable (property_views properties.now) }
+    requires size { size ≡ length (property_encodings (property_views properties.now)) }
+    ensures put { OnOk result (ArePropertiesPut S.appends sink.old (property_views properties.now) sink.new) }
+    ensures stops { IfErr result (λ e. Stops S.appends S.refuses sink.old (property_encodings (property_views properties.now)) sink.new e) }
+{
+    let largest = largest_property(properties);
+    let left = left_for_property(properties, largest, size);
+    for (index, property) in properties.iter().enumerate() {
+        let known = known_at(index, largest, left);
+        put_two(sink, property.key, property.flags.bits())?;
+        put_value(sink, &property.value, known)?;
+    }
+    Ok(())
+}
+
+/// How many bytes of all properties are left for the value of this one.
+fn left_for_property(properties: &[Property], index: usize, size: u64) -> Option<u64>
+    ensures { IfSome result (λ n. size ≡ length (property_encodings (property_views (take index properties.now))) + (header_size + n) + length (property_encodings (property_views (drop (index + 1) properties.now)))) }
+{
+    if index >= properties.len() {
+        return None;
+    }
+    let Ok(before) = properties_len(&properties[..index]) else {
+        return None;
+    };
+    let Ok(behind) = properties_len(&properties[index + 1..]) else {
+        return None;
+    };
+    size.checked_sub(before + HEADER_LEN as u64 + behind)
+}
+
+/// What is known of the length of the value at this place, where it may be known at one.
+fn known_at(index: usize, place: usize, known: Option<u64>) -> Option<u64>
+    ensures { IfSome result (λ n. (index ≡ place) × (known ≡ Some n)) }
+{
+    if index == place { known } else { None }
+}
+
+/// Appends the encoding of a value that is neither a struct nor an object, and can be written.
+fn put_checked_leaf<S: PodSink>(sink: &mut S, value: &Value) -> Result<(), GenError>
+    requires leaf { IsLeaf (view value.now) }
+    requires writable { IsWritable (view value.now) }
+    ensures put { OnOk result (IsPut S.appends sink.old (view value.now) sink.new) }
+    ensures stops { IfErr result (λ e. Stops S.appends S.refuses sink.old (encoding_of (view value.now)) sink.new e) }
+{
+    put_leaf(sink, value)
+}
+
+/// Appends four words at once.
+fn put_four<S: PodSink>(sink: &mut S, first: u32, second: u32, third: u32, fourth: u32) -> Result<(), GenError>
+    ensures ok { OnOk result (S.appends sink.old ((word_bytes first ++ word_bytes second) ++ (word_bytes third ++ word_bytes fourth)) sink.new) }
+    ensures within { (third < size_limit) × (fourth < size_limit) }
+    ensures begun { OnErr result ((count : ℕ) × S.appends sink.old (take count ((word_bytes first ++ word_bytes second) ++ (word_bytes third ++ word_bytes fourth))) sink.new) }
+    ensures cause { IfErr result (λ e. S.refuses sink.old 16 sink.new e) }
+{
+    sink.append(&joined(two_words(first, second), two_words(third, fourth)))
+}

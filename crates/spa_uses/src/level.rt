@@ -1,9 +1,13 @@
-//! A type of one's own that is written as one of the types of fixed size.
+//! A type of one's own that is written and read as one of the types of fixed size.
 ghost use Rattle.std.specs.Prelude.{◌≡◌, ◌++◌, [], ◌∷◌};
+ghost use Rattle.libspa.specs.Asking.{RefusesAsked, of_type};
 ghost use Rattle.libspa.specs.Kind as kind;
 ghost use Rattle.libspa.specs.Tree.{array, fixed};
 
 use libspa::pod::FixedSizedPod;
+use libspa::pod::deserialize::{
+    DeserializeError, DeserializeSuccess, PodDeserialize, PodDeserializer,
+};
 use libspa::pod::serialize::{GenError, PodOutput, PodSerialize, PodSerializer, SerializeSuccess};
 
 /// A loudness, written as an Int.
@@ -38,6 +42,20 @@ impl PodSerialize for Level {
         serializer: PodSerializer<O>,
     ) -> Result<SerializeSuccess<O>, GenError> {
         serializer.serialized_fixed_sized_pod(self)
+    }
+}
+
+/// It is refused as an Int is, and asks for no memory.
+impl<'de> PodDeserialize<'de> for Level {
+    ghost reads = { λ value level. value ≡ fixed (kind.int level.steps) };
+
+    ghost refuses = { RefusesAsked (of_type (kind.type_number kind.int_kind)) ⊥ };
+
+    fn deserialize(
+        deserializer: PodDeserializer<'de>,
+    ) -> Result<(Level, DeserializeSuccess<'de>), DeserializeError<&'de [u8]>> {
+        let (steps, success) = i32::deserialize(deserializer)?;
+        Ok((Level { steps }, success))
     }
 }
 

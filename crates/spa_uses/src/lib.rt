@@ -1,14 +1,16 @@
 //! Types of a program's own, written as pods. They know the library by its contracts alone.
 #![tactic(auto)]
 
+mod control;
 mod level;
 mod mode;
 mod screen;
 mod song;
 mod tagged;
 
+pub use control::{Control, with_volume};
 pub use level::{Level, Pair};
-pub use mode::{Mode, Size, put_mode};
+pub use mode::{Mode, Size, put_mode, read_mode, sent};
 pub use screen::{Device, Screen};
 pub use song::{Cover, Song};
 pub use tagged::{Tagged, is_number, tagged_number};

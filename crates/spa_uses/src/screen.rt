@@ -1,9 +1,15 @@
 //! Objects.
+ghost use Rattle.std.specs.Prelude.{⊤, ◌≡◌, ℕ, IfErr, IfOk};
 ghost use Rattle.libspa.specs.Kind as kind;
 ghost use Rattle.libspa.specs.Tree.{fixed, no_properties, object, property, string};
 
+use crate::mode::Mode;
 use bitflags::Flags;
 use libspa::pod::PropertyFlags;
+use libspa::pod::deserialize::{
+    DeserializeError, DeserializeSuccess, Never, ObjectPodDeserializer, PodDeserialize,
+    PodDeserializer, StructPodDeserializer, Visit, Visitor,
+};
 use libspa::pod::serialize::{GenError, PodOutput, PodSerialize, PodSerializer, SerializeSuccess};
 use libspa::utils::Float32;
 
@@ -40,6 +46,58 @@ impl PodSerialize for Device<'_> {
     }
 }
 
+/// Reads a device.
+#[derive(Drop)]
+struct DeviceVisitor;
+
+impl<'de> Visitor<'de> for DeviceVisitor {
+    type Value = Device<'de>;
+
+    type ArrayElem = Never;
+
+    ghost visits = { λ _ _ _. ⊥ };
+
+    ghost visits_struct = { λ _ _ _. ⊥ };
+
+    ghost visits_object = { λ _ _ _ properties device. (f : ℕ) × (g : ℕ) × (properties ≡ property 1 f (string device.name.now) (property 2 g (fixed (kind.float device.volume.0)) no_properties)) };
+
+    fn visit(&self, _given: Visit<'de, Never>) -> Result<Device<'de>, DeserializeError<&'de [u8]>>
+        ensures made { IfOk result (λ _. ⊥) }
+        ensures declined { IfErr result (λ _. ⊤) }
+    {
+        Err(DeserializeError::UnsupportedType)
+    }
+
+    #[tactic(auto, using(spa_read::proofs::Stepping::further_same))]
+    fn visit_struct(
+        &self,
+        _reader: &mut StructPodDeserializer<'de>,
+    ) -> Result<Device<'de>, DeserializeError<&'de [u8]>> {
+        Err(DeserializeError::UnsupportedType)
+    }
+
+    #[tactic(auto, using(spa_read::proofs::Stepping::further_in_trans))]
+    fn visit_object(
+        &self,
+        reader: &mut ObjectPodDeserializer<'de>,
+    ) -> Result<Device<'de>, DeserializeError<&'de [u8]>> {
+        let (name, _) = reader.deserialize_property_key::<&str>(FIRST_KEY)?;
+        let (volume, _) = reader.deserialize_property_key::<Float32>(SECOND_KEY)?;
+        Ok(Device { name, volume })
+    }
+}
+
+/// An object of any type and id, its two properties with any flags.
+impl<'de> PodDeserialize<'de> for Device<'de> {
+    ghost reads = { λ value device. (t : ℕ) × (i : ℕ) × (f : ℕ) × (g : ℕ) × (value ≡ object t i (property 1 f (string device.name.now) (property 2 g (fixed (kind.float device.volume.0)) no_properties))) };
+
+    fn deserialize(
+        deserializer: PodDeserializer<'de>,
+    ) -> Result<(Device<'de>, DeserializeSuccess<'de>), DeserializeError<&'de [u8]>> {
+        deserializer.deserialize_object(DeviceVisitor)
+    }
+}
+
 /// A screen with a mode, whatever type that is, written as an object.
 #[derive(Drop)]
 pub struct Screen<M: PodSerialize + Drop> {
@@ -56,5 +114,55 @@ impl<M: PodSerialize + Drop> PodSerialize for Screen<M> {
         let mut properties = serializer.serialize_object(OBJECT_TYPE, OBJECT_ID)?;
         properties.serialize_property(FIRST_KEY, &self.mode, PropertyFlags::empty())?;
         properties.end()
+    }
+}
+
+/// Reads a screen with a mode.
+#[derive(Drop)]
+struct ScreenVisitor;
+
+impl<'de> Visitor<'de> for ScreenVisitor {
+    type Value = Screen<Mode>;
+
+    type ArrayElem = Never;
+
+    ghost visits = { λ _ _ _. ⊥ };
+
+    ghost visits_struct = { λ _ _ _. ⊥ };
+
+    ghost visits_object = { λ _ _ _ properties screen. (f : ℕ) × (properties ≡ property 1 f (⟦<Mode as PodSerialize>⟧.value screen.mode) no_properties) };
+
+    fn visit(&self, _given: Visit<'de, Never>) -> Result<Screen<Mode>, DeserializeError<&'de [u8]>>
+        ensures made { IfOk result (λ _. ⊥) }
+        ensures declined { IfErr result (λ _. ⊤) }
+    {
+        Err(DeserializeError::UnsupportedType)
+    }
+
+    #[tactic(auto, using(spa_read::proofs::Stepping::further_same))]
+    fn visit_struct(
+        &self,
+        _reader: &mut StructPodDeserializer<'de>,
+    ) -> Result<Screen<Mode>, DeserializeError<&'de [u8]>> {
+        Err(DeserializeError::UnsupportedType)
+    }
+
+    fn visit_object(
+        &self,
+        reader: &mut ObjectPodDeserializer<'de>,
+    ) -> Result<Screen<Mode>, DeserializeError<&'de [u8]>> {
+        let (mode, _) = reader.deserialize_property_key::<Mode>(FIRST_KEY)?;
+        Ok(Screen { mode })
+    }
+}
+
+/// An object of any type and id, its property with any flags.
+impl<'de> PodDeserialize<'de> for Screen<Mode> {
+    ghost reads = { λ value screen. (t : ℕ) × (i : ℕ) × (f : ℕ) × (value ≡ object t i (property 1 f (⟦<Mode as PodSerialize>⟧.value screen.mode) no_properties)) };
+
+    fn deserialize(
+        deserializer: PodDeserializer<'de>,
+    ) -> Result<(Screen<Mode>, DeserializeSuccess<'de>), DeserializeError<&'de [u8]>> {
+        deserializer.deserialize_object(ScreenVisitor)
     }
 }

@@ -1,10 +1,14 @@
 //! A struct that holds any value.
-ghost use Rattle.std.specs.Prelude.{◌≡◌, true};
+ghost use Rattle.std.specs.Prelude.{⊤, ◌≡◌, true, IfErr, IfOk};
 ghost use Rattle.libspa.specs.Kind as kind;
 ghost use Rattle.libspa.specs.Tree.{fixed, member, no_trees, struct};
 ghost use Rattle.libspa.specs.View.{view};
 
 use libspa::pod::Value;
+use libspa::pod::deserialize::{
+    DeserializeError, DeserializeSuccess, Never, ObjectPodDeserializer, PodDeserialize,
+    PodDeserializer, StructPodDeserializer, Visit, Visitor,
+};
 use libspa::pod::serialize::{GenError, PodOutput, PodSerialize, PodSerializer, SerializeSuccess};
 use libspa::utils::Id;
 
@@ -26,6 +30,61 @@ impl PodSerialize for Tagged {
         members.serialize_field(&self.id)?;
         members.serialize_field(&self.value)?;
         members.end()
+    }
+}
+
+/// Reads a value under an id.
+#[derive(Drop)]
+struct TaggedVisitor;
+
+impl<'de> Visitor<'de> for TaggedVisitor {
+    type Value = Tagged;
+
+    type ArrayElem = Never;
+
+    ghost visits = { λ _ _ _. ⊥ };
+
+    ghost visits_struct = { λ _ members tagged. members ≡ member (fixed (kind.id tagged.id.0)) (member (view tagged.value) no_trees) };
+
+    ghost visits_object = { λ _ _ _ _ _. ⊥ };
+
+    fn visit(&self, _given: Visit<'de, Never>) -> Result<Tagged, DeserializeError<&'de [u8]>>
+        ensures made { IfOk result (λ _. ⊥) }
+        ensures declined { IfErr result (λ _. ⊤) }
+    {
+        Err(DeserializeError::UnsupportedType)
+    }
+
+    #[tactic(auto, using(spa_read::proofs::Stepping::further_trans))]
+    fn visit_struct(
+        &self,
+        reader: &mut StructPodDeserializer<'de>,
+    ) -> Result<Tagged, DeserializeError<&'de [u8]>> {
+        let Some(id) = reader.deserialize_field::<Id>()? else {
+            return Err(DeserializeError::PropertyMissing);
+        };
+        let Some(value) = reader.deserialize_field::<Value>()? else {
+            return Err(DeserializeError::PropertyMissing);
+        };
+        Ok(Tagged { id, value })
+    }
+
+    #[tactic(auto, using(spa_read::proofs::Stepping::further_in_same))]
+    fn visit_object(
+        &self,
+        _reader: &mut ObjectPodDeserializer<'de>,
+    ) -> Result<Tagged, DeserializeError<&'de [u8]>> {
+        Err(DeserializeError::UnsupportedType)
+    }
+}
+
+impl<'de> PodDeserialize<'de> for Tagged {
+    ghost reads = { λ value tagged. value ≡ ⟦<Tagged as PodSerialize>⟧.value tagged };
+
+    fn deserialize(
+        deserializer: PodDeserializer<'de>,
+    ) -> Result<(Tagged, DeserializeSuccess<'de>), DeserializeError<&'de [u8]>> {
+        deserializer.deserialize_struct(TaggedVisitor)
     }
 }
 

@@ -8,4 +8,6 @@ mod compare;
 #[cfg(test)]
 mod own_types;
 #[cfg(test)]
+mod reads;
+#[cfg(test)]
 mod refusals;

@@ -1,0 +1,27 @@
+use Rattle.std.proofs.Common.{◌≡◌, ◌==◌, Some, ap, sym, subst, ◌∙◌}
+use Rattle.std.proofs.lemmas.List.Quantifiers.{position-Some}
+use Rattle.std.specs.Prelude.{position}
+use Rattle.std.specs.Cmp.{unsigned_Decides}
+use Rattle.libspa.specs.Tree.{object}
+use Rattle.spa_value.specs.declared.object.Object.{out-Object}
+use Rattle.spa_value.specs.declared.object.Property.{Property}
+use Rattle.spa_value.specs.View.{view}
+use Rattle.spa_uses.proofs.Lists.{at_cut, none_before, parted}
+use Rattle.spa_uses.proofs.control.control_of.Goals as goal
+
+pub returns : goal.returns
+returns c =
+    let fields = out-Object c.args.object in
+    let p = c.remove-value.result in
+    let first = c.remove-value.ensures.value in
+    let tail = c.in_ok-behind.ensures.tail in
+    let place = subst (λ qs. position (λ (q : Property). q.key == 65539) qs ≡ Some c.in-Some.place) c.as_slice.ensures.value (sym c.in-Some.ensures) in
+    let found = position-Some (λ (q : Property). q.key == 65539) fields.properties.items c.in-Some.place p place in
+    let key = (unsigned_Decides p.key 65539).0 (ap (λ (q : Property). q.key == 65539) (at_cut fields.properties.items c.in_ok-behind.behind.items c.in-Some.place p tail first) ∙ found.1) in
+    record {
+      tree =
+          c.objects_are_their_fields.ensures.fields c.args.object
+          ∙ ap (object fields.type_ fields.id)
+          (parted _ _ _ _ _ _ _ _ found.0 c.in_ok-behind.ensures.items tail first c.remove-value.ensures.items key (ap view c.in-Float.is));
+      first = none_before fields.properties.items _ c.in-Some.place 65539 c.in_ok-behind.ensures.items place;
+    }

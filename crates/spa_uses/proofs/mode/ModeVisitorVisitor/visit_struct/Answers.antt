@@ -1,0 +1,11 @@
+use Rattle.std.proofs.Common.{rules, ◌∙◌}
+use Rattle.spa_read.proofs.Stepping.{all_as, all_member, all_none}
+use Rattle.spa_uses.proofs.mode.ModeVisitorVisitor.visit_struct.Goals as goal
+
+pub returns-clause-made : goal.returns-clause-made
+returns-clause-made c =
+    λ end.
+    let size = rw c.in-Some.is at c.in_ok-size.ensures.field in
+    let rate = rw c.in-Some-2.is at c.in_ok-rate.ensures.field in
+    all_as _ _ _ (λ vs e. e ∙ search rules)
+    (all_member _ _ _ _ size (all_member _ _ _ _ rate (all_none _ end)))

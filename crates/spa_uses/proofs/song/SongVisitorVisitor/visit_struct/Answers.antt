@@ -1,0 +1,12 @@
+use Rattle.std.proofs.Common.{rules, ◌∙◌}
+use Rattle.spa_read.proofs.Stepping.{all_as, all_member, all_none}
+use Rattle.spa_uses.proofs.song.SongVisitorVisitor.visit_struct.Goals as goal
+
+pub returns-clause-made : goal.returns-clause-made
+returns-clause-made c =
+    λ end.
+    let number = rw c.in-Some.is at c.in_ok-number.ensures.field in
+    let title = rw c.in-Some-2.is at c.in_ok-title.ensures.field in
+    let cover = rw c.in-Some-3.is at c.in_ok-cover.ensures.field in
+    all_as _ _ _ (λ vs e. e ∙ search rules)
+    (all_member _ _ _ _ number (all_member _ _ _ _ title (all_member _ _ _ _ cover (all_none _ end))))

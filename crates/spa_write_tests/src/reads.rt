@@ -1,0 +1,179 @@
+//! What types of a program's own are read as.
+use crate::compare::assert_words;
+use libspa::pod::deserialize::{PodDeserialize, PodDeserializer};
+use libspa::utils::Float32;
+use spa_spelling::bytes_spelled;
+use spa_uses::{
+    Device, Level, Mode, Screen, Size, Song, Tagged, is_number, read_mode, sent, with_volume,
+};
+use std::alloc::{AllocError, Global};
+use std::test::Fail;
+
+/// What a test compares.
+trait Told {
+    /// Its parts as a text.
+    fn told(&self, alloc: Global) -> Result<String, AllocError>;
+}
+
+impl Told for Mode {
+    fn told(&self, alloc: Global) -> Result<String, AllocError> {
+        let Size { width, height } = self.size;
+        format!(in alloc; "{width} {height} {}", self.rate)
+    }
+}
+
+impl Told for Screen<Mode> {
+    fn told(&self, alloc: Global) -> Result<String, AllocError> {
+        self.mode.told(alloc)
+    }
+}
+
+impl Told for Level {
+    fn told(&self, alloc: Global) -> Result<String, AllocError> {
+        format!(in alloc; "{}", self.steps)
+    }
+}
+
+impl Told for Song<'_> {
+    fn told(&self, alloc: Global) -> Result<String, AllocError> {
+        let size = self.cover.size;
+        format!(in alloc;
+            "{} {} {} {}",
+            self.number, self.title, size.width, size.height
+        )
+    }
+}
+
+impl Told for Device<'_> {
+    fn told(&self, alloc: Global) -> Result<String, AllocError> {
+        format!(in alloc; "{} {}", self.name, self.volume.0)
+    }
+}
+
+impl Told for Tagged {
+    fn told(&self, alloc: Global) -> Result<String, AllocError> {
+        format!(in alloc; "{} {}", self.id.0, is_number(&self.value))
+    }
+}
+
+/// What a read answers: the parts of what is read and how many bytes follow it, or the refusal's name.
+fn read_told<'de, P: PodDeserialize<'de> + Told>(
+    alloc: Global,
+    input: &'de [u8],
+) -> Result<String, AllocError> {
+    match PodDeserializer::deserialize_from::<P>(alloc, input) {
+        Ok((rest, it)) => {
+            let told = it.told(alloc)?;
+            format!(in alloc; "{told}, {}", rest.len())
+        }
+        Err(e) => String::from_str(alloc, e.kind()),
+    }
+}
+
+/// A mode, in words.
+const MODE: &str = "56 14 32 14 4 4 640 0 4 4 4294966816 0 8 5 4294967236 4294967295";
+
+/// A song.
+const SONG: &str = "56 14 4 4 313 0 4 8 7303014 0 16 14 8 10 31 14";
+
+/// A device, whose second property has flags.
+const DEVICE: &str = "56 15 5 3 1 0 5 8 809138024 0 2 1 4 6 1138491392 0";
+
+/// A screen with that mode.
+const SCREEN: &str =
+    "80 15 5 3 1 0 56 14 32 14 4 4 640 0 4 4 4294966816 0 8 5 4294967236 4294967295";
+
+/// A number under an id.
+const TAGGED: &str = "32 14 4 3 9 0 4 4 313 0";
+
+/// Is this what was found?
+fn is_told(found: Result<String, AllocError>, wanted: &str) -> bool {
+    match found {
+        Ok(text) => text.as_str() == wanted,
+        Err(_) => false,
+    }
+}
+
+#[test]
+fn structs_of_ones_own_are_read(rt: HostRuntime) -> Result<(), Fail> {
+    let alloc = rt.alloc();
+    let mode = bytes_spelled(alloc, MODE)?;
+    let song = bytes_spelled(alloc, SONG)?;
+    let tagged = bytes_spelled(alloc, TAGGED)?;
+    let short = bytes_spelled(alloc, "56 14 32 14")?;
+    assert!(rt; is_told(read_told::<Mode>(alloc, mode.as_slice()), "640 -480 -60, 0"));
+    assert!(rt;
+        is_told(
+            read_told::<Song>(alloc, song.as_slice()),
+            "313 foo 31 14, 0"
+        )
+    );
+    assert!(rt; is_told(read_told::<Tagged>(alloc, tagged.as_slice()), "9 true, 0"));
+    // The end is missing, and the first member is of another type.
+    assert!(rt; is_told(read_told::<Mode>(alloc, short.as_slice()), "Short"));
+    assert!(rt; is_told(read_told::<Song>(alloc, tagged.as_slice()), "Tag"));
+    Ok(())
+}
+
+#[test]
+fn objects_and_numbers_of_ones_own_are_read(rt: HostRuntime) -> Result<(), Fail> {
+    let alloc = rt.alloc();
+    let device = bytes_spelled(alloc, DEVICE)?;
+    let screen = bytes_spelled(alloc, SCREEN)?;
+    let level = bytes_spelled(alloc, "4 4 4294967289 0 4 4")?;
+    assert!(rt;
+        is_told(
+            read_told::<Device>(alloc, device.as_slice()),
+            "hw:0 1138491392, 0"
+        )
+    );
+    assert!(rt;
+        is_told(
+            read_told::<Screen<Mode>>(alloc, screen.as_slice()),
+            "640 -480 -60, 0"
+        )
+    );
+    assert!(rt; is_told(read_told::<Level>(alloc, level.as_slice()), "-7, 8"));
+    // A number is no object.
+    assert!(rt; is_told(read_told::<Device>(alloc, level.as_slice()), "Tag"));
+    Ok(())
+}
+
+/// Is it this mode?
+fn is_the_mode(mode: &Mode) -> bool {
+    let Size { width, height } = mode.size;
+    width == 640 && height == -480 && mode.rate == -60
+}
+
+#[test]
+fn a_mode_comes_back(rt: HostRuntime) -> Result<(), Fail> {
+    let input = bytes_spelled(rt.alloc(), MODE)?;
+    let Ok((rest, mode)) = read_mode(rt.alloc(), input.as_slice()) else {
+        return Err(Fail::new("no mode"));
+    };
+    assert!(rt; rest.is_empty() && is_the_mode(&mode));
+    let back = sent(rt.alloc(), &mode);
+    assert!(rt; back.is_some_and(|it| is_the_mode(&it)));
+    Ok(())
+}
+
+/// Properties of an audio device with this volume, as PipeWire's C builder made them, and one before it.
+fn volume_words(alloc: Global, volume: u32) -> Result<String, AllocError> {
+    format!(in alloc;
+        "104 15 262146 2 65537 7 4 3 2 0 65539 0 4 6 {volume} 0 65540 0 4 2 1 0 65539 0 4 6 1063675494 0"
+    )
+}
+
+#[test]
+fn what_is_not_known_is_kept(rt: HostRuntime) -> Result<(), Fail> {
+    let words = volume_words(rt.alloc(), 1036831949)?;
+    let input = bytes_spelled(rt.alloc(), words.as_str())?;
+    let Some(found) = with_volume(rt.alloc(), input.as_slice(), Float32(1065353216)) else {
+        return Err(Fail::new("no volume"));
+    };
+    let wanted = volume_words(rt.alloc(), 1065353216)?;
+    assert_words(&rt, rt.alloc(), found.as_slice(), wanted.as_str())?;
+    let other = bytes_spelled(rt.alloc(), DEVICE)?;
+    assert!(rt; with_volume(rt.alloc(), other.as_slice(), Float32(0)).is_none());
+    Ok(())
+}

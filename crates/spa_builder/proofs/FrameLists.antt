@@ -4,7 +4,8 @@ use Rattle.std.specs.Prelude.{Some, slice_get, true, false}
 use Rattle.std.proofs.lemmas.List.{set_at, get_or_push}
 use Rattle.spa_builder.specs.State.{Partial, open_struct, open_object, open_property, open_array, open_choice, with_property}
 use Rattle.spa_format.specs.Tree.{Tree}
-use Rattle.spa_builder.specs.declared.open.What.TheVariants.{Object}
+use Rattle.spa_builder.specs.declared.open.Stage.TheVariants.{Object}
+use Rattle.spa_builder.specs.Framed.{at_stage}
 use Rattle.spa_builder.specs.Held.{all_so_far, frames_of, what_of}
 use Rattle.spa_builder.specs.Innermost.{filled, innermost_of, waits}
 use Rattle.spa_builder.specs.declared.open.Open.{Open}
@@ -90,8 +91,9 @@ set_frame frames base p q ps w n o e m g f =
 -- where a key waits, it gets its value; in a struct the frame stays
 pub filled_frames : (old new : List Open) (base : ℕ) (ps : List Partial) (v : Tree) →
     waits ps ≡ true → old ≡ frames_of base ps →
-    ((b : ℕ) (p q : Partial) (rs : List Partial) → old ≡ frames_of b (p ∷ rs) → Object ≡ what_of q →
-    new ≡ frames_of b (q ∷ rs)) → new ≡ frames_of base (filled ps v)
+    ((b : ℕ) (p q : Partial) (rs : List Partial) → old ≡ frames_of b (p ∷ rs) →
+    at_stage (what_of p) Object ≡ what_of q → new ≡ frames_of b (q ∷ rs)) →
+    new ≡ frames_of base (filled ps v)
 filled_frames old new base [] v h e f = absurd (cc)
 filled_frames old new base (open_struct vs ∷ ps) v h e f = absurd (cc)
 filled_frames old new base (open_object t i qs ∷ ps) v h e f = absurd (cc)

@@ -4,9 +4,10 @@ use Rattle.std.specs.Prelude.{Some, nat_eq, nat_lt, cond}
 use Rattle.std.proofs.lemmas.Bool.Decides.{nat_tests}
 use Rattle.spa_builder.specs.State.{Partial, open_struct, open_object, open_property, open_array, open_choice}
 use Rattle.spa_builder.specs.Held.{all_so_far, frames_of, what_of}
-use Rattle.spa_builder.specs.Framed.{IsKept, frames_in, is_nothing, most_bytes}
+use Rattle.spa_builder.specs.Framed.{IsKept, at_stage, frames_in, is_nothing, most_bytes}
 use Rattle.spa_builder.specs.Innermost.{has_room_for, innermost_of}
 use Rattle.spa_builder.specs.declared.open.Open.{Open}
+use Rattle.spa_builder.specs.declared.open.Stage.{Stage}
 use Rattle.spa_builder.proofs.FrameLists.{outermost_is}
 use Rattle.spa_builder.proofs.Sizes.{at_least_8, same_test}
 
@@ -68,12 +69,13 @@ innermost_none outer o first most base [] k h e = refl
 innermost_none outer o first most base (p ∷ ps) k h e =
     absurd (no_last _ _ (sym e ∙ frames_without outer o h ∙ k.none h))
 
--- where the outermost tree begins, and what its size word can't hold
-pub record Outermost (first most base : ℕ) (ps : List Partial) : Type 0 where
+-- where the outermost tree begins, and from which length on its size word can't hold it
+pub record Outermost (first end base : ℕ) (ps : List Partial) : Type 0 where
   pub place : first ≡ base
   pub some : 0 < length ps
-  pub alone : length ps ≡ 1 → most ≡ most_bytes true
-  pub around : length ps ≢ 1 → most ≡ most_bytes false
+  pub alone : length ps ≡ 1 → end ≡ first + most_bytes true
+  pub around : length ps ≢ 1 → end ≡ first + most_bytes false
+  pub low : first < 2 ^ 63
 
 pub outermost_kept : (outer : List Open) (o : Open) (first most base : ℕ) (ps : List Partial) →
     IsKept outer o first most → is_nothing o.what ≡ false → frames_in outer o ≡ frames_of base ps →
@@ -87,6 +89,7 @@ outermost_kept [] o first most base ps k h e =
       some = w.2;
       alone = λ n. (k.only refl).1;
       around = λ n. absurd (n (sym l));
+      low = k.low;
     }
 outermost_kept (q ∷ rest) o first most base ps k h e =
     let f = sym (frames_with (q ∷ rest) o h) ∙ e in
@@ -98,23 +101,26 @@ outermost_kept (q ∷ rest) o first most base ps k h e =
       some = w.2;
       alone = λ n. absurd (omega arith);
       around = λ n. (k.more q rest refl).1;
+      low = k.low;
     }
 
-pub room_kept : (first most base : ℕ) (ps : List Partial) (more n : ℕ) →
-    Outermost first most base ps → n ≡ length (all_so_far ps) + more →
-    nat_lt n most ≡ has_room_for more ps
-room_kept first most base [] more n o e = let z = o.some in absurd (omega arith)
-room_kept first most base (p ∷ []) more n o e =
+pub room_kept : (first end base : ℕ) (ps : List Partial) (more n : ℕ) →
+    Outermost first end base ps → n ≡ base + length (all_so_far ps) + more →
+    nat_lt n end ≡ has_room_for more ps
+room_kept first end base [] more n o e = let z = o.some in absurd (omega arith)
+room_kept first end base (p ∷ []) more n o e =
     let l = at_least_8 p [] in
+    let f = o.place in
     ap (nat_lt n) (o.alone refl)
-    ∙ same_test n (length (all_so_far (p ∷ [])) - 8 + more) (2 ^ 32 + 8) (2 ^ 32) (λ h. omega arith)
-    (λ h. omega arith)
-room_kept first most base (p ∷ q ∷ qs) more n o e =
+    ∙ same_test n (length (all_so_far (p ∷ [])) - 8 + more) (first + (2 ^ 32 + 8)) (2 ^ 32)
+    (λ h. omega arith) (λ h. omega arith)
+room_kept first end base (p ∷ q ∷ qs) more n o e =
     let l = at_least_8 p (q ∷ qs) in
+    let f = o.place in
     let two : length (p ∷ q ∷ qs) ≢ 1 = λ x. omega arith in
     ap (nat_lt n) (o.around two)
-    ∙ same_test n (length (all_so_far (p ∷ q ∷ qs)) - 8 + more) (2 ^ 32 + 8 - 7) (2 ^ 32 - 7)
-    (λ h. omega arith) (λ h. omega arith)
+    ∙ same_test n (length (all_so_far (p ∷ q ∷ qs)) - 8 + more) (first + (2 ^ 32 + 8 - 7))
+    (2 ^ 32 - 7) (λ h. omega arith) (λ h. omega arith)
 
 -- the innermost one says something else
 pub set_kept : (outer : List Open) (o new : Open) (first most base : ℕ) (p q : Partial)
@@ -129,6 +135,18 @@ set_kept outer o new first most base p q ps k e s w =
     rw (s ∙ at, w) refl in
     frames_with outer new n ∙ ap (λ l. l ++ new ∷ []) r.0
     ∙ ap (λ x. frames_of base ps ++ x ∷ []) same
+
+-- the innermost one is at another stage
+pub stage_kept : (outer : List Open) (o new : Open) (stage : Stage) (first most base : ℕ)
+    (p q : Partial) (ps : List Partial) → IsKept outer o first most →
+    frames_in outer o ≡ frames_of base (p ∷ ps) → new.start ≡ o.start →
+    new.what ≡ at_stage o.what stage → at_stage (what_of p) stage ≡ what_of q →
+    frames_in outer new ≡ frames_of base (q ∷ ps)
+stage_kept outer o new stage first most base p q ps k e s w h =
+    let b = begun_something outer o first most base p ps k e in
+    let r = same_last outer (frames_of base ps) o _ (sym (frames_with outer o b) ∙ e) in
+    let was : o.what ≡ what_of p = ap (λ (x : Open). x.what) r.1 in
+    set_kept outer o new first most base p q ps k e s (w ∙ ap (λ x. at_stage x stage) was ∙ h)
 
 -- the innermost one is dropped, and there is another one
 pub popped_some : (outer rest : List Open) (o next : Open) (first most base : ℕ) (p : Partial)
@@ -162,35 +180,40 @@ some_rest rest next q r e = ap (λ l. l ++ next ∷ []) e
 
 pub still_kept : (outer rest : List Open) (o next : Open) (first most most' : ℕ) →
     IsKept outer o first most → outer ≡ rest ++ next ∷ [] → is_nothing next.what ≡ false →
-    (rest ≡ [] → most' ≡ most_bytes true) →
-    ((q : Open) (r : List Open) → rest ≡ q ∷ r → most' ≡ most_bytes false) →
+    (rest ≡ [] → most' ≡ first + most_bytes true) →
+    ((q : Open) (r : List Open) → rest ≡ q ∷ r → most' ≡ first + most_bytes false) →
     IsKept rest next first most'
 still_kept outer rest o next first most most' k f n alone around = record {
   none = λ h. absurd (cc (n, h));
   only = λ e. ((k.more next [] (f ∙ ap (λ l. l ++ next ∷ []) e)).0, alone e);
   more = λ q r e. ((k.more q (r ++ next ∷ []) (f ∙ some_rest rest next q r e)).0, around q r e);
+  low = k.low;
 }
 
 pub more_kept : (outer : List Open) (o new : Open) (first most : ℕ) → IsKept outer o first most →
     is_nothing o.what ≡ false → is_nothing new.what ≡ false →
-    IsKept (outer ++ o ∷ []) new first (most_bytes false)
+    IsKept (outer ++ o ∷ []) new first (first + most_bytes false)
 more_kept [] o new first most k h n = record {
   none = λ x. absurd (cc (n, x));
   only = λ e. absurd (no_last [] o e);
   more = λ q r e. let i : o ≡ q = cc in ((k.only refl).0 ∙ ap (λ (x : Open). x.start) i, refl);
+  low = k.low;
 }
 more_kept (z ∷ zs) o new first most k h n = record {
   none = λ x. absurd (cc (n, x));
   only = λ e. absurd (no_last (z ∷ zs) o e);
   more = λ q r e. let i : z ≡ q = cc in ((k.more z zs refl).0 ∙ ap (λ (x : Open). x.start) i, refl);
+  low = k.low;
 }
 
 pub first_kept : (outer : List Open) (o new : Open) (first most : ℕ) → IsKept outer o first most →
-    is_nothing o.what ≡ true → is_nothing new.what ≡ false → IsKept outer new new.start most
-first_kept outer o new first most k h n = record {
+    is_nothing o.what ≡ true → is_nothing new.what ≡ false → new.start < 2 ^ 63 →
+    IsKept outer new new.start (new.start + most_bytes true)
+first_kept outer o new first most k h n l = record {
   none = λ x. absurd (cc (n, x));
-  only = λ e. (refl, (k.only e).1);
+  only = λ e. (refl, refl);
   more = λ q r e. absurd (let f : [] ≡ q ∷ r = sym (k.none h) ∙ e in cc);
+  low = l;
 }
 
 not_zero : (n m : ℕ) → n ≡ suc m → nat_eq n 0 ≡ false

@@ -1,30 +1,50 @@
 -- How the list of frames is kept: the outer ones apart from the innermost one, and the outermost one's place beside them.
-use Rattle.std.specs.Prelude.{◌≡◌, ◌+◌, ◌-◌, ℕ, List, [], ◌∷◌, ◌++◌, Bool, true, false, cond}
+use Rattle.std.specs.Prelude.{◌≡◌, ◌+◌, ◌-◌, ◌<◌, ◌^◌, ℕ, List, [], ◌∷◌, ◌++◌, Bool, true, false, cond}
 use Rattle.spa_format.specs.Words.{header_size, size_limit}
+use Rattle.spa_builder.specs.Innermost.{most_padding}
 use Rattle.spa_builder.specs.declared.open.Open.{Open}
 use Rattle.spa_builder.specs.declared.open.What.{What}
-use Rattle.spa_builder.specs.declared.open.What.TheVariants.{Nothing, Struct, Property, Object, Array, Choice}
+use Rattle.spa_builder.specs.declared.open.Stage.{Stage}
+use Rattle.spa_builder.specs.declared.open.Stage.TheVariants.{Nothing, Struct, Property, Object, Array, Choice}
 
+-- nothing is begun
+abbrev pub no_stage : Stage → Bool
+no_stage Nothing = true
+no_stage Struct = false
+no_stage Property = false
+no_stage Object = false
+no_stage Array = false
+no_stage Choice = false
+
+-- nothing is begun where this is known
 abbrev pub is_nothing : What → Bool
-is_nothing Nothing = true
-is_nothing Struct = false
-is_nothing Property = false
-is_nothing Object = false
-is_nothing (Array t) = false
-is_nothing (Choice h t n) = false
+is_nothing w = no_stage w.stage
+
+-- the same elements at another stage
+abbrev pub at_stage : What → Stage → What
+at_stage w stage = record { stage = stage; elements = w.elements }
 
 -- where nothing is innermost, nothing is begun
 abbrev pub frames_in : List Open → Open → List Open
 frames_in outer o = cond (is_nothing o.what) outer (outer ++ o ∷ [])
 
 -- The numbers of bytes of an open tree with its header that its size word can't hold begin here. Where a tree is inside it,
--- up to 7 bytes of padding are still to come.
+-- padding may still come.
 abbrev pub most_bytes : Bool → ℕ
 most_bytes true = size_limit + header_size
-most_bytes false = size_limit + header_size - 7
+most_bytes false = size_limit + header_size - most_padding
 
--- Beside them stand the outermost frame's place and the number that begins what its size word can't hold.
-pub record IsKept (outer : List Open) (innermost : Open) (first most : ℕ) : Type 0 where
+-- the most bytes that are appended at once, of those whose number is fixed
+abbrev pub longest_piece : ℕ
+longest_piece = 64
+
+-- a vector's length is below it
+abbrev pub vector_limit : ℕ
+vector_limit = 2 ^ 63
+
+-- Beside them stand the outermost frame's place and the length of the vector from which on its size word can't hold it.
+pub record IsKept (outer : List Open) (innermost : Open) (first end : ℕ) : Type 0 where
   pub none : is_nothing innermost.what ≡ true → outer ≡ []
-  pub only : outer ≡ [] → (first ≡ innermost.start) × (most ≡ most_bytes true)
-  pub more : (o : Open) (rest : List Open) → outer ≡ o ∷ rest → (first ≡ o.start) × (most ≡ most_bytes false)
+  pub only : outer ≡ [] → (first ≡ innermost.start) × (end ≡ first + most_bytes true)
+  pub more : (o : Open) (rest : List Open) → outer ≡ o ∷ rest → (first ≡ o.start) × (end ≡ first + most_bytes false)
+  pub low : first < vector_limit

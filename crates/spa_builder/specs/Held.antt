@@ -8,7 +8,8 @@ use Rattle.spa_builder.specs.State.{Partial, open_struct, open_object, open_prop
 use Rattle.spa_builder.specs.Step.{child_kind, takes_trees, all_fit}
 use Rattle.spa_builder.specs.declared.open.Open.{Open}
 use Rattle.spa_builder.specs.declared.open.What.{What}
-use Rattle.spa_builder.specs.declared.open.What.TheVariants.{Struct, Property, Object, Array, Choice}
+use Rattle.spa_builder.specs.declared.open.Elements.{Elements}
+use Rattle.spa_builder.specs.declared.open.Stage.TheVariants.{Struct, Property, Object, Array, Choice}
 
 -- what a builder holds
 pub record Held : Type 0 where
@@ -23,13 +24,17 @@ abbrev pub first_type : List Fixed → Option ℕ
 first_type [] = None
 first_type (x ∷ xs) = Some (type_number (kind_of x))
 
+-- what is known of elements where there are none
+abbrev pub no_elements : Elements
+no_elements = record { shape = 0; first = None; count = 0 }
+
 -- what the frame of a partial tree says; values of a choice are counted up to four
 abbrev pub what_of : Partial → What
-what_of (open_struct vs) = Struct
-what_of (open_object t i ps) = Object
-what_of (open_property t i ps k f) = Property
-what_of (open_array xs) = Array (first_type xs)
-what_of (open_choice h f xs) = Choice (shape_number h) (first_type xs) (min 4 (length xs))
+what_of (open_struct vs) = record { stage = Struct; elements = no_elements }
+what_of (open_object t i ps) = record { stage = Object; elements = no_elements }
+what_of (open_property t i ps k f) = record { stage = Property; elements = no_elements }
+what_of (open_array xs) = record { stage = Array; elements = record { shape = 0; first = first_type xs; count = 0 } }
+what_of (open_choice h f xs) = record { stage = Choice; elements = record { shape = shape_number h; first = first_type xs; count = min 4 (length xs) } }
 
 abbrev pub type_of_partial : Partial → ℕ
 type_of_partial (open_struct vs) = struct_type

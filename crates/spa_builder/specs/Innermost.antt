@@ -81,9 +81,12 @@ with_element (open_property t i qs k f) x = open_property t i qs k f
 with_element (open_array xs) x = open_array (xs ++ x ∷ [])
 with_element (open_choice h f xs) x = open_choice h f (xs ++ x ∷ [])
 
--- Whether so many bytes more leave the outermost size word within 32 bits. Where a tree is inside it, up to 7 bytes of
--- padding are still to come.
+-- the most zeros between a body and the next multiple of 8
+abbrev pub most_padding : ℕ
+most_padding = 7
+
+-- Whether so many bytes more leave the outermost size word within 32 bits. Where a tree is inside it, padding may still come.
 abbrev pub has_room_for : ℕ → List Partial → Bool
 has_room_for more [] = true
 has_room_for more (p ∷ []) = nat_lt (length (all_so_far (p ∷ [])) - header_size + more) size_limit
-has_room_for more (p ∷ q ∷ ps) = nat_lt (length (all_so_far (p ∷ q ∷ ps)) - header_size + more) (size_limit - 7)
+has_room_for more (p ∷ q ∷ ps) = nat_lt (length (all_so_far (p ∷ q ∷ ps)) - header_size + more) (size_limit - most_padding)

@@ -3,6 +3,5 @@ pub mod Step
 pub mod Held
 pub mod Innermost
 pub mod Answers
-pub mod Growing
 pub mod Replay
 pub mod Framed

@@ -12,7 +12,7 @@ use crate::building::{add_elements, add_encoding, add_fixed, add_key, add_pod, b
 use crate::bytes::pointer_pod;
 use crate::frames::Frames;
 use crate::heads::{array_head, choice_head, object_head, struct_head};
-use crate::open::What;
+use crate::open::{Elements, NO_ELEMENTS, Stage, What};
 use crate::written::Written;
 use spa_bytes::POINTER_LEN;
 use spa_fixed::FLAGS_SHAPE;
@@ -122,6 +122,7 @@ impl Builder {
     }
 
     /// Adds a text. One that holds NUL is INVAL.
+    #[inline(always)]
     pub fn add_string(&mut self, value: &str) -> Result<(), Errno>
         ensures { (s : State) → IsAt self.old s → Makes (step s (add (string value.now))) self.old self.new result }
     {
@@ -200,6 +201,7 @@ impl Builder {
     }
 
     /// Begins an array. Its elements are of the first one's kind, of fixed size.
+    #[inline(always)]
     pub fn push_array(&mut self) -> Result<Frame, Errno>
         ensures step { (s : State) → IsAt self.old s → Makes (step s push_array) self.old self.new result }
         ensures frame { (s : State) → IsAt self.old s → IfOk result (λ f. f.0 ≡ length s.opened + 1) }
@@ -207,7 +209,10 @@ impl Builder {
         begin(
             &mut self.bytes,
             &mut self.frames,
-            What::Array(None),
+            What {
+                stage: Stage::Array,
+                elements: NO_ELEMENTS,
+            },
             array_head(),
         )
     }
@@ -225,12 +230,20 @@ impl Builder {
         begin(
             &mut self.bytes,
             &mut self.frames,
-            What::Choice(shape, None, 0),
+            What {
+                stage: Stage::Choice,
+                elements: Elements {
+                    shape,
+                    first: None,
+                    count: 0,
+                },
+            },
             choice_head(shape, flags),
         )
     }
 
     /// Begins a struct.
+    #[inline(always)]
     pub fn push_struct(&mut self) -> Result<Frame, Errno>
         ensures step { (s : State) → IsAt self.old s → Makes (step s push_struct) self.old self.new result }
         ensures frame { (s : State) → IsAt self.old s → IfOk result (λ f. f.0 ≡ length s.opened + 1) }
@@ -238,12 +251,16 @@ impl Builder {
         begin(
             &mut self.bytes,
             &mut self.frames,
-            What::Struct,
+            What {
+                stage: Stage::Struct,
+                elements: NO_ELEMENTS,
+            },
             struct_head(),
         )
     }
 
     /// Begins an object.
+    #[inline(always)]
     pub fn push_object(&mut self, type_: u32, id: u32) -> Result<Frame, Errno>
         ensures step { (s : State) → IsAt self.old s → Makes (step s (push_object type_ id)) self.old self.new result }
         ensures frame { (s : State) → IsAt self.old s → IfOk result (λ f. f.0 ≡ length s.opened + 1) }
@@ -251,13 +268,17 @@ impl Builder {
         begin(
             &mut self.bytes,
             &mut self.frames,
-            What::Object,
+            What {
+                stage: Stage::Object,
+                elements: NO_ELEMENTS,
+            },
             object_head(type_, id),
         )
     }
 
     /// Closes the innermost pod that is begun, which this frame names. Any other frame is INVAL, and so is an object
     /// where a key waits for its value, and a choice that lacks values. It is never NOSPC.
+    #[inline(always)]
     pub fn pop(&mut self, frame: Frame) -> Result<(), Errno>
         ensures { (s : State) → IsAt self.old s → Makes (step s (pop frame.0)) self.old self.new result }
     {

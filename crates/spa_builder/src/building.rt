@@ -15,7 +15,7 @@ ghost use Rattle.spa_builder.specs.Answers.{Makes};
 use crate::bytes::{put_padding, put_plain, put_pod};
 use crate::elements::{is_finished, is_first, takes_element, takes_elements, with_element};
 use crate::frames::{Frames, admit, fill, takes_key, takes_trees};
-use crate::open::{Open, What};
+use crate::open::{Open, Stage, What};
 use crate::written::Written;
 use spa_bytes::{HEADER_LEN, two_words};
 use spa_fixed::{CanonicalFixedSizedPod, put_array};
@@ -23,6 +23,7 @@ use spa_utils::{Errno, Frame};
 use spa_value::ValueArray;
 
 /// Adds a pod whose body is at hand in two parts, where a tree of any type may stand.
+#[inline(always)]
 pub(crate) fn add_pod(
     bytes: &mut Written,
     frames: &mut Frames,
@@ -140,6 +141,7 @@ pub(crate) fn add_fixed<T: CanonicalFixedSizedPod>(
 }
 
 /// Adds an element to the innermost array or choice.
+#[inline(never)]
 fn add_element(
     bytes: &mut Written,
     frames: &mut Frames,
@@ -203,11 +205,12 @@ pub(crate) fn add_key(
         return Err(Errno::NOSPC);
     }
     bytes.append_array(two_words(key, flags))?;
-    frames.set_innermost(What::Property);
+    frames.set_stage(Stage::Property);
     Ok(())
 }
 
 /// Begins a tree with these bytes, which are its header, with the size 0, and what follows it.
+#[inline(always)]
 pub(crate) fn begin<const N: usize>(
     bytes: &mut Written,
     frames: &mut Frames,
@@ -225,19 +228,16 @@ pub(crate) fn begin<const N: usize>(
     if !takes_trees(frames.innermost()) {
         return Err(Errno::INVAL);
     }
-    let start = bytes.len();
+    let start = bytes.place();
     if !frames.has_room(start, head.len()) {
         return Err(Errno::NOSPC);
     }
-    bytes.append_array(head)?;
-    let Ok(()) = frames.push(Open { start, what }) else {
-        bytes.truncate(start);
-        return Err(Errno::NOMEM);
-    };
+    frames.push(Open { start, what }, bytes, head)?;
     Ok(Frame(frames.len()))
 }
 
 /// Closes the innermost tree.
+#[inline(always)]
 pub(crate) fn close(bytes: &mut Written, frames: &mut Frames, frame: usize) -> Result<(), Errno>
     requires { IsHeld (held bytes.old frames.old) }
     ensures { (s : State) → IsAt (held bytes.old frames.old) s

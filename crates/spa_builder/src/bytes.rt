@@ -1,11 +1,10 @@
 //! What is appended to the vector, and what is written over. Each call makes its one growth first: a refused one
 //! changes nothing.
-ghost use Rattle.std.specs.Prelude.{◌≡◌, ◌+◌, ◌<◌, ◌≤◌, ◌*◌, ◌++◌, List, ℕ, length, take, drop, IfErr, OnErr, OnOk};
+ghost use Rattle.std.specs.Prelude.{◌≡◌, ◌+◌, ◌<◌, ◌≤◌, ◌*◌, ◌++◌, List, ℕ, length, replicate, take, drop, IfErr, OnErr, OnOk};
 ghost use Rattle.spa_format.specs.Encoding.{encoding_of, framed};
 ghost use Rattle.spa_format.specs.Kind.{fixed_body};
 ghost use Rattle.spa_format.specs.Tree.{pointer};
-ghost use Rattle.spa_format.specs.Words.{padding, size_limit, word_bytes};
-ghost use Rattle.spa_builder.specs.Growing.{IsLonger};
+ghost use Rattle.spa_format.specs.Words.{header_size, padding, size_limit, word_bytes};
 ghost use Rattle.spa_utils.specs.declared.errno.TheConstants.Errno.{NOMEM};
 
 use crate::written::Written;
@@ -16,6 +15,15 @@ use spa_utils::{Errno, SpaTypes};
 /// The length in bytes of a pointer's pod.
 const POINTER_POD_LEN: usize = HEADER_LEN + POINTER_LEN;
 
+/// The number of zeros behind a body of this size.
+#[inline(always)]
+fn padding_len(size: usize) -> usize
+    ensures zeros { replicate result 0 ≡ padding size }
+    ensures few { result < header_size }
+{
+    (HEADER_LEN - size % HEADER_LEN) % HEADER_LEN
+}
+
 /// Appends zeros up to a multiple of 8, behind a body of this size.
 #[inline(always)]
 pub(crate) fn put_padding(bytes: &mut Written, size: usize) -> Result<(), Errno>
@@ -23,10 +31,7 @@ pub(crate) fn put_padding(bytes: &mut Written, size: usize) -> Result<(), Errno>
     ensures unchanged { OnErr result (bytes.new ≡ bytes.old) }
     ensures memory { IfErr result (λ e. e ≡ NOMEM) }
 {
-    bytes.append_first(
-        [0; HEADER_LEN],
-        (HEADER_LEN - size % HEADER_LEN) % HEADER_LEN,
-    )
+    bytes.append_first([0; HEADER_LEN], padding_len(size))
 }
 
 /// Appends the pod of a value of fixed size.
@@ -43,6 +48,7 @@ pub(crate) fn put_plain<T: CanonicalFixedSizedPod>(
 }
 
 /// Appends a pod whose body is at hand in two parts.
+#[inline(always)]
 pub(crate) fn put_pod(
     bytes: &mut Written,
     type_: u32,
@@ -54,28 +60,9 @@ pub(crate) fn put_pod(
     ensures unchanged { OnErr result (bytes.new ≡ bytes.old) }
     ensures memory { IfErr result (λ e. e ≡ NOMEM) }
 {
-    let had = bytes.len();
-    match put_parts(bytes, type_, front, back) {
-        Ok(()) => Ok(()),
-        Err(_) => {
-            bytes.truncate(had);
-            Err(Errno::NOMEM)
-        }
-    }
-}
-
-/// The same, where a refusal may leave a beginning.
-fn put_parts(bytes: &mut Written, type_: u32, front: &[u8], back: &[u8]) -> Result<(), Errno>
-    requires { length front.now + length back.now < size_limit }
-    ensures ok { OnOk result (bytes.new ≡ bytes.old ++ framed type_ (front.now ++ back.now)) }
-    ensures longer { OnErr result (IsLonger bytes.old bytes.new) }
-{
     let size = front.len() + back.len();
-    bytes.append_array(two_words(size as u32, type_))?;
-    bytes.append(front)?;
-    bytes.append(back)?;
-    put_padding(bytes, size)?;
-    Ok(())
+    let header = two_words(size as u32, type_);
+    bytes.append_parts(header, front, back, padding_len(size))
 }
 
 /// The pod of a pointer.

@@ -8,7 +8,7 @@ ghost use Rattle.spa_builder.specs.Held.{what_of};
 ghost use Rattle.spa_builder.specs.Framed.{is_nothing};
 ghost use Rattle.spa_builder.specs.Innermost.{innermost_of, is_first, takes_element, takes_elements, with_element};
 
-use crate::open::{Open, What};
+use crate::open::{Elements, Open, Stage, What};
 use spa_fixed::{NONE_SHAPE, RANGE_SHAPE, STEP_SHAPE};
 use spa_utils::SpaTypes;
 
@@ -24,7 +24,7 @@ pub(crate) fn takes_elements(innermost: Option<Open>) -> bool
 {
     match innermost {
         None => false,
-        Some(open) => matches!(open.what, What::Array(_) | What::Choice(_, _, _)),
+        Some(open) => matches!(open.what.stage, Stage::Array | Stage::Choice),
     }
 }
 
@@ -32,7 +32,7 @@ pub(crate) fn takes_elements(innermost: Option<Open>) -> bool
 pub(crate) fn is_first(what: What) -> bool
     ensures { (p : Partial) → what ≡ what_of p → result ≡ is_first p }
 {
-    matches!(what, What::Array(None) | What::Choice(_, None, _))
+    matches!(what.stage, Stage::Array | Stage::Choice) && what.elements.first.is_none()
 }
 
 /// Whether a choice of this shape with so many values takes one more.
@@ -51,11 +51,16 @@ fn has_place(shape: u32, count: u32) -> bool
 pub(crate) fn takes_element(what: What, type_: u32) -> bool
     ensures { (p : Partial) (x : Fixed) → what ≡ what_of p → type_ ≡ type_number (kind_of x) → result ≡ takes_element p x }
 {
-    match what {
-        What::Array(None) => true,
-        What::Array(Some(first)) => first == type_,
-        What::Choice(_, None, _) => type_ != SpaTypes::None.0,
-        What::Choice(shape, Some(first), count) => first == type_ && has_place(shape, count),
+    let Elements {
+        shape,
+        first,
+        count,
+    } = what.elements;
+    match (what.stage, first) {
+        (Stage::Array, None) => true,
+        (Stage::Array, Some(first)) => first == type_,
+        (Stage::Choice, None) => type_ != SpaTypes::None.0,
+        (Stage::Choice, Some(first)) => first == type_ && has_place(shape, count),
         _ => false,
     }
 }
@@ -65,29 +70,34 @@ pub(crate) fn with_element(what: What, type_: u32) -> What
     ensures with { (p : Partial) (x : Fixed) → what ≡ what_of p → type_ ≡ type_number (kind_of x) → takes_element p x ≡ true → result ≡ what_of (with_element p x) }
     ensures something { is_nothing what ≡ false → is_nothing result ≡ false }
 {
-    match what {
-        What::Array(_) => What::Array(Some(type_)),
-        What::Choice(shape, _, count) => {
-            let more = if count < STEP_COUNT {
-                count + 1
-            } else {
-                STEP_COUNT
-            };
-            What::Choice(shape, Some(type_), more)
-        }
-        _ => what,
+    let Elements { shape, count, .. } = what.elements;
+    let more = match what.stage {
+        Stage::Array => 0,
+        Stage::Choice if count < STEP_COUNT => count + 1,
+        Stage::Choice => STEP_COUNT,
+        _ => return what,
+    };
+    What {
+        stage: what.stage,
+        elements: Elements {
+            shape,
+            first: Some(type_),
+            count: more,
+        },
     }
 }
 
 /// Whether a tree of which this is known is a value when it is closed.
+#[inline(always)]
 pub(crate) fn is_finished(what: What) -> bool
     ensures { (p : Partial) → what ≡ what_of p → result ≡ is_some (finished p) }
 {
-    match what {
-        What::Nothing | What::Property => false,
-        What::Choice(RANGE_SHAPE, _, count) => count >= RANGE_COUNT,
-        What::Choice(STEP_SHAPE, _, count) => count >= STEP_COUNT,
-        What::Choice(_, _, count) => count >= 1,
+    let Elements { shape, count, .. } = what.elements;
+    match (what.stage, shape) {
+        (Stage::Nothing | Stage::Property, _) => false,
+        (Stage::Choice, RANGE_SHAPE) => count >= RANGE_COUNT,
+        (Stage::Choice, STEP_SHAPE) => count >= STEP_COUNT,
+        (Stage::Choice, _) => count >= 1,
         _ => true,
     }
 }

@@ -1,16 +1,17 @@
 //! The list of frames: what may come next, and what a frame says once it came.
-ghost use Rattle.std.specs.Prelude.{◌≡◌, ◌+◌, ◌<◌, ◌*◌, ◌∷◌, ◌++◌, [], List, ℕ, IfErr, IfSome, IsTrue, OnErr, OnOk, false, length};
+ghost use Rattle.std.specs.Prelude.{◌≡◌, ◌+◌, ◌<◌, ◌≤◌, ◌*◌, ◌∷◌, ◌++◌, [], List, ℕ, IfErr, IfSome, IsTrue, OnErr, OnOk, false, length};
 ghost use Rattle.spa_format.specs.Tree.{Tree};
 ghost use Rattle.spa_format.specs.Words.{size_limit};
 ghost use Rattle.spa_builder.specs.State.{Partial};
 ghost use Rattle.spa_builder.specs.Step.{takes_trees};
 ghost use Rattle.spa_builder.specs.Held.{all_so_far, frames_of, what_of};
-ghost use Rattle.spa_builder.specs.Framed.{is_nothing, most_bytes};
+ghost use Rattle.spa_builder.specs.Framed.{at_stage, is_nothing, longest_piece, most_bytes, no_stage, vector_limit};
 ghost use Rattle.spa_builder.specs.Innermost.{filled, has_room_for, innermost_of, takes_key, waits};
 ghost use Rattle.spa_builder.specs.Answers.{IsAdmitted};
 ghost use Rattle.spa_utils.specs.declared.errno.TheConstants.Errno.{NOMEM};
 
-use crate::open::{Open, What};
+use crate::open::{NO_ELEMENTS, Open, Stage, What};
+use crate::written::Written;
 use spa_bytes::HEADER_LEN;
 use spa_utils::Errno;
 use std::alloc::Global;
@@ -22,7 +23,10 @@ pub(crate) const SIZE_LIMIT: usize = 1 << 32;
 /// No frame.
 const NO_FRAME: Open = Open {
     start: 0,
-    what: What::Nothing,
+    what: What {
+        stage: Stage::Nothing,
+        elements: NO_ELEMENTS,
+    },
 };
 
 /// The most bytes of padding.
@@ -46,7 +50,7 @@ fn most_bytes(alone: bool) -> usize
 fn is_nothing(what: What) -> bool
     ensures { result ≡ is_nothing what }
 {
-    matches!(what, What::Nothing)
+    matches!(what.stage, Stage::Nothing)
 }
 
 /// The frames of the pods that are begun.
@@ -55,7 +59,7 @@ pub(crate) struct Frames {
     outer: Vec<Open>,
     innermost: Open,
     first: usize,
-    most: usize,
+    end: usize,
 }
 
 impl Model for Frames {
@@ -67,7 +71,7 @@ impl Model for Frames {
 
     ghost view = { λ f. frames_in f.outer.items f.innermost };
 
-    ghost invariant = { λ f. IsKept f.outer.items f.innermost f.first f.most };
+    ghost invariant = { λ f. IsKept f.outer.items f.innermost f.first f.end };
 }
 
 impl Frames {
@@ -79,7 +83,7 @@ impl Frames {
             outer: Vec::new(alloc),
             innermost: NO_FRAME,
             first: 0,
-            most: most_bytes(true),
+            end: most_bytes(true),
         }
     }
 
@@ -116,7 +120,7 @@ impl Frames {
         if is_nothing(self.innermost.what) {
             return true;
         }
-        len - self.first + more < self.most
+        len + more < self.end
     }
 
     /// Sets what the innermost says.
@@ -128,27 +132,53 @@ impl Frames {
         self.innermost.what = what;
     }
 
-    /// Begins a frame in the innermost. A refused call changes nothing.
-    pub(crate) fn push(&mut self, frame: Open) -> Result<(), Errno>
-        requires { is_nothing frame.what ≡ false }
+    /// Sets the stage of the innermost.
+    #[inline(always)]
+    pub(crate) fn set_stage(&mut self, stage: Stage)
+        requires { no_stage stage ≡ false }
+        ensures { (base : ℕ) (p q : Partial) (ps : List Partial) → self.old ≡ frames_of base (p ∷ ps) → at_stage (what_of p) stage ≡ what_of q → self.new ≡ frames_of base (q ∷ ps) }
+    {
+        self.innermost.what.stage = stage;
+    }
+
+    /// Begins a frame in the innermost, and appends the bytes with which its pod begins. The frame has its memory first: a
+    /// refused call changes nothing.
+    #[inline(always)]
+    pub(crate) fn push<const N: usize>(
+        &mut self,
+        frame: Open,
+        bytes: &mut Written,
+        head: [u8; N],
+    ) -> Result<(), Errno>
+        requires something { is_nothing frame.what ≡ false }
+        requires low { frame.start < vector_limit }
+        requires short { N ≤ longest_piece }
         ensures ok { OnOk result (self.new ≡ self.old ++ frame ∷ []) }
-        ensures unchanged { OnErr result (self.new ≡ self.old) }
+        ensures appended { OnOk result (bytes.new ≡ bytes.old ++ head.entry) }
+        ensures unchanged { OnErr result ((self.new ≡ self.old) × (bytes.new ≡ bytes.old)) }
         ensures memory { IfErr result (λ e. e ≡ NOMEM) }
     {
         if is_nothing(self.innermost.what) {
+            bytes.append_array(head)?;
             self.first = frame.start;
+            self.end = frame.start + most_bytes(true);
             self.innermost = frame;
             return Ok(());
         }
-        if self.outer.push(self.innermost).is_err() {
+        if self.outer.reserve(1).is_err() {
             return Err(Errno::NOMEM);
         }
+        bytes.append_array(head)?;
+        if self.outer.push(self.innermost).is_err() {
+            unreachable!();
+        }
         self.innermost = frame;
-        self.most = most_bytes(false);
+        self.end = self.first + most_bytes(false);
         Ok(())
     }
 
     /// Drops the innermost.
+    #[inline(always)]
     pub(crate) fn pop(&mut self)
         requires { (base : ℕ) × (p : Partial) × (ps : List Partial) × (self.old ≡ frames_of base (p ∷ ps)) }
         ensures { (base : ℕ) (p : Partial) (ps : List Partial) → self.old ≡ frames_of base (p ∷ ps) → self.new ≡ frames_of base ps }
@@ -156,10 +186,11 @@ impl Frames {
         let Some(frame) = self.outer.pop() else {
             self.innermost = NO_FRAME;
             self.first = NO_FRAME.start;
+            self.end = most_bytes(true);
             return;
         };
         self.innermost = frame;
-        self.most = most_bytes(self.outer.is_empty());
+        self.end = self.first + most_bytes(self.outer.is_empty());
     }
 }
 
@@ -170,7 +201,7 @@ pub(crate) fn takes_trees(innermost: Option<Open>) -> bool
 {
     match innermost {
         None => true,
-        Some(open) => matches!(open.what, What::Struct | What::Property),
+        Some(open) => matches!(open.what.stage, Stage::Struct | Stage::Property),
     }
 }
 
@@ -181,7 +212,7 @@ fn waits(innermost: Option<Open>) -> bool
 {
     match innermost {
         None => false,
-        Some(open) => matches!(open.what, What::Property),
+        Some(open) => matches!(open.what.stage, Stage::Property),
     }
 }
 
@@ -192,7 +223,7 @@ pub(crate) fn takes_key(innermost: Option<Open>) -> bool
 {
     match innermost {
         None => false,
-        Some(open) => matches!(open.what, What::Object),
+        Some(open) => matches!(open.what.stage, Stage::Object),
     }
 }
 
@@ -221,6 +252,6 @@ pub(crate) fn fill(frames: &mut Frames, innermost: Option<Open>)
     ensures { (base : ℕ) (ps : List Partial) (v : Tree) → IsTrue (takes_trees ps) → frames.old ≡ frames_of base ps → innermost ≡ innermost_of base ps → frames.new ≡ frames_of base (filled ps v) }
 {
     if waits(innermost) {
-        frames.set_innermost(What::Object);
+        frames.set_stage(Stage::Object);
     }
 }

@@ -1,8 +1,8 @@
 //! What a builder knows of the pods that are begun.
 
-/// What was begun, and what of its members the builder has to know.
+/// What was begun, and whether a key waits in it.
 #[derive(Clone, Copy, Debug)]
-pub(crate) enum What {
+pub(crate) enum Stage {
     /// Nothing.
     Nothing,
     /// A struct.
@@ -11,11 +11,31 @@ pub(crate) enum What {
     Property,
     /// An object in which no key waits.
     Object,
-    /// An array, with the type number of its first element.
-    Array(Option<u32>),
-    /// A choice of this shape, with the type number of its first value, and the number of its values, or four where
-    /// there are more.
-    Choice(u32, Option<u32>, u32),
+    /// An array.
+    Array,
+    /// A choice.
+    Choice,
+}
+
+/// What the builder has to know of the elements of an array or of the values of a choice. Elsewhere there are none.
+#[derive(Clone, Copy, Debug)]
+pub(crate) struct Elements {
+    /// A choice's shape, and 0 of an array.
+    pub(crate) shape: u32,
+    /// The type number of the first one.
+    pub(crate) first: Option<u32>,
+    /// The number of a choice's values, or four where there are more, and 0 of an array.
+    pub(crate) count: u32,
+}
+
+/// What was begun, and what of its members the builder has to know. The stage stands apart, so that a key and its value
+/// change one byte.
+#[derive(Clone, Copy, Debug)]
+pub(crate) struct What {
+    /// What was begun.
+    pub(crate) stage: Stage,
+    /// Its elements.
+    pub(crate) elements: Elements,
 }
 
 /// A pod that was begun, and where it begins.
@@ -26,3 +46,10 @@ pub(crate) struct Open {
     /// What it is.
     pub(crate) what: What,
 }
+
+/// No elements.
+pub(crate) const NO_ELEMENTS: Elements = Elements {
+    shape: 0,
+    first: None,
+    count: 0,
+};

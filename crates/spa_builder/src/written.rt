@@ -1,7 +1,8 @@
 //! The bytes that a builder has written, at the front of a vector that is kept longer than they are: what lies behind
 //! them is room, which an append fills without asking for memory.
-ghost use Rattle.std.specs.Prelude.{◌≡◌, ◌+◌, ◌≤◌, ◌++◌, ℕ, [], List, IfErr, OnErr, OnOk, drop, length, take};
-ghost use Rattle.spa_format.specs.Words.{word_bytes};
+ghost use Rattle.std.specs.Prelude.{◌≡◌, ◌+◌, ◌<◌, ◌≤◌, ◌++◌, ℕ, [], List, IfErr, OnErr, OnOk, drop, length, replicate, take};
+ghost use Rattle.spa_format.specs.Words.{header_size, size_limit, word_bytes};
+ghost use Rattle.spa_builder.specs.Framed.{longest_piece, vector_limit};
 ghost use Rattle.spa_utils.specs.declared.errno.TheConstants.Errno.{NOMEM};
 
 use spa_bytes::{HEADER_LEN, two_words};
@@ -49,16 +50,28 @@ fn grow(bytes: &mut Vec<u8>, more: usize) -> Result<(), Errno>
 /// Makes room for so many bytes behind the first ones.
 #[inline(always)]
 fn make_room(bytes: &mut Vec<u8>, count: usize, more: usize) -> Result<(), Errno>
-    requires { count ≤ length bytes.old.items }
+    requires within { count ≤ length bytes.old.items }
+    requires small { more < vector_limit }
     ensures room { OnOk result (count + more ≤ length bytes.new.items) }
     ensures within { count ≤ length bytes.new.items }
     ensures kept { take count bytes.new.items ≡ take count bytes.old.items }
     ensures memory { IfErr result (λ e. e ≡ NOMEM) }
 {
-    if more <= bytes.len() - count {
+    if count + more <= bytes.len() {
         return Ok(());
     }
     grow(bytes, more)
+}
+
+/// Writes these bytes over those from this place on.
+#[inline(always)]
+fn write_over(bytes: &mut Vec<u8>, at: usize, piece: &[u8])
+    requires { at + length piece.now ≤ length bytes.old.items }
+    ensures written { take (at + length piece.now) bytes.new.items ≡ take at bytes.old.items ++ piece.now }
+    ensures same { length bytes.new.items ≡ length bytes.old.items }
+{
+    let end = at + piece.len();
+    bytes[at..end].copy_from_slice(piece);
 }
 
 impl Written {
@@ -73,6 +86,15 @@ impl Written {
     #[inline(always)]
     pub(crate) fn len(&self) -> usize
         ensures { result ≡ length self.now }
+    {
+        self.count
+    }
+
+    /// Where the next one will stand.
+    #[inline(always)]
+    pub(crate) fn place(&self) -> usize
+        ensures at { result ≡ length self.now }
+        ensures low { result < vector_limit }
     {
         self.count
     }
@@ -120,7 +142,8 @@ impl Written {
         piece: [u8; N],
         count: usize,
     ) -> Result<(), Errno>
-        requires { count ≤ N }
+        requires first { count ≤ N }
+        requires short { N ≤ longest_piece }
         ensures ok { OnOk result (self.new ≡ self.old ++ take count piece.entry) }
         ensures unchanged { OnErr result (self.new ≡ self.old) }
         ensures memory { IfErr result (λ e. e ≡ NOMEM) }
@@ -135,6 +158,7 @@ impl Written {
     /// Appends these bytes, whose number is known.
     #[inline(always)]
     pub(crate) fn append_array<const N: usize>(&mut self, piece: [u8; N]) -> Result<(), Errno>
+        requires { N ≤ longest_piece }
         ensures ok { OnOk result (self.new ≡ self.old ++ piece.entry) }
         ensures unchanged { OnErr result (self.new ≡ self.old) }
         ensures memory { IfErr result (λ e. e ≡ NOMEM) }
@@ -142,12 +166,33 @@ impl Written {
         self.append_first(piece, N)
     }
 
-    /// Drops those from this place on.
-    pub(crate) fn truncate(&mut self, count: usize)
-        requires { count ≤ length self.old }
-        ensures { self.new ≡ take count self.old }
+    /// Appends a header, a body that is at hand in two parts, and so many zeros, into room that is made once.
+    #[inline(always)]
+    pub(crate) fn append_parts(
+        &mut self,
+        header: [u8; HEADER_LEN],
+        front: &[u8],
+        back: &[u8],
+        zeros: usize,
+    ) -> Result<(), Errno>
+        requires zeros { zeros ≤ header_size }
+        requires small { length front.now + length back.now < size_limit }
+        ensures ok { OnOk result (self.new ≡ (((self.old ++ header) ++ front.now) ++ back.now) ++ replicate zeros 0) }
+        ensures unchanged { OnErr result (self.new ≡ self.old) }
+        ensures memory { IfErr result (λ e. e ≡ NOMEM) }
     {
-        self.count = count;
+        let at = self.count;
+        let size = front.len() + back.len();
+        make_room(&mut self.bytes, at, HEADER_LEN + size + HEADER_LEN)?;
+        let body = at + HEADER_LEN;
+        let rest = body + front.len();
+        let end = rest + back.len();
+        write_over(&mut self.bytes, at, &header);
+        write_over(&mut self.bytes, body, front);
+        write_over(&mut self.bytes, rest, back);
+        write_over(&mut self.bytes, end, &[0; HEADER_LEN]);
+        self.count = end + zeros;
+        Ok(())
     }
 
     /// Writes a word over four of them.

@@ -159,7 +159,7 @@ impl<'d> Parser<'d> {
         Ok(Frame(self.outer.len()))
     }
 
-    /// ClosesFrame the innermost frame, and skips what is left in it. INVAL where the frame is another one, or none is open.
+    /// Closes the innermost frame, and skips what is left in it. INVAL where the frame is another one, or none is open.
     pub fn pop(&mut self, frame: Frame) -> Result<(), Errno>
         ensures innermost { OnOk result (frame.0 ≡ open_count self.old) }
         ensures closed { OnOk result (ClosesFrame self.old self.new) }

@@ -63,13 +63,13 @@ returns c s at =
     (c.len.ensures ∙ base_and_more old s at)) ∙ c.if-not-has_room.false in
     let fit = keyed_fit t.0 t.1 t.2 key flags t.3 (subst IsNested t.4 at.nested)
     ∙ ap (has_room_for 8) (sym t.4) ∙ room in
-    let frames = c.set_innermost.ensures base (open_object t.0 t.1 t.2)
+    let frames = c.set_stage.ensures base (open_object t.0 t.1 t.2)
     (open_property t.0 t.1 t.2 key flags) t.3 (at.frames ∙ ap (frames_of base) t.4) refl in
     sized_goes true _ (record
     { closed = s.closed; opened = open_property t.0 t.1 t.2 key flags ∷ t.3 }) old
-    (held c.append_array.new.self c.set_innermost.new.self) _ refl
+    (held c.append_array.new.self c.set_stage.new.self) _ refl
     (ap (λ l. keyed s.closed l key flags) t.4) fit
-    (is_keyed (held c.append_array.new.self c.set_innermost.new.self) s.closed t.0 t.1 t.2 key flags
+    (is_keyed (held c.append_array.new.self c.set_stage.new.self) s.closed t.0 t.1 t.2 key flags
     t.3 old.bytes (at.bytes ∙ ap (λ l. member_encodings s.closed ++ all_so_far l) t.4)
     (subst IsNested t.4 at.nested) (c.in_ok-append_array.ensures.ok
     ∙ ap (λ l. c.args.bytes.now ++ l) c.two_words.ensures) frames fit)

@@ -4,9 +4,9 @@ use Rattle.spa_builder.proofs.frames.fill.Goals as goal
 
 pub returns-then-waits : goal.returns-then-waits
 returns-then-waits c base ps v h e i =
-    filled_frames c.args.frames.now c.set_innermost.new.self base ps v
+    filled_frames c.args.frames.now c.set_stage.new.self base ps v
     (sym (c.waits.ensures base ps i) ∙ c.if-waits.true) e
-    (λ b p q rs x w. c.set_innermost.ensures b p q rs x w)
+    (λ b p q rs x w. c.set_stage.ensures b p q rs x w)
 
 pub returns-else-waits : goal.returns-else-waits
 returns-else-waits c base ps v h e i =

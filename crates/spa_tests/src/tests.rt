@@ -1,6 +1,7 @@
 //! The tests, by subject.
 mod calls_together;
 mod canonical;
+mod every_reader;
 mod fixation;
 mod hostile;
 mod reading;

@@ -7,6 +7,7 @@ use crate::answers::{
 use crate::bytes::{assert_holds_at, assert_number_at, assert_text};
 use crate::oracle::{Answer, Fault, answer_of, stands};
 use crate::tables::{lines_of_built, lines_of_read_rows};
+use crate::tests::every_reader::{is_short_for_every_type, parser_and_view_agree};
 use spa_spelling::bytes_spelled;
 use std::alloc::Global;
 use std::process::Abort;
@@ -17,6 +18,8 @@ const REPLACEMENTS: [u8; 6] = [0, 1, 7, 127, 128, 255];
 
 /// Compares the library's reading of an input with that of the second reader.
 fn compare(rt: &impl Abort, alloc: Global, input: &[u8]) -> Result<(), Fail> {
+    let agree = parser_and_view_agree(alloc, input);
+    assert_holds_at(rt, agree, "a parser takes what has a view", input);
     let reading = reading_of(alloc, input)?;
     compare_with_answer(rt, alloc, input, &reading)
 }
@@ -95,11 +98,13 @@ fn compare_rewritten(
     assert_own_rewriting(rt, alloc, rewriting, wanted)
 }
 
-/// Each proper front of a pod is short.
+/// Each proper front of a pod is short, for every reader.
 fn cut_everywhere(rt: &impl Abort, alloc: Global, input: &[u8]) -> Result<(), Fail> {
     for end in 0..input.len() {
         let verdict = verdict_of(alloc, &input[..end])?;
         assert_text(rt, verdict, "Short", &input[..end]);
+        let is_short = is_short_for_every_type(alloc, &input[..end]);
+        assert_holds_at(rt, is_short, "short for every type", &input[..end]);
     }
     Ok(())
 }

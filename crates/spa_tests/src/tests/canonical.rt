@@ -114,8 +114,8 @@ fn answers_as_the_rewriting_shows(rt: HostRuntime) -> Result<(), Fail> {
 fn nested(alloc: Global, levels: u32, type_: u32, truth: u32) -> Result<Vec<u8>, AllocError> {
     let mut bytes = Vec::new(alloc);
     let head: u32 = if type_ == 15 { 24 } else { 8 };
-    for level in 1..levels + 1 {
-        let size = (levels - level).wrapping_mul(head).wrapping_add(head + 8);
+    for level in 0..levels {
+        let size = (levels - level).wrapping_mul(head).wrapping_add(8);
         push_words(&mut bytes, &[size, type_])?;
         if type_ == 15 {
             push_words(&mut bytes, &[262147, 3, 1, 0])?;

@@ -64,7 +64,7 @@ pub mod pod {
         pub use spa_fixed::{DeserializeError, Fault, FaultKind};
         pub use spa_read::{
             ArrayPodDeserializer, DeserializeSuccess, Never, ObjectPodDeserializer, PodDeserialize,
-            PodDeserializer, StructPodDeserializer, ValueVisitor, Visit, Visitor,
+            PodDeserializer, StructPodDeserializer, ValueVisitor, Visit, Visitor, laws,
         };
         pub use spa_visitors::{
             BitmapVisitor, BoolVisitor, BytesVisitor, ChoiceBoolVisitor, ChoiceDoubleVisitor,

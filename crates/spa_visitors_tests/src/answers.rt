@@ -17,6 +17,7 @@ fn answer<'de, P: PodDeserialize<'de> + Debug>(
         PodDeserializer::deserialize_from(alloc, input);
     match read {
         Ok((_, value)) => format!(in alloc; "{value:?}"),
+        Err(DeserializeError::OutOfMemory) => Err(AllocError),
         Err(e) => format!(in alloc; "{}", e.kind()),
     }
 }

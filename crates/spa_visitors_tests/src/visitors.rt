@@ -249,6 +249,7 @@ fn answered<const CALL: u8>(alloc: Global, input: &[u8]) -> Result<String, Alloc
         PodDeserializer::deserialize_from(alloc, input);
     match read {
         Ok((_, answer)) => Ok(answer.0),
+        Err(DeserializeError::OutOfMemory) => Err(AllocError),
         Err(e) => String::from_str(alloc, e.kind()),
     }
 }

@@ -55,7 +55,7 @@ pub mod pod {
         pub use spa_sink::{GenError, PodOutput, PodSink};
         pub use spa_write::{
             ArrayPodSerializer, ObjectPodSerializer, PodSerialize, PodSerializer, SerializeSuccess,
-            StructPodSerializer, laws,
+            StructPodSerializer, laws, write_sized,
         };
     }
 

@@ -10,6 +10,8 @@ mod equality;
 #[cfg(test)]
 mod reading;
 #[cfg(test)]
+mod sized;
+#[cfg(test)]
 mod viewing;
 #[cfg(test)]
 mod writing;

@@ -7,7 +7,7 @@ use spa_spelling::bytes_spelled;
 use spa_utils::{Choice, ChoiceEnum, ChoiceFlags, Fd, Float32, Float64, Fraction, Id, Rectangle};
 use spa_value::{ChoiceValue, Object, Property, PropertyFlags, Value, ValueArray};
 use spa_write::{
-    PodSerializer, laws, put_bitmap, put_bytes, put_leaf, put_pointer, put_text, write_value,
+    PodSerializer, laws, put_bitmap, put_bytes, put_leaf, put_pointer, put_text, write_sized,
 };
 use std::alloc::{AllocError, Global};
 use std::process::Abort;
@@ -358,7 +358,8 @@ fn put_true(out: &mut Vec<u8>) -> Result<(), GenError> {
 /// Appends a struct.
 fn put_struct(out: &mut Vec<u8>, alloc: Global) -> Result<(), GenError> {
     let value = struct_of(alloc, Value::Int(3))?;
-    write_value(out, &value)
+    write_sized(out, &value)?;
+    Ok(())
 }
 
 /// What each call appends, one behind another.

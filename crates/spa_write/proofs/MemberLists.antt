@@ -122,9 +122,9 @@ measured_next vs i v n m k l e h w sum short =
       size = size;
       short = short;
       writable = record {
-          no_nul = λ x. nul (subst SomeHasNul more x);
-          fits = ⊎_elim (λ x. omega (arith, x, size, short)) (λ x. large (subst SomeTooLarge more x));
-        };
+        no_nul = λ x. nul (subst SomeHasNul more x);
+        fits = ⊎_elim (λ x. omega (arith, x, size, short)) (λ x. large (subst SomeTooLarge more x));
+      };
     }
 
 -- the refusal of one

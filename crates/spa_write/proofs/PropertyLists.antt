@@ -147,10 +147,10 @@ properties_measured_next ps i p n m k l e h w sum short =
     record {
       size = size;
       writable = record {
-          short = omega (arith, size, short);
-          no_nul = λ x. nul (subst SomeValueHasNul more x);
-          fits = λ x. large (subst SomeValueTooLarge more x);
-        };
+        short = omega (arith, size, short);
+        no_nul = λ x. nul (subst SomeValueHasNul more x);
+        fits = λ x. large (subst SomeValueTooLarge more x);
+      };
     }
 
 -- a size word of these properties is past 32 bits, or of the object that they are in
@@ -199,9 +199,9 @@ object_measured v t i ps n k is h sum short =
     subst (λ w. IsMeasured w (header_size + k)) (sym is) (record {
       size = omega (arith, h.size, sum, body, whole, frame);
       writable = record {
-          no_nul = h.writable.no_nul;
-          fits = ⊎_elim (λ x. omega (arith, x, h.size, sum, short, body)) h.writable.fits;
-        };
+        no_nul = h.writable.no_nul;
+        fits = ⊎_elim (λ x. omega (arith, x, h.size, sum, short, body)) h.writable.fits;
+      };
     })
 
 -- the refusal of its properties

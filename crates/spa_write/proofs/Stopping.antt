@@ -197,9 +197,9 @@ pub size_of_object : (v : Tree) (t i : ℕ) (ps : Properties) (n : ℕ) → v �
 size_of_object v t i ps n is e =
     e ∙ ap (λ w. length (encoding_of w)) is
     ∙ (let f = length-framed object_type (encoded_body (object t i ps)) in
-       let w = whole_properties ps in
-       let b = length-object t i ps in
-       omega arith)
+    let w = whole_properties ps in
+    let b = length-object t i ps in
+    omega arith)
 
 pub struct_fits : (vs : Trees) → IsWritable (struct vs) → length (member_encodings vs) < size_limit
 struct_fits vs w = not_long _ _ (λ n. w.fits (inl n))

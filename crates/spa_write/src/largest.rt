@@ -1,44 +1,50 @@
 //! Which of a struct's members, or of an object's properties, is the largest, without counting what is in it.
 use spa_value::{Property, Value};
 
-/// How many values are counted in each member at first.
+/// How many values are counted in each member at least, once more than one is a struct or an object.
 const FIRST_BUDGET: usize = 16;
 
 /// How often the number is doubled, at most.
 const MOST_ROUNDS: u32 = 48;
 
-/// The place of the member with the most values in it, or one that has more than half as many; some other place where no
-/// member is a struct or an object. Its size alone need not be computed.
+/// Where members have so many bytes on average, or fewer, none is looked for. The shortest have 8, so no member has more
+/// than seven eighths of all then, and 8.
+const AVERAGE_LEN: u64 = 64;
+
+/// The place of the member with the most values in it, so that its size alone need not be computed. The answer is the number
+/// of members where the sizes of all may be computed: none is a struct or an object, or none is far larger than the others.
 ///
 /// Values are counted in each member up to a number that doubles until at most one member has more: so the largest is
 /// never counted, but as far as the second largest goes.
-pub(crate) fn largest_member(members: &[Value]) -> usize {
-    let mut budget = FIRST_BUDGET;
-    let mut largest = members.len();
+pub(crate) fn largest_member(members: &[Value], size: u64) -> usize {
+    if size / AVERAGE_LEN <= members.len() as u64 {
+        return members.len();
+    }
+    let mut budget = 0;
     for _ in 0..MOST_ROUNDS {
         match members_beyond(members, budget) {
-            (0, _) => return largest,
+            (0, _) => return members.len(),
             (1, place) => return place,
-            (_, place) => largest = place,
+            _ => budget = FIRST_BUDGET.max(budget.saturating_mul(2)),
         }
-        budget = budget.saturating_mul(2);
     }
-    largest
+    members.len()
 }
 
 /// The same of the value of a property.
-pub(crate) fn largest_property(properties: &[Property]) -> usize {
-    let mut budget = FIRST_BUDGET;
-    let mut largest = properties.len();
+pub(crate) fn largest_property(properties: &[Property], size: u64) -> usize {
+    if size / AVERAGE_LEN <= properties.len() as u64 {
+        return properties.len();
+    }
+    let mut budget = 0;
     for _ in 0..MOST_ROUNDS {
         match properties_beyond(properties, budget) {
-            (0, _) => return largest,
+            (0, _) => return properties.len(),
             (1, place) => return place,
-            (_, place) => largest = place,
+            _ => budget = FIRST_BUDGET.max(budget.saturating_mul(2)),
         }
-        budget = budget.saturating_mul(2);
     }
-    largest
+    properties.len()
 }
 
 /// Whether no member, one, or more than one consist of more than so many values, and the place of the last one found.

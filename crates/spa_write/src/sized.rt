@@ -49,7 +49,13 @@ fn put_value<S: PodSink>(sink: &mut S, value: &Value, known: Option<u64>) -> Res
         }
         Value::Object(object) => {
             let size = len_of(value, known) - HEADER_LEN as u64;
-            put_four(sink, size as u32, SpaTypes::Object.0, object.type_, object.id)?;
+            put_four(
+                sink,
+                size as u32,
+                SpaTypes::Object.0,
+                object.type_,
+                object.id,
+            )?;
             put_properties(sink, object.properties.as_slice(), size - HEADER_LEN as u64)
         }
         leaf => put_checked_leaf(sink, leaf),
@@ -82,7 +88,7 @@ fn put_members<S: PodSink>(sink: &mut S, members: &[Value], size: u64) -> Result
     ensures put { OnOk result (ArePut S.appends sink.old (views members.now) sink.new) }
     ensures stops { IfErr result (λ e. Stops S.appends S.refuses sink.old (member_encodings (views members.now)) sink.new e) }
 {
-    let largest = largest_member(members);
+    let largest = largest_member(members, size);
     let left = left_for_member(members, largest, size);
     for (index, member) in members.iter().enumerate() {
         put_value(sink, member, known_at(index, largest, left))?;
@@ -118,7 +124,7 @@ fn put_properties<S: PodSink>(
     ensures put { OnOk result (ArePropertiesPut S.appends sink.old (property_views properties.now) sink.new) }
     ensures stops { IfErr result (λ e. Stops S.appends S.refuses sink.old (property_encodings (property_views properties.now)) sink.new e) }
 {
-    let largest = largest_property(properties);
+    let largest = largest_property(properties, size);
     let left = left_for_property(properties, largest, size);
     for (index, property) in properties.iter().enumerate() {
         let known = known_at(index, largest, left);
@@ -162,7 +168,13 @@ fn put_checked_leaf<S: PodSink>(sink: &mut S, value: &Value) -> Result<(), GenEr
 }
 
 /// Appends four words at once.
-fn put_four<S: PodSink>(sink: &mut S, first: u32, second: u32, third: u32, fourth: u32) -> Result<(), GenError>
+fn put_four<S: PodSink>(
+    sink: &mut S,
+    first: u32,
+    second: u32,
+    third: u32,
+    fourth: u32,
+) -> Result<(), GenError>
     ensures ok { OnOk result (S.appends sink.old ((word_bytes first ++ word_bytes second) ++ (word_bytes third ++ word_bytes fourth)) sink.new) }
     ensures within { (third < size_limit) × (fourth < size_limit) }
     ensures begun { OnErr result ((count : ℕ) × S.appends sink.old (take count ((word_bytes first ++ word_bytes second) ++ (word_bytes third ++ word_bytes fourth))) sink.new) }

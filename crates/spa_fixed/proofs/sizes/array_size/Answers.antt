@@ -1,4 +1,3 @@
-
 use Rattle.spa_fixed.proofs.ArrayWriting.{length-array_body}
 use Rattle.spa_fixed.proofs.sizes.array_size.Goals as goal
 

@@ -1,4 +1,4 @@
-use Rattle.std.proofs.Common.{ℕ, [], ap, arith}
+use Rattle.std.proofs.Common.{[], ap, arith}
 use Rattle.std.specs.Prelude.{None}
 use Rattle.spa_builder.specs.State.{open_choice}
 use Rattle.spa_builder.specs.Step.{step, push_choice}

@@ -1,4 +1,4 @@
--- How deep structs and objects stand in one another in a value: docs/FORMAT.md, "Values".
+-- How deep structs and objects stand in one another, in a value and in any bytes: docs/FORMAT.md, "Values", "Walks over views".
 use Rattle.std.specs.Prelude.{◌≡◌, ℕ, suc, zero, ◌+◌, ◌≤◌, ◌⊎◌, List, [], ◌∷◌, drop, max}
 use Rattle.spa_format.specs.Words.{body_of, header_size, word_at}
 use Rattle.spa_format.specs.Front.{HasFront}
@@ -32,7 +32,7 @@ abbrev pub SomeOf : (List ℕ → Type 0) → List (List ℕ) → Type 0
 SomeOf P [] = ⊥
 SomeOf P (b ∷ bs) = P b ⊎ SomeOf P bs
 
--- At the front of any bytes more than so many structs and objects stand in one another: in these a walk over whole pods finds such ones.
+-- More than so many structs and objects stand in one another at the front of any bytes: the walk over one finds the next in it.
 unfoldable pub NestsDeeper : ℕ → List ℕ → Type 0
 NestsDeeper zero b = HasFront b × ((word_at b 4 ≡ struct_type) ⊎ (word_at b 4 ≡ object_type))
 NestsDeeper (suc n) b =

@@ -17,6 +17,7 @@ use spa_utils::SpaTypes;
 /// others made, since these call themselves for each level. On bytes that aren't accepted it counts the structs
 /// and objects that walks over whole pods meet in one another: none where no front is there.
 pub fn nests_within(input: &[u8], levels: u32) -> bool
+    // Of an accepted input `true` exactly where its value nests no deeper,
     ensures exactly { (v : Tree) → Begins input.now v → Decides result (depth_of v ≤ levels) }
     // and on any bytes `false` exactly where more are met.
     ensures deeper { result ≡ false → NestsDeeper levels input.now }

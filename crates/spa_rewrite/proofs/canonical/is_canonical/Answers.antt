@@ -1,4 +1,4 @@
-use Rattle.std.proofs.Common.{◌≡◌, sym, ◌∙◌, arith, rules}
+use Rattle.std.proofs.Common.{sym, ◌∙◌, arith}
 use Rattle.std.proofs.lemmas.Bool.{true_from_ne_false}
 use Rattle.std.specs.Cmp.Lexicographic.{other_text, same_text}
 use Rattle.spa_rewrite.proofs.Own.{before_rest, own_is_same, same_is_own}

@@ -16,9 +16,6 @@ pub record DeepAlike (P Q : Type 0) : Type 0 where
   pub there : P → Q
   pub back : Q → P
 
-pub alike : (P : Type 0) → DeepAlike P P
-alike P = record { there = λ p. p; back = λ p. p }
-
 -- a list of which the first isn't so, and one of which it is
 pub alike_rest : (P : List ℕ → Type 0) (Q : Type 0) (all rest : List (List ℕ)) (first : List ℕ) → all ≡ first ∷ rest → DeepAlike (SomeOf P all) Q → ¬ (P first) → DeepAlike (SomeOf P rest) Q
 alike_rest P Q all rest first e a n = record {

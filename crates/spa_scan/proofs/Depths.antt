@@ -139,12 +139,6 @@ properties_end levels whole left before ended ps m = let w = before ps m in w.al
     empty no_properties k = omega arith
     empty (property key flags v qs) k = absurd (ended k.0 (front_of_whole (drop header_size left) k.3 k.4 (type_of v) (IsBody v) k.5 k.6).0)
 
-pub whole_members : (levels : ℕ) (body : List ℕ) → MembersLeft levels body body
-whole_members levels body = λ vs m. record { values = vs; members = m; all = λ h. h; some = λ h. h }
-
-pub whole_properties : (levels : ℕ) (body : List ℕ) → PropertiesLeft levels body body
-whole_properties levels body = λ ps m. record { values = ps; properties = m; all = λ h. h; some = λ h. h }
-
 pub not_both : (b : Bool) → b ≡ false → b ≡ true → ⊥
 not_both b e f = let g = sym e ∙ f in grind arith
 

@@ -4,7 +4,7 @@ use Rattle.std.specs.Prelude.{Bool, true, false, if◌then◌else◌, replicate}
 use Rattle.std.proofs.lemmas.List.{drop-drop, drop-take, drop_at, length-take-le}
 use Rattle.spa_format.specs.Words.{word_at, word_bytes, wide_at, wide_bytes, padded_size, body_of}
 use Rattle.spa_format.specs.Kind.{Kind, none_kind, bool_kind, id_kind, int_kind, long_kind, float_kind, double_kind, rectangle_kind, fraction_kind, fd_kind, body_size, type_number, Fixed, none, bool, id, int, long, float, double, rectangle, fraction, fd, kind_of, IsFixedBody, fixed_body}
-use Rattle.spa_format.specs.Tree.{choice, choice_type, Shape, none_choice, range_choice, step_choice, enum_choice, flags_choice, shape_number, type_of}
+use Rattle.spa_format.specs.Tree.{choice, choice_type, Shape, none_choice, range_choice, step_choice, shape_number, type_of}
 use Rattle.spa_format.specs.Pod.{AreElements, IsArray, IsBody, IsChoice}
 use Rattle.spa_format.specs.Normal.{kept_flags}
 use Rattle.spa_format.specs.Encoding.{array_body, encoded_body, fixed_bodies}
@@ -275,13 +275,6 @@ range_further _ n e c = absurd (omega arith)
 pub step_further : (s : Shape) (n : ℕ) → shape_number s ≡ 2 → IsCount s n → n ≡ 3
 step_further step_choice n e c = c
 step_further _ n e c = absurd (omega arith)
-
-pub shape_below : (s : Shape) → shape_number s < 5
-shape_below none_choice = omega arith
-shape_below range_choice = omega arith
-shape_below step_choice = omega arith
-shape_below enum_choice = omega arith
-shape_below flags_choice = omega arith
 
 pub some_values : (n w l : ℕ) → 0 < w → l ≡ suc n * w → 0 < l
 some_values n w l p e = let m : suc n * w ≡ w + n * w = omega arith in omega arith

@@ -1,17 +1,16 @@
 -- Pods that a look goes into: what it can't miss of them.
-use Rattle.std.proofs.Common.{◌≡◌, ◌≢◌, ℕ, ◌<◌, ◌≤◌, ◌-◌, List, ◌++◌, length, drop, refl, sym, ap, ◌∙◌, subst, arith, length-append, append_assoc}
+use Rattle.std.proofs.Common.{◌≡◌, ℕ, ◌<◌, ◌≤◌, ◌-◌, List, ◌++◌, length, drop, sym, ap, ◌∙◌, subst, arith, length-append, append_assoc}
 use Rattle.std.proofs.lemmas.List.{drop_at}
 use Rattle.spa_format.specs.Words.{word_at, word_bytes, wide_bytes, header_size}
-use Rattle.spa_format.specs.Kind.{Kind, none_kind, bool_kind, id_kind, int_kind, long_kind, float_kind, double_kind, rectangle_kind, fraction_kind, fd_kind, body_size, type_number, kind_of}
-use Rattle.spa_format.specs.Tree.{Tree, fixed, string, bytes, bitmap, array, choice, pointer, struct, object, struct_type, object_type, pointer_type, array_type, string_type, type_of}
+use Rattle.spa_format.specs.Tree.{struct_type, object_type, pointer_type}
 use Rattle.spa_format.specs.Pod.{IsBody}
 use Rattle.spa_format.specs.Encoding.{encoded_body, property_encodings}
 use Rattle.spa_format.specs.Front.{rest_of}
 use Rattle.spa_format.specs.Typed.{IsBytes}
-use Rattle.spa_format.proofs.Shapes.{array_only, fixed_only, object_only, pointer_only, string_only, struct_only}
+use Rattle.spa_format.proofs.Shapes.{object_only, pointer_only, struct_only}
 use Rattle.spa_format.proofs.WordLemmas.{length-wide_bytes, length-word_bytes, word_inside}
 use Rattle.spa_bytes.specs.Opening.{Opens}
-use Rattle.spa_scan.specs.Canonical.{BeginsCanonical, IsCanonicalArray, IsCanonicalBody, IsCanonicalText, IsSized}
+use Rattle.spa_scan.specs.Canonical.{BeginsCanonical, IsCanonicalBody, IsSized}
 use Rattle.spa_scan.specs.Depth.{AreShallow, AreShallowProperties, IsShallowBody, depth_of}
 use Rattle.spa_scan.proofs.Made.{made_body, made_members, made_properties}
 
@@ -117,17 +116,6 @@ shallow_object levels type body t s =
       },
     )
 
-pub text_of_string : (type : ℕ) (body : List ℕ) → type ≡ string_type → IsCanonicalBody type body → IsCanonicalText body
-text_of_string type body t c =
-    let i = string_only c.value (c.its_type ∙ t) in
-    let b = subst (λ x. IsBody x body) i.1 c.its_body in
-    (i.0, b.0, b.1)
-
-pub array_of_body : (type : ℕ) (body : List ℕ) → type ≡ array_type → IsCanonicalBody type body → IsCanonicalArray body
-array_of_body type body t c =
-    let i = array_only c.value (c.its_type ∙ t) in
-    record { kind = i.0; values = i.1; its_array = subst (λ x. IsBody x body) i.2 c.its_body; same = c.same ∙ ap encoded_body i.2 }
-
 pub pointer_of_body : (type : ℕ) (body : List ℕ) → type ≡ pointer_type → IsCanonicalBody type body → (length body ≡ 16) × (word_at body 4 ≡ 0)
 pointer_of_body type body t c =
     let i = pointer_only c.value (c.its_type ∙ t) in
@@ -140,32 +128,3 @@ pointer_of_body type body t c =
     let e4 = length-wide_bytes i.1 in
     let long : length body ≡ 16 = omega arith in
     (long, ap (λ b. word_at b 4) e ∙ word_inside (word_bytes i.0) (wide_bytes i.1) 0 4 e2 (omega arith))
-
-pub none_of_body : (type : ℕ) (body : List ℕ) → type ≡ 1 → IsCanonicalBody type body → length body ≡ 0
-none_of_body type body t c =
-    let i = fixed_only c.value none_kind (c.its_type ∙ t) in
-    let b = subst (λ x. IsBody x body) i.2 c.its_body in
-    b.whole ∙ ap body_size i.1
-
-sized_kind : (k : Kind) → type_number k ≢ 1 → 0 < body_size k
-sized_kind none_kind n = absurd (n refl)
-sized_kind bool_kind n = omega arith
-sized_kind id_kind n = omega arith
-sized_kind int_kind n = omega arith
-sized_kind long_kind n = omega arith
-sized_kind float_kind n = omega arith
-sized_kind double_kind n = omega arith
-sized_kind rectangle_kind n = omega arith
-sized_kind fraction_kind n = omega arith
-sized_kind fd_kind n = omega arith
-
-pub other_types : (v : Tree) → type_of v ≢ 1 → type_of v ≢ 8 → type_of v ≢ 9 → type_of v ≢ 12 → type_of v ≢ 13 → type_of v ≢ 14 → type_of v ≢ 15 → type_of v ≢ 17 → type_of v ≢ 19 → IsSized v
-other_types (fixed x) n1 n2 n3 n4 n5 n6 n7 n8 n9 = (x, refl, sized_kind (kind_of x) n1)
-other_types (string s) n1 n2 n3 n4 n5 n6 n7 n8 n9 = absurd (n2 refl)
-other_types (bytes s) n1 n2 n3 n4 n5 n6 n7 n8 n9 = absurd (n3 refl)
-other_types (bitmap s) n1 n2 n3 n4 n5 n6 n7 n8 n9 = absurd (n4 refl)
-other_types (array k xs) n1 n2 n3 n4 n5 n6 n7 n8 n9 = absurd (n5 refl)
-other_types (struct vs) n1 n2 n3 n4 n5 n6 n7 n8 n9 = absurd (n6 refl)
-other_types (object t i ps) n1 n2 n3 n4 n5 n6 n7 n8 n9 = absurd (n7 refl)
-other_types (pointer t a) n1 n2 n3 n4 n5 n6 n7 n8 n9 = absurd (n8 refl)
-other_types (choice s f k x xs) n1 n2 n3 n4 n5 n6 n7 n8 n9 = absurd (n9 refl)

@@ -9,6 +9,8 @@ pub returns-in_ok-copies-in-Struct : goal.returns-in_ok-copies-in-Struct
 returns-in_ok-copies-in-Struct c =
     let same = ap view c.in-Struct.is ∙ view-struct c.in-Struct.members in
     let count = ap node_count same in
-    let left = ap (λ l. member_node_count (views l)) c.as_slice-left.ensures.value in
-    (ap (λ l. struct (views (l ++ c.as_slice-left.result.now))) c.in_ok-copies-in-Struct.ensures.items
-    ∙ ap (λ l. struct (views l)) c.as_slice-left.ensures.value ∙ sym same, omega arith)
+    let left = ap (λ l. member_node_count (views l)) c.as_slice-left.ensures.value in (
+      ap (λ l. struct (views (l ++ c.as_slice-left.result.now))) c.in_ok-copies-in-Struct.ensures.items
+          ∙ ap (λ l. struct (views l)) c.as_slice-left.ensures.value ∙ sym same,
+      omega arith,
+    )

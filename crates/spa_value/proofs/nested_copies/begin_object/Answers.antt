@@ -10,6 +10,8 @@ returns c =
     let o = out-Object c.args.object.now in
     let same = view-fields c.args.object.now in
     let count = ap node_count same in
-    let left = ap (λ l. property_node_count (property_views l)) c.as_slice.ensures.value in
-    (ap (λ l. object o.type_ o.id (property_views (l ++ c.as_slice.result.now))) c.in_ok-copies.ensures.items
-    ∙ ap (λ l. object o.type_ o.id (property_views l)) c.as_slice.ensures.value ∙ sym same, omega arith)
+    let left = ap (λ l. property_node_count (property_views l)) c.as_slice.ensures.value in (
+      ap (λ l. object o.type_ o.id (property_views (l ++ c.as_slice.result.now))) c.in_ok-copies.ensures.items
+          ∙ ap (λ l. object o.type_ o.id (property_views l)) c.as_slice.ensures.value ∙ sym same,
+      omega arith,
+    )

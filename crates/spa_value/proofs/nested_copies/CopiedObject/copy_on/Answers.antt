@@ -15,12 +15,14 @@ loop-property-preserved c =
     let first : from.left.now ≡ p ∷ left = search rules in
     let same = subst (Begins p.value) c.in-Whole.is c.in_ok-value.ensures in
     let count = ap (λ l. property_node_count (property_views l)) first in
-    let fewer = before.1 in
-    (ap (λ l. object from.type_ from.id (property_views (l ++ left))) c.in_ok-push-in-Whole.ensures.items
-    ∙ ap (object from.type_ from.id)
-    (next_property_copied copies left p _ (ap (λ t. property p.key p.flags.0 t no_properties) same)
-    ∙ ap (λ l. property_views (copies ++ l)) (sym first))
-    ∙ before.0, omega arith)
+    let fewer = before.1 in (
+      ap (λ l. object from.type_ from.id (property_views (l ++ left))) c.in_ok-push-in-Whole.ensures.items
+          ∙ ap (object from.type_ from.id)
+          (next_property_copied copies left p _ (ap (λ t. property p.key p.flags.0 t no_properties) same)
+          ∙ ap (λ l. property_views (copies ++ l)) (sym first))
+          ∙ before.0,
+      omega arith,
+    )
 
 pub returns-in-Within : goal.returns-in-Within
 returns-in-Within c =
@@ -33,7 +35,9 @@ returns-in-Within c =
     let begun = subst (Begins p.value) c.in-Within.is c.in_ok-value.ensures in
     let count = ap (λ l. property_node_count (property_views l)) first in
     let inner = begun.1 in
-    let fewer = before.1 in
-    (ap (object from.type_ from.id)
-    (nested_property_copied copies left p _ begun.0 ∙ ap (λ l. property_views (copies ++ l)) (sym first))
-    ∙ before.0, omega arith)
+    let fewer = before.1 in (
+      ap (object from.type_ from.id)
+          (nested_property_copied copies left p _ begun.0 ∙ ap (λ l. property_views (copies ++ l)) (sym first))
+          ∙ before.0,
+      omega arith,
+    )

@@ -14,10 +14,12 @@ loop-member-preserved c =
     let first : c.loop-member.self.left.now ≡ v ∷ left = search rules in
     let same = subst (Begins v) c.in-Whole.is c.in_ok-copy.ensures in
     let count = ap (λ l. member_node_count (views l)) first in
-    let fewer = before.1 in
-    (ap (λ l. struct (views (l ++ left))) c.in_ok-push-in-Whole.ensures.items
-    ∙ ap struct (next_copied copies left v c.in-Whole.copy same ∙ ap (λ l. views (copies ++ l)) (sym first))
-    ∙ before.0, omega arith)
+    let fewer = before.1 in (
+      ap (λ l. struct (views (l ++ left))) c.in_ok-push-in-Whole.ensures.items
+          ∙ ap struct (next_copied copies left v c.in-Whole.copy same ∙ ap (λ l. views (copies ++ l)) (sym first))
+          ∙ before.0,
+      omega arith,
+    )
 
 pub returns-in-Within : goal.returns-in-Within
 returns-in-Within c =

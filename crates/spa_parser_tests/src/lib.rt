@@ -9,3 +9,5 @@ mod calling;
 mod calls;
 #[cfg(test)]
 mod forms;
+#[cfg(test)]
+mod refused;

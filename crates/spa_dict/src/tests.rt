@@ -6,29 +6,54 @@ use std::fmt::Debug;
 use std::process::Abort;
 use std::test::Fail;
 
+/// Compares what is found with what is wanted. The text says where.
+fn assert_same<T: PartialEq + Debug>(rt: &impl Abort, found: &T, wanted: &T, at: &str) {
+    assert_eq!(rt; *found, *wanted, "at {at}");
+}
+
+/// Something holds. The text says what.
+fn assert_holds(rt: &impl Abort, holds: bool, what: &str) {
+    assert!(rt; holds, "{what}");
+}
+
 #[test]
 fn pairs_come_in_order(rt: HostRuntime) -> Result<(), Fail> {
     let items: [(&[u8], &[u8]); 2] = [(b"K0", b"V0"), (b"K1", b"V1")];
     let dict = DictRef::new(&items, Flags::empty());
-    assert_eq!(rt; dict.len(), 2);
-    assert!(rt; !dict.is_empty());
+    assert_same(&rt, &dict.len(), &2, "two pairs");
+    assert_holds(&rt, !dict.is_empty(), "two pairs");
     let mut pairs = dict.iter_cstr();
-    assert_eq!(rt; pairs.next(), Some((b"K0".as_slice(), b"V0".as_slice())));
+    assert_same(
+        &rt,
+        &pairs.next(),
+        &Some((b"K0".as_slice(), b"V0".as_slice())),
+        "two pairs",
+    );
     let mut others = pairs.clone()?;
-    assert_eq!(rt; others.next(), Some((b"K1".as_slice(), b"V1".as_slice())));
-    assert_eq!(rt; pairs.next(), Some((b"K1".as_slice(), b"V1".as_slice())));
-    assert_eq!(rt; pairs.next(), None);
+    assert_same(
+        &rt,
+        &others.next(),
+        &Some((b"K1".as_slice(), b"V1".as_slice())),
+        "two pairs",
+    );
+    assert_same(
+        &rt,
+        &pairs.next(),
+        &Some((b"K1".as_slice(), b"V1".as_slice())),
+        "two pairs",
+    );
+    assert_same(&rt, &pairs.next(), &None, "two pairs");
     let mut texts = dict.iter();
     for wanted in [Some(("K0", "V0")), Some(("K1", "V1")), None, None] {
-        assert_eq!(rt; texts.next(), wanted);
+        assert_same(&rt, &texts.next(), &wanted, "two pairs");
     }
     let mut keys = dict.keys();
     for wanted in [Some("K0"), Some("K1"), None, None] {
-        assert_eq!(rt; keys.next(), wanted);
+        assert_same(&rt, &keys.next(), &wanted, "two pairs");
     }
     let mut values = dict.values();
     for wanted in [Some("V0"), Some("V1"), None, None] {
-        assert_eq!(rt; values.next(), wanted);
+        assert_same(&rt, &values.next(), &wanted, "two pairs");
     }
     Ok(())
 }
@@ -36,46 +61,70 @@ fn pairs_come_in_order(rt: HostRuntime) -> Result<(), Fail> {
 #[test]
 fn an_empty_dictionary_has_nothing(rt: HostRuntime) {
     let dict = DictRef::new(&[], Flags::empty());
-    assert_eq!(rt; dict.len(), 0);
-    assert!(rt; dict.is_empty());
-    assert_eq!(rt; dict.iter_cstr().next(), None);
-    assert_eq!(rt; dict.get("a"), None);
-    assert_eq!(rt; dict.parse::<bool>("a"), None);
+    assert_same(&rt, &dict.len(), &0, "no pairs");
+    assert_holds(&rt, dict.is_empty(), "no pairs");
+    assert_same(&rt, &dict.iter_cstr().next(), &None, "no pairs");
+    assert_same(&rt, &dict.get("a"), &None, "no pairs");
+    assert_same(&rt, &dict.parse::<bool>("a"), &None, "no pairs");
 }
 
 #[test]
 fn what_is_no_text_is_passed_over(rt: HostRuntime) {
     let items: [(&[u8], &[u8]); 4] = [(b"a", b"\xff"), (b"\xc3", b"0"), (b"a", b"1"), (b"a", b"2")];
     let dict = DictRef::new(&items, Flags::empty());
-    assert_eq!(rt; dict.get("a"), Some("1"));
-    assert_eq!(rt; dict.get("b"), None);
+    assert_same(&rt, &dict.get("a"), &Some("1"), "bytes that are no text");
+    assert_same(&rt, &dict.get("b"), &None, "bytes that are no text");
     let read = dict.parse::<bool>("a");
-    assert!(rt; matches!(read, Some(Ok(true))));
-    assert_eq!(rt; DictRef::new(&items, Flags::SORTED).get("a"), Some("1"));
-    assert_eq!(rt; dict.as_ref().len(), 4);
-    assert_eq!(rt; dict.iter_cstr().count(), 4);
+    assert_holds(
+        &rt,
+        matches!(read, Some(Ok(true))),
+        "bytes that are no text",
+    );
+    assert_same(
+        &rt,
+        &DictRef::new(&items, Flags::SORTED).get("a"),
+        &Some("1"),
+        "bytes that are no text",
+    );
+    assert_same(&rt, &dict.as_ref().len(), &4, "bytes that are no text");
+    assert_same(&rt, &dict.iter_cstr().count(), &4, "bytes that are no text");
     let mut texts = dict.iter();
     for wanted in [Some(("a", "1")), Some(("a", "2")), None] {
-        assert_eq!(rt; texts.next(), wanted);
+        assert_same(&rt, &texts.next(), &wanted, "bytes that are no text");
     }
     let mut keys = dict.keys();
     for wanted in [Some("a"), Some("a"), Some("a"), None] {
-        assert_eq!(rt; keys.next(), wanted);
+        assert_same(&rt, &keys.next(), &wanted, "bytes that are no text");
     }
     let mut values = dict.values();
     for wanted in [Some("0"), Some("1"), Some("2"), None] {
-        assert_eq!(rt; values.next(), wanted);
+        assert_same(&rt, &values.next(), &wanted, "bytes that are no text");
     }
 }
 
 #[test]
 fn flags_keep_all_bits(rt: HostRuntime) {
-    assert_eq!(rt; Flags::SORTED.bits(), 1);
+    assert_same(&rt, &Flags::SORTED.bits(), &1, "flags");
     for bits in [0, 1, 6, 0xffff_ffff] {
         let flags = Flags::from_bits_retain(bits);
-        assert_eq!(rt; DictRef::new(&[], flags).flags().bits(), bits);
-        assert_eq!(rt; flags.contains(Flags::SORTED), bits % 2 == 1, "at {bits}");
-        assert_eq!(rt; flags.union(Flags::SORTED).bits(), bits | 1, "at {bits}");
+        assert_same(
+            &rt,
+            &DictRef::new(&[], flags).flags().bits(),
+            &bits,
+            "flags",
+        );
+        assert_same(
+            &rt,
+            &flags.contains(Flags::SORTED),
+            &(bits % 2 == 1),
+            "flags",
+        );
+        assert_same(
+            &rt,
+            &flags.union(Flags::SORTED).bits(),
+            &(bits | 1),
+            "flags",
+        );
     }
 }
 
@@ -83,13 +132,13 @@ fn flags_keep_all_bits(rt: HostRuntime) {
 fn hints_count_the_pairs_that_are_left(rt: HostRuntime) {
     let items: [(&[u8], &[u8]); 3] = [(b"a", b"1"), (b"b", b"2"), (b"c", b"3")];
     let dict = DictRef::new(&items, Flags::empty());
-    assert_eq!(rt; dict.iter_cstr().size_hint(), (3, Some(3)));
-    assert_eq!(rt; dict.iter().size_hint(), (0, Some(3)));
-    assert_eq!(rt; dict.keys().size_hint(), (0, Some(3)));
-    assert_eq!(rt; dict.values().size_hint(), (0, Some(3)));
+    assert_same(&rt, &dict.iter_cstr().size_hint(), &(3, Some(3)), "hints");
+    assert_same(&rt, &dict.iter().size_hint(), &(0, Some(3)), "hints");
+    assert_same(&rt, &dict.keys().size_hint(), &(0, Some(3)), "hints");
+    assert_same(&rt, &dict.values().size_hint(), &(0, Some(3)), "hints");
     let mut keys = dict.keys();
-    assert_eq!(rt; keys.next(), Some("a"));
-    assert_eq!(rt; keys.size_hint(), (0, Some(2)));
+    assert_same(&rt, &keys.next(), &Some("a"), "hints");
+    assert_same(&rt, &keys.size_hint(), &(0, Some(2)), "hints");
 }
 
 /// Reads each text as a `T`, by itself and out of a dictionary.
@@ -98,11 +147,11 @@ where
     T: ParsableValue + PartialEq + Debug,
 {
     for (text, wanted) in rows {
-        assert_eq!(rt; T::parse_value(text), *wanted, "{text} as {}", T::TYPE_NAME);
+        assert_same(rt, &T::parse_value(text), wanted, text);
         let items: [(&[u8], &[u8]); 1] = [(b"key", text.as_bytes())];
         let found = DictRef::new(&items, Flags::empty()).parse::<T>("key");
         let found = found.and_then(|read| read.ok());
-        assert_eq!(rt; found, *wanted, "{text} as {}", T::TYPE_NAME);
+        assert_same(rt, &found, wanted, text);
     }
 }
 
@@ -237,7 +286,7 @@ fn printed_refusal<T: ParsableValue>(alloc: Global) -> Result<Option<String>, Al
 /// A type's refusal prints its name.
 fn check_name<T: ParsableValue>(rt: &impl Abort, alloc: Global, wanted: &str) -> Result<(), Fail> {
     let printed = printed_refusal::<T>(alloc)?;
-    assert_eq!(rt; printed.as_deref(), Some(wanted));
+    assert_same(rt, &printed.as_deref(), &Some(wanted), "a refusal");
     Ok(())
 }
 

@@ -1,7 +1,14 @@
 //! Codes with their meanings, from outside, and each call once.
 use crate::{AsyncSeq, SpaResult, SpaSuccess};
 use spa_utils::Errno;
+use std::fmt::Debug;
+use std::process::Abort;
 use std::test::Fail;
+
+/// Compares what is found with what is wanted. The text says where.
+fn assert_same<T: PartialEq + Debug>(rt: &impl Abort, found: &T, wanted: &T, at: &str) {
+    assert_eq!(rt; *found, *wanted, "at {at}");
+}
 
 /// How many sequence numbers there are.
 const COUNT: i32 = 1073741824;
@@ -26,11 +33,13 @@ fn codes_have_three_meanings(rt: HostRuntime) {
         let found = SpaResult::from_c(code)
             .into_result()
             .map_err(|e| e.errno().raw_os_error());
-        assert_eq!(rt; found, wanted, "at {code}");
-        assert_eq!(rt;
-            SpaResult::from_c(code).is_async(),
-            code >= COUNT,
-            "at {code}"
+        assert_same(&rt, &found, &wanted, "a code");
+        let is_async = SpaResult::from_c(code).is_async();
+        assert_same(
+            &rt,
+            &is_async,
+            &(code >= COUNT),
+            "whether it is asynchronous",
         );
     }
 }
@@ -51,29 +60,30 @@ fn sequence_numbers_are_the_low_bits(rt: HostRuntime) -> Result<(), Fail> {
     ];
     for (number, seq, raw, text) in rows {
         let found = AsyncSeq::from_seq(number);
-        assert_eq!(rt; found.seq(), seq, "at {number}");
-        assert_eq!(rt; found.raw(), raw, "at {number}");
-        assert_eq!(rt;
-            SpaResult::new_return_async(number),
-            SpaResult::from_c(raw),
-            "at {number}"
-        );
+        assert_same(&rt, &found.seq(), &seq, text);
+        assert_same(&rt, &found.raw(), &raw, text);
+        let later = SpaResult::new_return_async(number);
+        assert_same(&rt, &later, &SpaResult::from_c(raw), text);
         let printed = format!(in rt.alloc(); "{found:?}")?;
-        assert_eq!(rt; printed.as_str(), text, "at {number}");
+        assert_same(&rt, &printed.as_str(), &text, text);
     }
-    assert_eq!(rt; AsyncSeq::from_raw(1073741825), AsyncSeq::from_seq(1));
+    let first = AsyncSeq::from_seq(1);
+    assert_same(&rt, &AsyncSeq::from_raw(1073741825), &first, "the first");
     Ok(())
 }
 
 #[test]
 fn results_are_taken_as_done_or_later(rt: HostRuntime) -> Result<(), Fail> {
-    assert_eq!(rt; SpaResult::from_c(0).into_sync_result(), Ok(0));
-    assert_eq!(rt;
-        SpaResult::from_c(1073741823).into_sync_result(),
-        Ok(1073741823)
+    assert_same(
+        &rt,
+        &SpaResult::from_c(0).into_sync_result(),
+        &Ok(0),
+        "done",
     );
+    let done = SpaResult::from_c(1073741823).into_sync_result();
+    assert_same(&rt, &done, &Ok(1073741823), "done");
     let later = SpaResult::new_return_async(1).into_async_result();
-    assert_eq!(rt; later, Ok(AsyncSeq::from_seq(1)));
+    assert_same(&rt, &later, &Ok(AsyncSeq::from_seq(1)), "later");
     let rows = [(-1, "1"), (-16, "16"), (i32::MIN, "2147483648")];
     for (code, text) in rows {
         let done = SpaResult::from_c(code).into_sync_result();
@@ -82,14 +92,11 @@ fn results_are_taken_as_done_or_later(rt: HostRuntime) -> Result<(), Fail> {
             assert!(rt; false, "{code} is an error");
             continue;
         };
-        assert_eq!(rt; done, later, "at {code}");
-        assert_eq!(rt;
-            done.errno(),
-            Errno::from_raw(code.unsigned_abs()),
-            "at {code}"
-        );
+        assert_same(&rt, &done, &later, text);
+        let errno = Errno::from_raw(code.unsigned_abs());
+        assert_same(&rt, &done.errno(), &errno, text);
         let printed = format!(in rt.alloc(); "{done}")?;
-        assert_eq!(rt; printed.as_str(), text, "at {code}");
+        assert_same(&rt, &printed.as_str(), &text, text);
     }
     Ok(())
 }

@@ -5,7 +5,19 @@ use crate::{
     Rectangle, SpaTypes,
 };
 use bitflags::Flags;
+use std::fmt::Debug;
+use std::process::Abort;
 use std::test::Fail;
+
+/// Compares what is found with what is wanted. The text says where.
+fn assert_same<T: PartialEq + Debug>(rt: &impl Abort, found: &T, wanted: &T, at: &str) {
+    assert_eq!(rt; *found, *wanted, "at {at}");
+}
+
+/// Something holds. The text says what.
+fn assert_holds(rt: &impl Abort, holds: bool, what: &str) {
+    assert!(rt; holds, "{what}");
+}
 
 #[test]
 fn types_have_their_numbers(rt: HostRuntime) {
@@ -32,8 +44,8 @@ fn types_have_their_numbers(rt: HostRuntime) {
         (SpaTypes::Pod, 20),
     ];
     for (type_, number) in rows {
-        assert_eq!(rt; type_.as_raw(), number, "at {number}");
-        assert_eq!(rt; SpaTypes::from_raw(number), type_, "at {number}");
+        assert_same(&rt, &type_.as_raw(), &number, "a type");
+        assert_same(&rt, &SpaTypes::from_raw(number), &type_, "a type's number");
     }
 }
 
@@ -47,10 +59,10 @@ fn errors_have_their_numbers(rt: HostRuntime) -> Result<(), Fail> {
         (Errno::PROTO, 71, "71"),
     ];
     for (error, number, text) in rows {
-        assert_eq!(rt; error.raw_os_error(), number, "at {text}");
-        assert_eq!(rt; Errno::from_raw(number), error, "at {text}");
+        assert_same(&rt, &error.raw_os_error(), &number, text);
+        assert_same(&rt, &Errno::from_raw(number), &error, text);
         let printed = format!(in rt.alloc(); "{error}")?;
-        assert_eq!(rt; printed.as_str(), text);
+        assert_same(&rt, &printed.as_str(), &text, text);
     }
     Ok(())
 }
@@ -64,11 +76,11 @@ fn directions_turn_and_print(rt: HostRuntime) -> Result<(), Fail> {
         (Direction::from_raw(2), 2, 2, "Direction::Unknown"),
     ];
     for (direction, number, reversed, text) in rows {
-        assert_eq!(rt; direction.as_raw(), number, "at {text}");
-        assert_eq!(rt; Direction::from_raw(number), direction, "at {text}");
-        assert_eq!(rt; direction.reverse().as_raw(), reversed, "at {text}");
+        assert_same(&rt, &direction.as_raw(), &number, text);
+        assert_same(&rt, &Direction::from_raw(number), &direction, text);
+        assert_same(&rt, &direction.reverse().as_raw(), &reversed, text);
         let printed = format!(in rt.alloc(); "{direction:?}")?;
-        assert_eq!(rt; printed.as_str(), text);
+        assert_same(&rt, &printed.as_str(), &text, text);
     }
     Ok(())
 }
@@ -77,34 +89,38 @@ fn directions_turn_and_print(rt: HostRuntime) -> Result<(), Fail> {
 fn choice_flags_keep_all_bits(rt: HostRuntime) {
     for bits in [0, 1, 2, 0x8000_0000, 0xffff_ffff] {
         let flags = ChoiceFlags::from_bits_retain(bits);
-        assert_eq!(rt; flags.bits(), bits, "at {bits}");
-        assert_eq!(rt;
-            flags.contains(ChoiceFlags::_FAKE),
-            bits % 2 == 1,
-            "at {bits}"
+        assert_same(&rt, &flags.bits(), &bits, "flags");
+        assert_same(
+            &rt,
+            &flags.contains(ChoiceFlags::_FAKE),
+            &(bits % 2 == 1),
+            "flags",
         );
-        assert_eq!(rt;
-            flags.union(ChoiceFlags::_FAKE).bits(),
-            bits | 1,
-            "at {bits}"
+        assert_same(
+            &rt,
+            &flags.union(ChoiceFlags::_FAKE).bits(),
+            &(bits | 1),
+            "flags",
         );
     }
-    assert_eq!(rt; ChoiceFlags::empty().bits(), 0);
+    assert_same(&rt, &ChoiceFlags::empty().bits(), &0, "no flags");
 }
 
 #[test]
 fn plain_types_are_their_fields(rt: HostRuntime) {
-    assert_eq!(rt; ID_INVALID, 4294967295);
-    assert_eq!(rt; Id(7).as_raw(), 7);
-    assert!(rt; Id(7) != Id(8) && Fd(-1) != Fd(1));
-    assert!(rt; Float32(0) != Float32(0x8000_0000), "0 and -0 differ");
-    assert!(rt;
+    assert_same(&rt, &ID_INVALID, &4294967295, "no id");
+    assert_same(&rt, &Id(7).as_raw(), &7, "an id");
+    assert_holds(&rt, Id(7) != Id(8) && Fd(-1) != Fd(1), "numbers differ");
+    assert_holds(&rt, Float32(0) != Float32(0x8000_0000), "0 and -0 differ");
+    assert_holds(
+        &rt,
         Float32(0x7fc0_0000) == Float32(0x7fc0_0000),
-        "a float that is no number equals itself"
+        "a float that is no number equals itself",
     );
-    assert!(rt;
+    assert_holds(
+        &rt,
         Float64(0) != Float64(0x8000_0000_0000_0000),
-        "0 and -0 differ"
+        "0 and -0 differ",
     );
     let wide = Rectangle {
         width: 31,
@@ -114,8 +130,12 @@ fn plain_types_are_their_fields(rt: HostRuntime) {
         width: 14,
         height: 31,
     };
-    assert!(rt; wide != high);
-    assert!(rt; Fraction { num: 1, denom: 2 } != Fraction { num: 2, denom: 4 });
+    assert_holds(&rt, wide != high, "sides differ");
+    assert_holds(
+        &rt,
+        Fraction { num: 1, denom: 2 } != Fraction { num: 2, denom: 4 },
+        "halves differ",
+    );
 }
 
 #[test]
@@ -143,14 +163,17 @@ fn choices_are_copied_and_compared(rt: HostRuntime) -> Result<(), Fail> {
     let choices = [none, range, step, either, together];
     for (i, choice) in choices.iter().enumerate() {
         let copy = choice.clone()?;
-        assert_eq!(rt; *choice, copy);
+        assert_holds(&rt, *choice == copy, "a copy is like its source");
         for (j, other) in choices.iter().enumerate() {
-            assert_eq!(rt; *choice == *other, i == j, "{i} and {j}");
+            assert_same(&rt, &(*choice == *other), &(i == j), "two choices");
         }
     }
     let choice = Choice(ChoiceFlags::_FAKE, ChoiceEnum::None(5));
-    assert_eq!(rt; choice, choice.clone()?);
-    assert!(rt; choice != Choice(ChoiceFlags::empty(), ChoiceEnum::None(5)));
-    assert!(rt; choice != Choice(ChoiceFlags::_FAKE, ChoiceEnum::None(6)));
+    let copy = choice.clone()?;
+    assert_holds(&rt, choice == copy, "a copy has its flags");
+    let other = Choice(ChoiceFlags::empty(), ChoiceEnum::None(5));
+    assert_holds(&rt, choice != other, "flags differ");
+    let other = Choice(ChoiceFlags::_FAKE, ChoiceEnum::None(6));
+    assert_holds(&rt, choice != other, "values differ");
     Ok(())
 }

@@ -12,6 +12,7 @@ impl PodSerialize for () {
 
     ghost refuses = { λ _ _. ⊥ };
 
+    #[inline(always)]
     fn serialize<O: PodOutput>(
         &self,
         serializer: PodSerializer<O>,
@@ -25,6 +26,7 @@ impl PodSerialize for bool {
 
     ghost refuses = { λ _ _. ⊥ };
 
+    #[inline(always)]
     fn serialize<O: PodOutput>(
         &self,
         serializer: PodSerializer<O>,
@@ -38,6 +40,7 @@ impl PodSerialize for Id {
 
     ghost refuses = { λ _ _. ⊥ };
 
+    #[inline(always)]
     fn serialize<O: PodOutput>(
         &self,
         serializer: PodSerializer<O>,
@@ -51,6 +54,7 @@ impl PodSerialize for i32 {
 
     ghost refuses = { λ _ _. ⊥ };
 
+    #[inline(always)]
     fn serialize<O: PodOutput>(
         &self,
         serializer: PodSerializer<O>,
@@ -64,6 +68,7 @@ impl PodSerialize for i64 {
 
     ghost refuses = { λ _ _. ⊥ };
 
+    #[inline(always)]
     fn serialize<O: PodOutput>(
         &self,
         serializer: PodSerializer<O>,
@@ -77,6 +82,7 @@ impl PodSerialize for Float32 {
 
     ghost refuses = { λ _ _. ⊥ };
 
+    #[inline(always)]
     fn serialize<O: PodOutput>(
         &self,
         serializer: PodSerializer<O>,
@@ -90,6 +96,7 @@ impl PodSerialize for Float64 {
 
     ghost refuses = { λ _ _. ⊥ };
 
+    #[inline(always)]
     fn serialize<O: PodOutput>(
         &self,
         serializer: PodSerializer<O>,
@@ -103,6 +110,7 @@ impl PodSerialize for Rectangle {
 
     ghost refuses = { λ _ _. ⊥ };
 
+    #[inline(always)]
     fn serialize<O: PodOutput>(
         &self,
         serializer: PodSerializer<O>,
@@ -116,6 +124,7 @@ impl PodSerialize for Fraction {
 
     ghost refuses = { λ _ _. ⊥ };
 
+    #[inline(always)]
     fn serialize<O: PodOutput>(
         &self,
         serializer: PodSerializer<O>,
@@ -129,6 +138,7 @@ impl PodSerialize for Fd {
 
     ghost refuses = { λ _ _. ⊥ };
 
+    #[inline(always)]
     fn serialize<O: PodOutput>(
         &self,
         serializer: PodSerializer<O>,

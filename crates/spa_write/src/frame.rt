@@ -8,6 +8,7 @@ use spa_bytes::HEADER_LEN;
 use spa_sink::{GenError, PodOutput, put_two};
 
 /// Begins a pod of this type at the end of the output, with a size word of 0, and answers where it begins.
+#[inline(always)]
 pub fn begin<O: PodOutput>(out: &mut O, type_: u32) -> Result<usize, GenError>
     ensures start { IfOk result (λ start. start ≡ length (O.content out.old)) }
     ensures header { OnOk result (O.appends out.old (word_bytes 0 ++ word_bytes type_) out.new) }
@@ -20,6 +21,7 @@ pub fn begin<O: PodOutput>(out: &mut O, type_: u32) -> Result<usize, GenError>
 
 /// Writes the size word of the pod that begins there and ends with the output. It is refused exactly where the size is
 /// 4294967296 or more.
+#[inline(always)]
 pub fn close<O: PodOutput>(out: &mut O, start: usize) -> Result<(), GenError>
     requires { start + header_size ≤ length (O.content out.old) }
     ensures closed { OnOk result (IsClosed O.content O.refuses out.old start out.new) }

@@ -45,6 +45,7 @@ pub fn put_leaf<S: PodSink>(sink: &mut S, value: &Value) -> Result<(), GenError>
 }
 
 /// Appends the pod of a value of fixed size.
+#[inline(always)]
 pub(crate) fn put_number<T: CanonicalFixedSizedPod, S: PodSink>(
     sink: &mut S,
     value: &T,

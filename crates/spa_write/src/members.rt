@@ -49,6 +49,7 @@ impl<O: PodOutput> Model for ObjectPodSerializer<O> {
 
 impl<O: PodOutput> PodSerializer<O> {
     /// Begins a struct. It is refused only where the output refuses the 8 bytes of the header.
+    #[inline(always)]
     pub fn serialize_struct(self) -> Result<StructPodSerializer<O>, GenError>
         ensures begun { IfOk result (λ w. w ≡ Some (record { type = struct_type; before = O.content self; body = [] })) }
         ensures cause { IfErr result (MayRefuse O.refuses self header_size) }
@@ -61,6 +62,7 @@ impl<O: PodOutput> PodSerializer<O> {
 
     /// Begins an object of this type, with this id. It is refused only where the output refuses the 8 bytes of the
     /// header, or the 8 bytes of type and id behind it.
+    #[inline(always)]
     pub fn serialize_object(self, type_: u32, id: u32) -> Result<ObjectPodSerializer<O>, GenError>
         ensures begun { IfOk result (λ w. w ≡ Some (record { type = object_type; before = O.content self; body = word_bytes type_ ++ word_bytes id })) }
         ensures words { OnOk result ((type_ < size_limit) × (id < size_limit)) }
@@ -76,6 +78,7 @@ impl<O: PodOutput> PodSerializer<O> {
 impl<O: PodOutput> StructPodSerializer<O> {
     /// Writes one member more, and answers how many bytes it took. It is refused as the member is, or where the output
     /// refuses the member's encoding; as `Failed` after a refusal.
+    #[inline(always)]
     pub fn serialize_field<P: PodSerialize>(&mut self, field: &P) -> Result<u64, GenError>
         ensures member { OnOk result (Grows self.old (encoding_of (P.value field.now)) self.new) }
         ensures count { IfOk result (λ count. count ≡ length (encoding_of (P.value field.now))) }
@@ -89,6 +92,7 @@ impl<O: PodOutput> StructPodSerializer<O> {
 
     /// Ends the struct. It is refused as `TooLarge` exactly where its body is 4294967296 bytes or more, and as `Failed`
     /// exactly after a refusal.
+    #[inline(always)]
     pub fn end(self) -> Result<SerializeSuccess<O>, GenError>
         ensures pod { IfOk result (λ s. MatchOption self ⊥ (λ w. O.content s.output ≡ w.before ++ framed w.type w.body)) }
         ensures count { IfOk result (λ s. MatchOption self ⊥ (λ w. s.count ≡ length (framed w.type w.body))) }
@@ -104,6 +108,7 @@ impl<O: PodOutput> ObjectPodSerializer<O> {
     /// Writes one property more, and answers how many bytes it took: 8 of key and flags, and the value's encoding. It is
     /// refused as the value is, or where the output refuses key and flags or the value's encoding; as `Failed` after a
     /// refusal.
+    #[inline(always)]
     pub fn serialize_property<P: PodSerialize>(
         &mut self,
         key: u32,
@@ -123,6 +128,7 @@ impl<O: PodOutput> ObjectPodSerializer<O> {
 
     /// Ends the object. It is refused as `TooLarge` exactly where its body is 4294967296 bytes or more, and as `Failed`
     /// exactly after a refusal.
+    #[inline(always)]
     pub fn end(self) -> Result<SerializeSuccess<O>, GenError>
         ensures pod { IfOk result (λ s. MatchOption self ⊥ (λ w. O.content s.output ≡ w.before ++ framed w.type w.body)) }
         ensures count { IfOk result (λ s. MatchOption self ⊥ (λ w. s.count ≡ length (framed w.type w.body))) }

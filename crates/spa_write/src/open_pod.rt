@@ -34,6 +34,7 @@ impl<O: PodOutput> Model for OpenPod<O> {
 
 impl<O: PodOutput> OpenPod<O> {
     /// Begins a pod of this type.
+    #[inline(always)]
     pub(crate) fn begin(mut out: O, type_: u32) -> Result<OpenPod<O>, GenError>
         ensures begun { IfOk result (λ w. w ≡ Some (record { type = type_; before = O.content out; body = [] })) }
         ensures cause { IfErr result (MayRefuse O.refuses out header_size) }
@@ -47,6 +48,7 @@ impl<O: PodOutput> OpenPod<O> {
     }
 
     /// Appends two words.
+    #[inline(always)]
     pub(crate) fn put_words(&mut self, first: u32, second: u32) -> Result<(), GenError>
         ensures grown { OnOk result (Grows self.old (word_bytes first ++ word_bytes second) self.new) }
         ensures words { OnOk result ((first < size_limit) × (second < size_limit)) }
@@ -62,6 +64,7 @@ impl<O: PodOutput> OpenPod<O> {
     }
 
     /// Appends a value, and answers how many bytes its encoding has.
+    #[inline(always)]
     pub(crate) fn put<P: PodSerialize>(&mut self, value: &P) -> Result<u64, GenError>
         ensures encoding { OnOk result (Grows self.old (encoding_of (P.value value.now)) self.new) }
         ensures count { IfOk result (λ count. count ≡ length (encoding_of (P.value value.now))) }
@@ -79,6 +82,7 @@ impl<O: PodOutput> OpenPod<O> {
     }
 
     /// Appends a key, flags and a value, and answers how many bytes they take.
+    #[inline(always)]
     pub(crate) fn put_property<P: PodSerialize>(
         &mut self,
         key: u32,
@@ -105,6 +109,7 @@ impl<O: PodOutput> OpenPod<O> {
     }
 
     /// Writes the size word.
+    #[inline(always)]
     pub(crate) fn close(self) -> Result<SerializeSuccess<O>, GenError>
         ensures pod { IfOk result (λ s. MatchOption self ⊥ (λ w. O.content s.output ≡ w.before ++ framed w.type w.body)) }
         ensures count { IfOk result (λ s. MatchOption self ⊥ (λ w. s.count ≡ length (framed w.type w.body))) }

@@ -15,6 +15,7 @@ use spa_sink::{GenError, PodOutput};
 use spa_utils::Choice;
 
 /// A pod was written to an output that had this length before.
+#[inline(always)]
 fn written_since<O: PodOutput>(start: usize, out: O) -> SerializeSuccess<O>
     requires { start ≤ length (O.content out) }
     ensures output { result.output ≡ out }
@@ -27,6 +28,7 @@ fn written_since<O: PodOutput>(start: usize, out: O) -> SerializeSuccess<O>
 impl<O: PodOutput> PodSerializer<O> {
     /// Writes a value of a type of fixed size, as the value that stands for it. It is refused only where the output refuses
     /// its encoding.
+    #[inline(always)]
     pub fn serialized_fixed_sized_pod<P: FixedSizedPod>(
         self,
         pod: &P,

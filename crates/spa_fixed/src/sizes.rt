@@ -2,6 +2,7 @@
 ghost use Rattle.std.specs.Prelude.{◌≡◌, ◌+◌, ◌*◌, ◌<◌, ◌≤◌, IfNone, IfSome, length, map};
 ghost use Rattle.spa_fixed.specs.Choices.{choice_tree};
 ghost use Rattle.spa_format.specs.Encoding.{array_body, encoded_body, framed};
+ghost use Rattle.spa_format.specs.Faults.{choice_header_size};
 ghost use Rattle.spa_format.specs.Kind.{fixed_body};
 ghost use Rattle.spa_format.specs.Words.{size_limit};
 
@@ -35,7 +36,7 @@ pub fn choice_size<T: ChoiceElement>(choice: &Choice<T>) -> Option<u32>
 
 /// How many values a choice holds, its default among them.
 fn value_count<T: ChoiceElement>(choice: &Choice<T>) -> usize
-    ensures { length (encoded_body (choice_tree T.kind T.fixed choice.now)) ≡ 16 + result * T.SIZE }
+    ensures { length (encoded_body (choice_tree T.kind T.fixed choice.now)) ≡ choice_header_size + result * T.SIZE }
 {
     match &choice.1 {
         ChoiceEnum::None(_) => 1,

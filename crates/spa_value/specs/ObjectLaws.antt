@@ -19,6 +19,12 @@ ObjectsAreMadeOfFields =
     (type id : ℕ) (ps : Vec Property Global) →
     object_view (roll-Object (record { type_ = type; id = id; properties = ps })) ≡ object type id (property_views ps.items)
 
+-- the trees of two lists of properties behind one another
+abbrev pub PropertyListsAreJoined : Type 0
+PropertyListsAreJoined =
+    (ps qs : List Property) →
+    property_views (ps ++ qs) ≡ join_properties (property_views ps) (property_views qs)
+
 -- the trees of some properties and one more
 abbrev pub PropertyListsGrow : Type 0
 PropertyListsGrow =

@@ -9,17 +9,9 @@ use Rattle.spa_value.specs.declared.object.Property.{Property}
 use Rattle.spa_value.specs.View.{view}
 use Rattle.spa_value.specs.Views.{property_views}
 
--- the trees of some properties, of one more, and of others behind it
-around : (xs : List Property) (p : Property) (ys : List Property) →
-    property_views (xs ++ p ∷ ys) ≡ join_properties (property_views xs) (property p.key p.flags.0 (view p.value) (property_views ys))
-around [] p ys = refl
-around (x ∷ xs) p ys = ap (property x.key x.flags.0 (view x.value)) (around xs p ys)
-
--- the list that is made of them
-pub put_back : (before more all behind : List Property) (p : Property) → more ≡ before ++ p ∷ [] → all ≡ more ++ behind →
-    property_views all ≡ join_properties (property_views before) (property p.key p.flags.0 (view p.value) (property_views behind))
-put_back before more all behind p e f =
-    ap property_views (f ∙ ap (λ qs. qs ++ behind) e ∙ append_assoc before (p ∷ []) behind) ∙ around before p behind
+-- a list that grows by one property, and then by others
+pub put_back : (before more all behind : List Property) (p : Property) → more ≡ before ++ p ∷ [] → all ≡ more ++ behind → all ≡ before ++ p ∷ behind
+put_back before more all behind p e f = f ∙ ap (λ qs. qs ++ behind) e ∙ append_assoc before (p ∷ []) behind
 
 first_and : (qs : List Property) (p : Property) → 0 < length qs → p ≡ get_or qs 0 p → qs ≡ p ∷ drop 1 qs
 first_and [] p n e = absurd (omega (arith, n))
@@ -29,17 +21,20 @@ first_and (q ∷ qs) p n e = ap (λ x. x ∷ qs) (sym e)
 pub at_cut : (ps tail : List Property) (i : ℕ) (p : Property) → tail ≡ drop i ps → p ≡ get_or tail 0 p → p ≡ get_or ps i p
 at_cut ps tail i p t e = e ∙ ap (λ qs. get_or qs 0 p) t ∙ get_or-drop i ps 0 p ∙ ap (λ k. get_or ps k p) (omega arith)
 
--- a list that is cut at a place, and the first property behind the cut taken off, which has this key and this value
-pub parted : (ps before tail behind : List Property) (i : ℕ) (p : Property) (key : ℕ) (v : Tree) → i < length ps →
-    before ≡ take i ps → tail ≡ drop i ps → p ≡ get_or tail 0 p → behind ≡ drop 1 tail → p.key ≡ key → view p.value ≡ v →
-    property_views ps ≡ join_properties (property_views before) (property key p.flags.0 v (property_views behind))
-parted ps before tail behind i p key v l b t e r k w =
+-- a list that is cut at a place, and the first property behind the cut taken off
+pub parted : (ps before tail behind : List Property) (i : ℕ) (p : Property) → i < length ps →
+    before ≡ take i ps → tail ≡ drop i ps → p ≡ get_or tail 0 p → behind ≡ drop 1 tail → ps ≡ before ++ p ∷ behind
+parted ps before tail behind i p l b t e r =
     let there : 0 < length tail = omega (arith, l, ap length t, length-drop i ps) in
     let cut : drop i ps ≡ p ∷ behind = sym t ∙ first_and tail p there e ∙ ap (λ qs. p ∷ qs) (sym r) in
-    let whole : ps ≡ before ++ p ∷ behind =
-    sym (take-append-drop i ps) ∙ ap (λ qs. take i ps ++ qs) cut ∙ ap (λ qs. qs ++ p ∷ behind) (sym b) in
-    ap property_views whole ∙ around before p behind
-    ∙ ap (λ n. join_properties (property_views before) (property n p.flags.0 (view p.value) (property_views behind))) k
+    sym (take-append-drop i ps) ∙ ap (λ qs. take i ps ++ qs) cut ∙ ap (λ qs. qs ++ p ∷ behind) (sym b)
+
+-- the trees of some properties, and of others from one on whose key and value are these
+pub with_key : (before behind : List Property) (p : Property) (key : ℕ) (v : Tree) → p.key ≡ key → view p.value ≡ v →
+    join_properties (property_views before) (property_views (p ∷ behind))
+    ≡ join_properties (property_views before) (property key p.flags.0 v (property_views behind))
+with_key before behind p key v k w =
+    ap (λ n. join_properties (property_views before) (property n p.flags.0 (view p.value) (property_views behind))) k
     ∙ ap (λ x. join_properties (property_views before) (property key p.flags.0 x (property_views behind))) w
 
 -- no property before the first one with a key has that key

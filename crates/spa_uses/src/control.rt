@@ -4,7 +4,7 @@ ghost use Rattle.libspa.specs.Encoding.{encoding_of};
 ghost use Rattle.libspa.specs.Front.{Begins};
 ghost use Rattle.libspa.specs.Tree.{Tree, object};
 ghost use Rattle.libspa.specs.View.{object_view};
-ghost use Rattle.spa_uses.specs.Control.{IsControl, control_tree, tree_with};
+ghost use Rattle.spa_uses.specs.Control.{IsControl, control_tree, tree_with, volume_key};
 ghost use Rattle.spa_uses.specs.declared.control.Control.{Control};
 
 use libspa::pod::deserialize::{
@@ -12,7 +12,7 @@ use libspa::pod::deserialize::{
     PodDeserializer, StructPodDeserializer, ValueVisitor, Visit, Visitor,
 };
 use libspa::pod::serialize::PodSerializer;
-use libspa::pod::value_laws::objects_are_their_fields;
+use libspa::pod::value_laws::{objects_are_their_fields, property_lists_are_in_order};
 use libspa::pod::{Object, Property, PropertyFlags, Value};
 use libspa::utils::Float32;
 use std::alloc::{AllocError, Global};
@@ -43,6 +43,7 @@ impl Control {
         ensures { IfOk result (λ o. object_view o ≡ control_tree self) }
     {
         objects_are_their_fields();
+        property_lists_are_in_order();
         let Control {
             type_,
             id,
@@ -126,6 +127,7 @@ fn control_of<'de>(object: Object) -> Result<Control, DeserializeError<&'de [u8]
     ensures { IfOk result (λ control. IsControl control (object_view object)) }
 {
     objects_are_their_fields();
+    property_lists_are_in_order();
     let Object {
         type_,
         id,
@@ -151,7 +153,7 @@ fn control_of<'de>(object: Object) -> Result<Control, DeserializeError<&'de [u8]
 
 /// Where the first volume stands.
 fn volume_place(properties: &[Property]) -> Option<usize>
-    ensures { result ≡ position (λ p. p.key == 65539) properties.now }
+    ensures { result ≡ position (λ p. p.key == volume_key) properties.now }
 {
     properties
         .iter()

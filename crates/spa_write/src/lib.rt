@@ -13,6 +13,7 @@ mod leaf;
 mod members;
 mod open_pod;
 mod serializer;
+mod short;
 mod size;
 mod sized;
 mod text;

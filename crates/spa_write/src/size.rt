@@ -24,6 +24,7 @@ const SIZE_LIMIT: u64 = 1 << 32;
 /// How many bytes a value's encoding has. It is refused as `NulInText` where a text in it holds NUL, and as `TooLarge`
 /// where a size word would be 4294967296 or more.
 #[cycle(size)]
+#[inline(always)]
 pub(crate) fn encoded_len(value: &Value) -> Result<u64, GenError>
     ensures measured { IfOk result (λ n. IsMeasured (view value.now) n) }
     ensures cause { IfErr result (λ e. RefusesWrite (HasNul (view value.now)) (IsTooLarge (view value.now)) (λ _. ⊥) e) }
@@ -68,6 +69,7 @@ pub(crate) fn properties_len(properties: &[Property]) -> Result<u64, GenError>
 }
 
 /// The sum, where a size word can count so many bytes.
+#[inline(always)]
 fn sum_of(total: u64, more: u64) -> Result<u64, GenError>
     ensures sum { IfOk result (λ sum. sum ≡ total + more) }
     ensures short { IfOk result (λ sum. sum < size_limit) }
@@ -80,6 +82,7 @@ fn sum_of(total: u64, more: u64) -> Result<u64, GenError>
 }
 
 /// The same of a value that is neither a struct nor an object.
+#[inline(always)]
 fn leaf_len(value: &Value) -> Result<u64, GenError>
     requires { IsLeaf (view value.now) }
     ensures measured { IfOk result (λ n. IsMeasured (view value.now) n) }
@@ -108,6 +111,7 @@ fn leaf_len(value: &Value) -> Result<u64, GenError>
 }
 
 /// The length of the pod of a value of fixed size.
+#[inline(always)]
 fn number_len<T: CanonicalFixedSizedPod>(value: &T) -> Result<u64, GenError>
     ensures measured { IfOk result (λ n. IsMeasured (tree.fixed (T.fixed value.now)) n) }
     ensures cause { IfErr result (λ e. RefusesWrite (HasNul (tree.fixed (T.fixed value.now))) (IsTooLarge (tree.fixed (T.fixed value.now))) (λ _. ⊥) e) }

@@ -12,7 +12,9 @@ ghost use Rattle.spa_write.specs.Written.{IsLeaf, IsPut};
 
 use crate::largest::{largest_member, largest_property};
 use crate::leaf::put_leaf;
+use crate::short::short_encoding;
 use crate::size::{encoded_len, members_len, properties_len};
+use crate::text::put_clean_text;
 use bitflags::Flags;
 use spa_bytes::{HEADER_LEN, joined, two_words};
 use spa_sink::{GenError, PodSink, put_two};
@@ -35,6 +37,7 @@ pub fn write_sized<S: PodSink>(sink: &mut S, value: &Value) -> Result<u64, GenEr
 
 /// Appends the encoding of a value, whose length may be known.
 #[cycle(put)]
+#[inline(always)]
 fn put_value<S: PodSink>(sink: &mut S, value: &Value, known: Option<u64>) -> Result<(), GenError>
     requires writable { IsWritable (view value.now) }
     requires known { IfSome known (λ n. n ≡ length (encoding_of (view value.now))) }
@@ -63,6 +66,7 @@ fn put_value<S: PodSink>(sink: &mut S, value: &Value, known: Option<u64>) -> Res
 }
 
 /// The length of a value's encoding, which is computed where it isn't known.
+#[inline(always)]
 fn len_of(value: &Value, known: Option<u64>) -> u64
     requires writable { IsWritable (view value.now) }
     requires known { IfSome known (λ n. n ≡ length (encoding_of (view value.now))) }
@@ -102,6 +106,9 @@ fn left_for_member(members: &[Value], index: usize, size: u64) -> Option<u64>
 {
     if index >= members.len() {
         return None;
+    }
+    if members.len() == 1 {
+        return Some(size);
     }
     let Ok(before) = members_len(&members[..index]) else {
         return None;
@@ -158,13 +165,30 @@ fn known_at(index: usize, place: usize, known: Option<u64>) -> Option<u64>
 }
 
 /// Appends the encoding of a value that is neither a struct nor an object, and can be written.
+#[inline(always)]
 fn put_checked_leaf<S: PodSink>(sink: &mut S, value: &Value) -> Result<(), GenError>
     requires leaf { IsLeaf (view value.now) }
     requires writable { IsWritable (view value.now) }
     ensures put { OnOk result (IsPut S.appends sink.old (view value.now) sink.new) }
     ensures stops { IfErr result (λ e. Stops S.appends S.refuses sink.old (encoding_of (view value.now)) sink.new e) }
 {
-    put_leaf(sink, value)
+    match short_encoding(value) {
+        Some(pod) => sink.append(&pod),
+        None => put_longer_leaf(sink, value),
+    }
+}
+
+/// The same where its pod may have any length.
+fn put_longer_leaf<S: PodSink>(sink: &mut S, value: &Value) -> Result<(), GenError>
+    requires leaf { IsLeaf (view value.now) }
+    requires writable { IsWritable (view value.now) }
+    ensures put { OnOk result (IsPut S.appends sink.old (view value.now) sink.new) }
+    ensures stops { IfErr result (λ e. Stops S.appends S.refuses sink.old (encoding_of (view value.now)) sink.new e) }
+{
+    match value {
+        Value::String(text) => put_clean_text(sink, text.as_str()),
+        _ => put_leaf(sink, value),
+    }
 }
 
 /// Appends four words at once.

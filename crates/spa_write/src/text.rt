@@ -4,6 +4,8 @@ ghost use Rattle.spa_sink.specs.Writing.{Begun, RefusesPiece};
 ghost use Rattle.spa_format.specs.Encoding.{encoding_of, framed};
 ghost use Rattle.spa_format.specs.Tree as tree;
 ghost use Rattle.spa_format.specs.Words.{padding, size_limit, wide_bytes, word_bytes};
+ghost use Rattle.spa_format.specs.Writable.{IsWritable};
+ghost use Rattle.spa_write.specs.Measured.{Stops};
 ghost use Rattle.spa_write.specs.Written.{IsPut, RefusesLeaf};
 
 use spa_bytes::{HEADER_LEN, POINTER_LEN};
@@ -21,10 +23,21 @@ pub fn put_text<S: PodSink>(sink: &mut S, text: &str) -> Result<(), GenError>
     if bytes.contains(&0) {
         return Err(GenError::NulInText);
     }
-    let Ok(size) = u32::try_from(bytes.len() + 1) else {
+    if u32::try_from(bytes.len() + 1).is_err() {
         return Err(GenError::TooLarge);
-    };
-    put_two(sink, size, SpaTypes::String.0)?;
+    }
+    put_clean_text(sink, text)
+}
+
+/// Appends the pod of a text that can be written.
+pub(crate) fn put_clean_text<S: PodSink>(sink: &mut S, text: &str) -> Result<(), GenError>
+    requires { IsWritable (tree.string text.now) }
+    ensures put { OnOk result (IsPut S.appends sink.old (tree.string text.now) sink.new) }
+    ensures stops { IfErr result (λ e. Stops S.appends S.refuses sink.old (encoding_of (tree.string text.now)) sink.new e) }
+{
+    let bytes = text.as_bytes();
+    let size = bytes.len() + 1;
+    put_two(sink, size as u32, SpaTypes::String.0)?;
     sink.append(bytes)?;
     put_end(sink, bytes.len())
 }

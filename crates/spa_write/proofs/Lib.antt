@@ -1,5 +1,6 @@
 pub mod Refusals
 pub mod Frames
+pub mod LoneStructs
 pub mod MemberLists
 pub mod PropertyLists
 pub mod Pieces

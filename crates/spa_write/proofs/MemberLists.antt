@@ -85,6 +85,17 @@ members_length vs i v l e =
       length-append (encoding_of (view v)) behind,
     )
 
+-- the only one
+pub only_member : (vs : List Value) (v : Value) → length vs ≡ 1 → v ≡ get_or vs 0 v →
+    views vs ≡ member (view v) no_trees
+only_member [] v l e = absurd (omega (arith, l))
+only_member (w ∷ []) v l e = ap (λ x. member (view x) no_trees) (sym e)
+only_member (w ∷ x ∷ vs) v l e = absurd (omega (arith, l))
+
+pub only_encoding : (vs : List Value) (v : Value) → length vs ≡ 1 → v ≡ get_or vs 0 v →
+    member_encodings (views vs) ≡ encoding_of (view v)
+only_encoding vs v l e = ap member_encodings (only_member vs v l e) ∙ append-nil (encoding_of (view v))
+
 pub writable_there : (vs : List Value) (i : ℕ) (v : Value) → i < length vs → v ≡ get_or vs i v →
     IsWritable (struct (views vs)) → IsWritable (view v)
 writable_there vs i v l e w =

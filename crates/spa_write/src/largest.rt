@@ -13,14 +13,10 @@ const AVERAGE_LEN: u64 = 64;
 
 /// The place of the member with the most values in it, so that its size alone need not be computed. The answer is the number
 /// of members where the sizes of all may be computed: none is a struct or an object, or none is far larger than the others.
-/// A single member is the largest.
 ///
 /// Values are counted in each member up to a number that doubles until at most one member has more: so the largest is
 /// never counted, but as far as the second largest goes.
 pub(crate) fn largest_member(members: &[Value], size: u64) -> usize {
-    if members.len() == 1 {
-        return 0;
-    }
     if size / AVERAGE_LEN <= members.len() as u64 {
         return members.len();
     }

@@ -1,5 +1,5 @@
 //! How long encodings are, before a byte of them is written.
-ghost use Rattle.std.specs.Prelude.{◌≡◌, ◌+◌, ◌<◌, ◌≤◌, ◌⊎◌, IfErr, IfOk, length, map};
+ghost use Rattle.std.specs.Prelude.{◌≡◌, ◌+◌, ◌<◌, ◌≤◌, ◌⊎◌, IfErr, IfOk, IfSome, length, map};
 ghost use Rattle.spa_fixed.specs.Choices.{choice_tree};
 ghost use Rattle.spa_sink.specs.Writing.{RefusesWrite};
 ghost use Rattle.spa_sink.specs.declared.gen_error.GenError.TheVariants.{TooLarge};
@@ -39,9 +39,40 @@ pub(crate) fn encoded_len(value: &Value) -> Result<u64, GenError>
     }
 }
 
-/// How many bytes the encodings of these values have, which are to be the members of one struct.
+/// How many bytes the encodings of these values have, which are to be the members of one struct. A struct that is the only
+/// member of another one takes no call.
 #[cycle(size)]
 pub(crate) fn members_len(members: &[Value]) -> Result<u64, GenError>
+    ensures measured { IfOk result (λ n. AreMeasured (views members.now) n) }
+    ensures cause { IfErr result (λ e. RefusesWrite (HasNul (tree.struct (views members.now))) (IsTooLarge (tree.struct (views members.now))) (λ _. ⊥) e) }
+{
+    let mut outer = 0;
+    let mut left = members;
+    while let Some(inner) = only_struct(left) {
+        outer = sum_of(outer, HEADER_LEN as u64)?;
+        left = inner;
+    }
+    let len = all_len(left)?;
+    sum_of(outer, len)
+}
+
+/// The members of the struct that is the only one of these.
+#[inline(always)]
+fn only_struct(members: &[Value]) -> Option<&[Value]>
+    ensures { IfSome result (λ inner. views members.now ≡ tree.member (tree.struct (views inner.now)) tree.no_trees) }
+{
+    if members.len() != 1 {
+        return None;
+    }
+    match &members[0] {
+        Value::Struct(inner) => Some(inner.as_slice()),
+        _ => None,
+    }
+}
+
+/// How many bytes the encodings of these values have, measured one by one.
+#[cycle(size)]
+fn all_len(members: &[Value]) -> Result<u64, GenError>
     ensures measured { IfOk result (λ n. AreMeasured (views members.now) n) }
     ensures cause { IfErr result (λ e. RefusesWrite (HasNul (tree.struct (views members.now))) (IsTooLarge (tree.struct (views members.now))) (λ _. ⊥) e) }
 {
@@ -62,8 +93,7 @@ pub(crate) fn properties_len(properties: &[Property]) -> Result<u64, GenError>
     let mut total = 0;
     for property in properties {
         let len = encoded_len(&property.value)?;
-        let keyed = sum_of(total, HEADER_LEN as u64)?;
-        total = sum_of(keyed, len)?;
+        total = sum_of(total + HEADER_LEN as u64, len)?;
     }
     Ok(total)
 }

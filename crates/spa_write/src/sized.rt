@@ -92,6 +92,9 @@ fn put_members<S: PodSink>(sink: &mut S, members: &[Value], size: u64) -> Result
     ensures put { OnOk result (ArePut S.appends sink.old (views members.now) sink.new) }
     ensures stops { IfErr result (λ e. Stops S.appends S.refuses sink.old (member_encodings (views members.now)) sink.new e) }
 {
+    if members.len() == 1 {
+        return put_value(sink, &members[0], Some(size));
+    }
     let largest = largest_member(members, size);
     let left = left_for_member(members, largest, size);
     for (index, member) in members.iter().enumerate() {
@@ -106,9 +109,6 @@ fn left_for_member(members: &[Value], index: usize, size: u64) -> Option<u64>
 {
     if index >= members.len() {
         return None;
-    }
-    if members.len() == 1 {
-        return Some(size);
     }
     let Ok(before) = members_len(&members[..index]) else {
         return None;

@@ -30,6 +30,7 @@ pub fn put_text<S: PodSink>(sink: &mut S, text: &str) -> Result<(), GenError>
 }
 
 /// Appends the pod of a text that can be written.
+#[inline(always)]
 pub(crate) fn put_clean_text<S: PodSink>(sink: &mut S, text: &str) -> Result<(), GenError>
     requires { IsWritable (tree.string text.now) }
     ensures put { OnOk result (IsPut S.appends sink.old (tree.string text.now) sink.new) }

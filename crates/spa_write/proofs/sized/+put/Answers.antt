@@ -10,7 +10,7 @@ use Rattle.spa_value.specs.View.{view}
 use Rattle.spa_value.specs.Views.{views, property_views}
 use Rattle.spa_value.proofs.ViewLaws.{view-struct, view-fields}
 use Rattle.spa_write.specs.Measured.{PropertiesAreWritable}
-use Rattle.spa_write.proofs.MemberLists.{members_length, writable_there}
+use Rattle.spa_write.proofs.MemberLists.{members_length, only_encoding, writable_there}
 use Rattle.spa_write.proofs.PropertyLists.{properties_length, properties_of_writable, property_writable_there}
 use Rattle.spa_write.proofs.Stopping.{TakesParts, body_stops, four_stop, head_stops, keyed_at, member_known, next_key_stops, next_property_put, next_put, next_stops, next_value_stops, no_property_put, none_put, object_fits, object_head, object_put, size_of_object, size_of_struct, struct_fits, struct_head, struct_put, property_known, two_stop, two_stop_at}
 use Rattle.spa_write.proofs.sized.+put.Given.{Over}
@@ -69,6 +69,18 @@ put_members-loop-index-init g t c = none_put c.args.sink.now
 
 pub put_members-put_value-requires : goal.put_members-put_value-requires
 put_members-put_value-requires g t c =
+    let v = c.index-members-0.result in
+    let one : length c.args.members.now ≡ 1 = search rules in
+    let same = only_encoding c.args.members.now v one c.index-members-0.is in
+    let writable : IsWritable (view v) =
+    writable_there c.args.members.now 0 v (omega (arith, one)) c.index-members-0.is c.requires.writable in
+    let known : c.args.size ≡ length (encoding_of (view v)) = c.requires.size ∙ ap length same in
+    let all = ap length same in
+    let smaller : 2 * length (encoding_of (view v)) < 2 * length (member_encodings (views c.args.members.now)) + 1 = omega (arith, all) in
+    λ κs le. (search rules, (le, (writable, known)))
+
+pub put_members-put_value-requires-in-loop-index : goal.put_members-put_value-requires-in-loop-index
+put_members-put_value-requires-in-loop-index g t c =
     let v = c.index-members-index.result in
     let writable : IsWritable (view v) =
     writable_there c.args.members.now c.loop-index.index v c.loop-index-test.true c.index-members-index.is c.requires.writable in
@@ -87,7 +99,7 @@ put_members-returns-in_err-put_value-clause-stops g t c =
 
 pub put_members-loop-index-preserved : goal.put_members-loop-index-preserved
 put_members-loop-index-preserved g t c =
-    next_put (parts_of g) c.args.sink.now c.loop-index.sink c.put_value.new.sink c.args.members.now c.loop-index.index
+    next_put (parts_of g) c.args.sink.now c.loop-index.sink c.put_value-in-loop-index.new.sink c.args.members.now c.loop-index.index
     c.index-members-index.result c.loop-index-test.true c.index-members-index.is c.loop-index.invariant c.in_ok-put_value.ensures.put
 
 pub put_properties-loop-index-init : goal.put_properties-loop-index-init

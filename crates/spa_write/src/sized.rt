@@ -172,23 +172,22 @@ fn put_checked_leaf<S: PodSink>(sink: &mut S, value: &Value) -> Result<(), GenEr
     ensures put { OnOk result (IsPut S.appends sink.old (view value.now) sink.new) }
     ensures stops { IfErr result (λ e. Stops S.appends S.refuses sink.old (encoding_of (view value.now)) sink.new e) }
 {
-    match short_encoding(value) {
-        Some(pod) => sink.append(&pod),
-        None => put_longer_leaf(sink, value),
+    match value {
+        Value::String(text) => put_checked_text(sink, text.as_str()),
+        _ => match short_encoding(value) {
+            Some(pod) => sink.append(&pod),
+            None => put_leaf(sink, value),
+        },
     }
 }
 
-/// The same where its pod may have any length.
-fn put_longer_leaf<S: PodSink>(sink: &mut S, value: &Value) -> Result<(), GenError>
-    requires leaf { IsLeaf (view value.now) }
-    requires writable { IsWritable (view value.now) }
-    ensures put { OnOk result (IsPut S.appends sink.old (view value.now) sink.new) }
-    ensures stops { IfErr result (λ e. Stops S.appends S.refuses sink.old (encoding_of (view value.now)) sink.new e) }
+/// Appends the pod of a text that can be written.
+fn put_checked_text<S: PodSink>(sink: &mut S, text: &str) -> Result<(), GenError>
+    requires { IsWritable (tree.string text.now) }
+    ensures put { OnOk result (IsPut S.appends sink.old (tree.string text.now) sink.new) }
+    ensures stops { IfErr result (λ e. Stops S.appends S.refuses sink.old (encoding_of (tree.string text.now)) sink.new e) }
 {
-    match value {
-        Value::String(text) => put_clean_text(sink, text.as_str()),
-        _ => put_leaf(sink, value),
-    }
+    put_clean_text(sink, text)
 }
 
 /// Appends four words at once.

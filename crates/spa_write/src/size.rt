@@ -220,6 +220,7 @@ fn alternatives_len<T: ChoiceElement>(choice: &Choice<T>) -> Result<u64, GenErro
 }
 
 /// The length of the pod of an array.
+#[inline(always)]
 fn array_len(array: &ValueArray) -> Result<u64, GenError>
     ensures measured { IfOk result (λ n. IsMeasured (array_view array.now) n) }
     ensures cause { IfErr result (λ e. RefusesWrite (HasNul (array_view array.now)) (IsTooLarge (array_view array.now)) (λ _. ⊥) e) }
@@ -239,6 +240,7 @@ fn array_len(array: &ValueArray) -> Result<u64, GenError>
 }
 
 /// The length of the pod of a choice.
+#[inline(always)]
 fn choice_len(choice: &ChoiceValue) -> Result<u64, GenError>
     ensures measured { IfOk result (λ n. IsMeasured (choice_view choice.now) n) }
     ensures cause { IfErr result (λ e. RefusesWrite (HasNul (choice_view choice.now)) (IsTooLarge (choice_view choice.now)) (λ _. ⊥) e) }

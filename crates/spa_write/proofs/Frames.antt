@@ -9,7 +9,7 @@ use Rattle.spa_format.specs.Words.{header_size, padded_size, padding, size_limit
 use Rattle.spa_format.specs.Encoding.{framed}
 use Rattle.spa_write.specs.Written.{Appending, ClosesPod, IsClosed, IsExtended, IsPastLimit, IsWholeSize, Refusing, begun_length}
 use Rattle.spa_format.proofs.Encodings.{body_within, length-framed, length-word_bytes, two_words_length}
-use Rattle.spa_write.proofs.Refusals.{IsSink, part_refused, sink_refused}
+use Rattle.spa_write.proofs.Refusals.{IsSink, sink_refused}
 
 -- the body of a pod that was begun behind some bytes
 begun_body : (old head body : List ℕ) → length head ≡ header_size →

@@ -1,5 +1,5 @@
 -- Structs of which each is the only member of the one around it.
-use Rattle.std.proofs.Common.{◌≡◌, ℕ, ◌+◌, ◌<◌, ◌≤◌, ◌⊎◌, inl, inr, ⊎_elim, length, refl, sym, ap, ◌∙◌, subst, arith}
+use Rattle.std.proofs.Common.{◌≡◌, ℕ, ◌+◌, ◌<◌, ◌≤◌, ◌⊎◌, inl, inr, ⊎_elim, length, sym, ap, ◌∙◌, subst, arith}
 use Rattle.std.proofs.lemmas.List.{append-nil}
 use Rattle.spa_sink.specs.declared.gen_error.GenError.{GenError}
 use Rattle.spa_sink.specs.declared.gen_error.GenError.TheVariants.{TooLarge}
@@ -7,11 +7,9 @@ use Rattle.spa_sink.specs.Writing.{RefusesWrite}
 use Rattle.spa_format.specs.Words.{header_size, size_limit}
 use Rattle.spa_format.specs.Tree.{struct, struct_type, Trees, no_trees, member}
 use Rattle.spa_format.specs.Encoding.{encoding_of, member_encodings}
-use Rattle.spa_format.specs.Writable.{HasNul, IsTooLarge, IsWritable, SomeHasNul}
+use Rattle.spa_format.specs.Writable.{HasNul, IsTooLarge, SomeHasNul}
 use Rattle.spa_format.proofs.Encodings.{length-framed, whole_members}
-use Rattle.spa_write.specs.Measured.{AreMeasured}
 use Rattle.spa_write.proofs.Frames.{size_refused}
-use Rattle.spa_write.proofs.Refusals.{unwritable_through}
 
 -- so many bytes of headers stand before the second members in the encodings of the first
 pub record AreWithin (vs : Trees) (outer : ℕ) (ws : Trees) : Type 0 where
@@ -20,10 +18,6 @@ pub record AreWithin (vs : Trees) (outer : ℕ) (ws : Trees) : Type 0 where
   pub fits : length (member_encodings vs) < size_limit → ¬ (IsTooLarge (struct ws)) → ¬ (IsTooLarge (struct vs))
   pub nul : SomeHasNul ws → SomeHasNul vs
   pub large : IsTooLarge (struct ws) → IsTooLarge (struct vs)
-
-pub within_themselves : (vs : Trees) → AreWithin vs 0 vs
-within_themselves vs =
-    record { size = omega arith; no_nul = λ f. f; fits = λ _ f. f; nul = λ x. x; large = λ x. x }
 
 -- how many bytes a struct has that stands alone
 pub lone_length : (ws us : Trees) → ws ≡ member (struct us) no_trees →
@@ -54,26 +48,6 @@ one_within vs ws us outer more h is sum =
       nul = λ x. h.nul (subst SomeHasNul (sym is) (inl x));
       large = λ x. h.large (subst (λ l. IsTooLarge (struct l)) (sym is) (inr (inl x)));
     }
-
--- measured, with the headers before them
-pub within_measured : (vs ws : Trees) (outer n sum : ℕ) → AreWithin vs outer ws → AreMeasured ws n →
-    sum ≡ outer + n → sum < size_limit → AreMeasured vs sum
-within_measured vs ws outer n sum h w e short =
-    let size : sum ≡ length (member_encodings vs) = omega (arith, e, h.size, w.size) in
-    record {
-      size = size;
-      short = short;
-      writable = record {
-        no_nul = h.no_nul w.writable.no_nul;
-        fits = h.fits (omega (arith, size, short)) w.writable.fits;
-      };
-    }
-
--- the refusal of the innermost
-pub within_unwritable : (vs ws : Trees) (outer : ℕ) → AreWithin vs outer ws → (e : GenError) →
-    RefusesWrite (HasNul (struct ws)) (IsTooLarge (struct ws)) (λ _. ⊥) e →
-    RefusesWrite (HasNul (struct vs)) (IsTooLarge (struct vs)) (λ _. ⊥) e
-within_unwritable vs ws outer h e r = unwritable_through h.nul h.large e r
 
 -- the refusal of the sum
 pub within_too_long : (vs ws : Trees) (outer big : ℕ) → AreWithin vs outer ws →

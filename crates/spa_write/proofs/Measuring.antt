@@ -1,10 +1,10 @@
 -- How long pods without members are.
-use Rattle.std.proofs.Common.{◌≡◌, ℕ, ◌+◌, ◌<◌, ◌≤◌, List, [], ◌∷◌, ◌++◌, length, Result, Ok, Err, IfOk, ap, sym, ◌∙◌, arith, length-append}
+use Rattle.std.proofs.Common.{◌≡◌, ℕ, ◌<◌, ◌≤◌, length, Result, Ok, Err, IfOk, ap, sym, ◌∙◌}
 use Rattle.spa_sink.specs.declared.gen_error.GenError.{GenError}
 use Rattle.spa_format.specs.Kind.{Kind, Fixed}
 use Rattle.spa_format.specs.Words.{extent, size_limit}
 use Rattle.spa_format.specs.Tree.{Tree, pointer, type_of}
-use Rattle.spa_format.specs.Encoding.{encoded_body, encoding_of}
+use Rattle.spa_format.specs.Encoding.{encoded_body}
 use Rattle.spa_format.specs.Writable.{HasNul, IsTooLarge}
 use Rattle.spa_format.proofs.Encodings.{length-framed, pointer_encoding_length}
 use Rattle.spa_utils.specs.declared.choice.ChoiceEnum.{ChoiceEnum}

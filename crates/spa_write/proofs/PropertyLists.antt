@@ -1,10 +1,10 @@
 -- Lists of properties, cut at one of them, and how long they are.
-use Rattle.std.proofs.Common.{◌≡◌, ℕ, ◌+◌, ◌<◌, ◌≤◌, ◌^◌, ◌⊎◌, inl, inr, ⊎_elim, List, [], ◌∷◌, ◌++◌, length, take, drop, get_or, refl, sym, ap, ◌∙◌, subst, arith, append_assoc, length-append}
+use Rattle.std.proofs.Common.{◌≡◌, ℕ, ◌+◌, ◌<◌, ◌≤◌, ◌^◌, ◌⊎◌, inl, inr, ⊎_elim, List, ◌++◌, length, take, drop, get_or, refl, sym, ap, ◌∙◌, subst, arith, append_assoc, length-append}
 use Rattle.std.proofs.lemmas.List.{append-nil}
 use Rattle.spa_sink.specs.declared.gen_error.GenError.{GenError}
 use Rattle.spa_sink.specs.declared.gen_error.GenError.TheVariants.{TooLarge}
 use Rattle.spa_sink.specs.Writing.{RefusesWrite}
-use Rattle.spa_format.specs.Words.{header_size, padded_size, size_limit, word_bytes}
+use Rattle.spa_format.specs.Words.{header_size, size_limit, word_bytes}
 use Rattle.spa_format.specs.Tree.{Tree, object, object_type, Properties, no_properties, property, join_properties}
 use Rattle.spa_format.specs.Encoding.{encoded_body, encoding_of, property_encodings}
 use Rattle.spa_format.specs.Typed.{AllPropertiesTyped, IsTyped}

@@ -1,14 +1,14 @@
 -- What a sink takes of bytes that come in parts, and where it stops.
-use Rattle.std.proofs.Common.{◌≡◌, ℕ, ◌+◌, ◌-◌, ◌<◌, ◌≤◌, ◌^◌, inl, inr, ⊎_elim, List, [], ◌++◌, length, take, drop, get_or, Option, Some, None, IfSome, Result, Ok, Err, IfErr, OnErr, refl, sym, ap, ◌∙◌, subst, arith, append_assoc, length-append}
+use Rattle.std.proofs.Common.{◌≡◌, ℕ, ◌+◌, ◌-◌, ◌<◌, ◌^◌, inl, List, ◌++◌, length, take, drop, get_or, Option, Some, None, IfSome, Result, Ok, Err, IfErr, OnErr, refl, sym, ap, ◌∙◌, subst, arith, append_assoc, length-append}
 use Rattle.std.specs.Prelude.{replicate}
 use Rattle.std.proofs.lemmas.List.{append-nil}
 use Rattle.spa_sink.specs.declared.gen_error.GenError.{GenError}
 use Rattle.spa_sink.specs.declared.gen_error.GenError.TheVariants.{Full, TooLarge, NulInText, WrongCount, Failed, Io, OutOfMemory}
-use Rattle.spa_sink.specs.Writing.{Begun, RefusesWrite, Sent, none_sent, some_sent}
-use Rattle.spa_sink.proofs.Sending.{AppendsMore, RefusesAfter, RefusesLonger, begun_as, begun_behind, begun_by, begun_first, refused_behind, refused_encoding, sent_before, sent_behind}
+use Rattle.spa_sink.specs.Writing.{RefusesWrite, Sent, none_sent, some_sent}
+use Rattle.spa_sink.proofs.Sending.{AppendsMore, RefusesAfter, RefusesLonger, begun_behind, begun_by, begun_first, refused_behind, sent_before, sent_behind}
 use Rattle.spa_format.specs.Words.{header_size, padded_size, padding, size_limit, word_bytes}
 use Rattle.spa_format.specs.Tree.{Tree, struct, struct_type, object, object_type, Trees, no_trees, Properties, no_properties}
-use Rattle.spa_format.specs.Encoding.{encoded_body, encoding_of, framed, member_encodings, property_encodings}
+use Rattle.spa_format.specs.Encoding.{encoded_body, encoding_of, member_encodings, property_encodings}
 use Rattle.spa_format.specs.Typed.{IsTyped}
 use Rattle.spa_format.specs.Writable.{IsWritable}
 use Rattle.spa_value.specs.declared.value.Value.{Value}

@@ -1,4 +1,4 @@
-use Rattle.std.proofs.Common.{◌≡◌, ◌∙◌, ap, sym}
+use Rattle.std.proofs.Common.{◌∙◌, ap, sym}
 use Rattle.std.proofs.lemmas.Result.{on_err_weaker}
 use Rattle.spa_sink.proofs.Sending.{begun_as, begun_by}
 use Rattle.spa_format.specs.Encoding.{framed}

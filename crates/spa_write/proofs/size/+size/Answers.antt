@@ -1,4 +1,4 @@
-use Rattle.std.proofs.Common.{◌≡◌, ◌∙◌, ◌+◌, ◌*◌, ◌<◌, ap, sym, arith, length, refl, rules}
+use Rattle.std.proofs.Common.{◌∙◌, ◌+◌, ◌*◌, ◌<◌, ap, sym, arith, length, refl, rules}
 use Rattle.spa_bytes.proofs.Passing.{passed_on}
 use Rattle.spa_format.specs.Encoding.{encoding_of, member_encodings, property_encodings}
 use Rattle.spa_format.specs.Tree.{struct, object}
@@ -6,7 +6,7 @@ use Rattle.spa_value.specs.declared.object.Object.{out-Object}
 use Rattle.spa_value.specs.View.{view}
 use Rattle.spa_value.specs.Views.{views, property_views}
 use Rattle.spa_value.proofs.ViewLaws.{view-struct, view-fields}
-use Rattle.spa_write.proofs.LoneStructs.{lone_length, one_within, within_measured, within_themselves, within_too_long, within_unwritable}
+use Rattle.spa_write.proofs.LoneStructs.{lone_length, one_within, within_too_long}
 use Rattle.spa_write.proofs.MemberLists.{measured_next, measured_none, member_unwritable, members_length, members_too_long, struct_measured, struct_unwritable}
 use Rattle.spa_write.proofs.PropertyLists.{object_measured, object_too_long, object_unwritable, properties_measured_next, properties_length, properties_measured_none, properties_too_long, property_unwritable}
 use Rattle.spa_write.proofs.Stopping.{size_of_object, size_of_struct}

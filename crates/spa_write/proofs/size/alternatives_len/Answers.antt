@@ -1,4 +1,4 @@
-use Rattle.std.proofs.Common.{◌≡◌, ◌<◌, ◌∙◌, ap, arith, rules}
+use Rattle.std.proofs.Common.{◌<◌, ◌∙◌, ap, arith, rules}
 use Rattle.spa_format.specs.Words.{extent, size_limit}
 use Rattle.spa_write.proofs.Measuring.{choice_large, choice_no_nul, measured_as}
 use Rattle.spa_write.proofs.size.alternatives_len.Goals as goal

@@ -1,5 +1,5 @@
 //! The list of frames: what may come next, and what a frame says once it came.
-ghost use Rattle.std.specs.Prelude.{◌≡◌, ◌+◌, ◌<◌, ◌≤◌, ◌*◌, ◌∷◌, ◌++◌, [], List, ℕ, IfErr, IfSome, IsTrue, OnErr, OnOk, false, length};
+ghost use Rattle.std.specs.Prelude.{◌≡◌, ◌+◌, ◌<◌, ◌≤◌, ◌*◌, ◌∷◌, ◌++◌, [], List, ℕ, IfErr, IfSome, IsTrue, OnErr, OnOk, false, length, vec_capacity};
 ghost use Rattle.spa_format.specs.Tree.{Tree};
 ghost use Rattle.spa_format.specs.Words.{size_limit};
 ghost use Rattle.spa_builder.specs.State.{Partial};
@@ -16,6 +16,7 @@ use spa_bytes::HEADER_LEN;
 use spa_utils::Errno;
 use std::alloc::Global;
 use std::marker::Model;
+use std::mem;
 
 /// The numbers that a size word can't hold begin here.
 pub(crate) const SIZE_LIMIT: usize = 1 << 32;
@@ -51,6 +52,57 @@ fn is_nothing(what: What) -> bool
     ensures { result ≡ is_nothing what }
 {
     matches!(what.stage, Stage::Nothing)
+}
+
+/// The list, with room for one frame more where there is the memory. It is handed over whole, and not lent, so that a
+/// builder whose calls are inlined can lie in registers.
+#[cold]
+#[inline(never)]
+fn roomier(mut outer: Vec<Open>) -> Vec<Open>
+    ensures { result.items ≡ outer.items }
+{
+    let _ = outer.reserve(1);
+    outer
+}
+
+/// Makes room for one frame more.
+#[inline(always)]
+fn make_room(outer: &mut Vec<Open>) -> Result<(), Errno>
+    ensures room { OnOk result (length outer.new.items < vec_capacity outer.new) }
+    ensures same { outer.new.items ≡ outer.old.items }
+    ensures memory { IfErr result (λ e. e ≡ NOMEM) }
+{
+    if outer.len() < outer.capacity() {
+        return Ok(());
+    }
+    let alloc = *outer.allocator();
+    *outer = roomier(mem::replace(outer, Vec::new(alloc)));
+    if outer.len() < outer.capacity() {
+        return Ok(());
+    }
+    Err(Errno::NOMEM)
+}
+
+/// The list with this frame behind it, for which there is room. It is handed over whole, as above.
+#[inline(never)]
+fn longer(mut outer: Vec<Open>, frame: Open) -> Vec<Open>
+    requires { length outer.items < vec_capacity outer }
+    ensures { result.items ≡ outer.items ++ frame ∷ [] }
+{
+    if outer.push(frame).is_err() {
+        unreachable!();
+    }
+    outer
+}
+
+/// Puts a frame behind the others, for which there is room.
+#[inline(always)]
+fn put(outer: &mut Vec<Open>, frame: Open)
+    requires { length outer.old.items < vec_capacity outer.old }
+    ensures { outer.new.items ≡ outer.old.items ++ frame ∷ [] }
+{
+    let alloc = *outer.allocator();
+    *outer = longer(mem::replace(outer, Vec::new(alloc)), frame);
 }
 
 /// The frames of the pods that are begun.
@@ -165,13 +217,9 @@ impl Frames {
             self.innermost = frame;
             return Ok(());
         }
-        if self.outer.reserve(1).is_err() {
-            return Err(Errno::NOMEM);
-        }
+        make_room(&mut self.outer)?;
         bytes.append_array(head)?;
-        if self.outer.push(self.innermost).is_err() {
-            unreachable!();
-        }
+        put(&mut self.outer, self.innermost);
         self.innermost = frame;
         self.end = self.first + most_bytes(false);
         Ok(())

@@ -9,6 +9,7 @@ use spa_bytes::{HEADER_LEN, two_words};
 use spa_utils::Errno;
 use std::alloc::Global;
 use std::marker::Model;
+use std::mem;
 
 /// Bytes, one behind another. A refused call changes nothing.
 #[derive(Drop)]
@@ -28,23 +29,21 @@ impl Model for Written {
 /// How many bytes longer the vector is made at least, where it has the capacity.
 const ROOM_STEP: usize = 4096;
 
-/// Makes the vector longer by so many bytes at least.
+/// The vector, longer by so many bytes at least where there is the memory. It is handed over whole, and not lent, so that
+/// a builder whose calls are inlined can lie in registers.
 #[cold]
 #[inline(never)]
-fn grow(bytes: &mut Vec<u8>, more: usize) -> Result<(), Errno>
-    ensures room { OnOk result (length bytes.old.items + more ≤ length bytes.new.items) }
-    ensures kept { (n : ℕ) → n ≤ length bytes.old.items → (take n bytes.new.items ≡ take n bytes.old.items) × (length bytes.old.items ≤ length bytes.new.items) }
-    ensures memory { IfErr result (λ e. e ≡ NOMEM) }
+fn grown(mut bytes: Vec<u8>, more: usize) -> Vec<u8>
+    ensures { (n : ℕ) → n ≤ length bytes.items → (take n result.items ≡ take n bytes.items) × (length bytes.items ≤ length result.items) }
 {
     let had = bytes.len();
     if bytes.reserve(more).is_err() {
-        return Err(Errno::NOMEM);
+        return bytes;
     }
     let wanted = had.saturating_add(more.max(ROOM_STEP));
-    if bytes.resize(wanted.min(bytes.capacity()), 0).is_err() {
-        return Err(Errno::NOMEM);
-    }
-    Ok(())
+    let fits = wanted.min(bytes.capacity());
+    let _ = bytes.resize(fits, 0);
+    bytes
 }
 
 /// Makes room for so many bytes behind the first ones.
@@ -60,7 +59,12 @@ fn make_room(bytes: &mut Vec<u8>, count: usize, more: usize) -> Result<(), Errno
     if count + more <= bytes.len() {
         return Ok(());
     }
-    grow(bytes, more)
+    let alloc = *bytes.allocator();
+    *bytes = grown(mem::replace(bytes, Vec::new(alloc)), more);
+    if count + more <= bytes.len() {
+        return Ok(());
+    }
+    Err(Errno::NOMEM)
 }
 
 /// Writes these bytes over those from this place on.

@@ -127,23 +127,23 @@ pub pushed_kept : (outer more : List Open) (o new : Open) (first end most : ℕ)
     IsKept outer o first end → is_nothing o.what ≡ false → is_nothing new.what ≡ false →
     more ≡ outer ++ o ∷ [] → most ≡ most_bytes false → IsKept more new first (first + most)
 pushed_kept [] more o new first end most k h n e m = record {
-    none = λ t. cc;
-    only = λ z. absurd (no_last [] o (sym e ∙ z));
-    more = λ x rest w.
+  none = λ t. cc;
+  only = λ z. absurd (no_last [] o (sym e ∙ z));
+  more = λ x rest w.
       let same : o ∷ [] ≡ x ∷ rest = sym e ∙ w in
       let head : o ≡ x = cc in
       ((k.only refl).0 ∙ ap (λ y. y.start) head, ap (λ y. first + y) m);
-    low = k.low;
-  }
+  low = k.low;
+}
 pushed_kept (q ∷ qs) more o new first end most k h n e m = record {
-    none = λ t. cc;
-    only = λ z. absurd (no_last (q ∷ qs) o (sym e ∙ z));
-    more = λ x rest w.
+  none = λ t. cc;
+  only = λ z. absurd (no_last (q ∷ qs) o (sym e ∙ z));
+  more = λ x rest w.
       let same : q ∷ (qs ++ o ∷ []) ≡ x ∷ rest = sym e ∙ w in
       let head : q ≡ x = cc in
       ((k.more q qs refl).0 ∙ ap (λ y. y.start) head, ap (λ y. first + y) m);
-    low = k.low;
-  }
+  low = k.low;
+}
 
 -- the innermost one says something else
 pub set_kept : (outer : List Open) (o new : Open) (first most base : ℕ) (p q : Partial)

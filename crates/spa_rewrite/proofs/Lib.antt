@@ -5,3 +5,4 @@ pub mod Rewritten
 pub mod Nesting
 pub mod Stretches
 pub mod Own
+pub mod Runs

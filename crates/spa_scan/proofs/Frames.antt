@@ -59,7 +59,7 @@ no_members = record { values = no_trees; members = refl; same = refl }
 pub no_properties_left : AreCanonicalProperties []
 no_properties_left = record { values = no_properties; properties = refl; same = refl }
 
-parted : (input : List ℕ) (v : Tree) (rest : List ℕ) → BeginsWith input v rest → input ≡ front_of input ++ rest
+pub parted : (input : List ℕ) (v : Tree) (rest : List ℕ) → BeginsWith input v rest → input ≡ front_of input ++ rest
 parted input v rest r = front_and_rest input ∙ ap (λ l. front_of input ++ l) (sym r.follows)
 
 pub one_more : (input rest : List ℕ) → BeginsCanonical input rest → AreCanonical rest → AreCanonical input

@@ -8,4 +8,6 @@ mod scan;
 mod text;
 
 pub use nesting::nests_within;
-pub use scan::{LEVELS, canonical_front, canonical_stretch};
+pub use scan::{
+    LEVELS, canonical_front, canonical_stretch, plain_front, plain_members, plain_properties,
+};

@@ -1,7 +1,7 @@
 //! Pods that are their own rewriting, found by one look that writes nothing and takes no memory.
 ghost use Rattle.std.specs.Prelude.{◌≡◌, ◌+◌, ◌<◌, ◌≤◌, ◌++◌, IfNone, IfSome, List, length, true, ℕ};
 ghost use Rattle.spa_format.specs.Front.{HasFront};
-ghost use Rattle.spa_scan.specs.Canonical.{AreCanonical, AreCanonicalProperties, BeginsCanonical, IsCanonicalBody, IsSized};
+ghost use Rattle.spa_scan.specs.Canonical.{AreCanonical, AreCanonicalProperties, BeginsCanonical, BeginsCanonicalProperty, IsCanonicalBody, IsSized};
 ghost use Rattle.spa_scan.specs.Depth.{AreShallow, AreShallowProperties, IsShallowBody, depth_of, levels_looked_into};
 
 use crate::array::{is_array, is_choice};
@@ -46,6 +46,62 @@ pub fn canonical_stretch(input: &[u8]) -> (&[u8], &[u8])
 {
     let mut left = input;
     while let Some(rest) = canonical_front(left) {
+        left = rest;
+    }
+    input.split_at(input.len() - left.len())
+}
+
+/// What follows the pod at the front, where that is its own rewriting and neither a struct nor an object.
+pub fn plain_front(input: &[u8]) -> Option<&[u8]>
+    ensures taken { IfSome result (λ rest. BeginsCanonical input.now rest.now) }
+    ensures shorter { IfSome result (λ rest. length rest.now + 8 ≤ length input.now) }
+{
+    if let Some(rest) = fixed_front(input) {
+        return Some(rest);
+    }
+    let Some(front) = padded_front(input) else {
+        return None;
+    };
+    if is_body(front.type_, front.body, 0) {
+        Some(front.rest)
+    } else {
+        None
+    }
+}
+
+/// The same behind a key and flags.
+#[inline(always)]
+fn plain_property(input: &[u8]) -> Option<&[u8]>
+    ensures taken { IfSome result (λ rest. BeginsCanonicalProperty input.now rest.now) }
+    ensures shorter { IfSome result (λ rest. length rest.now + 16 ≤ length input.now) }
+{
+    if input.len() < HEADER_LEN {
+        return None;
+    }
+    let (_, behind) = input.split_at(HEADER_LEN);
+    let rest = plain_front(behind)?;
+    Some(rest)
+}
+
+/// The first members of a struct, as many as `plain_front` passes, and what follows them.
+pub fn plain_members(input: &[u8]) -> (&[u8], &[u8])
+    ensures parts { input.now ≡ result.0.now ++ result.1.now }
+    ensures canonical { AreCanonical result.0.now }
+{
+    let mut left = input;
+    while let Some(rest) = plain_front(left) {
+        left = rest;
+    }
+    input.split_at(input.len() - left.len())
+}
+
+/// The first properties of an object, as many as `plain_front` passes the pods of, and what follows them.
+pub fn plain_properties(input: &[u8]) -> (&[u8], &[u8])
+    ensures parts { input.now ≡ result.0.now ++ result.1.now }
+    ensures canonical { AreCanonicalProperties result.0.now }
+{
+    let mut left = input;
+    while let Some(rest) = plain_property(left) {
         left = rest;
     }
     input.split_at(input.len() - left.len())

@@ -1,8 +1,8 @@
-use Rattle.std.proofs.Common.{◌≡◌, ◌≢◌, [], ap, arith, length, sym, subst}
+use Rattle.std.proofs.Common.{ap, length, sym, subst}
 use Rattle.std.proofs.lemmas.Bool.{eqb-false, eqb-true}
 use Rattle.spa_rewrite.specs.Rewriting.{RefusesFront}
 use Rattle.spa_rewrite.proofs.Refusals.{front_refused}
-use Rattle.spa_rewrite.proofs.Stretches.{FirstMembers, all_first, first_left, first_pod, first_stretch, list_refused, no_first_member}
+use Rattle.spa_rewrite.proofs.Stretches.{all_first, first_left, first_pod, first_stretch, list_refused, no_first_member}
 use Rattle.spa_rewrite.proofs.rewriting.accept_all.Goals as goal
 
 pub loop-behind-init : goal.loop-behind-init

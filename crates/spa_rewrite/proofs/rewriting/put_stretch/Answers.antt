@@ -1,4 +1,4 @@
-use Rattle.std.proofs.Common.{◌≡◌, ◌<◌, [], refl, sym, ◌∙◌, arith, length}
+use Rattle.std.proofs.Common.{◌<◌, [], refl, sym, arith, length}
 use Rattle.std.proofs.lemmas.Bool.{eqb-false}
 use Rattle.spa_format.specs.Tree.{no_trees}
 use Rattle.spa_rewrite.proofs.Steps.{appends_none}

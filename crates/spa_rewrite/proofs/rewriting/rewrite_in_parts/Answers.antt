@@ -1,7 +1,4 @@
-use Rattle.std.proofs.Common.{◌≡◌, ◌++◌, [], ap, sym, ◌∙◌}
-use Rattle.spa_format.specs.Encoding.{member_encodings}
-use Rattle.spa_rewrite.specs.Rewriting.{AreRewritten}
-use Rattle.spa_rewrite.specs.Tails.{start_bytes, tail_bytes}
+use Rattle.std.proofs.Common.{◌∙◌}
 use Rattle.spa_rewrite.proofs.Stretches.{both_rewritten, in_parts, left_behind, list_refused, rewritten_apart}
 use Rattle.spa_rewrite.proofs.rewriting.rewrite_in_parts.Goals as goal
 

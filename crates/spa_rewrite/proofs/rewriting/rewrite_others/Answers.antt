@@ -1,4 +1,4 @@
-use Rattle.std.proofs.Common.{◌≡◌, ◌+◌, ◌<◌, ◌≤◌, [], ap, arith, length, length-append, sym, subst, ℕ}
+use Rattle.std.proofs.Common.{◌≡◌, ◌+◌, ◌≤◌, [], ap, arith, length, length-append, sym, subst}
 use Rattle.spa_format.specs.Words.{header_size}
 use Rattle.spa_rewrite.specs.Rewriting.{RefusesFront}
 use Rattle.spa_rewrite.proofs.Nesting.{rest_shorter}

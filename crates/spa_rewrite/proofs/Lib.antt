@@ -6,3 +6,5 @@ pub mod Nesting
 pub mod Stretches
 pub mod Own
 pub mod Runs
+pub mod Bodies
+pub mod Truths

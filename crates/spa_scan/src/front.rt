@@ -91,7 +91,7 @@ pub(crate) fn fixed_front(input: &[u8]) -> Option<&[u8]>
 
 /// How long the bodies of this type are, in bytes, where it is a kind of fixed size, and else a number past all of these.
 #[inline(always)]
-pub(crate) fn fixed_len(type_: u32) -> u32
+pub fn fixed_len(type_: u32) -> u32
     ensures is_len { result < 9 → IsFixedLen type_ result }
     ensures found { (k : Kind) → type_ ≡ type_number k → result ≡ body_size k }
 {

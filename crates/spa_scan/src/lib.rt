@@ -7,6 +7,7 @@ mod nesting;
 mod scan;
 mod text;
 
+pub use front::fixed_len;
 pub use nesting::nests_within;
 pub use scan::{
     LEVELS, canonical_front, canonical_stretch, plain_front, plain_members, plain_properties,

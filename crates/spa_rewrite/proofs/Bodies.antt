@@ -1,0 +1,374 @@
+-- The bodies of arrays and choices, part by part.
+use Rattle.std.proofs.Common.{◌≡◌, ◌≢◌, ℕ, suc, zero, ◌+◌, ◌*◌, ◌/◌, ◌%◌, ◌<◌, ◌≤◌, inl, inr, List, [], ◌∷◌, ◌++◌, length, drop, take, refl, sym, ap, ◌∙◌, subst, arith, append_assoc, length-append, length-drop, Option, Some, None, Result, Err}
+use Rattle.std.specs.Prelude.{IfErr, IfSome}
+use Rattle.std.specs.Borrow.{Bor}
+use Rattle.std.proofs.lemmas.List.{drop-take, length-take-le, nil_from_length, take-take, take_all}
+use Rattle.std.proofs.lemmas.Result.{IfErr-at_err, IfErr-weaker}
+use Rattle.spa_format.specs.Words.{header_size, padding, word_at, word_bytes}
+use Rattle.spa_format.specs.Kind.{Kind, Fixed, IsFixedBody, body_size, bool_kind, content, type_number}
+use Rattle.spa_format.specs.Tree.{Shape, none_choice, range_choice, step_choice, enum_choice, flags_choice, shape_number, array, array_type, choice, choice_type}
+use Rattle.spa_format.specs.Normal.{kept_flags}
+use Rattle.spa_format.specs.Pod.{AreElements, IsArray, least_count, values_taken}
+use Rattle.spa_format.specs.Encoding.{array_body, fixed_bodies, framed}
+use Rattle.spa_format.specs.Typed.{IsBytes}
+use Rattle.spa_format.specs.Faults.{choice_header_size}
+use Rattle.spa_format.proofs.Elements.{array_length, elements_length, same_array_length, same_elements}
+use Rattle.spa_format.proofs.FixedKinds.{same_kind}
+use Rattle.spa_format.proofs.WordLemmas.{length-word_bytes, word_at-drop}
+use Rattle.spa_fixed.specs.Reading.{AreWhole}
+use Rattle.spa_fixed.specs.declared.fault.Refusal.{Refusal}
+use Rattle.spa_fixed.specs.declared.fault.Refusal.TheVariants as refusal
+use Rattle.spa_sink.specs.declared.gen_error.GenError.{GenError}
+use Rattle.spa_sink.specs.declared.gen_error.GenError.TheVariants.{OutOfMemory}
+use Rattle.std.proofs.lemmas.Bool.{cases_lt}
+use Rattle.spa_scan.specs.Canonical.{AreCanonicalElements, IsFixedLen}
+use Rattle.spa_scan.proofs.Parts.{no_elements, whole_elements}
+use Rattle.spa_rewrite.specs.Elements.{AreOfNumber, HasElements, HasValues, IsBeginning, LacksMemory, TakesElements, TakesParts}
+use Rattle.spa_rewrite.specs.Rewriting.{LeavesBody, TakesBody}
+use Rattle.spa_rewrite.specs.Tails.{TailAppends, appends_both}
+use Rattle.spa_rewrite.specs.declared.tail.Tail.{Tail}
+
+whole_parts : (n s : ℕ) → n % s ≡ 0 → n ≡ n / s * s
+whole_parts n s e = grind arith
+
+pub whole_of : (s : ℕ) (b : List ℕ) → length b % s ≡ 0 → AreWhole s b
+whole_of s b e = record { many = length b / s; count = whole_parts (length b) s e }
+
+pub none_of : (s : ℕ) (b : List ℕ) → length b ≡ 0 → AreWhole s b
+none_of s b e = record { many = 0; count = e ∙ omega arith }
+
+-- an array's body whose sizes are right
+pub elements_are : (body elements : List ℕ) (size number len : ℕ) → header_size ≤ length body →
+    elements ≡ drop header_size body → size ≡ word_at body 0 → number ≡ word_at body 4 → size ≡ len →
+    IsFixedLen number len → AreWhole size elements → HasElements body elements
+elements_are body elements size number len h d z w e f whole = record {
+  header = h;
+  its = record {
+    kind = f.0;
+    its_number = sym w ∙ f.1;
+    whole = subst (λ s. AreWhole s elements) (e ∙ f.2) whole;
+  };
+  child_size = sym z ∙ e ∙ f.2;
+  behind = d;
+}
+
+-- so many bodies of a kind say values
+record IsListed (k : Kind) (n : ℕ) (b : List ℕ) : Type 0 where
+  values : List Fixed
+  its_values : AreElements k values b
+  count : length values ≡ n
+
+listed : (k : Kind) (n : ℕ) (b : List ℕ) → 0 < body_size k → length b ≡ n * body_size k → IsListed k n b
+listed k zero b p e = record { values = []; its_values = nil_from_length b (e ∙ omega arith); count = refl }
+listed k (suc n) b p e =
+    let s = body_size k in
+    let m : suc n * s ≡ s + n * s = omega arith in
+    let d = length-drop s b in
+    let others = listed k n (drop s b) p (omega arith) in
+    record {
+      values = content k (take s b) ∷ others.values;
+      its_values = (p, record { whole = length-take-le s b (omega arith); says = refl }, others.its_values);
+      count = ap suc others.count;
+    }
+
+-- the first values are those of the first bodies
+first_elements : (k : Kind) (n : ℕ) (xs : List Fixed) (b : List ℕ) → AreElements k xs b →
+    AreElements k (take n xs) (take (n * body_size k) b)
+first_elements k zero xs b h = ap (λ m. take m b) (let z : 0 * body_size k ≡ 0 = omega arith in z)
+first_elements k (suc n) [] b h = ap (take (suc n * body_size k)) h ∙ take_all (suc n * body_size k) [] (omega arith)
+first_elements k (suc n) (x ∷ xs) b h =
+    let s = body_size k in
+    let m : suc n * s ≡ s + n * s = omega arith in
+    let more : s ≤ suc n * s = omega arith in
+    let inside : drop s (take (suc n * s) b) ≡ take (n * s) (drop s b) =
+    ap (λ i. drop s (take i b)) m ∙ drop-take s (n * s) b in (
+      h.0,
+      subst (λ y. IsFixedBody k y x) (sym (take-take s (suc n * s) b more)) h.1,
+      subst (AreElements k (take n xs)) (sym inside) (first_elements k n xs (drop s b) h.2),
+    )
+
+fewer : (m n s : ℕ) → m * s ≤ n * s → 0 < s → m ≤ n
+fewer m n s l p = grind arith
+
+-- the values behind the default that such a choice takes are so many first ones
+pub record TakesFirst (s : Shape) (m : ℕ) : Type 0 where
+  pub least : least_count s ≡ suc m
+  pub taken : (xs : List Fixed) → values_taken s xs ≡ take m xs
+
+-- the values of a choice among all that are there
+has_values : (s : Shape) (k : Kind) (ys : List Fixed) (body kept : List ℕ) → header_size ≤ length body →
+    word_at body 0 ≡ shape_number s → IsArray k ys (drop header_size body) → least_count s ≤ length ys → 0 < least_count s →
+    ((x : Fixed) (xs : List Fixed) → ys ≡ x ∷ xs → AreElements k (x ∷ values_taken s xs) kept) → AreWhole (body_size k) kept →
+    choice_header_size + length kept ≤ length body → HasValues body kept
+has_values s k [] body kept h w a l p f whole shorter = absurd (omega arith)
+has_values s k (x ∷ xs) body kept h w a l p f whole shorter = record {
+  shape = s;
+  kind = k;
+  default = x;
+  values = values_taken s xs;
+  its_choice = record { header = h; shape = w; flags = refl; all = xs; values = a; enough = l; first = refl };
+  its_values = f x xs refl;
+  whole = whole;
+  shorter = shorter;
+}
+
+-- what is known of the body of a choice whose sizes are right
+pub record IsOpen (body inner elements : List ℕ) (size : ℕ) (s : Shape) : Type 0 where
+  pub room : choice_header_size ≤ length body
+  pub its_array : inner ≡ drop header_size body
+  pub its_elements : HasElements inner elements
+  pub its_size : size ≡ word_at inner 0
+  pub its_shape : word_at body 0 ≡ shape_number s
+
+array_there : (body inner elements : List ℕ) (size : ℕ) (s : Shape) (o : IsOpen body inner elements size s) (ys : List Fixed) →
+    AreElements o.its_elements.its.kind ys elements → IsArray o.its_elements.its.kind ys (drop header_size body)
+array_there body inner elements size s o ys h =
+    let e = o.its_elements in
+    let k = e.its.kind in
+    subst (IsArray k ys) o.its_array
+    (record {
+      header = e.header;
+      child_size = e.child_size;
+      child_type = e.its.its_number;
+      elements = subst (AreElements k ys) e.behind h;
+    })
+
+pub some_values : (body inner elements kept : List ℕ) (size m : ℕ) (s : Shape) → IsOpen body inner elements size s →
+    TakesFirst s m → IsBeginning kept elements (suc m * size) → HasValues body kept
+some_values body inner elements kept size m s o f b =
+    let e = o.its_elements in
+    let k = e.its.kind in
+    let n = e.its.whole.many in
+    let same : size ≡ body_size k = o.its_size ∙ e.child_size in
+    let all : length elements ≡ n * body_size k = e.its.whole.count in
+    let count : suc m * size ≡ suc m * body_size k = ap (λ i. suc m * i) same in
+    let some : 0 < body_size k = let p = b.some in let z = f.least in grind arith in
+    let ys = listed k n elements some all in
+    let many = ys.count in
+    let room : suc m * body_size k ≤ n * body_size k = let r = b.room in omega arith in
+    let enough : suc m ≤ n = fewer (suc m) n (body_size k) room some in
+    let least = f.least in
+    let bytes : kept ≡ take (suc m * body_size k) elements = b.same ∙ ap (λ i. take i elements) count in
+    let long : length kept ≡ suc m * body_size k = ap length bytes ∙ length-take-le (suc m * body_size k) elements (omega arith) in
+    let d = ap length e.behind ∙ length-drop 8 inner in
+    let d' = ap length o.its_array ∙ length-drop 8 body in
+    let r = o.room in
+    let h = e.header in
+    has_values s k ys.values body kept (omega arith) o.its_shape (array_there body inner elements size s o ys.values ys.its_values)
+    (omega arith) (omega arith)
+    (λ x xs i.
+    let first : take (suc m) ys.values ≡ x ∷ values_taken s xs = ap (take (suc m)) i ∙ ap (λ l. x ∷ l) (sym (f.taken xs)) in
+    subst (λ l. AreElements k l kept) first
+    (subst (AreElements k (take (suc m) ys.values)) (sym bytes) (first_elements k (suc m) ys.values elements ys.its_values)))
+    (record { many = suc m; count = long })
+    (omega arith)
+
+pub all_values : (body inner elements kept : List ℕ) (size : ℕ) (s : Shape) → IsOpen body inner elements size s →
+    least_count s ≡ 1 → ((xs : List Fixed) → values_taken s xs ≡ xs) → IsBeginning kept elements (length elements) → HasValues body kept
+all_values body inner elements kept size s o least taken b =
+    let e = o.its_elements in
+    let k = e.its.kind in
+    let n = e.its.whole.many in
+    let all : length elements ≡ n * body_size k = e.its.whole.count in
+    let p = b.some in
+    let sized : 0 < n * body_size k = omega arith in
+    let some : 0 < body_size k = grind arith in
+    let ys = listed k n elements some all in
+    let many = ys.count in
+    let one : 0 < n = grind arith in
+    let same : kept ≡ elements = b.same ∙ take_all (length elements) elements (omega arith) in
+    let size = ap length same in
+    let d = ap length e.behind ∙ length-drop 8 inner in
+    let d' = ap length o.its_array ∙ length-drop 8 body in
+    let r = o.room in
+    let h = e.header in
+    has_values s k ys.values body kept (omega arith) o.its_shape (array_there body inner elements _ s o ys.values ys.its_values)
+    (omega arith) (omega arith)
+    (λ x xs i. subst (λ l. AreElements k l kept) (i ∙ ap (λ l. x ∷ l) (sym (taken xs)))
+    (subst (AreElements k ys.values) (sym same) ys.its_values))
+    (subst (AreWhole (body_size k)) (sym same) e.its.whole)
+    (omega arith)
+
+if_some : {X : Type 0} (o : Option X) (P Q : X → Type 0) → ((x : X) → P x → Q x) → IfSome o P → IfSome o Q
+if_some None P Q f h = tt
+if_some (Some x) P Q f h = f x h
+
+pub opened : (body inner elements : List ℕ) (size number : ℕ) (s : Shape) → choice_header_size ≤ length body →
+    inner ≡ drop header_size body → HasElements inner elements → size ≡ word_at inner 0 → number ≡ word_at body 0 →
+    number ≡ shape_number s → IsOpen body inner elements size s
+opened body inner elements size number s l d e z w n =
+    record { room = l; its_array = d; its_elements = e; its_size = z; its_shape = sym w ∙ n }
+
+pub none_kept : (r : Option (Bor (List ℕ))) (body inner elements : List ℕ) (size : ℕ) → IsOpen body inner elements size none_choice →
+    IfSome r (λ kept. IsBeginning kept.now elements size) → IfSome r (λ kept. HasValues body kept.now)
+none_kept r body inner elements size o h =
+    if_some r _ _ (λ kept b. some_values body inner elements kept.now size 0 none_choice o (record { least = refl; taken = λ xs. refl })
+    (subst (IsBeginning kept.now elements) (let e : size ≡ 1 * size = omega arith in e) b)) h
+
+pub range_kept : (r : Option (Bor (List ℕ))) (body inner elements : List ℕ) (size : ℕ) → IsOpen body inner elements size range_choice →
+    IfSome r (λ kept. IsBeginning kept.now elements (3 * size)) → IfSome r (λ kept. HasValues body kept.now)
+range_kept r body inner elements size o h =
+    if_some r _ _ (λ kept b. some_values body inner elements kept.now size 2 range_choice o (record { least = refl; taken = λ xs. refl }) b) h
+
+pub step_kept : (r : Option (Bor (List ℕ))) (body inner elements : List ℕ) (size : ℕ) → IsOpen body inner elements size step_choice →
+    IfSome r (λ kept. IsBeginning kept.now elements (4 * size)) → IfSome r (λ kept. HasValues body kept.now)
+step_kept r body inner elements size o h =
+    if_some r _ _ (λ kept b. some_values body inner elements kept.now size 3 step_choice o (record { least = refl; taken = λ xs. refl }) b) h
+
+pub enum_kept : (r : Option (Bor (List ℕ))) (body inner elements : List ℕ) (size : ℕ) → IsOpen body inner elements size enum_choice →
+    IfSome r (λ kept. IsBeginning kept.now elements (length elements)) → IfSome r (λ kept. HasValues body kept.now)
+enum_kept r body inner elements size o h =
+    if_some r _ _ (λ kept b. all_values body inner elements kept.now size enum_choice o refl (λ xs. refl) b) h
+
+pub flags_kept : (r : Option (Bor (List ℕ))) (body inner elements : List ℕ) (size : ℕ) → IsOpen body inner elements size flags_choice →
+    IfSome r (λ kept. IsBeginning kept.now elements (length elements)) → IfSome r (λ kept. HasValues body kept.now)
+flags_kept r body inner elements size o h =
+    if_some r _ _ (λ kept b. all_values body inner elements kept.now size flags_choice o refl (λ xs. refl) b) h
+
+-- the flags that are written
+pub no_flags : (s : Shape) (f n : ℕ) → n ≡ 0 → n ≡ shape_number s → 0 ≡ kept_flags s f
+no_flags none_choice f n z e = refl
+no_flags range_choice f n z e = absurd (omega arith)
+no_flags step_choice f n z e = absurd (omega arith)
+no_flags enum_choice f n z e = absurd (omega arith)
+no_flags flags_choice f n z e = absurd (omega arith)
+
+pub same_flags : (s : Shape) (f n : ℕ) → n ≢ 0 → n ≡ shape_number s → f ≡ kept_flags s f
+same_flags none_choice f n z e = absurd (z e)
+same_flags range_choice f n z e = refl
+same_flags step_choice f n z e = refl
+same_flags enum_choice f n z e = refl
+same_flags flags_choice f n z e = refl
+
+array_parts : (a b c d e p : List ℕ) → ((a ++ b) ++ (c ++ d)) ++ (e ++ p) ≡ a ++ (b ++ ((c ++ (d ++ e)) ++ p))
+array_parts a b c d e p = simp append_assoc
+
+choice_parts : (a b c d e f g p : List ℕ) →
+    ((a ++ b) ++ (c ++ d)) ++ ((e ++ f) ++ (g ++ p)) ≡ a ++ (b ++ ((c ++ (d ++ (e ++ (f ++ g)))) ++ p))
+choice_parts a b c d e f g p = simp append_assoc
+
+-- the values that a choice takes are of its child type
+pub of_child_type : (body kept : List ℕ) (number : ℕ) → HasValues body kept → number ≡ word_at body 12 → AreOfNumber number kept
+of_child_type body kept number h e =
+    let is = h.its_choice in
+    record { kind = h.kind; its_number = e ∙ sym (word_at-drop 8 4 body) ∙ is.values.child_type; whole = h.whole }
+
+-- the parts of an array are its encoding,
+pub array_taken : (body elements header : List ℕ) (number : ℕ) (a b : Tail) → HasElements body elements →
+    header ≡ (word_bytes (length body) ++ word_bytes array_type) ++ (word_bytes (word_at body 0) ++ word_bytes number) →
+    number ≡ word_at body 4 → TakesParts header number elements (length body) a b → TakesBody array_type body a b
+array_taken body elements header number a b h e w t =
+    let k = t.kind in
+    let same : h.its.kind ≡ k = same_kind h.its.kind k (sym h.its.its_number ∙ sym w ∙ t.its_number) in
+    let size : word_at body 0 ≡ body_size k = h.child_size ∙ ap body_size same in
+    let is : IsArray k t.values body = record {
+      header = h.header;
+      child_size = size;
+      child_type = sym w ∙ t.its_number;
+      elements = subst (AreElements k t.values) h.behind t.its_values;
+    } in
+    let bodies = fixed_bodies t.values in
+    let inside = array_body k t.values in
+    let n = length body in
+    let long : length inside ≡ n = same_array_length k t.values body is in
+    let header_is : header ≡ (word_bytes n ++ word_bytes array_type) ++ (word_bytes (body_size k) ++ word_bytes (type_number k)) =
+    e ∙ ap (λ x. (word_bytes n ++ word_bytes array_type) ++ (word_bytes x ++ word_bytes number)) size
+    ∙ ap (λ x. (word_bytes n ++ word_bytes array_type) ++ (word_bytes (body_size k) ++ word_bytes x)) t.its_number in
+    let bytes : header ++ (bodies ++ padding n) ≡ framed array_type inside =
+    ap (λ x. x ++ (bodies ++ padding n)) header_is
+    ∙ array_parts (word_bytes n) (word_bytes array_type) (word_bytes (body_size k)) (word_bytes (type_number k)) bodies (padding n)
+    ∙ ap (λ m. word_bytes m ++ (word_bytes array_type ++ (inside ++ padding m))) (sym long) in
+    record {
+      value = array k t.values;
+      its_type = refl;
+      its_body = is;
+      encoding = subst (λ x. TailAppends a x b) bytes t.encoding;
+    }
+
+-- and those of a choice
+pub choice_taken : (body kept first second : List ℕ) (shape flags number size : ℕ) (a b c : Tail) → HasValues body kept →
+    shape ≡ word_at body 0 → ((s : Shape) → shape ≡ shape_number s → flags ≡ kept_flags s (word_at body 4)) →
+    number ≡ word_at body 12 → size ≡ choice_header_size + length kept →
+    first ≡ (word_bytes size ++ word_bytes choice_type) ++ (word_bytes shape ++ word_bytes flags) →
+    second ≡ word_bytes (word_at body 8) ++ word_bytes number → TailAppends a first b → TakesParts second number kept size b c →
+    TakesBody choice_type body a c
+choice_taken body kept first second shape flags number size a b c h w0 w4 w12 z e0 e1 p t =
+    let is = h.its_choice in
+    let k = h.kind in
+    let s = h.shape in
+    let f = kept_flags s (word_at body 4) in
+    let number_is : number ≡ type_number k = w12 ∙ sym (word_at-drop 8 4 body) ∙ is.values.child_type in
+    let kinds : t.kind ≡ k = same_kind t.kind k (sym t.its_number ∙ number_is) in
+    let xs = h.default ∷ h.values in
+    let values : t.values ≡ xs = same_elements k t.values xs kept (subst (λ x. AreElements x t.values kept) kinds t.its_values) h.its_values in
+    let bodies = fixed_bodies xs in
+    let shape_is : shape ≡ shape_number s = w0 ∙ is.shape in
+    let flags_is : flags ≡ f = w4 s shape_is in
+    let child : word_at body 8 ≡ body_size k = sym (word_at-drop 8 0 body) ∙ is.values.child_size in
+    let inside = word_bytes (shape_number s) ++ (word_bytes f ++ array_body k xs) in
+    let l0 = length-append (word_bytes (shape_number s)) (word_bytes f ++ array_body k xs) in
+    let l1 = length-append (word_bytes f) (array_body k xs) in
+    let l2 = length-word_bytes (shape_number s) in
+    let l3 = length-word_bytes f in
+    let l4 = array_length k xs in
+    let l5 = elements_length k xs kept h.its_values in
+    let long : length inside ≡ size = omega arith in
+    let first_is : first ≡ (word_bytes size ++ word_bytes choice_type) ++ (word_bytes (shape_number s) ++ word_bytes f) =
+    e0 ∙ ap (λ x. (word_bytes size ++ word_bytes choice_type) ++ (word_bytes x ++ word_bytes flags)) shape_is
+    ∙ ap (λ x. (word_bytes size ++ word_bytes choice_type) ++ (word_bytes (shape_number s) ++ word_bytes x)) flags_is in
+    let second_is : second ≡ word_bytes (body_size k) ++ word_bytes (type_number k) =
+    e1 ∙ ap (λ x. word_bytes x ++ word_bytes number) child ∙ ap (λ x. word_bytes (body_size k) ++ word_bytes x) number_is in
+    let bytes : first ++ (second ++ (fixed_bodies t.values ++ padding size)) ≡ framed choice_type inside =
+    ap (λ x. x ++ (second ++ (fixed_bodies t.values ++ padding size))) first_is
+    ∙ ap (λ x. ((word_bytes size ++ word_bytes choice_type) ++ (word_bytes (shape_number s) ++ word_bytes f)) ++ (x ++ (fixed_bodies t.values ++ padding size))) second_is
+    ∙ ap (λ x. ((word_bytes size ++ word_bytes choice_type) ++ (word_bytes (shape_number s) ++ word_bytes f)) ++ ((word_bytes (body_size k) ++ word_bytes (type_number k)) ++ (fixed_bodies x ++ padding size))) values
+    ∙ choice_parts (word_bytes size) (word_bytes choice_type) (word_bytes (shape_number s)) (word_bytes f)
+    (word_bytes (body_size k)) (word_bytes (type_number k)) bodies (padding size)
+    ∙ ap (λ m. word_bytes m ++ (word_bytes choice_type ++ (inside ++ padding m))) (sym long) in
+    record {
+      value = choice s f k h.default h.values;
+      its_type = refl;
+      its_body = is;
+      encoding = subst (λ x. TailAppends a x c) bytes
+          (appends_both a b c first (second ++ (fixed_bodies t.values ++ padding size)) p t.encoding);
+    }
+
+-- elements other than truth values are written as they are
+pub as_they_are : (number : ℕ) (elements : List ℕ) (a b : Tail) → IsBytes elements → number ≢ type_number bool_kind →
+    AreOfNumber number elements → TailAppends a elements b → TakesElements number elements a b
+as_they_are number elements a b h n w t =
+    let k = w.kind in
+    let other : ¬ (k ≡ bool_kind) = λ e. n (w.its_number ∙ ap type_number e) in
+    let many = w.whole.count in
+    let c : AreCanonicalElements k elements = elim (cases_lt 0 (body_size k)) [
+      | inl p ↦ whole_elements k w.whole.many elements h other p many
+      | inr z ↦ no_elements k elements (let e : length elements ≡ 0 = grind arith in e)
+    ] in
+    record {
+      kind = k;
+      its_number = w.its_number;
+      values = c.values;
+      its_values = c.elements;
+      encoding = subst (λ x. TailAppends a x b) c.same t;
+    }
+
+-- the parts behind a header
+pub parts_taken : (header elements : List ℕ) (number size : ℕ) (a b c d : Tail) → TailAppends a header b →
+    TakesElements number elements b c → TailAppends c (padding size) d → TakesParts header number elements size a d
+parts_taken header elements number size a b c d p t q = record {
+  kind = t.kind;
+  its_number = t.its_number;
+  values = t.values;
+  its_values = t.its_values;
+  encoding = appends_both a b d header (fixed_bodies t.values ++ padding size) p
+      (appends_both b c d (fixed_bodies t.values) (padding size) t.encoding q);
+}
+
+-- a body for whose encoding there is no memory
+pub body_unwritten : {T : Type 0} (r : Result T GenError) (q : Result T Refusal) (type : ℕ) (body : List ℕ) (a b : Tail) →
+    IfErr r (λ e. LacksMemory e a b) → IfErr q (λ why. (why ≡ refusal.OutOfMemory) × (r ≡ Err OutOfMemory)) →
+    IfErr q (λ why. LeavesBody type body why a b)
+body_unwritten r q type body a b h e =
+    IfErr-weaker q _ _ (λ why x.
+    let kept = (IfErr-at_err (λ y. LacksMemory y a b) x.1 h).1 in
+    subst (λ w. LeavesBody type body w a b) (sym x.0) (record { says = tt; kept = kept })) e

@@ -1,0 +1,144 @@
+-- The bodies of truth values, a block at a time.
+use Rattle.std.proofs.Common.{◌≡◌, ℕ, ◌+◌, ◌*◌, ◌%◌, ◌<◌, ◌≤◌, List, [], ◌∷◌, ◌++◌, length, drop, take, refl, sym, ap, ◌∙◌, subst, arith, append_assoc, length-drop, length-take}
+use Rattle.std.specs.Prelude.{min}
+use Rattle.std.proofs.Math.Seq.{take-add}
+use Rattle.std.proofs.lemmas.List.{append-nil, drop-append-le, length-take-le, nil_from_length, take-append-drop, take-append-le, take_all}
+use Rattle.spa_format.specs.Kind.{Kind, Fixed, IsFixedBody, body_size, bool_kind, content, fixed_body}
+use Rattle.spa_format.specs.Pod.{AreElements}
+use Rattle.spa_format.specs.Encoding.{fixed_bodies}
+use Rattle.spa_format.proofs.Elements.{elements_push, fixed_bodies-append}
+use Rattle.spa_format.proofs.FixedKinds.{same_kind}
+use Rattle.spa_fixed.specs.Reading.{AreWhole}
+use Rattle.spa_rewrite.specs.Elements.{AreOfNumber, AreTruths, TakesElements, TakesTruths}
+use Rattle.spa_rewrite.specs.Tails.{TailAppends, appends_both}
+use Rattle.spa_rewrite.specs.declared.tail.Tail.{Tail}
+use Rattle.spa_rewrite.proofs.Bodies.{whole_of}
+use Rattle.spa_rewrite.proofs.Steps.{appends_none}
+
+-- the first words stand in the block as they are written
+pub record AreFilled (words block : List ℕ) (at : ℕ) : Type 0 where
+  pub count : ℕ
+  pub place : at ≡ count * 4
+  pub within : at ≤ length words
+  pub values : List Fixed
+  pub its_values : AreElements bool_kind values (take at words)
+  pub bodies : take at block ≡ fixed_bodies values
+
+pub none_filled : (words block : List ℕ) → AreFilled words block 0
+none_filled words block = record { count = 0; place = refl; within = omega arith; values = []; its_values = refl; bodies = refl }
+
+-- there is one more
+pub one_left : (words block : List ℕ) (at : ℕ) → AreFilled words block at → AreWhole 4 words → at < length words →
+    at + 4 ≤ length words
+one_left words block at h w l = let p = h.place in let c = w.count in omega arith
+
+bodies_push : (xs : List Fixed) (x : Fixed) → fixed_bodies (xs ++ x ∷ []) ≡ fixed_bodies xs ++ fixed_body x
+bodies_push xs x = fixed_bodies-append xs (x ∷ []) ∙ ap (λ l. fixed_bodies xs ++ l) (append-nil (fixed_body x))
+
+pub one_filled : (words block after piece word : List ℕ) (x : Fixed) (at : ℕ) → AreFilled words block at → AreWhole 4 words →
+    at < length words → word ≡ take 4 (drop at words) → x ≡ content bool_kind word →
+    take (at + 4) after ≡ take at block ++ piece → piece ≡ fixed_body x → AreFilled words after (at + 4)
+one_filled words block after piece word x at h w l e s b p =
+    let room = one_left words block at h w l in
+    let place = h.place in
+    let d = length-drop at words in
+    let long : length word ≡ 4 = ap length e ∙ length-take-le 4 (drop at words) (omega arith) in
+    let more : take (at + 4) words ≡ take at words ++ word = take-add at 4 words ∙ ap (λ y. take at words ++ y) (sym e) in
+    record {
+      count = h.count + 1;
+      place = omega arith;
+      within = room;
+      values = h.values ++ x ∷ [];
+      its_values = subst (AreElements bool_kind (h.values ++ x ∷ [])) (sym more)
+          (elements_push bool_kind h.values x (take at words) word (omega arith) h.its_values (record { whole = long; says = s }));
+      bodies = b ∙ ap (λ y. y ++ piece) h.bodies ∙ ap (λ y. fixed_bodies h.values ++ y) p ∙ sym (bodies_push h.values x);
+    }
+
+pub all_filled : (words block : List ℕ) (at : ℕ) → AreFilled words block at → length words ≤ at →
+    AreTruths words (take (length words) block)
+all_filled words block at h l =
+    let w = h.within in
+    let same : at ≡ length words = omega arith in
+    record {
+      values = h.values;
+      its_values = subst (AreElements bool_kind h.values) (take_all at words l) h.its_values;
+      bodies = ap (λ n. take n block) (sym same) ∙ h.bodies;
+    }
+
+-- some bodies, and others behind them
+elements_joined : (k : Kind) (xs ys : List Fixed) (a b : List ℕ) → AreElements k xs a → AreElements k ys b →
+    AreElements k (xs ++ ys) (a ++ b)
+elements_joined k [] ys a b h i = subst (AreElements k ys) (ap (λ l. l ++ b) (sym h)) i
+elements_joined k (x ∷ xs) ys a b h i =
+    let s = body_size k in
+    let w = h.1.whole in
+    let t = length-take s a in
+    let long : s ≤ length a = omega arith in (
+      h.0,
+      subst (λ y. IsFixedBody k y x) (sym (take-append-le s a b long)) h.1,
+      subst (AreElements k (xs ++ ys)) (sym (drop-append-le s a b long)) (elements_joined k xs ys (drop s a) b h.2 i),
+    )
+
+-- the first words were appended as they are written, and these are left
+pub record TruthsSoFar (words left : List ℕ) (old new : Tail) : Type 0 where
+  pub values : List Fixed
+  pub first : List ℕ
+  pub parts : words ≡ first ++ left
+  pub its_values : AreElements bool_kind values first
+  pub encoding : TailAppends old (fixed_bodies values) new
+  pub whole : AreWhole 4 left
+
+pub no_truth_yet : (words : List ℕ) (a : Tail) → AreWhole 4 words → TruthsSoFar words words a a
+no_truth_yet words a w =
+    record { values = []; first = []; parts = refl; its_values = refl; encoding = appends_none a; whole = w }
+
+-- a block of whole words, and those behind it
+whole_block : (m n : ℕ) → n ≡ min (m * 4) 256 → n % 4 ≡ 0
+whole_block m n e = grind arith
+
+pub block_whole : (left some : List ℕ) (n : ℕ) → AreWhole 4 left → n ≡ min (length left) 256 → some ≡ take n left →
+    AreWhole 4 some
+block_whole left some n w e s =
+    let short : n ≤ length left = grind arith in
+    let long : length some ≡ n = ap length s ∙ length-take-le n left short in
+    let even : n % 4 ≡ 0 = whole_block w.many n (e ∙ ap (λ m. min m 256) w.count) in
+    whole_of 4 some (ap (λ m. m % 4) long ∙ even)
+
+pub next_truths : (words left some rest bytes : List ℕ) (n : ℕ) (a b c : Tail) → TruthsSoFar words left a b →
+    n ≡ min (length left) 256 → some ≡ take n left → rest ≡ drop n left → AreTruths some bytes → TailAppends b bytes c →
+    TruthsSoFar words rest a c
+next_truths words left some rest bytes n a b c h e s r t p =
+    let here : left ≡ some ++ rest =
+    sym (take-append-drop n left) ∙ ap (λ l. l ++ drop n left) (sym s) ∙ ap (λ l. some ++ l) (sym r) in
+    let even : n % 4 ≡ 0 = whole_block h.whole.many n (e ∙ ap (λ m. min m 256) h.whole.count) in
+    let all = h.whole.count in
+    let d = ap length r ∙ length-drop n left in
+    record {
+      values = h.values ++ t.values;
+      first = h.first ++ some;
+      parts = h.parts ∙ ap (λ l. h.first ++ l) here ∙ sym (append_assoc h.first some rest);
+      its_values = elements_joined bool_kind h.values t.values h.first some h.its_values t.its_values;
+      encoding = subst (λ l. TailAppends a l c) (sym (fixed_bodies-append h.values t.values))
+          (appends_both a b c (fixed_bodies h.values) (fixed_bodies t.values) h.encoding
+          (subst (λ l. TailAppends b l c) t.bodies p));
+      whole = whole_of 4 rest (let z : length rest % 4 ≡ 0 = omega arith in z);
+    }
+
+pub all_truths : (words left : List ℕ) (a b : Tail) → TruthsSoFar words left a b → length left ≡ 0 → TakesTruths words a b
+all_truths words left a b h e =
+    let same : words ≡ h.first = h.parts ∙ ap (λ l. h.first ++ l) (nil_from_length left e) ∙ append-nil h.first in
+    record {
+      values = h.values;
+      its_values = subst (AreElements bool_kind h.values) (sym same) h.its_values;
+      encoding = h.encoding;
+    }
+
+-- bodies of the type of truth values
+pub truths_whole : (number : ℕ) (elements : List ℕ) → AreOfNumber number elements → number ≡ 2 → AreWhole 4 elements
+truths_whole number elements w e =
+    subst (λ k. AreWhole (body_size k) elements) (same_kind w.kind bool_kind (sym w.its_number ∙ e)) w.whole
+
+pub truths_taken : (number : ℕ) (elements : List ℕ) (a b : Tail) → number ≡ 2 → TakesTruths elements a b →
+    TakesElements number elements a b
+truths_taken number elements a b e t =
+    record { kind = bool_kind; its_number = e; values = t.values; its_values = t.its_values; encoding = t.encoding }

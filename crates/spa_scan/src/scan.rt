@@ -5,7 +5,7 @@ ghost use Rattle.spa_scan.specs.Canonical.{AreCanonical, AreCanonicalProperties,
 ghost use Rattle.spa_scan.specs.Depth.{AreShallow, AreShallowProperties, IsShallowBody, depth_of, levels_looked_into};
 
 use crate::array::{is_array, is_choice};
-use crate::front::{fixed_front, padded_front};
+use crate::front::{TWO_WORDS, fixed_front, fixed_len, padded_front};
 use crate::text::is_text;
 use spa_bytes::{HEADER_LEN, POINTER_LEN, SECOND_WORD, u32_at};
 use spa_utils::SpaTypes;
@@ -52,6 +52,7 @@ pub fn canonical_stretch(input: &[u8]) -> (&[u8], &[u8])
 }
 
 /// What follows the pod at the front, where that is its own rewriting and neither a struct nor an object.
+#[inline(always)]
 pub fn plain_front(input: &[u8]) -> Option<&[u8]>
     ensures taken { IfSome result (λ rest. BeginsCanonical input.now rest.now) }
     ensures shorter { IfSome result (λ rest. length rest.now + 8 ≤ length input.now) }
@@ -59,6 +60,26 @@ pub fn plain_front(input: &[u8]) -> Option<&[u8]>
     if let Some(rest) = fixed_front(input) {
         return Some(rest);
     }
+    if input.len() < HEADER_LEN {
+        return None;
+    }
+    if !is_looked_into(u32_at(input, SECOND_WORD)) {
+        return None;
+    }
+    plain_body_front(input)
+}
+
+/// Whether a look at the bodies of this type can tell more than one at the pod's first words.
+#[inline(always)]
+fn is_looked_into(type_: u32) -> bool {
+    type_ != SpaTypes::Struct.0 && type_ != SpaTypes::Object.0 && fixed_len(type_) > TWO_WORDS
+}
+
+/// The same as `plain_front`, of a pod that isn't of fixed size.
+fn plain_body_front(input: &[u8]) -> Option<&[u8]>
+    ensures taken { IfSome result (λ rest. BeginsCanonical input.now rest.now) }
+    ensures shorter { IfSome result (λ rest. length rest.now + 8 ≤ length input.now) }
+{
     let Some(front) = padded_front(input) else {
         return None;
     };
@@ -84,6 +105,7 @@ fn plain_property(input: &[u8]) -> Option<&[u8]>
 }
 
 /// The first members of a struct, as many as `plain_front` passes, and what follows them.
+#[inline(always)]
 pub fn plain_members(input: &[u8]) -> (&[u8], &[u8])
     ensures parts { input.now ≡ result.0.now ++ result.1.now }
     ensures canonical { AreCanonical result.0.now }
@@ -96,6 +118,7 @@ pub fn plain_members(input: &[u8]) -> (&[u8], &[u8])
 }
 
 /// The first properties of an object, as many as `plain_front` passes the pods of, and what follows them.
+#[inline(always)]
 pub fn plain_properties(input: &[u8]) -> (&[u8], &[u8])
     ensures parts { input.now ≡ result.0.now ++ result.1.now }
     ensures canonical { AreCanonicalProperties result.0.now }

@@ -5,6 +5,9 @@ use Rattle.spa_rewrite.specs.Tails.{TailAppends, tail_refuses}
 use Rattle.spa_rewrite.proofs.Runs.{passes_none, passes_run, run_refused}
 use Rattle.spa_rewrite.proofs.pod.put_plain.Goals as goal
 
+pub returns-then-unlooked-gt0-clause-passed : goal.returns-then-unlooked-gt0-clause-passed
+returns-then-unlooked-gt0-clause-passed c = passes_none _ _ _
+
 pub returns-then-is_empty-clause-passed : goal.returns-then-is_empty-clause-passed
 returns-then-is_empty-clause-passed c = passes_none _ _ _
 

@@ -14,19 +14,44 @@ const BLOCK_COUNT: usize = 32;
 /// The length in bytes of so many elements, at most.
 const BLOCK_LEN: usize = 256;
 
-/// The bodies of some values one after another, and zeros behind them.
-fn block_of<T: CanonicalFixedSizedPod>(values: &[T]) -> [u8; BLOCK_LEN]
-    requires { length values.now ≤ BLOCK_COUNT }
-    ensures bodies { take (length values.now * T.SIZE) result ≡ fixed_bodies (map T.fixed values.now) }
+/// How many elements a short list has, at most.
+const SHORT_COUNT: usize = 4;
+
+/// The length in bytes of so many elements, at most.
+const SHORT_LEN: usize = 32;
+
+/// Puts the bodies of some values one after another at the front of a block.
+#[inline(always)]
+fn fill<T: CanonicalFixedSizedPod>(block: &mut [u8], values: &[T])
+    requires { length values.now * 8 ≤ length block.old }
+    ensures same_length { length block.new ≡ length block.old }
+    ensures bodies { take (length values.now * T.SIZE) block.new ≡ fixed_bodies (map T.fixed values.now) }
     ensures typed { AreOf T.kind (map T.fixed values.now) }
 {
-    let mut block = [0; BLOCK_LEN];
     let mut at = 0;
     for value in values {
         block[at..at + T::SIZE].copy_from_slice(&value.padded_body()[..T::SIZE]);
         at += T::SIZE;
     }
-    block
+}
+
+/// Appends the bodies of a short list one after another.
+fn put_few<T: CanonicalFixedSizedPod, S: PodSink>(
+    sink: &mut S,
+    values: &[T],
+) -> Result<(), GenError>
+    requires { length values.now ≤ SHORT_COUNT }
+    ensures ok { OnOk result (Sent S.appends sink.old (fixed_bodies (map T.fixed values.now)) sink.new) }
+    ensures typed { OnOk result (AreOf T.kind (map T.fixed values.now)) }
+    ensures begun { OnErr result (Begun S.appends sink.old (fixed_bodies (map T.fixed values.now)) sink.new) }
+    ensures cause { IfErr result (λ e. S.refuses sink.old (length (fixed_bodies (map T.fixed values.now))) sink.new e) }
+{
+    if values.is_empty() {
+        return Ok(());
+    }
+    let mut block = [0; SHORT_LEN];
+    fill(&mut block, values);
+    sink.append(&block[..values.len() * T::SIZE])
 }
 
 /// Appends the bodies one after another, in blocks.
@@ -42,10 +67,15 @@ pub(crate) fn put_elements<T: CanonicalFixedSizedPod, S: PodSink>(
     if T::SIZE == 0 {
         return Ok(());
     }
+    if values.len() <= SHORT_COUNT {
+        return put_few(sink, values);
+    }
+    let mut block = [0; BLOCK_LEN];
     let mut left = values;
     while !left.is_empty() {
         let (first, rest) = left.split_at(left.len().min(BLOCK_COUNT));
-        sink.append(&block_of(first)[..first.len() * T::SIZE])?;
+        fill(&mut block, first);
+        sink.append(&block[..first.len() * T::SIZE])?;
         left = rest;
     }
     Ok(())

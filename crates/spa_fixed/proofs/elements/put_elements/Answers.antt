@@ -10,8 +10,8 @@ loop-left-preserved g c =
     c.args.values.now c.loop-left.left.now c.split_at.result.0.now c.split_at.result.1.now _ _
     c.loop-left.invariant c.split_at.ensures.front c.split_at.ensures.back
     c.in_ok-append.ensures.ok
-    (ap (λ n. take (length c.split_at.result.0.now * n) c.block_of.result)
-    c.SIZE-in-loop-left.ensures ∙ c.block_of.ensures.bodies) c.block_of.ensures.typed
+    (ap (λ n. take (length c.split_at.result.0.now * n) c.fill.new.block)
+    c.SIZE-in-loop-left.ensures ∙ c.fill.ensures.bodies) c.fill.ensures.typed
 
 pub returns-in_err-append-clause-begun : goal.returns-in_err-append-clause-begun
 returns-in_err-append-clause-begun g c =
@@ -20,8 +20,8 @@ returns-in_err-append-clause-begun g c =
     g.T.CanonicalFixedSizedPod.kind g.T.CanonicalFixedSizedPod.fixed c.args.sink.now
     c.loop-left.sink _ c.args.values.now c.loop-left.left.now c.split_at.result.0.now _ _ _
     c.loop-left.invariant c.split_at.ensures.front
-    (ap (λ n. take (length c.split_at.result.0.now * n) c.block_of.result)
-    c.SIZE-in-loop-left.ensures ∙ c.block_of.ensures.bodies) c.in_err-append.ensures.begun.1)
+    (ap (λ n. take (length c.split_at.result.0.now * n) c.fill.new.block)
+    c.SIZE-in-loop-left.ensures ∙ c.fill.ensures.bodies) c.in_err-append.ensures.begun.1)
 
 pub returns-in_err-append-clause-cause : goal.returns-in_err-append-clause-cause
 returns-in_err-append-clause-cause g c =
@@ -30,8 +30,8 @@ returns-in_err-append-clause-cause g c =
     g.T.CanonicalFixedSizedPod.kind g.T.CanonicalFixedSizedPod.fixed c.args.sink.now
     c.loop-left.sink _ c.args.values.now c.loop-left.left.now c.split_at.result.0.now _ _ _
     c.loop-left.invariant c.split_at.ensures.front
-    (ap (λ n. take (length c.split_at.result.0.now * n) c.block_of.result)
-    c.SIZE-in-loop-left.ensures ∙ c.block_of.ensures.bodies) c.in_err-append.ensures.cause)
+    (ap (λ n. take (length c.split_at.result.0.now * n) c.fill.new.block)
+    c.SIZE-in-loop-left.ensures ∙ c.fill.ensures.bodies) c.in_err-append.ensures.cause)
 
 pub returns-then-SIZE-eq0-clause-ok : goal.returns-then-SIZE-eq0-clause-ok
 returns-then-SIZE-eq0-clause-ok g c =

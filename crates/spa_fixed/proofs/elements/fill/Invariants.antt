@@ -1,5 +1,5 @@
 use Rattle.spa_fixed.proofs.ElementWriting.{IsFilled}
-use Rattle.spa_fixed.proofs.elements.block_of.Given as goal
+use Rattle.spa_fixed.proofs.elements.fill.Given as goal
 
 abbrev pub invariant-loop-value : goal.invariant-loop-value
 invariant-loop-value g l =

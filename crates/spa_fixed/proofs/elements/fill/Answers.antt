@@ -2,8 +2,8 @@ use Rattle.std.proofs.Common.{◌≡◌, ◌∙◌, ◌+◌, length, take, ap, s
 use Rattle.std.proofs.lemmas.Slice.{take-put_mid}
 use Rattle.spa_format.specs.Kind.{fixed_body}
 use Rattle.spa_fixed.proofs.Pods.{body_length}
-use Rattle.spa_fixed.proofs.ElementWriting.{filled_more, within_block}
-use Rattle.spa_fixed.proofs.elements.block_of.Goals as goal
+use Rattle.spa_fixed.proofs.ElementWriting.{filled_more, within_slice}
+use Rattle.spa_fixed.proofs.elements.fill.Goals as goal
 
 pub loop-value-preserved : goal.loop-value-preserved
 loop-value-preserved g c =
@@ -22,7 +22,7 @@ loop-value-preserved g c =
     c.loop-value-test.true c.value-item.is (met.its_kind c.value-item.result) c.SIZE-at.ensures
     (take-put_mid c.loop-value.at _ c.loop-value.block c.copy_from_slice.new.self
     (c.loop-value.at + c.SIZE-at.result) (ap (λ n. c.loop-value.at + n) (sym long))
-    (within_block 32 c.loop-value.invariant.place c.loop-value-test.true c.requires
-    c.padded_body.ensures.within c.SIZE.array_long))
+    (within_slice c.loop-value.invariant.place c.loop-value-test.true c.padded_body.ensures.within
+    c.requires c.loop-value.auto.block))
     piece
     c.padded_body.ensures.typed

@@ -1,13 +1,16 @@
 -- Structs and objects whose copies are begun, one within another: docs/FORMAT.md, "Values".
-use Rattle.std.specs.Prelude.{◌≡◌, ℕ, ◌+◌, ◌*◌, ◌<◌, ◌≤◌, Bool, true, false, List, [], ◌∷◌, ◌++◌, Option, Some, None, length, sum_by, vec_len, vec_capacity}
+use Rattle.std.specs.Prelude.{◌≡◌, ℕ, ◌+◌, ◌*◌, ◌<◌, ◌≤◌, Bool, true, false, List, [], ◌∷◌, ◌++◌, Option, Some, None, length, sum_by, Vec, vec_len, vec_capacity}
+use Rattle.std.specs.Global.{Global}
 use Rattle.spa_format.specs.Tree.{Tree, struct, object, member, property, join_members, join_properties, node_count, member_node_count, property_node_count}
-use Rattle.spa_value.specs.View.{view}
+use Rattle.spa_value.specs.View.{object_view, view}
 use Rattle.spa_value.specs.Views.{views, property_views}
+use Rattle.spa_value.specs.declared.object.Property.{Property}
 use Rattle.spa_value.specs.declared.value.Value.{Value}
 use Rattle.spa_value.specs.declared.nested_copies.Copying.{Copying}
 use Rattle.spa_value.specs.declared.nested_copies.Copying.TheVariants as copying
-use Rattle.spa_value.specs.declared.nested_copies.Begun.{Begun}
-use Rattle.spa_value.specs.declared.nested_copies.Begun.TheVariants as begun
+use Rattle.spa_value.specs.declared.nested_copies.CopiedObject.{CopiedObject}
+use Rattle.spa_value.specs.declared.nested_copies.Nested.{Nested}
+use Rattle.spa_value.specs.declared.nested_copies.Nested.TheVariants as nested
 use Rattle.spa_value.specs.declared.nested_copies.Copies.{Copies}
 
 -- the value of the copies made so far
@@ -36,16 +39,35 @@ abbrev pub HasPlace : Copying → Type 0
 HasPlace (copying.Struct s) = vec_len s.copies < vec_capacity s.copies
 HasPlace (copying.Object o) = vec_len o.copies < vec_capacity o.copies
 
--- a value is copied, or the copy of what it holds is begun
-abbrev pub Begins : Value → Begun → Type 0
-Begins v (begun.Whole copy) = view copy ≡ view v
-Begins v (begun.Within inner) = (whole inner ≡ view v) × (values_left inner + 1 ≡ node_count (view v))
+-- the tree of a struct or an object that is to be copied
+abbrev pub nested_view : Nested → Tree
+nested_view (nested.Struct members) = struct (views members.now.items)
+nested_view (nested.Object o) = object_view o.now
 
--- copies are made to the end, or up to a struct or an object in it, whose copy is begun
-abbrev pub CopiesOn : Copying → Option Copying → Copying → Type 0
+-- the copy of a struct or an object of this tree is begun
+abbrev pub Begins : Tree → Copying → Type 0
+Begins v begun = (whole begun ≡ v) × (values_left begun + 1 ≡ node_count v)
+
+-- a value is copied, which was taken so, or is a struct or an object, and nothing was
+abbrev pub CopiesLeaf : {T : Type 0} → (T → Tree → T → Type 0) → Value → T → Option Nested → T → Type 0
+CopiesLeaf takes v from None to = takes from (view v) to
+CopiesLeaf takes v from (Some n) to = (to ≡ from) × (nested_view n ≡ view v)
+
+-- a list of copies took one more, whatever is left to copy behind it
+abbrev pub TakesMember : Vec Value Global → Tree → Vec Value Global → Type 0
+TakesMember from v to = (left : List Value) → views (to.items ++ left) ≡ join_members (views from.items) (member v (views left))
+
+-- an object that is copied took the value of its next property
+abbrev pub TakesProperty : CopiedObject → Tree → CopiedObject → Type 0
+TakesProperty from v to = (left : List Property) →
+    object to.type_ to.id (property_views (to.copies.items ++ left))
+    ≡ object from.type_ from.id (join_properties (property_views from.copies.items) (property from.key from.flags.0 v (property_views left)))
+
+-- copies are made to the end, or up to a struct or an object
+abbrev pub CopiesOn : Copying → Option Nested → Copying → Type 0
 CopiesOn from None to = so_far to ≡ whole from
-CopiesOn from (Some inner) to =
-    (completed to (whole inner) ≡ whole from) × (values_left to + values_left inner + 1 ≤ values_left from)
+CopiesOn from (Some n) to =
+    (completed to (nested_view n) ≡ whole from) × (values_left to + node_count (nested_view n) ≤ values_left from)
 
 -- what the outermost will be, once the innermost is this value: the outermost is first
 abbrev pub completes : List Copying → Tree → Tree

@@ -1,13 +1,11 @@
 //! Copies of what lies in a struct or in an object, made by a loop over those that are begun.
-ghost use Rattle.std.specs.Prelude.{◌≡◌, ◌++◌, ◌∷◌, ◌≤◌, [], IfNone, IfOk, IfSome, OnOk};
-ghost use Rattle.spa_value.specs.NestedCopies.{Begins, CopiesOn, Ends, HasPlace, Steps, completed, copied, so_far, values_left, whole};
-ghost use Rattle.spa_value.specs.View.{view};
-ghost use Rattle.spa_value.specs.declared.nested_copies.Begun.TheVariants as begun_variant;
+ghost use Rattle.std.specs.Prelude.{◌≡◌, ◌++◌, ◌∷◌, ◌<◌, ◌≤◌, [], IfNone, IfOk, IfSome, OnOk, vec_capacity, vec_len};
+ghost use Rattle.spa_value.specs.NestedCopies.{Begins, CopiesOn, Ends, HasPlace, Steps, TakesMember, TakesProperty, completed, copied, nested_view, so_far, values_left, whole};
+ghost use Rattle.spa_value.specs.View.{object_view, view};
 ghost use Rattle.spa_value.specs.declared.nested_copies.Copying.TheVariants as copying_variant;
-ghost use Rattle.spa_value.specs.declared.value.Value.TheVariants as value_variant;
 
-use crate::copies::copy_elements;
 use crate::emptying::discard;
+use crate::leaves::{Takes, copy_leaf};
 use crate::object::{Object, Property, PropertyFlags};
 use crate::value::Value;
 use bitflags::Flags;
@@ -41,47 +39,58 @@ pub(crate) enum Copying<'a> {
     Object(CopiedObject<'a>),
 }
 
-/// What the copy of a value begins with: one that holds no others is copied at once.
-pub(crate) enum Begun<'a> {
-    Whole(Value),
-    Within(Copying<'a>),
+/// A struct or an object that is to be copied.
+#[derive(Clone, Copy)]
+pub(crate) enum Nested<'a> {
+    Struct(&'a Vec<Value>),
+    Object(&'a Object),
 }
 
-/// Copies a value that holds no others, or begins the copy of a struct or of an object.
+impl Takes for Vec<Value> {
+    ghost has_room = { λ it. vec_len it < vec_capacity it };
+
+    ghost takes = { TakesMember };
+
+    #[inline(always)]
+    fn put(&mut self, value: Value) {
+        self.push_reserved(value);
+    }
+}
+
+impl<'a> Takes for CopiedObject<'a> {
+    ghost has_room = { λ it. vec_len it.copies < vec_capacity it.copies };
+
+    ghost takes = { TakesProperty };
+
+    #[inline(always)]
+    fn put(&mut self, value: Value) {
+        self.copies.push_reserved(Property {
+            key: self.key,
+            flags: self.flags,
+            value,
+        });
+    }
+}
+
+/// Begins the copy of a struct or of an object.
 #[inline(always)]
-pub(crate) fn begin<'a>(value: &'a Value) -> Result<Begun<'a>, AllocError>
-    ensures { IfOk result (λ begun. Begins value.now begun) }
+fn begin(nested: Nested<'_>) -> Result<Copying<'_>, AllocError>
+    ensures { IfOk result (λ begun. Begins (nested_view nested.entry) begun) }
 {
-    match value {
-        Value::None => Ok(Begun::Whole(Value::None)),
-        Value::Bool(x) => Ok(Begun::Whole(Value::Bool(*x))),
-        Value::Id(x) => Ok(Begun::Whole(Value::Id(*x))),
-        Value::Int(x) => Ok(Begun::Whole(Value::Int(*x))),
-        Value::Long(x) => Ok(Begun::Whole(Value::Long(*x))),
-        Value::Float(x) => Ok(Begun::Whole(Value::Float(*x))),
-        Value::Double(x) => Ok(Begun::Whole(Value::Double(*x))),
-        Value::String(text) => Ok(Begun::Whole(Value::String(text.clone()?))),
-        Value::Bytes(bytes) => Ok(Begun::Whole(Value::Bytes(copy_elements(bytes)?))),
-        Value::Bitmap(bytes) => Ok(Begun::Whole(Value::Bitmap(copy_elements(bytes)?))),
-        Value::Rectangle(x) => Ok(Begun::Whole(Value::Rectangle(*x))),
-        Value::Fraction(x) => Ok(Begun::Whole(Value::Fraction(*x))),
-        Value::Fd(x) => Ok(Begun::Whole(Value::Fd(*x))),
-        Value::ValueArray(array) => Ok(Begun::Whole(Value::ValueArray(array.clone()?))),
-        Value::Struct(members) => {
+    match nested {
+        Nested::Struct(members) => {
             let copies = Vec::with_capacity(*members.allocator(), members.len())?;
             let left = members.as_slice();
-            Ok(Begun::Within(Copying::Struct(CopiedStruct { copies, left })))
+            Ok(Copying::Struct(CopiedStruct { copies, left }))
         }
-        Value::Object(object) => Ok(Begun::Within(Copying::Object(begin_object(object)?))),
-        Value::Choice(choice) => Ok(Begun::Whole(Value::Choice(choice.clone()?))),
-        Value::Pointer(type_, address) => Ok(Begun::Whole(Value::Pointer(*type_, *address))),
+        Nested::Object(object) => Ok(Copying::Object(begin_object(object)?)),
     }
 }
 
 /// Begins the copy of an object.
 #[inline(always)]
 fn begin_object(object: &Object) -> Result<CopiedObject<'_>, AllocError>
-    ensures { IfOk result (λ begun. Begins (value_variant.Object object.now) (begun_variant.Within (copying_variant.Object begun))) }
+    ensures { IfOk result (λ begun. Begins (object_view object.now) (copying_variant.Object begun)) }
 {
     let properties = &object.properties;
     let copies = Vec::with_capacity(*properties.allocator(), properties.len())?;
@@ -96,16 +105,18 @@ fn begin_object(object: &Object) -> Result<CopiedObject<'_>, AllocError>
 }
 
 impl<'a> CopiedStruct<'a> {
-    /// Copies on, to the next struct or object among the members, which is begun, or to their end.
+    /// Copies on, to the next struct or object among the members, or to their end.
     #[inline(always)]
-    fn copy_on(&mut self) -> Result<Option<Copying<'a>>, AllocError>
-        ensures { IfOk result (λ inner. CopiesOn (copying_variant.Struct self.old) inner (copying_variant.Struct self.new)) }
+    fn copy_on(&mut self) -> Result<Option<Nested<'a>>, AllocError>
+        ensures { IfOk result (λ nested. CopiesOn (copying_variant.Struct self.old) nested (copying_variant.Struct self.new)) }
     {
-        while let Some((member, left)) = self.left.split_first() {
-            self.left = left;
-            match begin(member)? {
-                Begun::Whole(copy) => self.copies.push(copy)?,
-                Begun::Within(inner) => return Ok(Some(inner)),
+        let mut left = self.left;
+        while let Some((member, behind)) = left.split_first() {
+            left = behind;
+            self.copies.reserve(1)?;
+            if let Some(nested) = copy_leaf(member, &mut self.copies)? {
+                self.left = left;
+                return Ok(Some(nested));
             }
         }
         Ok(None)
@@ -113,24 +124,20 @@ impl<'a> CopiedStruct<'a> {
 }
 
 impl<'a> CopiedObject<'a> {
-    /// Copies on, to the next struct or object among the values of the properties, which is begun, or to their end.
+    /// Copies on, to the next struct or object among the values of the properties, or to their end.
     #[inline(always)]
-    fn copy_on(&mut self) -> Result<Option<Copying<'a>>, AllocError>
-        ensures { IfOk result (λ inner. CopiesOn (copying_variant.Object self.old) inner (copying_variant.Object self.new)) }
+    fn copy_on(&mut self) -> Result<Option<Nested<'a>>, AllocError>
+        ensures { IfOk result (λ nested. CopiesOn (copying_variant.Object self.old) nested (copying_variant.Object self.new)) }
     {
-        while let Some((property, left)) = self.left.split_first() {
-            self.left = left;
-            match begin(&property.value)? {
-                Begun::Whole(value) => self.copies.push(Property {
-                    key: property.key,
-                    flags: property.flags,
-                    value,
-                })?,
-                Begun::Within(inner) => {
-                    self.key = property.key;
-                    self.flags = property.flags;
-                    return Ok(Some(inner));
-                }
+        let mut left = self.left;
+        while let Some((property, behind)) = left.split_first() {
+            left = behind;
+            self.key = property.key;
+            self.flags = property.flags;
+            self.copies.reserve(1)?;
+            if let Some(nested) = copy_leaf(&property.value, self)? {
+                self.left = left;
+                return Ok(Some(nested));
             }
         }
         Ok(None)
@@ -138,10 +145,10 @@ impl<'a> CopiedObject<'a> {
 }
 
 impl<'a> Copying<'a> {
-    /// Copies on, to the next struct or object in it, which is begun, or to its end.
+    /// Copies on, to the next struct or object in it, or to its end.
     #[inline(always)]
-    fn copy_on(&mut self) -> Result<Option<Copying<'a>>, AllocError>
-        ensures { IfOk result (λ inner. CopiesOn self.old inner self.new) }
+    fn copy_on(&mut self) -> Result<Option<Nested<'a>>, AllocError>
+        ensures { IfOk result (λ nested. CopiesOn self.old nested self.new) }
     {
         match self {
             Copying::Struct(it) => it.copy_on(),
@@ -217,9 +224,10 @@ impl<'a> Copies<'a> {
     fn step(&mut self) -> Result<bool, AllocError>
         ensures { IfOk result (λ goes_on. Steps goes_on self.old self.new) }
     {
-        let Some(begun) = self.inner.copy_on()? else {
+        let Some(nested) = self.inner.copy_on()? else {
             return self.end();
         };
+        let begun = begin(nested)?;
         self.around.reserve(1)?;
         let outer = mem::replace(&mut self.inner, begun);
         self.around.push_reserved(outer);
@@ -256,10 +264,12 @@ impl<'a> Copies<'a> {
     }
 }
 
-/// Copies all that is left, by a loop.
-pub(crate) fn copy_all(outermost: Copying<'_>) -> Result<Value, AllocError>
-    ensures { IfOk result (λ copy. view copy ≡ whole outermost.entry) }
+/// Copies a struct or an object, by a loop.
+#[inline(never)]
+pub(crate) fn copy_nested(nested: Nested<'_>) -> Result<Value, AllocError>
+    ensures { IfOk result (λ copy. view copy ≡ nested_view nested.entry) }
 {
+    let outermost = begin(nested)?;
     let around = Vec::new(outermost.allocator());
     let mut copies = Copies {
         inner: outermost,

@@ -1,11 +1,11 @@
-use Rattle.std.proofs.Common.{◌≡◌, ◌≤◌, length}
-use Rattle.spa_value.specs.NestedCopies.{values_left, whole}
-use Rattle.spa_value.specs.declared.nested_copies.Copying.TheVariants as copying
+use Rattle.std.proofs.Common.{◌≡◌, ◌≤◌, ◌++◌, length}
+use Rattle.spa_format.specs.Tree.{member_node_count}
+use Rattle.spa_value.specs.Views.{views}
 use Rattle.spa_value.proofs.nested_copies.CopiedStruct.copy_on.Given as goal
 
 abbrev pub invariant-loop-member : goal.invariant-loop-member
 invariant-loop-member l =
-    (whole (copying.Struct l.self) ≡ whole (copying.Struct l.fn.self)) × (values_left (copying.Struct l.self) ≤ values_left (copying.Struct l.fn.self))
+    (views (l.self.copies.items ++ l.left) ≡ views (l.fn.self.copies.items ++ l.fn.self.left.now)) × (member_node_count (views l.left) ≤ member_node_count (views l.fn.self.left.now))
 
 abbrev pub decreases-loop-member : goal.decreases-loop-member
-decreases-loop-member l = length l.self.left.now
+decreases-loop-member l = length l.left

@@ -1,0 +1,123 @@
+//! Copies of values that hold no others, each put where it is kept as soon as it is made.
+ghost use Rattle.std.specs.Prelude.{◌≡◌, ⊤, IfOk, IsSomeAnd, OnOk, string_bytes};
+ghost use Rattle.spa_format.specs.Tree.{Tree, bitmap, bytes, string};
+ghost use Rattle.spa_value.specs.NestedCopies.{CopiesLeaf};
+ghost use Rattle.spa_value.specs.View.{array_view, choice_view, view};
+
+use crate::array::ValueArray;
+use crate::choice_value::ChoiceValue;
+use crate::copies::copy_elements;
+use crate::nested_copies::Nested;
+use crate::value::Value;
+use std::alloc::AllocError;
+
+/// What takes the copy of a value.
+pub(crate) trait Takes {
+    /// There is room for it.
+    ghost has_room: { Self → Type 0 };
+
+    /// What it was, the tree of the value that it took, and what it is.
+    ghost takes: { Self → Tree → Self → Type 0 };
+
+    /// Puts the value there.
+    fn put(&mut self, value: Value)
+        requires { has_room self.old }
+        ensures { takes self.old (view value) self.new };
+}
+
+/// A lone value.
+impl Takes for Option<Value> {
+    ghost has_room = { λ _. ⊤ };
+
+    ghost takes = { λ _ value it. IsSomeAnd it (λ v. view v ≡ value) };
+
+    #[inline(always)]
+    fn put(&mut self, value: Value) {
+        *self = Some(value);
+    }
+}
+
+/// Puts the copy of a value that holds no others where there is room for it. A struct or an object is answered, and isn't
+/// copied.
+#[inline(always)]
+pub(crate) fn copy_leaf<'a, T: Takes>(
+    value: &'a Value,
+    to: &mut T,
+) -> Result<Option<Nested<'a>>, AllocError>
+    requires { T.has_room to.old }
+    ensures { IfOk result (λ nested. CopiesLeaf T.takes value.now to.old nested to.new) }
+{
+    match value {
+        Value::None => to.put(Value::None),
+        Value::Bool(x) => to.put(Value::Bool(*x)),
+        Value::Id(x) => to.put(Value::Id(*x)),
+        Value::Int(x) => to.put(Value::Int(*x)),
+        Value::Long(x) => to.put(Value::Long(*x)),
+        Value::Float(x) => to.put(Value::Float(*x)),
+        Value::Double(x) => to.put(Value::Double(*x)),
+        Value::String(text) => put_text(text, to)?,
+        Value::Bytes(bytes) => put_bytes(bytes, to)?,
+        Value::Bitmap(bytes) => put_bitmap(bytes, to)?,
+        Value::Rectangle(x) => to.put(Value::Rectangle(*x)),
+        Value::Fraction(x) => to.put(Value::Fraction(*x)),
+        Value::Fd(x) => to.put(Value::Fd(*x)),
+        Value::ValueArray(array) => put_array(array, to)?,
+        Value::Struct(members) => return Ok(Some(Nested::Struct(members))),
+        Value::Object(object) => return Ok(Some(Nested::Object(object))),
+        Value::Choice(choice) => put_choice(choice, to)?,
+        Value::Pointer(type_, address) => to.put(Value::Pointer(*type_, *address)),
+    }
+    Ok(None)
+}
+
+// What is put by these isn't small: they stand apart so that nothing is set aside for it where a number is copied.
+
+/// Puts the copy of a text.
+#[inline(never)]
+fn put_text<T: Takes>(text: &String, to: &mut T) -> Result<(), AllocError>
+    requires { T.has_room to.old }
+    ensures { OnOk result (T.takes to.old (string (string_bytes text.now)) to.new) }
+{
+    to.put(Value::String(text.clone()?));
+    Ok(())
+}
+
+/// Puts the copy of bytes.
+#[inline(never)]
+fn put_bytes<T: Takes>(content: &Vec<u8>, to: &mut T) -> Result<(), AllocError>
+    requires { T.has_room to.old }
+    ensures { OnOk result (T.takes to.old (bytes content.now.items) to.new) }
+{
+    to.put(Value::Bytes(copy_elements(content)?));
+    Ok(())
+}
+
+/// Puts the copy of a bitmap.
+#[inline(never)]
+fn put_bitmap<T: Takes>(content: &Vec<u8>, to: &mut T) -> Result<(), AllocError>
+    requires { T.has_room to.old }
+    ensures { OnOk result (T.takes to.old (bitmap content.now.items) to.new) }
+{
+    to.put(Value::Bitmap(copy_elements(content)?));
+    Ok(())
+}
+
+/// Puts the copy of an array.
+#[inline(never)]
+fn put_array<T: Takes>(array: &ValueArray, to: &mut T) -> Result<(), AllocError>
+    requires { T.has_room to.old }
+    ensures { OnOk result (T.takes to.old (array_view array.now) to.new) }
+{
+    to.put(Value::ValueArray(array.clone()?));
+    Ok(())
+}
+
+/// Puts the copy of a choice.
+#[inline(never)]
+fn put_choice<T: Takes>(choice: &ChoiceValue, to: &mut T) -> Result<(), AllocError>
+    requires { T.has_room to.old }
+    ensures { OnOk result (T.takes to.old (choice_view choice.now) to.new) }
+{
+    to.put(Value::Choice(choice.clone()?));
+    Ok(())
+}

@@ -93,6 +93,7 @@ pub(crate) fn read_elements<T: CanonicalFixedSizedPod>(
 
 /// Reads the body of an array of this type. It is refused with `WrongSize` where the child size isn't the type's or the
 /// elements aren't whole, before any memory is asked for, and else only for lack of memory.
+#[inline(always)]
 pub fn read_array<T: CanonicalFixedSizedPod>(alloc: Global, body: &[u8]) -> Result<Vec<T>, Refusal>
     requires header { header_size ≤ length body.now }
     requires child_type { word_at body.now 4 ≡ T.TYPE }

@@ -57,6 +57,7 @@ fn count<T: ChoiceElement>(elements: &[u8]) -> usize
 }
 
 /// Default, minimum and maximum. What follows them is surplus.
+#[inline(always)]
 fn read_range<T: ChoiceElement>(elements: &[u8]) -> Result<ChoiceEnum<T>, Refusal>
     requires { AreWhole T.SIZE elements.now }
     ensures read { IfOk result (ReadsAs range_choice T.kind T.fixed elements.now) }
@@ -72,6 +73,7 @@ fn read_range<T: ChoiceElement>(elements: &[u8]) -> Result<ChoiceEnum<T>, Refusa
 }
 
 /// Default, minimum, maximum and step. What follows them is surplus.
+#[inline(always)]
 fn read_step<T: ChoiceElement>(elements: &[u8]) -> Result<ChoiceEnum<T>, Refusal>
     requires { AreWhole T.SIZE elements.now }
     ensures read { IfOk result (ReadsAs step_choice T.kind T.fixed elements.now) }
@@ -93,6 +95,7 @@ fn read_step<T: ChoiceElement>(elements: &[u8]) -> Result<ChoiceEnum<T>, Refusal
 }
 
 /// The default, and what follows it.
+#[inline(always)]
 fn read_default<T: ChoiceElement>(elements: &[u8]) -> Result<(&[u8], T), Refusal>
     requires { AreWhole T.SIZE elements.now }
     ensures some { OnOk result (T.SIZE ≤ length elements.now) }
@@ -107,6 +110,7 @@ fn read_default<T: ChoiceElement>(elements: &[u8]) -> Result<(&[u8], T), Refusal
 }
 
 /// The default, and all that follow it.
+#[inline(always)]
 fn read_list<T: ChoiceElement>(alloc: Global, elements: &[u8]) -> Result<(T, Vec<T>), Refusal>
     requires { AreWhole T.SIZE elements.now }
     ensures read { IfOk result (λ list. AreElements T.kind (T.fixed list.0 ∷ map T.fixed list.1.items) elements.now) }
@@ -119,6 +123,7 @@ fn read_list<T: ChoiceElement>(alloc: Global, elements: &[u8]) -> Result<(T, Vec
 /// Reads the body of a choice over this type. It is refused with `WrongSize` where the child size isn't the type's or the
 /// values aren't whole, with `InvalidChoiceType` where the shape word is above 4, with `MissingChoiceValues` where fewer
 /// values are there than the shape needs, and else only for lack of memory, which alternatives and flags alone take.
+#[inline(always)]
 pub fn read_choice<T: ChoiceElement>(alloc: Global, body: &[u8]) -> Result<Choice<T>, Refusal>
     requires header { choice_header_size ≤ length body.now }
     requires child_type { word_at body.now 12 ≡ T.TYPE }

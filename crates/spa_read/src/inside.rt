@@ -1,6 +1,7 @@
 //! What is read of the body of a struct or of an object, up to the next struct or object in it.
 ghost use Rattle.std.specs.Prelude.{◌≡◌, ◌≢◌, ◌+◌, ◌*◌, ◌<◌, ◌≤◌, ◌^◌, [], IfErr, IfNone, IfOk, IfSome, OnOk, length};
 ghost use Rattle.spa_format.specs.Tree.{Tree};
+ghost use Rattle.spa_format.specs.Words.{header_size};
 ghost use Rattle.spa_read.specs.Nesting.{HasRoom, IsAlike, LacksKey, Reaches, ReadsOn, RefusesBehind, so_far, with_child};
 ghost use Rattle.spa_read.specs.declared.inside.Inside.{Inside};
 ghost use Rattle.spa_read.specs.declared.inside.Inside.TheVariants as inside_variant;
@@ -11,7 +12,7 @@ use crate::plain::put_plain;
 use crate::refused::Refused;
 use crate::taking::Takes;
 use bitflags::Flags;
-use spa_bytes::{Front, HEADER_LEN, SECOND_WORD, u32_at};
+use spa_bytes::{Front, HEADER_LEN, SECOND_WORD, extent_of, u32_at};
 use spa_fixed::Refusal;
 use spa_utils::SpaTypes;
 use spa_value::{Object, Property, PropertyFlags, Value};
@@ -47,8 +48,8 @@ pub(crate) trait Grows: Takes {
         ensures reached { IfSome result (λ place. Reaches (inside self.new) left.now place.now) }
         ensures short { IfNone result (LacksKey (inside self.old) left.now) };
 
-    /// Makes room for one more.
-    fn reserve(&mut self) -> Result<(), AllocError>
+    /// Makes room for one more, and where there is none, for those behind it too.
+    fn reserve(&mut self, behind: &[u8]) -> Result<(), AllocError>
         ensures room { OnOk result (Self.has_room self.new) }
         ensures same { IsAlike (inside self.old) (inside self.new) };
 
@@ -78,8 +79,11 @@ impl Grows for Vec<Value> {
     }
 
     #[inline(always)]
-    fn reserve(&mut self) -> Result<(), AllocError> {
-        Vec::reserve(self, 1)
+    fn reserve(&mut self, behind: &[u8]) -> Result<(), AllocError> {
+        if self.len() < self.capacity() {
+            return Ok(());
+        }
+        Vec::reserve(self, pods_from(behind, 0))
     }
 }
 
@@ -116,9 +120,32 @@ impl Grows for OpenObject {
     }
 
     #[inline(always)]
-    fn reserve(&mut self) -> Result<(), AllocError> {
-        self.properties.reserve(1)
+    fn reserve(&mut self, behind: &[u8]) -> Result<(), AllocError> {
+        if self.properties.len() < self.properties.capacity() {
+            return Ok(());
+        }
+        self.properties.reserve(pods_from(behind, HEADER_LEN))
     }
+}
+
+/// How many pods room is made for: one, and the whole ones that follow it, each behind so many bytes.
+#[inline(never)]
+fn pods_from(behind: &[u8], between: usize) -> usize
+    requires { between ≤ header_size }
+    ensures { 0 < result }
+{
+    let mut left = behind;
+    let mut count = 1;
+    while left.len() >= between + HEADER_LEN {
+        let whole = between + extent_of(u32_at(left, between));
+        if left.len() < whole {
+            break;
+        }
+        let (_, more) = left.split_at(whole);
+        left = more;
+        count += 1;
+    }
+    count
 }
 
 /// Reads pods up to the end of a body, where it answers nothing, or up to a struct or an object, which it answers opened and
@@ -153,7 +180,7 @@ pub(crate) fn read_plain_pods<'de, G: Grows>(
             *left = place;
             return Ok(Some(front));
         }
-        if to.reserve().is_err() {
+        if to.reserve(front.rest).is_err() {
             return Err(Refused::lacking_memory());
         }
         if let Err(why) = put_plain(alloc, front.type_, front.body, to) {
@@ -185,15 +212,15 @@ impl Inside {
         }
     }
 
-    /// Makes room for one more.
+    /// Makes room for one more, and where there is none, for those behind it too.
     #[inline(always)]
-    pub(crate) fn reserve(&mut self) -> Result<(), AllocError>
+    pub(crate) fn reserve(&mut self, behind: &[u8]) -> Result<(), AllocError>
         ensures room { OnOk result (HasRoom self.new) }
         ensures same { IsAlike self.old self.new }
     {
         match self {
-            Inside::Struct(members) => Grows::reserve(members),
-            Inside::Object(object) => Grows::reserve(object),
+            Inside::Struct(members) => Grows::reserve(members, behind),
+            Inside::Object(object) => Grows::reserve(object, behind),
         }
     }
 

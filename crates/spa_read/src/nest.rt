@@ -155,8 +155,9 @@ impl<'de> Nest<'de> {
             return Ok(false);
         };
         let ended = mem::replace(&mut self.inner, around);
+        let behind = ended.rest;
         let value = ended.inside.into_value();
-        if self.inner.inside.reserve().is_err() {
+        if self.inner.inside.reserve(behind).is_err() {
             discard(value);
             return Err(Refused::lacking_memory());
         }

@@ -17,6 +17,7 @@ pub struct Choice<T>(pub ChoiceFlags, pub ChoiceEnum<T>);
 impl<T: Copy> Clone for Choice<T> {
     ghost is_clone = { IsChoiceCopyOf };
 
+    #[inline(always)]
     fn clone(&self) -> Result<Choice<T>, AllocError> {
         Ok(Choice(self.0, self.1.clone()?))
     }
@@ -118,6 +119,7 @@ impl<T: Eq> Eq for ChoiceEnum<T> {
 impl<T: Copy> Clone for ChoiceEnum<T> {
     ghost is_clone = { IsCopyOf };
 
+    #[inline(always)]
     fn clone(&self) -> Result<ChoiceEnum<T>, AllocError> {
         match self {
             ChoiceEnum::None(value) => Ok(ChoiceEnum::None(*value)),
@@ -153,10 +155,11 @@ impl<T: Copy> Clone for ChoiceEnum<T> {
 }
 
 /// The same elements, by the allocator of the given ones.
+#[inline(always)]
 fn copy_of<T: Copy>(values: &Vec<T>) -> Result<Vec<T>, AllocError>
     ensures { IfOk result (λ copy. copy.items ≡ values.now.items) }
 {
-    let mut copy = Vec::new(*values.allocator());
+    let mut copy = Vec::with_capacity(*values.allocator(), values.len())?;
     copy.extend_from_slice(values.as_slice())?;
     Ok(copy)
 }

@@ -1,5 +1,5 @@
 //! The forms of `builder_add!`.
-use crate::bytes::are_words;
+use crate::bytes::{are_words, assert_holds, assert_holds_at};
 use spa_builder::{Builder, builder_add};
 use spa_utils::{Errno, Float32, Float64, Fraction, Id, Rectangle};
 use std::alloc::{AllocError, Global};
@@ -92,26 +92,35 @@ fn add(builder: &mut Builder, form: Form) -> Result<(), Errno> {
 /// Whether the form is accepted, and these are its words.
 fn gives(alloc: Global, form: Form, words: &[u32]) -> Result<bool, AllocError> {
     let mut builder = Builder::new(Vec::new(alloc));
-    if add(&mut builder, form).is_err() {
-        return Ok(false);
+    match add(&mut builder, form) {
+        Ok(()) => are_words(alloc, builder.as_bytes(), words),
+        Err(Errno::NOMEM) => Err(AllocError),
+        Err(_) => Ok(false),
     }
-    are_words(alloc, builder.as_bytes(), words)
 }
 
 #[test]
 fn each_form(rt: HostRuntime) -> Result<(), Fail> {
     for (form, words) in FORMS {
         let given = gives(rt.alloc(), *form, words)?;
-        assert!(rt; given, "{words:?}");
+        assert_holds_at(&rt, given, words);
     }
     Ok(())
+}
+
+/// Adds a struct whose second member is refused.
+fn add_with_nul(builder: &mut Builder) -> Result<(), Errno> {
+    builder_add!(builder, Struct { Int(3), String("a\0b"), Int(4) })
 }
 
 /// Whether a form with a refused member leaves what stood before it, and its struct open.
 fn leaves_it_open(alloc: Global) -> Result<bool, AllocError> {
     let mut builder = Builder::new(Vec::new(alloc));
-    let refused = builder_add!(builder, Struct { Int(3), String("a\0b"), Int(4) });
+    let refused = add_with_nul(&mut builder);
     let left = builder.pop(spa_utils::Frame(1));
+    if refused == Err(Errno::NOMEM) || left == Err(Errno::NOMEM) {
+        return Err(AllocError);
+    }
     let words = are_words(alloc, builder.as_bytes(), &[16, 14, 4, 4, 3, 0])?;
     Ok(refused == Err(Errno::INVAL) && left.is_ok() && words)
 }
@@ -119,6 +128,6 @@ fn leaves_it_open(alloc: Global) -> Result<bool, AllocError> {
 #[test]
 fn a_refused_member(rt: HostRuntime) -> Result<(), Fail> {
     let open = leaves_it_open(rt.alloc())?;
-    assert!(rt; open);
+    assert_holds(&rt, open, "its struct stays open");
     Ok(())
 }

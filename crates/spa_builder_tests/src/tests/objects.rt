@@ -1,10 +1,12 @@
 //! The forms of `object!` and `property!`, by what the objects are written as.
-use crate::bytes::are_words;
+use crate::bytes::{are_words, assert_holds_at};
 use bitflags::Flags;
+use spa_sink::GenError;
 use spa_utils::{Choice, ChoiceEnum, ChoiceFlags, Errno, Id, SpaTypes};
-use spa_value::{ChoiceValue, Object, Value, ValueArray, object, property};
+use spa_value::{ChoiceValue, Object, Property, Value, ValueArray, object, property};
 use spa_write::PodSerializer;
 use std::alloc::{AllocError, Global};
+use std::process::Abort;
 use std::test::Fail;
 
 fn with_a_range(alloc: Global) -> Result<Object, Errno> {
@@ -34,21 +36,32 @@ const WITH_PLAIN_VALUES: &[u32] = &[
     80, 15, 5, 3, 1, 0, 4, 4, 3, 0, 2, 0, 4, 3, 7, 0, 3, 0, 4, 2, 1, 0,
 ];
 
-fn with_choices(alloc: Global) -> Result<Object, Errno> {
+fn with_enumerations(alloc: Global) -> Result<Object, Errno> {
     object!(
         in alloc;
         SpaTypes(5),
         Id(3),
         property!(in alloc; Id(4), Choice, Enum, Id, Id(1), Id(2), Id(3))?,
         property!(in alloc; Id(5), Choice, Enum, Int, 1, 2)?,
+    )
+}
+
+const WITH_ENUMERATIONS: &[u32] = &[
+    96, 15, 5, 3, 4, 0, 28, 19, 3, 0, 4, 3, 1, 2, 3, 0, 5, 0, 24, 19, 3, 0, 4, 4, 1, 2,
+];
+
+fn with_flags_and_a_step(alloc: Global) -> Result<Object, Errno> {
+    object!(
+        in alloc;
+        SpaTypes(5),
+        Id(3),
         property!(in alloc; Id(6), Choice, Flags, Long, 1, 2)?,
         property!(in alloc; Id(7), Choice, Step, Int, 5, 2, 10, 1)?,
     )
 }
 
-const WITH_CHOICES: &[u32] = &[
-    192, 15, 5, 3, 4, 0, 28, 19, 3, 0, 4, 3, 1, 2, 3, 0, 5, 0, 24, 19, 3, 0, 4, 4, 1, 2, 6, 0, 32,
-    19, 4, 0, 8, 5, 1, 0, 2, 0, 7, 0, 32, 19, 2, 0, 4, 4, 5, 2, 10, 1,
+const WITH_FLAGS_AND_A_STEP: &[u32] = &[
+    104, 15, 5, 3, 6, 0, 32, 19, 4, 0, 8, 5, 1, 0, 2, 0, 7, 0, 32, 19, 2, 0, 4, 4, 5, 2, 10, 1,
 ];
 
 /// A list, or the answer that there is no memory for it.
@@ -60,83 +73,126 @@ fn text(alloc: Global) -> Result<String, Errno> {
     String::from_str(alloc, "a").map_err(|_| Errno::NOMEM)
 }
 
-fn with_values_of_memory(alloc: Global) -> Result<Object, Errno> {
-    let bytes = listed(vec![in alloc; 1, 2, 3])?;
-    let array = ValueArray::Int(listed(vec![in alloc; 10, 15, 19])?);
-    let members = listed(vec![in alloc; Value::Int(3)])?;
-    let choice = ChoiceValue::Int(Choice(ChoiceFlags::empty(), ChoiceEnum::None(5)));
-    object!(
-        in alloc;
-        SpaTypes(5),
-        Id(3),
-        property!(in alloc; Id(1), String, text(alloc)?)?,
-        property!(in alloc; Id(2), Bytes, bytes)?,
-        property!(in alloc; Id(3), ValueArray, array)?,
-        property!(in alloc; Id(4), Struct, members)?,
-        property!(in alloc; Id(5), Object, without_properties(alloc)?)?,
-        property!(in alloc; Id(6), Choice, choice)?,
-    )
+fn of_text(alloc: Global) -> Result<Property, Errno> {
+    property!(in alloc; Id(1), String, text(alloc)?)
 }
 
-const WITH_VALUES_OF_MEMORY: &[u32] = &[
-    192, 15, 5, 3, 1, 0, 2, 8, 97, 0, 2, 0, 3, 9, 197121, 0, 3, 0, 20, 13, 4, 4, 10, 15, 19, 0, 4,
-    0, 16, 14, 4, 4, 3, 0, 5, 0, 8, 15, 5, 3, 6, 0, 20, 19, 0, 0, 4, 4, 5, 0,
+fn of_bytes(alloc: Global) -> Result<Property, Errno> {
+    property!(in alloc; Id(2), Bytes, listed(vec![in alloc; 1, 2, 3])?)
+}
+
+fn of_array(alloc: Global) -> Result<Property, Errno> {
+    let array = ValueArray::Int(listed(vec![in alloc; 10, 15, 19])?);
+    property!(in alloc; Id(3), ValueArray, array)
+}
+
+fn with_lists(alloc: Global) -> Result<Object, Errno> {
+    object!(in alloc; SpaTypes(5), Id(3), of_text(alloc)?, of_bytes(alloc)?, of_array(alloc)?)
+}
+
+const WITH_LISTS: &[u32] = &[
+    96, 15, 5, 3, 1, 0, 2, 8, 97, 0, 2, 0, 3, 9, 197121, 0, 3, 0, 20, 13, 4, 4, 10, 15, 19, 0,
 ];
 
-/// Whether the object was made, and is written as these words.
-fn is_written(
-    alloc: Global,
-    object: Result<Object, Errno>,
-    words: &[u32],
-) -> Result<bool, AllocError> {
-    let Ok(object) = object else {
-        return Err(AllocError);
-    };
-    match PodSerializer::serialize(Vec::new(alloc), &Value::Object(object)) {
+fn of_struct(alloc: Global) -> Result<Property, Errno> {
+    property!(in alloc; Id(4), Struct, listed(vec![in alloc; Value::Int(3)])?)
+}
+
+fn of_object(alloc: Global) -> Result<Property, Errno> {
+    property!(in alloc; Id(5), Object, without_properties(alloc)?)
+}
+
+fn of_choice(alloc: Global) -> Result<Property, Errno> {
+    let choice = ChoiceValue::Int(Choice(ChoiceFlags::empty(), ChoiceEnum::None(5)));
+    property!(in alloc; Id(6), Choice, choice)
+}
+
+fn with_values_inside(alloc: Global) -> Result<Object, Errno> {
+    object!(in alloc; SpaTypes(5), Id(3), of_struct(alloc)?, of_object(alloc)?, of_choice(alloc)?)
+}
+
+const WITH_VALUES_INSIDE: &[u32] = &[
+    104, 15, 5, 3, 4, 0, 16, 14, 4, 4, 3, 0, 5, 0, 8, 15, 5, 3, 6, 0, 20, 19, 0, 0, 4, 4, 5, 0,
+];
+
+/// The encoding of an object.
+fn encoding_of(alloc: Global, object: Object) -> Result<(Vec<u8>, u64), GenError> {
+    let value = Value::Object(object);
+    let written = PodSerializer::serialize(Vec::new(alloc), &value);
+    drop(value);
+    written
+}
+
+/// Whether the object is written as these words.
+fn has_encoding(alloc: Global, object: Object, words: &[u32]) -> Result<bool, AllocError> {
+    match encoding_of(alloc, object) {
         Ok((bytes, _)) => are_words(alloc, bytes.as_slice(), words),
+        Err(GenError::OutOfMemory) => Err(AllocError),
         Err(_) => Ok(false),
     }
 }
 
+/// Whether the object was made, and is written as these words.
+pub(crate) fn is_written(
+    alloc: Global,
+    object: Result<Object, Errno>,
+    words: &[u32],
+) -> Result<bool, AllocError> {
+    match object {
+        Ok(object) => has_encoding(alloc, object, words),
+        Err(Errno::NOMEM) => Err(AllocError),
+        Err(_) => Ok(false),
+    }
+}
+
+/// The object was made, and is written as these words.
+fn assert_written(
+    rt: &impl Abort,
+    alloc: Global,
+    object: Result<Object, Errno>,
+    words: &[u32],
+) -> Result<(), Fail> {
+    let written = is_written(alloc, object, words)?;
+    assert_holds_at(rt, written, words);
+    Ok(())
+}
+
 #[test]
 fn a_range(rt: HostRuntime) -> Result<(), Fail> {
-    let written = is_written(rt.alloc(), with_a_range(rt.alloc()), WITH_A_RANGE)?;
-    assert!(rt; written);
-    Ok(())
+    assert_written(&rt, rt.alloc(), with_a_range(rt.alloc()), WITH_A_RANGE)
 }
 
 #[test]
 fn no_properties(rt: HostRuntime) -> Result<(), Fail> {
-    let written = is_written(
-        rt.alloc(),
-        without_properties(rt.alloc()),
-        WITHOUT_PROPERTIES,
-    )?;
-    assert!(rt; written);
-    Ok(())
+    let object = without_properties(rt.alloc());
+    assert_written(&rt, rt.alloc(), object, WITHOUT_PROPERTIES)
 }
 
 #[test]
 fn plain_values(rt: HostRuntime) -> Result<(), Fail> {
-    let written = is_written(rt.alloc(), with_plain_values(rt.alloc()), WITH_PLAIN_VALUES)?;
-    assert!(rt; written);
-    Ok(())
+    let object = with_plain_values(rt.alloc());
+    assert_written(&rt, rt.alloc(), object, WITH_PLAIN_VALUES)
 }
 
 #[test]
-fn choices(rt: HostRuntime) -> Result<(), Fail> {
-    let written = is_written(rt.alloc(), with_choices(rt.alloc()), WITH_CHOICES)?;
-    assert!(rt; written);
-    Ok(())
+fn enumerations(rt: HostRuntime) -> Result<(), Fail> {
+    let object = with_enumerations(rt.alloc());
+    assert_written(&rt, rt.alloc(), object, WITH_ENUMERATIONS)
 }
 
 #[test]
-fn values_of_memory(rt: HostRuntime) -> Result<(), Fail> {
-    let written = is_written(
-        rt.alloc(),
-        with_values_of_memory(rt.alloc()),
-        WITH_VALUES_OF_MEMORY,
-    )?;
-    assert!(rt; written);
-    Ok(())
+fn flags_and_steps(rt: HostRuntime) -> Result<(), Fail> {
+    let object = with_flags_and_a_step(rt.alloc());
+    assert_written(&rt, rt.alloc(), object, WITH_FLAGS_AND_A_STEP)
+}
+
+#[test]
+fn lists(rt: HostRuntime) -> Result<(), Fail> {
+    assert_written(&rt, rt.alloc(), with_lists(rt.alloc()), WITH_LISTS)
+}
+
+#[test]
+fn values_inside(rt: HostRuntime) -> Result<(), Fail> {
+    let object = with_values_inside(rt.alloc());
+    assert_written(&rt, rt.alloc(), object, WITH_VALUES_INSIDE)
 }

@@ -1,9 +1,9 @@
 //! What docs/CALLING.md shows, word for word.
-use crate::bytes::are_words;
+use crate::bytes::{are_words, assert_holds};
+use crate::tests::objects::is_written;
 use crate::tests::shown::by_calls::format_pod;
 use crate::tests::shown::by_value::format_object;
-use spa_value::Value;
-use spa_write::PodSerializer;
+use spa_utils::Errno;
 use std::alloc::{AllocError, Global};
 use std::test::Fail;
 
@@ -54,31 +54,25 @@ const FORMAT: &[u32] = &[
     8, 11, 25, 1,
 ];
 
-/// Whether the value is written as these words.
-fn is_written(alloc: Global) -> Result<bool, AllocError> {
-    let Ok(object) = format_object(alloc) else {
-        return Err(AllocError);
-    };
-    match PodSerializer::serialize(Vec::new(alloc), &Value::Object(object)) {
-        Ok((bytes, _)) => are_words(alloc, bytes.as_slice(), FORMAT),
+/// Whether the calls make these words.
+fn is_built(alloc: Global) -> Result<bool, AllocError> {
+    match format_pod(Vec::new(alloc)) {
+        Ok(bytes) => are_words(alloc, bytes.as_slice(), FORMAT),
+        Err(Errno::NOMEM) => Err(AllocError),
         Err(_) => Ok(false),
     }
 }
 
 #[test]
 fn a_format_by_calls(rt: HostRuntime) -> Result<(), Fail> {
-    let alloc = rt.alloc();
-    let built = match format_pod(Vec::new(alloc)) {
-        Ok(bytes) => are_words(alloc, bytes.as_slice(), FORMAT)?,
-        Err(_) => false,
-    };
-    assert!(rt; built);
+    let built = is_built(rt.alloc())?;
+    assert_holds(&rt, built, "the format by calls");
     Ok(())
 }
 
 #[test]
 fn a_format_by_value(rt: HostRuntime) -> Result<(), Fail> {
-    let written = is_written(rt.alloc())?;
-    assert!(rt; written);
+    let written = is_written(rt.alloc(), format_object(rt.alloc()), FORMAT)?;
+    assert_holds(&rt, written, "the format by value");
     Ok(())
 }

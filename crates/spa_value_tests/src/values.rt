@@ -15,6 +15,19 @@ fn text(alloc: Global, text: &str) -> Result<Value, AllocError> {
     Ok(Value::String(String::from_str(alloc, text)?))
 }
 
+fn bytes(alloc: Global, bytes: &[u8]) -> Result<Value, AllocError> {
+    Ok(Value::Bytes(copied(alloc, bytes)?))
+}
+
+fn bitmap(alloc: Global, bytes: &[u8]) -> Result<Value, AllocError> {
+    Ok(Value::Bitmap(copied(alloc, bytes)?))
+}
+
+/// A struct of these members.
+fn struct_of(members: Result<Vec<Value>, AllocError>) -> Result<Value, AllocError> {
+    Ok(Value::Struct(members?))
+}
+
 /// The same elements.
 fn copied<T: Copy>(alloc: Global, elements: &[T]) -> Result<Vec<T>, AllocError> {
     let mut copy = Vec::new(alloc);
@@ -58,6 +71,11 @@ fn object(type_: u32, id: u32, properties: Vec<Property>) -> Value {
     })
 }
 
+/// An object of type 5 and id 3.
+fn object_of(properties: Result<Vec<Property>, AllocError>) -> Result<Value, AllocError> {
+    Ok(object(5, 3, properties?))
+}
+
 fn int_choice(flags: u32, values: ChoiceEnum<i32>) -> Value {
     Value::Choice(ChoiceValue::Int(Choice(ChoiceFlags::from_bits_retain(flags), values)))
 }
@@ -75,14 +93,18 @@ fn step(default: i32, min: i32, max: i32, step: i32) -> ChoiceEnum<i32> {
     }
 }
 
-/// Type 5, id 3, with one property of key 9, whose flags have the lowest and the highest bit, and whose value holds 3.
-fn flagged_object(alloc: Global) -> Result<Value, AllocError> {
-    let property = Property {
+/// A property of key 9, whose flags have the lowest and the highest bit, and whose value holds 3.
+fn flagged_property(alloc: Global) -> Result<Property, AllocError> {
+    Ok(Property {
         key: 9,
         flags: PropertyFlags::from_bits_retain(2147483649),
-        value: Value::Struct(single(alloc, Value::Int(3))?),
-    };
-    Ok(object(5, 3, single(alloc, property)?))
+        value: struct_of(single(alloc, Value::Int(3)))?,
+    })
+}
+
+/// Type 5, id 3, with that property.
+fn flagged_object(alloc: Global) -> Result<Value, AllocError> {
+    object_of(single(alloc, flagged_property(alloc)?))
 }
 
 /// Flags over Id: the default 1, the flags [2], and the choice flags 1.
@@ -102,11 +124,11 @@ fn worked_value(alloc: Global, row: usize) -> Result<Value, AllocError> {
     match row {
         0 => text(alloc, "1234567"),
         1 => text(alloc, ""),
-        2 => Ok(Value::Struct(single(alloc, Value::Int(3))?)),
+        2 => struct_of(single(alloc, Value::Int(3))),
         3 => flagged_object(alloc),
-        4 => Ok(Value::Bytes(copied(alloc, &[1, 2, 3])?)),
-        5 => Ok(Value::Bitmap(copied(alloc, &[1, 2, 3])?)),
-        6 => Ok(Value::ValueArray(ValueArray::Int(copied(alloc, &[10, 15, 19])?))),
+        4 => bytes(alloc, &[1, 2, 3]),
+        5 => bitmap(alloc, &[1, 2, 3]),
+        6 => array_of(alloc, 4, &[10, 15, 19]).map(Value::ValueArray),
         7 => Ok(int_choice(0, range(5, 2, 10))),
         _ => id_flags(alloc),
     }
@@ -156,44 +178,90 @@ fn list(alloc: Global, row: usize) -> Result<Value, AllocError> {
         1 => text(alloc, "a"),
         2 => text(alloc, "b"),
         3 => text(alloc, "ab"),
-        4 => Ok(Value::Bytes(Vec::new(alloc))),
-        5 => Ok(Value::Bytes(copied(alloc, &[97])?)),
-        6 => Ok(Value::Bytes(copied(alloc, &[98])?)),
-        7 => Ok(Value::Bytes(copied(alloc, &[97, 98])?)),
-        8 => Ok(Value::Bitmap(Vec::new(alloc))),
-        9 => Ok(Value::Bitmap(copied(alloc, &[97])?)),
-        10 => Ok(Value::Bitmap(copied(alloc, &[98])?)),
+        4 => bytes(alloc, &[]),
+        5 => bytes(alloc, &[97]),
+        6 => bytes(alloc, &[98]),
+        7 => bytes(alloc, &[97, 98]),
+        8 => bitmap(alloc, &[]),
+        9 => bitmap(alloc, &[97]),
+        10 => bitmap(alloc, &[98]),
         11 => Ok(Value::Struct(Vec::new(alloc))),
-        12 => Ok(Value::Struct(single(alloc, Value::None)?)),
-        13 => Ok(Value::Struct(pair(alloc, Value::None, Value::None)?)),
-        14 => Ok(Value::Struct(pair(alloc, Value::None, Value::Int(3))?)),
-        15 => Ok(Value::Struct(pair(alloc, Value::Int(3), Value::None)?)),
+        12 => struct_of(single(alloc, Value::None)),
+        13 => struct_of(pair(alloc, Value::None, Value::None)),
+        14 => struct_of(pair(alloc, Value::None, Value::Int(3))),
+        15 => struct_of(pair(alloc, Value::Int(3), Value::None)),
         _ => nested_structs(alloc, 2),
     }
 }
 
-const ARRAYS: usize = 17;
+/// Arrays, no two of them equal, by their type and what their elements are made of: of units where they differ in number, of
+/// other types also by an element.
+const ARRAYS: [(u32, &[u8]); 17] = [
+    (1, &[]),
+    (1, &[0, 0]),
+    (2, &[]),
+    (2, &[1]),
+    (3, &[1]),
+    (4, &[]),
+    (4, &[1]),
+    (4, &[1, 2]),
+    (4, &[2, 1]),
+    (5, &[1]),
+    (6, &[1]),
+    (7, &[1]),
+    (10, &[1]),
+    (10, &[1, 1]),
+    (11, &[1]),
+    (18, &[1]),
+    (18, &[2]),
+];
 
-/// Arrays, no two of them equal: of units where they differ in number, of other types also by an element.
+/// An array over the type of this number, without elements.
+fn empty_array(alloc: Global, type_: u32) -> ValueArray {
+    match type_ {
+        2 => ValueArray::Bool(Vec::new(alloc)),
+        3 => ValueArray::Id(Vec::new(alloc)),
+        4 => ValueArray::Int(Vec::new(alloc)),
+        5 => ValueArray::Long(Vec::new(alloc)),
+        6 => ValueArray::Float(Vec::new(alloc)),
+        7 => ValueArray::Double(Vec::new(alloc)),
+        10 => ValueArray::Rectangle(Vec::new(alloc)),
+        11 => ValueArray::Fraction(Vec::new(alloc)),
+        18 => ValueArray::Fd(Vec::new(alloc)),
+        _ => ValueArray::None(Vec::new(alloc)),
+    }
+}
+
+/// Puts an element that is made of a number at the end of an array.
+fn push_element(array: &mut ValueArray, number: u8) -> Result<(), AllocError> {
+    match array {
+        ValueArray::None(units) => add(units, Ok(())),
+        ValueArray::Bool(bools) => add(bools, Ok(number != 0)),
+        ValueArray::Id(ids) => add(ids, Ok(Id(number.into()))),
+        ValueArray::Int(ints) => add(ints, Ok(number.into())),
+        ValueArray::Long(longs) => add(longs, Ok(number.into())),
+        ValueArray::Float(floats) => add(floats, Ok(Float32(number.into()))),
+        ValueArray::Double(doubles) => add(doubles, Ok(Float64(number.into()))),
+        ValueArray::Rectangle(rectangles) => add(rectangles, Ok(NARROW)),
+        ValueArray::Fraction(fractions) => add(fractions, Ok(HALF)),
+        ValueArray::Fd(fds) => add(fds, Ok(Fd(number.into()))),
+    }
+}
+
+/// An array over the type of this number, of elements that are made of these numbers.
+fn array_of(alloc: Global, type_: u32, numbers: &[u8]) -> Result<ValueArray, AllocError> {
+    let mut array = empty_array(alloc, type_);
+    for number in numbers {
+        push_element(&mut array, *number)?;
+    }
+    Ok(array)
+}
+
+/// The array in this row.
 fn array(alloc: Global, row: usize) -> Result<ValueArray, AllocError> {
-    match row {
-        0 => Ok(ValueArray::None(Vec::new(alloc))),
-        1 => Ok(ValueArray::None(copied(alloc, &[(), ()])?)),
-        2 => Ok(ValueArray::Bool(Vec::new(alloc))),
-        3 => Ok(ValueArray::Bool(copied(alloc, &[true])?)),
-        4 => Ok(ValueArray::Id(copied(alloc, &[Id(1)])?)),
-        5 => Ok(ValueArray::Int(Vec::new(alloc))),
-        6 => Ok(ValueArray::Int(copied(alloc, &[1])?)),
-        7 => Ok(ValueArray::Int(copied(alloc, &[1, 2])?)),
-        8 => Ok(ValueArray::Int(copied(alloc, &[2, 1])?)),
-        9 => Ok(ValueArray::Long(copied(alloc, &[1])?)),
-        10 => Ok(ValueArray::Float(copied(alloc, &[Float32(1)])?)),
-        11 => Ok(ValueArray::Double(copied(alloc, &[Float64(1)])?)),
-        12 => Ok(ValueArray::Rectangle(copied(alloc, &[NARROW])?)),
-        13 => Ok(ValueArray::Rectangle(copied(alloc, &[NARROW, NARROW])?)),
-        14 => Ok(ValueArray::Fraction(copied(alloc, &[HALF])?)),
-        15 => Ok(ValueArray::Fd(copied(alloc, &[Fd(1)])?)),
-        _ => Ok(ValueArray::Fd(copied(alloc, &[Fd(2)])?)),
+    match ARRAYS.get(row) {
+        Some((type_, numbers)) => array_of(alloc, *type_, numbers),
+        None => Err(AllocError),
     }
 }
 
@@ -274,42 +342,56 @@ const OBJECTS: usize = 9;
 /// Objects, no two of them equal.
 fn distinct_object(alloc: Global, row: usize) -> Result<Value, AllocError> {
     match row {
-        0 => Ok(object(5, 3, Vec::new(alloc))),
+        0 => object_of(Ok(Vec::new(alloc))),
         1 => Ok(object(6, 3, Vec::new(alloc))),
         2 => Ok(object(5, 4, Vec::new(alloc))),
-        3 => Ok(object(5, 3, pair(alloc, property(0), property(1))?)),
-        4 => Ok(object(5, 3, pair(alloc, property(1), property(0))?)),
-        _ => Ok(object(5, 3, single(alloc, property(row % 5))?)),
+        3 => object_of(pair(alloc, property(0), property(1))),
+        4 => object_of(pair(alloc, property(1), property(0))),
+        _ => object_of(single(alloc, property(row % 5))),
     }
 }
 
-/// Values of each variant, no two of them equal, put at the end of a list.
-fn add_distinct(alloc: Global, values: &mut Vec<Value>) -> Result<(), AllocError> {
-    for row in 0..FIXED_VALUES {
-        add(values, Ok(fixed_value(row)))?;
+/// Tables of values of which no two are equal.
+#[derive(Clone, Copy)]
+enum Table {
+    Fixed,
+    Lists,
+    Arrays,
+    IntChoices,
+    Choices,
+    Objects,
+}
+
+/// The tables, and how many rows each has.
+const TABLES: [(Table, usize); 6] = [
+    (Table::Fixed, FIXED_VALUES),
+    (Table::Lists, LISTS),
+    (Table::Arrays, ARRAYS.len()),
+    (Table::IntChoices, INT_CHOICES),
+    (Table::Choices, CHOICES),
+    (Table::Objects, OBJECTS),
+];
+
+/// The value in this row of a table.
+fn value_in(alloc: Global, table: Table, row: usize) -> Result<Value, AllocError> {
+    match table {
+        Table::Fixed => Ok(fixed_value(row)),
+        Table::Lists => list(alloc, row),
+        Table::Arrays => array(alloc, row).map(Value::ValueArray),
+        Table::IntChoices => choice_over_int(alloc, row),
+        Table::Choices => Ok(Value::Choice(choice(row))),
+        Table::Objects => distinct_object(alloc, row),
     }
-    for row in 0..LISTS {
-        add(values, list(alloc, row))?;
-    }
-    for row in 0..ARRAYS {
-        add(values, array(alloc, row).map(Value::ValueArray))?;
-    }
-    for row in 0..INT_CHOICES {
-        add(values, choice_over_int(alloc, row))?;
-    }
-    for row in 0..CHOICES {
-        add(values, Ok(Value::Choice(choice(row))))?;
-    }
-    for row in 0..OBJECTS {
-        add(values, distinct_object(alloc, row))?;
-    }
-    Ok(())
 }
 
 /// Values of each variant, no two of them equal.
 pub(crate) fn distinct_values(alloc: Global) -> Result<Vec<Value>, AllocError> {
     let mut values = Vec::new(alloc);
-    add_distinct(alloc, &mut values)?;
+    for (table, rows) in TABLES {
+        for row in 0..rows {
+            add(&mut values, value_in(alloc, table, row))?;
+        }
+    }
     Ok(values)
 }
 
@@ -325,8 +407,8 @@ pub(crate) fn worked_values(alloc: Global) -> Result<Vec<Value>, AllocError> {
 /// Arrays, no two of them equal.
 pub(crate) fn arrays(alloc: Global) -> Result<Vec<ValueArray>, AllocError> {
     let mut arrays = Vec::new(alloc);
-    for row in 0..ARRAYS {
-        add(&mut arrays, array(alloc, row))?;
+    for (type_, numbers) in ARRAYS {
+        add(&mut arrays, array_of(alloc, type_, numbers))?;
     }
     Ok(arrays)
 }

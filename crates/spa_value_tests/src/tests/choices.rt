@@ -1,5 +1,5 @@
 //! Bodies of choices, read and written, with bytes from outside.
-use crate::bytes::{assert_words, cut_bytes};
+use crate::bytes::{assert_holds_at, assert_same_at, assert_words, cut_bytes, refusal_of};
 use bitflags::Flags;
 use spa_bytes::u32_at;
 use spa_fixed::{ChoiceElement, Refusal, put_choice, read_choice};
@@ -53,7 +53,7 @@ fn is_choice<T: ChoiceElement + PartialEq>(
     pod: &[u32],
 ) -> Result<(), Fail> {
     let found = choice_of::<T>(alloc, body, 4 * body.len())?;
-    assert!(rt; found == *wanted, "the choice of {body:?}");
+    assert_holds_at(rt, found == *wanted, body);
     let encoding = choice_encoding(alloc, &found)?;
     assert_words(rt, alloc, encoding.as_slice(), pod)
 }
@@ -81,22 +81,20 @@ fn ranges_and_steps(rt: HostRuntime) -> Result<(), Fail> {
 
 #[test]
 fn choices_of_one_value(rt: HostRuntime) -> Result<(), Fail> {
-    let body = [0, 5, 4, 4, 7, 9, 11];
+    let one = choice(0, ChoiceEnum::None(7));
     let pod = [20, 19, 0, 0, 4, 4, 7, 0];
-    is_choice(
-        &rt,
-        rt.alloc(),
-        &body,
-        &choice(0, ChoiceEnum::None(7)),
-        &pod,
-    )?;
-    let encoding = choice_encoding(rt.alloc(), &choice(5, ChoiceEnum::None(7)))?;
-    assert_words(
-        &rt,
-        rt.alloc(),
-        encoding.as_slice(),
-        &[20, 19, 0, 5, 4, 4, 7, 0],
-    )
+    is_choice(&rt, rt.alloc(), &[0, 5, 4, 4, 7, 9, 11], &one, &pod)
+}
+
+/// The pod of a choice of one value with flags.
+fn flagged_encoding(alloc: Global) -> Result<Vec<u8>, GenError> {
+    choice_encoding(alloc, &choice(5, ChoiceEnum::None(7)))
+}
+
+#[test]
+fn flags_of_one_value_are_written(rt: HostRuntime) -> Result<(), Fail> {
+    let pod = flagged_encoding(rt.alloc())?;
+    assert_words(&rt, rt.alloc(), pod.as_slice(), &[20, 19, 0, 5, 4, 4, 7, 0])
 }
 
 /// Flags over Id.
@@ -118,22 +116,33 @@ fn bool_enumeration(alloc: Global) -> Result<Choice<bool>, AllocError> {
 }
 
 #[test]
-fn choices_with_a_list(rt: HostRuntime) -> Result<(), Fail> {
+fn flags_with_a_list(rt: HostRuntime) -> Result<(), Fail> {
     let flags = id_flags(rt.alloc())?;
     let pod = [24, 19, 4, 1, 4, 3, 1, 2];
-    is_choice(&rt, rt.alloc(), &[4, 1, 4, 3, 1, 2], &flags, &pod)?;
+    is_choice(&rt, rt.alloc(), &[4, 1, 4, 3, 1, 2], &flags, &pod)
+}
+
+#[test]
+fn alternatives_with_a_list(rt: HostRuntime) -> Result<(), Fail> {
     let enumeration = bool_enumeration(rt.alloc())?;
     let pod = [24, 19, 3, 0, 4, 2, 1, 0];
     is_choice(&rt, rt.alloc(), &[3, 0, 4, 2, 7, 0], &enumeration, &pod)
 }
 
-/// Why the first bytes of these words are no choice over Int.
-fn refusal_of(alloc: Global, words: &[u32], size: usize) -> Option<Refusal> {
-    choice_of::<i32>(alloc, words, size).err()
+/// Compares why the first bytes of these words are no choice over Int with what is wanted.
+fn assert_no_choice(
+    rt: &impl Abort,
+    alloc: Global,
+    row: (&[u32], usize, Refusal),
+) -> Result<(), Fail> {
+    let (words, size, wanted) = row;
+    let found = refusal_of(choice_of::<i32>(alloc, words, size))?;
+    assert_same_at(rt, &found, &Some(wanted), words);
+    Ok(())
 }
 
 #[test]
-fn choices_are_refused(rt: HostRuntime) {
+fn choices_are_refused(rt: HostRuntime) -> Result<(), Fail> {
     let rows: [(&[u32], usize, Refusal); 8] = [
         (&[5, 0, 4, 4, 7, 0], 24, Refusal::InvalidChoiceType),
         (&[0, 0, 8, 4, 7, 0], 24, Refusal::WrongSize),
@@ -144,8 +153,8 @@ fn choices_are_refused(rt: HostRuntime) {
         (&[4, 0, 4, 4], 16, Refusal::MissingChoiceValues),
         (&[0, 0, 4, 4, 7], 18, Refusal::WrongSize),
     ];
-    for (words, size, wanted) in rows {
-        let found = refusal_of(rt.alloc(), words, size);
-        assert_eq!(rt; found, Some(wanted), "at {words:?}");
+    for row in rows {
+        assert_no_choice(&rt, rt.alloc(), row)?;
     }
+    Ok(())
 }

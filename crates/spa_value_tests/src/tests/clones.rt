@@ -1,4 +1,5 @@
 //! A clone equals its source.
+use crate::bytes::assert_same;
 use crate::values::{
     arrays, choices, deep_values, distinct_values, objects, properties, worked_values,
 };
@@ -12,16 +13,24 @@ fn equals_its_clone<T: Clone + PartialEq>(source: &T) -> Result<bool, AllocError
     Ok(copy == *source)
 }
 
+/// The place of the first of these that doesn't equal its clone.
+fn unlike_its_clone<T: Clone + PartialEq>(sources: &[T]) -> Result<Option<usize>, AllocError> {
+    for (i, source) in sources.iter().enumerate() {
+        if !equals_its_clone(source)? {
+            return Ok(Some(i));
+        }
+    }
+    Ok(None)
+}
+
 /// Each of these equals its clone.
 fn assert_clones<T: Clone + PartialEq>(
     rt: &impl Abort,
     sources: Result<Vec<T>, AllocError>,
 ) -> Result<(), Fail> {
     let sources = sources?;
-    for (i, source) in sources.iter().enumerate() {
-        let equal = equals_its_clone(source)?;
-        assert!(rt; equal, "at {i}");
-    }
+    let unlike = unlike_its_clone(sources.as_slice())?;
+    assert_same(rt, &unlike, &None, "each clone");
     Ok(())
 }
 

@@ -1,14 +1,16 @@
 //! Sinks over devices.
+use crate::bytes::assert_same;
+use arrayvec::ArrayVec;
 use spa_device::IoSink;
 use spa_fixed::put_fixed;
 use spa_sink::{GenError, PodSink};
-use std::alloc::Global;
 use std::io::{self, Error, ErrorKind, Write};
+use std::process::Abort;
 
-/// A device that takes few bytes at a time, and is interrupted at one of its writes.
+/// A device that takes few bytes at a time, and is interrupted at one of its writes. It takes no memory.
 #[derive(Drop)]
 struct Device {
-    taken: Vec<u8>,
+    taken: ArrayVec<u8, 24>,
     most: usize,
     writes: u32,
     interrupted_at: u32,
@@ -21,10 +23,7 @@ impl Write for Device {
             return Err(Error::from(ErrorKind::Interrupted));
         }
         let count = bytes.len().min(self.most);
-        if self.taken.extend_from_slice(&bytes[..count]).is_err() {
-            return Err(Error::from(ErrorKind::OutOfMemory));
-        }
-        Ok(count)
+        self.taken.write(&bytes[..count])
     }
 
     fn flush(&mut self) -> io::Result<()> {
@@ -33,7 +32,13 @@ impl Write for Device {
 }
 
 /// What a sink answered, its two counts, and what its device took.
-type Found = (Result<(), GenError>, u64, u64, Vec<u8>);
+#[derive(Drop)]
+struct Found {
+    answer: Result<(), GenError>,
+    written: u64,
+    failures: u64,
+    taken: ArrayVec<u8, 24>,
+}
 
 /// The bytes that are appended: two words, and behind them the Int 3.
 const WHOLE: [u8; 24] = [
@@ -47,50 +52,88 @@ fn put_whole<S: PodSink>(sink: &mut S) -> Result<(), GenError> {
 }
 
 /// Appends the bytes to a sink over a device that takes so many at a time, and is interrupted at this write.
-fn found(alloc: Global, most: usize, interrupted_at: u32) -> Found {
+fn found_in_device(most: usize, interrupted_at: u32) -> Found {
     let mut sink = IoSink::new(Device {
-        taken: Vec::new(alloc),
+        taken: ArrayVec::new(),
         most,
         writes: 0,
         interrupted_at,
     });
     let answer = put_whole(&mut sink);
     let (written, failures) = (sink.written(), sink.failures());
-    (answer, written, failures, sink.into_inner().taken)
+    Found {
+        answer,
+        written,
+        failures,
+        taken: sink.into_inner().taken,
+    }
+}
+
+/// Compares what was found with this answer, this count of failures, and with these bytes, which are counted as written.
+fn assert_found(
+    rt: &impl Abort,
+    found: &Found,
+    answer: Result<(), GenError>,
+    failures: u64,
+    taken: &[u8],
+) {
+    assert_same(rt, &found.answer, &answer, "the answer");
+    assert_same(rt, &found.failures, &failures, "the count of failures");
+    let count = taken.len() as u64;
+    assert_same(rt, &found.written, &count, "the count of bytes");
+    assert_same(rt, &found.taken.as_slice(), &taken, "the bytes");
+}
+
+/// Compares what is found of a device that is interrupted at this write with the beginning of the bytes up to here.
+fn assert_interrupted(rt: &impl Abort, interrupted_at: u32, end: usize) {
+    let found = found_in_device(5, interrupted_at);
+    let (taken, _) = WHOLE.as_slice().split_at(end.min(WHOLE.len()));
+    assert_found(rt, &found, Err(GenError::Io), 1, taken);
+}
+
+#[test]
+fn interrupted_devices_have_taken_a_beginning(rt: HostRuntime) {
+    // Two words go in two pieces of at most five bytes, and the Int in four.
+    for (interrupted_at, end) in [(1, 0), (2, 5), (3, 8), (4, 13), (5, 18), (6, 23)] {
+        assert_interrupted(&rt, interrupted_at, end);
+    }
 }
 
 #[test]
 fn devices_take_bytes_piece_by_piece(rt: HostRuntime) {
-    // Two words go in two pieces of at most five bytes, and the Int in four.
-    let cut = [0, 5, 8, 13, 18, 23];
-    for (interrupted_at, wanted) in (1..).zip(cut) {
-        let (answer, written, failures, taken) = found(rt.alloc(), 5, interrupted_at);
-        assert_eq!(rt; answer, Err(GenError::Io));
-        assert_eq!(rt; written, wanted);
-        assert_eq!(rt; failures, 1);
-        assert!(rt; WHOLE.starts_with(taken.as_slice()));
-        assert_eq!(rt; taken.len() as u64, wanted);
-    }
-    let (answer, written, failures, taken) = found(rt.alloc(), 5, 7);
-    assert_eq!(rt; answer, Ok(()));
-    assert_eq!(rt; (written, failures), (24, 0));
-    assert_eq!(rt; taken.as_slice(), WHOLE.as_slice());
+    let found = found_in_device(5, 7);
+    assert_found(&rt, &found, Ok(()), 0, &WHOLE);
 }
 
 #[test]
 fn a_device_that_takes_nothing_fails(rt: HostRuntime) {
-    let (answer, written, failures, taken) = found(rt.alloc(), 0, 7);
-    assert_eq!(rt; answer, Err(GenError::Io));
-    assert_eq!(rt; (written, failures), (0, 1));
-    assert!(rt; taken.is_empty());
+    let found = found_in_device(0, 7);
+    assert_found(&rt, &found, Err(GenError::Io), 1, &[]);
+}
+
+/// Appends these pieces, one behind another.
+fn append_all<S: PodSink>(sink: &mut S, pieces: &[&[u8]]) -> Result<(), GenError> {
+    for piece in pieces {
+        sink.append(piece)?;
+    }
+    Ok(())
+}
+
+/// Appends these pieces to a sink over a device that takes all that fits.
+fn found_in_room(pieces: &[&[u8]]) -> Found {
+    let mut sink = IoSink::new(ArrayVec::new());
+    let answer = append_all(&mut sink, pieces);
+    let (written, failures) = (sink.written(), sink.failures());
+    Found {
+        answer,
+        written,
+        failures,
+        taken: sink.into_inner(),
+    }
 }
 
 #[test]
 fn nothing_is_appended_without_a_write(rt: HostRuntime) {
-    let mut sink = IoSink::new(Vec::new(rt.alloc()));
-    assert_eq!(rt; sink.append(&[]), Ok(()));
-    assert_eq!(rt; sink.append(&[1, 2]), Ok(()));
-    assert_eq!(rt; sink.append(&[3]), Ok(()));
-    assert_eq!(rt; (sink.written(), sink.failures()), (3, 0));
-    assert_eq!(rt; sink.into_inner().as_slice(), [1, 2, 3].as_slice());
+    let found = found_in_room(&[&[], &[1, 2], &[3]]);
+    assert_found(&rt, &found, Ok(()), 0, &[1, 2, 3]);
 }

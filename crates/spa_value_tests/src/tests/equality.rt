@@ -1,4 +1,5 @@
 //! Values, and parts of values, equal themselves alone.
+use crate::bytes::assert_same;
 use crate::values::{arrays, choices, deep_values, distinct_values, properties};
 use std::alloc::AllocError;
 use std::process::Abort;
@@ -9,6 +10,26 @@ fn answers<T: PartialEq>(value: &T, twin: &T, equal: bool) -> bool {
     (value == twin) == equal && (value != twin) != equal
 }
 
+/// The place of the first twin that the value at this place is wrongly said to equal, or not to equal.
+fn wrong_twin<T: PartialEq>(place: usize, value: &T, twins: &[T]) -> Option<usize> {
+    for (j, twin) in twins.iter().enumerate() {
+        if !answers(value, twin, place == j) {
+            return Some(j);
+        }
+    }
+    None
+}
+
+/// The places of the first value and twin that are wrongly said to be equal, or not to be.
+fn wrongly_answered<T: PartialEq>(values: &[T], twins: &[T]) -> Option<(usize, usize)> {
+    for (i, value) in values.iter().enumerate() {
+        if let Some(j) = wrong_twin(i, value, twins) {
+            return Some((i, j));
+        }
+    }
+    None
+}
+
 /// Each of these equals its twin alone.
 fn assert_distinct<T: PartialEq + Drop>(
     rt: &impl Abort,
@@ -17,11 +38,8 @@ fn assert_distinct<T: PartialEq + Drop>(
 ) -> Result<(), Fail> {
     let values = values?;
     let twins = twins?;
-    for (i, value) in values.iter().enumerate() {
-        for (j, twin) in twins.iter().enumerate() {
-            assert!(rt; answers(value, twin, i == j), "at {i} and {j}");
-        }
-    }
+    let wrong = wrongly_answered(values.as_slice(), twins.as_slice());
+    assert_same(rt, &wrong, &None, "each of the two");
     Ok(())
 }
 

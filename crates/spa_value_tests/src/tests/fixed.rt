@@ -1,5 +1,5 @@
 //! The ten types of fixed size, with bytes from outside.
-use crate::bytes::assert_words;
+use crate::bytes::{assert_holds_at, assert_same, assert_same_at, assert_words};
 use spa_fixed::{CanonicalFixedSizedPod, Fault, FaultKind, FixedSizedPod, put_fixed};
 use spa_sink::GenError;
 use spa_utils::{Fd, Float32, Float64, Fraction, Id, Rectangle};
@@ -37,19 +37,27 @@ fn says<T: CanonicalFixedSizedPod + PartialEq>(bytes: &[u8], value: &T, rest: &[
     }
 }
 
+/// The body of the value has its type's size, and reads back before another byte.
+fn assert_body<T>(rt: &impl Abort, body: Vec<u8>, value: &T, pod: &[u32]) -> Result<(), Fail>
+where
+    T: CanonicalFixedSizedPod + PartialEq,
+{
+    assert_same_at(rt, &body.len(), &T::SIZE, pod);
+    let mut bytes = body;
+    bytes.push(9)?;
+    assert_holds_at(rt, says(bytes.as_slice(), value, &[9]), pod);
+    Ok(())
+}
+
 /// The value has this pod, its body reads back, and it stands for itself.
 fn is_fixed<T>(rt: &impl Abort, alloc: Global, value: T, pod: &[u32]) -> Result<(), Fail>
 where
     T: CanonicalFixedSizedPod + FixedSizedPod<CanonicalType = T> + PartialEq,
 {
+    assert_holds_at(rt, stands_for_itself(&value), pod);
     let encoding = pod_of(alloc, &value)?;
     assert_words(rt, alloc, encoding.as_slice(), pod)?;
-    let mut body = body_of(alloc, &value)?;
-    assert_eq!(rt; body.len(), T::SIZE, "at {pod:?}");
-    body.push(9)?;
-    assert!(rt; says(body.as_slice(), &value, &[9]), "at {pod:?}");
-    assert!(rt; stands_for_itself(&value), "at {pod:?}");
-    Ok(())
+    assert_body(rt, body_of(alloc, &value)?, &value, pod)
 }
 
 #[test]
@@ -77,7 +85,7 @@ fn each_type_has_its_pod(rt: HostRuntime) -> Result<(), Fail> {
 #[test]
 fn any_word_but_zero_is_true(rt: HostRuntime) {
     for (word, wanted) in [(0u32, false), (1, true), (7, true), (256, true)] {
-        assert!(rt; says(&word.to_le_bytes(), &wanted, &[]), "at {word}");
+        assert_holds_at(&rt, says(&word.to_le_bytes(), &wanted, &[]), &[word]);
     }
 }
 
@@ -87,5 +95,6 @@ fn short_bodies_are_refused(rt: HostRuntime) {
         input: [1, 2, 3].as_slice(),
         kind: FaultKind::Short,
     };
-    assert_eq!(rt; i32::deserialize_body(&[1, 2, 3]), Err(short));
+    let found = i32::deserialize_body(&[1, 2, 3]);
+    assert_same(&rt, &found, &Err(short), "three bytes");
 }

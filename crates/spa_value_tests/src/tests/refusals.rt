@@ -1,8 +1,22 @@
 //! The names of refusals.
+use crate::bytes::assert_same;
 use spa_fixed::{DeserializeError, Fault, FaultKind, Refusal};
 use spa_sink::GenError;
-use std::alloc::AllocError;
+use std::alloc::{AllocError, Global};
+use std::process::Abort;
 use std::test::Fail;
+
+/// What a writer's refusal prints.
+fn printed(alloc: Global, error: GenError) -> Result<String, AllocError> {
+    format!(in alloc; "{error}")
+}
+
+/// Compares what a writer's refusal prints with its name.
+fn assert_printed(rt: &impl Abort, alloc: Global, error: GenError, name: &str) -> Result<(), Fail> {
+    let found = printed(alloc, error)?;
+    assert_same(rt, &found.as_str(), &name, name);
+    Ok(())
+}
 
 #[test]
 fn refusals_of_writers_print_their_names(rt: HostRuntime) -> Result<(), Fail> {
@@ -16,8 +30,7 @@ fn refusals_of_writers_print_their_names(rt: HostRuntime) -> Result<(), Fail> {
         (GenError::OutOfMemory, "OutOfMemory"),
     ];
     for (error, name) in writes {
-        let printed = format!(in rt.alloc(); "{error}")?;
-        assert_eq!(rt; printed.as_str(), name);
+        assert_printed(&rt, rt.alloc(), error, name)?;
     }
     Ok(())
 }
@@ -43,8 +56,13 @@ fn refusals_of_readers_have_their_names(rt: HostRuntime) {
         (DeserializeError::OutOfMemory, "OutOfMemory"),
     ];
     for (error, name) in &reads {
-        assert_eq!(rt; name_of(error), *name);
+        assert_same(&rt, &name_of(error), name, name);
     }
+}
+
+/// The name of a fault's refusal.
+fn name_of_fault(kind: FaultKind) -> &'static str {
+    name_of(&DeserializeError::from(Fault { input: 0u8, kind }))
 }
 
 #[test]
@@ -55,15 +73,16 @@ fn faults_have_their_names(rt: HostRuntime) {
         (FaultKind::Text, "Text"),
     ];
     for (kind, name) in kinds {
-        let error = DeserializeError::from(Fault { input: 0u8, kind });
-        assert_eq!(rt; name_of(&error), name);
+        assert_same(&rt, &name_of_fault(kind), &name, name);
     }
 }
 
 #[test]
 fn lack_of_memory_has_a_name_everywhere(rt: HostRuntime) {
-    assert_eq!(rt; GenError::from(AllocError), GenError::OutOfMemory);
-    assert_eq!(rt; Refusal::from(AllocError), Refusal::OutOfMemory);
-    let error: DeserializeError<u8> = DeserializeError::from(AllocError);
-    assert_eq!(rt; error, DeserializeError::OutOfMemory);
+    let write = GenError::from(AllocError);
+    assert_same(&rt, &write, &GenError::OutOfMemory, "a write");
+    let body = Refusal::from(AllocError);
+    assert_same(&rt, &body, &Refusal::OutOfMemory, "a body");
+    let read: DeserializeError<u8> = DeserializeError::from(AllocError);
+    assert_same(&rt, &read, &DeserializeError::OutOfMemory, "a read");
 }

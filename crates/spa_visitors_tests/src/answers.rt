@@ -1,4 +1,5 @@
 //! What each typed read answers, by its built-in type.
+use crate::compare::{assert_holds_at, assert_said};
 use spa_fixed::DeserializeError;
 use spa_read::{PodDeserialize, PodDeserializer};
 use spa_spelling::bytes_of;
@@ -6,6 +7,7 @@ use spa_utils::{Choice, Fd, Float32, Float64, Fraction, Id, Rectangle};
 use spa_value::Bitmap;
 use std::alloc::{AllocError, Global};
 use std::fmt::Debug;
+use std::process::Abort;
 use std::test::Fail;
 
 /// What a read by a type answers: the text of its value, or the refusal's name.
@@ -200,33 +202,52 @@ const ROWS: &[(&str, &[u32], &str)] = &[
     ),
 ];
 
+/// Compares what the read of a row answers with what is wanted.
+fn assert_read(rt: &impl Abort, alloc: Global, row: &(&str, &[u32], &str)) -> Result<(), Fail> {
+    let (name, words, wanted) = *row;
+    let input = bytes_of(alloc, words)?;
+    let found = named(alloc, name, input.as_slice())?;
+    assert_said(rt, found.as_str(), wanted, name, words);
+    Ok(())
+}
+
 #[test]
 fn each_type_reads_its_pods(rt: HostRuntime) -> Result<(), Fail> {
-    for (name, words, wanted) in ROWS {
-        let input = bytes_of(rt.alloc(), words)?;
-        let found = named(rt.alloc(), name, input.as_slice())?;
-        assert_eq!(rt; found.as_str(), *wanted, "{name} at {words:?}");
+    for row in ROWS {
+        assert_read(&rt, rt.alloc(), row)?;
     }
     Ok(())
+}
+
+/// Whether the type finds these bytes short.
+fn is_short(alloc: Global, name: &str, input: &[u8]) -> Result<bool, AllocError> {
+    let found = named(alloc, name, input)?;
+    Ok(found.as_str() == "Short")
 }
 
 /// Each beginning of a pod that is no whole one is short for the type that reads the pod.
 fn short_by(alloc: Global, name: &str, input: &[u8]) -> Result<bool, AllocError> {
     for len in 0..input.len() {
-        let found = named(alloc, name, &input[..len])?;
-        if found.as_str() != "Short" {
+        if !is_short(alloc, name, &input[..len])? {
             return Ok(false);
         }
     }
     Ok(true)
 }
 
+/// The beginnings of the pod of a row are short.
+fn assert_short(rt: &impl Abort, alloc: Global, row: &(&str, &[u32], &str)) -> Result<(), Fail> {
+    let (name, words, _) = *row;
+    let input = bytes_of(alloc, words)?;
+    let short = short_by(alloc, name, input.as_slice())?;
+    assert_holds_at(rt, short, name, words);
+    Ok(())
+}
+
 #[test]
 fn beginnings_of_pods_are_short(rt: HostRuntime) -> Result<(), Fail> {
-    for (name, words, wanted) in ROWS {
-        let input = bytes_of(rt.alloc(), words)?;
-        let short = short_by(rt.alloc(), name, input.as_slice())?;
-        assert!(rt; short, "{name} at {words:?}, {wanted}");
+    for row in ROWS {
+        assert_short(&rt, rt.alloc(), row)?;
     }
     Ok(())
 }

@@ -1,5 +1,6 @@
 //! Typed reads of pods as PipeWire's C builder makes them.
 use crate::answers::named;
+use crate::compare::assert_said;
 use spa_spelling::{SpellingError, bytes_spelled};
 use std::alloc::Global;
 use std::process::Abort;
@@ -65,7 +66,7 @@ fn found(alloc: Global, row: &str) -> Result<String, SpellingError> {
 fn assert_read(rt: &impl Abort, alloc: Global, row: &str) -> Result<(), Fail> {
     let (_, _, wanted) = parts(row);
     let found = found(alloc, row)?;
-    assert_eq!(rt; found.as_str(), wanted, "{row}");
+    assert_said(rt, found.as_str(), wanted, row, &[]);
     Ok(())
 }
 

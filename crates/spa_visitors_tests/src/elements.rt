@@ -2,10 +2,12 @@
 ghost use Rattle.std.specs.Prelude.{⊤, IfOk};
 ghost use Rattle.spa_read.specs.Members.{IsMadeOf, TakesElements};
 
+use crate::compare::assert_holds;
 use spa_fixed::{CanonicalFixedSizedPod, DeserializeError, FixedSizedPod};
 use spa_read::{ArrayPodDeserializer, DeserializeSuccess, PodDeserialize, PodDeserializer};
 use spa_spelling::bytes_of;
 use std::alloc::Global;
+use std::process::Abort;
 use std::test::Fail;
 
 /// A loudness, which is a number.
@@ -96,14 +98,26 @@ fn is_refused<'de, P: PodDeserialize<'de>>(alloc: Global, input: &'de [u8], name
     }
 }
 
+/// An array of three numbers is refused past its end, and where its reader ends early.
+fn assert_array_refused(rt: &impl Abort, alloc: Global, bytes: &[u8]) {
+    let levels = is_refused::<Levels>(alloc, bytes, "FailedReader");
+    assert_holds(rt, levels, "past the last element");
+    let early = is_refused::<Early>(alloc, bytes, "UnreadMembers");
+    assert_holds(rt, early, "before the last element");
+}
+
 #[test]
 fn elements_are_read_one_by_one(rt: HostRuntime) -> Result<(), Fail> {
     let input = bytes_of(rt.alloc(), &[20, 13, 4, 4, 10, 15, 19, 0])?;
-    let bytes = input.as_slice();
-    assert!(rt; is_refused::<Levels>(rt.alloc(), bytes, "FailedReader"));
-    assert!(rt; is_refused::<Early>(rt.alloc(), bytes, "UnreadMembers"));
-    let units = bytes_of(rt.alloc(), &[8, 13, 0, 1])?;
-    assert!(rt; is_refused::<Levels>(rt.alloc(), units.as_slice(), "Tag"));
+    assert_array_refused(&rt, rt.alloc(), input.as_slice());
+    Ok(())
+}
+
+#[test]
+fn units_are_no_levels(rt: HostRuntime) -> Result<(), Fail> {
+    let input = bytes_of(rt.alloc(), &[8, 13, 0, 1])?;
+    let refused = is_refused::<Levels>(rt.alloc(), input.as_slice(), "Tag");
+    assert_holds(&rt, refused, "units");
     Ok(())
 }
 
@@ -195,14 +209,31 @@ fn marks(alloc: Global, input: &[u8]) -> Option<usize> {
     }
 }
 
+/// Whether these are the steps of the levels.
+fn are_steps(alloc: Global, input: &[u8], wanted: &[i32]) -> Result<bool, Fail> {
+    let found = steps(alloc, input)?;
+    Ok(found.as_slice() == wanted)
+}
+
 #[test]
 fn all_elements_are_read(rt: HostRuntime) -> Result<(), Fail> {
     let input = bytes_of(rt.alloc(), &[20, 13, 4, 4, 10, 15, 19, 0])?;
-    let found = steps(rt.alloc(), input.as_slice())?;
-    assert_eq!(rt; found.as_slice(), [10, 15, 19].as_slice());
+    let read = are_steps(rt.alloc(), input.as_slice(), &[10, 15, 19])?;
+    assert_holds(&rt, read, "the steps of the levels");
+    Ok(())
+}
+
+/// No mark is read of these bytes, by a list of them and one by one.
+fn assert_no_marks(rt: &impl Abort, alloc: Global, bytes: &[u8]) {
+    assert_holds(rt, marks(alloc, bytes) == Some(0), "no marks");
+    let refused = is_refused::<First>(alloc, bytes, "NoElementLeft");
+    assert_holds(rt, refused, "no first mark");
+}
+
+#[test]
+fn marks_have_no_bytes(rt: HostRuntime) -> Result<(), Fail> {
     // Three marks, as they are written: they have no bytes.
     let input = bytes_of(rt.alloc(), &[8, 13, 0, 1])?;
-    assert_eq!(rt; marks(rt.alloc(), input.as_slice()), Some(0));
-    assert!(rt; is_refused::<First>(rt.alloc(), input.as_slice(), "NoElementLeft"));
+    assert_no_marks(&rt, rt.alloc(), input.as_slice());
     Ok(())
 }

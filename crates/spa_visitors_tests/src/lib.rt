@@ -6,6 +6,8 @@ mod answers;
 #[cfg(test)]
 mod built;
 #[cfg(test)]
+mod compare;
+#[cfg(test)]
 mod elements;
 #[cfg(test)]
 mod objects;

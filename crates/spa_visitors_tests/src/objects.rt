@@ -3,6 +3,7 @@ ghost use Rattle.std.specs.Prelude.{⊤, ◌≡◌, ℕ, IfErr, IfOk};
 ghost use Rattle.spa_format.specs.Kind.{float, int};
 ghost use Rattle.spa_format.specs.Tree.{fixed, no_properties, object, property, string};
 
+use crate::compare::{assert_holds, assert_said};
 use spa_fixed::DeserializeError;
 use spa_read::{
     DeserializeSuccess, Never, ObjectPodDeserializer, PodDeserialize, PodDeserializer,
@@ -10,7 +11,8 @@ use spa_read::{
 };
 use spa_spelling::bytes_of;
 use spa_utils::Float32;
-use std::alloc::Global;
+use std::alloc::{AllocError, Global};
+use std::process::Abort;
 use std::test::Fail;
 
 /// An object of a device's name and its volume.
@@ -77,49 +79,61 @@ impl<'de> PodDeserialize<'de> for Device<'de> {
 }
 
 /// What a read of a device answers.
-fn device_said(alloc: Global, input: &[u8]) -> Result<String, Fail> {
+fn device_said(alloc: Global, input: &[u8]) -> Result<String, AllocError> {
     let read: Result<(&[u8], Device), DeserializeError<&[u8]>> = PodDeserializer::deserialize_from(
         alloc, input,
     );
     match read {
-        Ok((_, device)) => Ok(format!(in alloc; "{} {}", device.name, device.volume.0)?),
-        Err(DeserializeError::PropertyWrongKey(key)) => Ok(format!(in alloc; "not {key}")?),
-        Err(e) => Ok(String::from_str(alloc, e.kind())?),
+        Ok((_, device)) => told(alloc, device.name, device.volume),
+        Err(DeserializeError::PropertyWrongKey(key)) => format!(in alloc; "not {key}"),
+        Err(e) => String::from_str(alloc, e.kind()),
     }
+}
+
+fn told(alloc: Global, name: &str, volume: Float32) -> Result<String, AllocError> {
+    format!(in alloc; "{name} {}", volume.0)
+}
+
+/// Words of objects, and what their read as a device answers.
+const DEVICES: [(&[u32], &str); 6] = [
+    (
+        &[
+            56, 15, 5, 3, 1, 0, 5, 8, 809138024, 0, 2, 0, 4, 6, 1138491392, 0,
+        ],
+        "hw:0 1138491392",
+    ),
+    // The second property is missing, has another key, or is one too many.
+    (&[32, 15, 5, 3, 1, 0, 5, 8, 809138024, 0], "PropertyMissing"),
+    (
+        &[
+            56, 15, 5, 3, 1, 0, 5, 8, 809138024, 0, 3, 0, 4, 6, 1138491392, 0,
+        ],
+        "not 3",
+    ),
+    (
+        &[
+            72, 15, 5, 3, 1, 0, 5, 8, 809138024, 0, 2, 0, 4, 6, 1138491392, 0, 9, 0, 0, 1,
+        ],
+        "UnreadMembers",
+    ),
+    // The second key is short.
+    (&[36, 15, 5, 3, 1, 0, 5, 8, 809138024, 0, 2, 0], "Short"),
+    // The object has no id.
+    (&[4, 15, 5, 0], "WrongSize"),
+];
+
+/// Compares what the read of these words as a device answers with what is wanted.
+fn assert_device(rt: &impl Abort, alloc: Global, words: &[u32], wanted: &str) -> Result<(), Fail> {
+    let input = bytes_of(alloc, words)?;
+    let found = device_said(alloc, input.as_slice())?;
+    assert_said(rt, found.as_str(), wanted, "a device", words);
+    Ok(())
 }
 
 #[test]
 fn an_object_by_its_keys(rt: HostRuntime) -> Result<(), Fail> {
-    let rows: [(&[u32], &str); 6] = [
-        (
-            &[
-                56, 15, 5, 3, 1, 0, 5, 8, 809138024, 0, 2, 0, 4, 6, 1138491392, 0,
-            ],
-            "hw:0 1138491392",
-        ),
-        // The second property is missing, has another key, or is one too many.
-        (&[32, 15, 5, 3, 1, 0, 5, 8, 809138024, 0], "PropertyMissing"),
-        (
-            &[
-                56, 15, 5, 3, 1, 0, 5, 8, 809138024, 0, 3, 0, 4, 6, 1138491392, 0,
-            ],
-            "not 3",
-        ),
-        (
-            &[
-                72, 15, 5, 3, 1, 0, 5, 8, 809138024, 0, 2, 0, 4, 6, 1138491392, 0, 9, 0, 0, 1,
-            ],
-            "UnreadMembers",
-        ),
-        // The second key is short.
-        (&[36, 15, 5, 3, 1, 0, 5, 8, 809138024, 0, 2, 0], "Short"),
-        // The object has no id.
-        (&[4, 15, 5, 0], "WrongSize"),
-    ];
-    for (words, wanted) in rows {
-        let input = bytes_of(rt.alloc(), words)?;
-        let found = device_said(rt.alloc(), input.as_slice())?;
-        assert_eq!(rt; found.as_str(), wanted);
+    for (words, wanted) in DEVICES {
+        assert_device(&rt, rt.alloc(), words, wanted)?;
     }
     Ok(())
 }
@@ -206,6 +220,7 @@ fn asks(alloc: Global, input: &[u8]) -> bool {
 #[test]
 fn another_key_does_not_make_the_reader_fail(rt: HostRuntime) -> Result<(), Fail> {
     let input = bytes_of(rt.alloc(), &[32, 15, 5, 3, 1, 0, 4, 4, 3, 0])?;
-    assert!(rt; asks(rt.alloc(), input.as_slice()));
+    let asks = asks(rt.alloc(), input.as_slice());
+    assert_holds(&rt, asks, "the first key behind another");
     Ok(())
 }

@@ -3,6 +3,7 @@ ghost use Rattle.std.specs.Prelude.{⊤, ◌≡◌, IfErr, IfOk};
 ghost use Rattle.spa_format.specs.Kind.{int, rectangle};
 ghost use Rattle.spa_format.specs.Tree.{fixed, member, no_trees, string, struct};
 
+use crate::compare::{assert_holds, assert_said};
 use spa_fixed::DeserializeError;
 use spa_read::{
     DeserializeSuccess, Never, ObjectPodDeserializer, PodDeserialize, PodDeserializer,
@@ -10,7 +11,8 @@ use spa_read::{
 };
 use spa_spelling::bytes_of;
 use spa_utils::Rectangle;
-use std::alloc::Global;
+use std::alloc::{AllocError, Global};
+use std::process::Abort;
 use std::test::Fail;
 
 /// A struct of a rectangle.
@@ -139,52 +141,60 @@ impl<'de> PodDeserialize<'de> for Screen<'de> {
     }
 }
 
+/// What a screen is told as: the texts of its parts.
+fn told(alloc: Global, screen: &Screen<'_>) -> Result<String, AllocError> {
+    let (number, name, size) = (screen.number, screen.name, screen.frame.size);
+    format!(in alloc; "{number} {name} {} {}", size.width, size.height)
+}
+
 /// What a read of a screen answers: the texts of its parts, or the refusal's name.
-fn screen_said(alloc: Global, input: &[u8]) -> Result<String, Fail> {
+fn screen_said(alloc: Global, input: &[u8]) -> Result<String, AllocError> {
     let read: Result<(&[u8], Screen), DeserializeError<&[u8]>> = PodDeserializer::deserialize_from(
         alloc, input,
     );
     match read {
-        Ok((_, screen)) => {
-            let size = screen.frame.size;
-            Ok(format!(in alloc;
-                "{} {} {} {}",
-                screen.number, screen.name, size.width, size.height
-            )?)
-        }
-        Err(e) => Ok(String::from_str(alloc, e.kind())?),
+        Ok((_, screen)) => told(alloc, &screen),
+        Err(e) => String::from_str(alloc, e.kind()),
     }
+}
+
+/// Words of structs, and what their read as a screen answers.
+const SCREENS: [(&[u32], &str); 4] = [
+    (
+        &[
+            56, 14, 4, 4, 313, 0, 4, 8, 7303014, 0, 16, 14, 8, 10, 31, 14,
+        ],
+        "313 foo 31 14",
+    ),
+    // A member is missing, and one is too many.
+    (&[32, 14, 4, 4, 313, 0, 4, 8, 7303014, 0], "PropertyMissing"),
+    (
+        &[
+            64, 14, 4, 4, 313, 0, 4, 8, 7303014, 0, 16, 14, 8, 10, 31, 14, 0, 1,
+        ],
+        "UnreadMembers",
+    ),
+    // The last member crosses the struct's end.
+    (
+        &[
+            48, 14, 4, 4, 313, 0, 4, 8, 7303014, 0, 16, 14, 8, 10, 31, 14,
+        ],
+        "Short",
+    ),
+];
+
+/// Compares what the read of these words as a screen answers with what is wanted.
+fn assert_screen(rt: &impl Abort, alloc: Global, words: &[u32], wanted: &str) -> Result<(), Fail> {
+    let input = bytes_of(alloc, words)?;
+    let found = screen_said(alloc, input.as_slice())?;
+    assert_said(rt, found.as_str(), wanted, "a screen", words);
+    Ok(())
 }
 
 #[test]
 fn a_struct_in_a_struct(rt: HostRuntime) -> Result<(), Fail> {
-    let rows: [(&[u32], &str); 4] = [
-        (
-            &[
-                56, 14, 4, 4, 313, 0, 4, 8, 7303014, 0, 16, 14, 8, 10, 31, 14,
-            ],
-            "313 foo 31 14",
-        ),
-        // A member is missing, and one is too many.
-        (&[32, 14, 4, 4, 313, 0, 4, 8, 7303014, 0], "PropertyMissing"),
-        (
-            &[
-                64, 14, 4, 4, 313, 0, 4, 8, 7303014, 0, 16, 14, 8, 10, 31, 14, 0, 1,
-            ],
-            "UnreadMembers",
-        ),
-        // The last member crosses the struct's end.
-        (
-            &[
-                48, 14, 4, 4, 313, 0, 4, 8, 7303014, 0, 16, 14, 8, 10, 31, 14,
-            ],
-            "Short",
-        ),
-    ];
-    for (words, wanted) in rows {
-        let input = bytes_of(rt.alloc(), words)?;
-        let found = screen_said(rt.alloc(), input.as_slice())?;
-        assert_eq!(rt; found.as_str(), wanted);
+    for (words, wanted) in SCREENS {
+        assert_screen(&rt, rt.alloc(), words, wanted)?;
     }
     Ok(())
 }
@@ -319,13 +329,25 @@ fn is_refused<'de, P: PodDeserialize<'de>>(alloc: Global, input: &'de [u8], name
     }
 }
 
+/// A struct of one member is refused by a visitor that reads none, and by one that goes on after a refusal.
+fn assert_struct_refused(rt: &impl Abort, alloc: Global, bytes: &[u8]) {
+    let idle = is_refused::<Idle>(alloc, bytes, "UnreadMembers");
+    assert_holds(rt, idle, "a visitor that reads no member");
+    let stubborn = is_refused::<Stubborn>(alloc, bytes, "FailedReader");
+    assert_holds(rt, stubborn, "a visitor that goes on");
+}
+
 #[test]
 fn members_are_read_to_the_end(rt: HostRuntime) -> Result<(), Fail> {
     let input = bytes_of(rt.alloc(), &[16, 14, 4, 4, 3, 0])?;
-    let bytes = input.as_slice();
-    assert!(rt; is_refused::<Idle>(rt.alloc(), bytes, "UnreadMembers"));
-    assert!(rt; is_refused::<Stubborn>(rt.alloc(), bytes, "FailedReader"));
-    let number = bytes_of(rt.alloc(), &[4, 4, 3, 0])?;
-    assert!(rt; is_refused::<Idle>(rt.alloc(), number.as_slice(), "Tag"));
+    assert_struct_refused(&rt, rt.alloc(), input.as_slice());
+    Ok(())
+}
+
+#[test]
+fn a_number_has_no_members(rt: HostRuntime) -> Result<(), Fail> {
+    let input = bytes_of(rt.alloc(), &[4, 4, 3, 0])?;
+    let refused = is_refused::<Idle>(rt.alloc(), input.as_slice(), "Tag");
+    assert_holds(&rt, refused, "a number");
     Ok(())
 }

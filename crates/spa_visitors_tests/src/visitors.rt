@@ -15,6 +15,7 @@ use spa_visitors::{
 };
 use std::alloc::{AllocError, Global};
 use std::fmt::Debug;
+use std::process::Abort;
 use std::test::Fail;
 
 /// The answer of a call, by its number, as a text. The first numbers are those of the pods' types.
@@ -388,12 +389,23 @@ const ROWS: &[(u8, &[u32], &str)] = &[
     (14, &[16, 14, 4, 4, 3], "Short"),
 ];
 
+fn assert_called_as(rt: &impl Abort, found: &str, wanted: &str, call: u8, words: &[u32]) {
+    assert_eq!(rt; found, wanted, "call {call} at {words:?}");
+}
+
+/// Compares what the call of a row answers with what is wanted.
+fn assert_called(rt: &impl Abort, alloc: Global, row: &(u8, &[u32], &str)) -> Result<(), Fail> {
+    let (call, words, wanted) = *row;
+    let input = bytes_of(alloc, words)?;
+    let found = called(alloc, call, input.as_slice())?;
+    assert_called_as(rt, found.as_str(), wanted, call, words);
+    Ok(())
+}
+
 #[test]
 fn each_call_hands_over_what_it_reads(rt: HostRuntime) -> Result<(), Fail> {
-    for (call, words, wanted) in ROWS {
-        let input = bytes_of(rt.alloc(), words)?;
-        let found = called(rt.alloc(), *call, input.as_slice())?;
-        assert_eq!(rt; found.as_str(), *wanted, "call {call} at {words:?}");
+    for row in ROWS {
+        assert_called(&rt, rt.alloc(), row)?;
     }
     Ok(())
 }
@@ -415,17 +427,24 @@ fn deep(alloc: Global, before: &[u32], behind: &[u32]) -> Result<Vec<u8>, AllocE
     Ok(input)
 }
 
+/// Compares what a call answers to these words around the deep value with a refusal.
+fn assert_deep_refused(
+    rt: &impl Abort,
+    alloc: Global,
+    call: u8,
+    before: &[u32],
+    behind: &[u32],
+) -> Result<(), Fail> {
+    let input = deep(alloc, before, behind)?;
+    let found = called(alloc, call, input.as_slice())?;
+    assert_called_as(rt, found.as_str(), "InvalidType", call, before);
+    Ok(())
+}
+
 /// What was made of the values before a refused one is taken apart without a stack that grows with each level.
 #[test]
 fn depth_before_a_refused_value(rt: HostRuntime) -> Result<(), Fail> {
-    let rows: [(u8, &[u32], &[u32]); 2] = [
-        (14, &[800_008, 14], &[0, 21]),
-        (15, &[800_032, 15, 5, 3, 1, 0], &[2, 0, 0, 21]),
-    ];
-    for (call, before, behind) in rows {
-        let input = deep(rt.alloc(), before, behind)?;
-        let found = called(rt.alloc(), call, input.as_slice())?;
-        assert_eq!(rt; found.as_str(), "InvalidType");
-    }
-    Ok(())
+    assert_deep_refused(&rt, rt.alloc(), 14, &[800_008, 14], &[0, 21])?;
+    let object = [800_032, 15, 5, 3, 1, 0];
+    assert_deep_refused(&rt, rt.alloc(), 15, &object, &[2, 0, 0, 21])
 }

@@ -4,6 +4,7 @@ ghost use Rattle.spa_format.specs.Kind.{float, int};
 ghost use Rattle.spa_format.specs.Tree.{fixed, no_properties, object, property, string};
 
 use crate::compare::{assert_holds, assert_said};
+use crate::telling::declined;
 use spa_fixed::DeserializeError;
 use spa_read::{
     DeserializeSuccess, Never, ObjectPodDeserializer, PodDeserialize, PodDeserializer,
@@ -42,11 +43,11 @@ impl<'de> Visitor<'de> for DeviceVisitor {
 
     ghost visits_object = { λ _ _ _ properties it. (f : ℕ) × (g : ℕ) × (properties ≡ property 1 f (string it.name.now) (property 2 g (fixed (float it.volume.0)) no_properties)) };
 
-    fn visit(&self, _given: Visit<'de, Never>) -> Result<Device<'de>, DeserializeError<&'de [u8]>>
+    fn visit(&self, given: Visit<'de, Never>) -> Result<Device<'de>, DeserializeError<&'de [u8]>>
         ensures made { IfOk result (λ it. ⊥) }
         ensures declined { IfErr result (λ e. ⊤) }
     {
-        Err(DeserializeError::UnsupportedType)
+        Err(declined(given))
     }
 
     #[tactic(auto, using(spa_read::proofs::Stepping::further_same))]
@@ -153,10 +154,11 @@ impl<'de> Visitor<'de> for AskingVisitor {
 
     ghost visits_object = { λ _ _ _ _ _. ⊤ };
 
-    fn visit(&self, _given: Visit<'de, Never>) -> Result<(), DeserializeError<&'de [u8]>>
+    fn visit(&self, given: Visit<'de, Never>) -> Result<(), DeserializeError<&'de [u8]>>
         ensures made { IfOk result (λ it. ⊤) }
         ensures declined { IfErr result (λ e. ⊤) }
     {
+        let _error = declined(given);
         Ok(())
     }
 

@@ -4,6 +4,7 @@ ghost use Rattle.spa_format.specs.Kind.{int, rectangle};
 ghost use Rattle.spa_format.specs.Tree.{fixed, member, no_trees, string, struct};
 
 use crate::compare::{assert_holds, assert_said};
+use crate::telling::declined;
 use spa_fixed::DeserializeError;
 use spa_read::{
     DeserializeSuccess, Never, ObjectPodDeserializer, PodDeserialize, PodDeserializer,
@@ -35,11 +36,11 @@ impl<'de> Visitor<'de> for FrameVisitor {
 
     ghost visits_object = { λ _ _ _ _ _. ⊥ };
 
-    fn visit(&self, _given: Visit<'de, Never>) -> Result<Frame, DeserializeError<&'de [u8]>>
+    fn visit(&self, given: Visit<'de, Never>) -> Result<Frame, DeserializeError<&'de [u8]>>
         ensures made { IfOk result (λ it. ⊥) }
         ensures declined { IfErr result (λ e. ⊤) }
     {
-        Err(DeserializeError::UnsupportedType)
+        Err(declined(given))
     }
 
     #[tactic(auto, using(spa_read::proofs::Stepping::further_trans))]
@@ -94,11 +95,11 @@ impl<'de> Visitor<'de> for ScreenVisitor {
 
     ghost visits_object = { λ _ _ _ _ _. ⊥ };
 
-    fn visit(&self, _given: Visit<'de, Never>) -> Result<Screen<'de>, DeserializeError<&'de [u8]>>
+    fn visit(&self, given: Visit<'de, Never>) -> Result<Screen<'de>, DeserializeError<&'de [u8]>>
         ensures made { IfOk result (λ it. ⊥) }
         ensures declined { IfErr result (λ e. ⊤) }
     {
-        Err(DeserializeError::UnsupportedType)
+        Err(declined(given))
     }
 
     #[tactic(auto, using(spa_read::proofs::Stepping::further_trans))]
@@ -218,10 +219,11 @@ impl<'de> Visitor<'de> for IdleVisitor {
 
     ghost visits_object = { λ _ _ _ _ _. ⊤ };
 
-    fn visit(&self, _given: Visit<'de, Never>) -> Result<(), DeserializeError<&'de [u8]>>
+    fn visit(&self, given: Visit<'de, Never>) -> Result<(), DeserializeError<&'de [u8]>>
         ensures made { IfOk result (λ it. ⊤) }
         ensures declined { IfErr result (λ e. ⊤) }
     {
+        let _error = declined(given);
         Ok(())
     }
 
@@ -253,10 +255,11 @@ impl<'de> Visitor<'de> for StubbornVisitor {
 
     ghost visits_object = { λ _ _ _ _ _. ⊤ };
 
-    fn visit(&self, _given: Visit<'de, Never>) -> Result<(), DeserializeError<&'de [u8]>>
+    fn visit(&self, given: Visit<'de, Never>) -> Result<(), DeserializeError<&'de [u8]>>
         ensures made { IfOk result (λ it. ⊤) }
         ensures declined { IfErr result (λ e. ⊤) }
     {
+        let _error = declined(given);
         Ok(())
     }
 

@@ -4,6 +4,11 @@ ghost use Rattle.std.specs.Prelude.{⊤, IfErr, IfOk};
 use spa_fixed::DeserializeError;
 use spa_read::{Never, ObjectPodDeserializer, StructPodDeserializer, Visit, Visitor};
 
+/// Lets go of what is handed over, and declines it.
+pub(crate) fn declined<'de>(_given: Visit<'de, Never>) -> DeserializeError<&'de [u8]> {
+    DeserializeError::UnsupportedType
+}
+
 /// Reads two members or two properties, and tells what was answered. The text is in memory that the reader names.
 #[derive(Drop)]
 pub(crate) struct TellingVisitor;
@@ -19,11 +24,11 @@ impl<'de> Visitor<'de> for TellingVisitor {
 
     ghost visits_object = { λ _ _ _ _ _. ⊤ };
 
-    fn visit(&self, _given: Visit<'de, Never>) -> Result<String, DeserializeError<&'de [u8]>>
+    fn visit(&self, given: Visit<'de, Never>) -> Result<String, DeserializeError<&'de [u8]>>
         ensures made { IfOk result (λ it. ⊤) }
         ensures declined { IfErr result (λ e. ⊤) }
     {
-        Err(DeserializeError::UnsupportedType)
+        Err(declined(given))
     }
 
     #[tactic(auto, using(spa_read::proofs::Stepping::further_trans, spa_read::proofs::Stepping::all_left))]

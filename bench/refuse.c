@@ -1,32 +1,88 @@
-// A malloc that refuses one request: the one with the number in REFUSED, from 1 on. It is loaded before the C library's own
-// (LD_PRELOAD), and says by a byte on the descriptor MARK that it has refused.
+// A malloc that refuses requests, loaded before the C library's own (LD_PRELOAD). Where REFUSED is a number, the request with
+// that number is refused, from 1 on, and a byte on the descriptor MARK says so. Where it is `each`, the process splits at every
+// request: a copy of it is refused that one and runs to its end, and what it wrote and its status go to MARK, as a line
+// 'NUMBER STATUS LENGTH' and so many bytes; then the process goes on, with the memory.
 #define _GNU_SOURCE
 #include <dlfcn.h>
 #include <errno.h>
+#include <stdio.h>
 #include <stdlib.h>
+#include <string.h>
+#include <sys/mman.h>
+#include <sys/wait.h>
 #include <unistd.h>
+
+// How long a copy may run.
+#define SECONDS 60
 
 static void *(*real_malloc)(size_t);
 static void *(*real_realloc)(void *, size_t);
 static void *(*real_aligned_alloc)(size_t, size_t);
 static long refused, requests;
-static int mark;
+static int mark, refuses_each;
 
 static void start(void) {
   real_malloc = dlsym(RTLD_NEXT, "malloc");
   real_realloc = dlsym(RTLD_NEXT, "realloc");
   real_aligned_alloc = dlsym(RTLD_NEXT, "aligned_alloc");
-  refused = atol(getenv("REFUSED"));
+  const char *given = getenv("REFUSED");
+  refuses_each = strcmp(given, "each") == 0;
+  refused = atol(given);
   mark = atoi(getenv("MARK"));
+}
+
+static void say(const char *bytes, size_t length) {
+  while (length > 0) {
+    ssize_t count = write(mark, bytes, length);
+    if (count <= 0)
+      abort();
+    bytes += count;
+    length -= count;
+  }
+}
+
+// Tells how the copy ended that was refused this request, and what it wrote.
+static void tell(int wrote, int status) {
+  static char text[4096];
+  off_t length = lseek(wrote, 0, SEEK_CUR);
+  size_t told = length < (off_t)sizeof text ? (size_t)length : sizeof text;
+  if (pread(wrote, text, told, 0) != (ssize_t)told)
+    abort();
+  int code = WIFEXITED(status) ? WEXITSTATUS(status) : -WTERMSIG(status);
+  char line[64];
+  say(line, snprintf(line, sizeof line, "%ld %d %zu\n", requests, code, told));
+  say(text, told);
+}
+
+// Splits the process, and answers whether this is the copy.
+static int is_copy(void) {
+  int wrote = memfd_create("wrote", 0);
+  pid_t copy = fork();
+  if (wrote < 0 || copy < 0)
+    abort();
+  if (copy == 0) {
+    refuses_each = 0;
+    alarm(SECONDS);
+    if (dup2(wrote, STDOUT_FILENO) < 0 || dup2(wrote, STDERR_FILENO) < 0)
+      abort();
+    return 1;
+  }
+  int status;
+  if (waitpid(copy, &status, 0) != copy)
+    abort();
+  tell(wrote, status);
+  close(wrote);
+  return 0;
 }
 
 static int is_refused(void) {
   if (!real_malloc)
     start();
-  if (++requests != refused)
+  ++requests;
+  if (refuses_each ? !is_copy() : requests != refused)
     return 0;
-  if (write(mark, "x", 1) != 1)
-    abort();
+  if (refused)
+    say("x", 1);
   errno = ENOMEM;
   return 1;
 }

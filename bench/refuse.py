@@ -1,13 +1,16 @@
 #!/usr/bin/env python3
 """refuse.py [PROGRAM ..]: runs the built programs with each of their requests of memory refused in turn.
+refuse.py tests CRATE ..: does so with each test of these crates, as `rt test` has built them.
 
 Each word of podtool runs on each pod of examples/, on all of them one after another, and on a list whose last pod is
 short; meet runs on pairs of objects, of which some meet and some don't. A run must end as it does with memory, or write
-nothing and say that it is out of memory. Status 1 where one doesn't.
+nothing and say that it is out of memory. A test must pass, or end by an error that says so and by nothing else. Status 1
+where one doesn't, or where a test has more requests than could be refused in SECONDS seconds (from the environment, 600).
 """
 
 import os
 import pathlib
+import re
 import struct
 import subprocess
 import sys
@@ -15,6 +18,7 @@ import tempfile
 
 HERE = pathlib.Path(__file__).resolve().parent
 PROGRAMS = ("podtool", "meet")
+SECONDS = int(os.environ.get("SECONDS", "600"))
 
 # An object of type 5 whose key 1 is a Range of Ints, and pods that follow it, by what they are.
 RANGE = (56, 15, 5, 3, 1, 0, 28, 19, 1, 0, 4, 4, 5, 2, 10, 0)
@@ -29,6 +33,13 @@ OTHERS = {
     "a struct": (0, 14),
     "nothing": (),
 }
+
+# How a test passes, and how one ends by an error that says that memory is wanting: 12 is the number of NOMEM.
+PASSED = (0, b"\ntest result: ok\n")
+WANTS_MEMORY = re.compile(
+    rb"error: (AllocError|AllocFailed \{ \.\. \}|\"?OutOfMemory\"?|\"out of memory\"|Errno\(12\))\n"
+    rb"the test failed: its result gives status 1\n"
+)
 
 
 def pairs():
@@ -65,25 +76,79 @@ def runs_of(program):
     return [((built, *word), name, it) for name, it in given.items() for word in words]
 
 
-def main(programs):
+def refuse_in_programs(library, programs):
+    """Refuses each request of the programs, and returns how many there were and how many runs were wrong."""
     runs = wrong = 0
+    for program in programs:
+        out_of_memory = (1, b"", f"{program}: out of memory\n".encode())
+        for command, name, given in runs_of(program):
+            wanted, _ = run(command, given)
+            number, was_refused = 0, True
+            while was_refused:
+                number += 1
+                found, was_refused = run(command, given, library, number)
+                runs += was_refused
+                if found != wanted and not (was_refused and found == out_of_memory):
+                    wrong += 1
+                    print(f"{program} {' '.join(command[1:])} of {name}, request {number}: {found}")
+    return runs, wrong
+
+
+def copies(told):
+    """What refuse.c told of each copy of a test: the number of the request, and what it ended with."""
+    at = 0
+    while (end := told.find(b"\n", at)) >= 0:
+        number, status, length = map(int, told[at:end].split())
+        at = end + 1 + length
+        yield number, (status, told[end + 1 : at])
+
+
+def refuse_in_test(library, program, test):
+    """Refuses each request of the test, and returns how many there were and what is wrong with it."""
+    with tempfile.TemporaryFile() as mark:
+        env = {**os.environ, "LD_PRELOAD": library, "REFUSED": "each", "MARK": str(mark.fileno())}
+        how = {"env": env, "stdout": subprocess.PIPE, "stderr": subprocess.STDOUT, "pass_fds": (mark.fileno(),)}
+        wrong = []
+        try:
+            ran = subprocess.run([program, test], stdin=subprocess.DEVNULL, timeout=SECONDS, **how)
+            if (ran.returncode, ran.stdout) != PASSED:
+                wrong.append(f"with memory: {(ran.returncode, ran.stdout)}")
+        except subprocess.TimeoutExpired:
+            wrong.append(f"not all its requests were refused in {SECONDS} seconds")
+        mark.seek(0)
+        ended = list(copies(mark.read()))
+    for number, (status, wrote) in ended:
+        if (status, wrote) != PASSED and not (status == 101 and WANTS_MEMORY.fullmatch(wrote)):
+            wrong.append(f"request {number}: {(status, wrote)}")
+    return len(ended), wrong
+
+
+def refuse_in_tests(library, crates):
+    """Refuses each request of each test of the crates, and returns how many there were and how many ended wrongly."""
+    runs = wrong = 0
+    for crate in crates:
+        program = HERE.parent / f"crates/{crate}/out/{crate}_tests"
+        listed = subprocess.run([program, "--list"], check=True, capture_output=True, text=True).stdout
+        for test in re.findall(r"^(.+): test$", listed, re.MULTILINE):
+            count, found = refuse_in_test(library, program, test)
+            print(f"{crate} {test}: {count} requests", flush=True)
+            for it in found:
+                print(f"  {it}", flush=True)
+            runs, wrong = runs + count, wrong + len(found)
+    return runs, wrong
+
+
+def main(words):
     with tempfile.TemporaryDirectory() as room:
         library = f"{room}/refuse.so"
         subprocess.run(["cc", "-O1", "-shared", "-fPIC", "-o", library, HERE / "refuse.c", "-ldl"], check=True)
-        for program in programs or PROGRAMS:
-            out_of_memory = (1, b"", f"{program}: out of memory\n".encode())
-            for command, name, given in runs_of(program):
-                wanted, _ = run(command, given)
-                number, was_refused = 0, True
-                while was_refused:
-                    number += 1
-                    found, was_refused = run(command, given, library, number)
-                    runs += was_refused
-                    if found != wanted and not (was_refused and found == out_of_memory):
-                        wrong += 1
-                        print(f"{program} {' '.join(command[1:])} of {name}, request {number}: {found}")
+        of_tests = words[:1] == ["tests"]
+        if of_tests:
+            runs, wrong = refuse_in_tests(library, words[1:])
+        else:
+            runs, wrong = refuse_in_programs(library, words or PROGRAMS)
     print(f"{runs} runs with a refused request, {wrong} of them wrong")
-    return 1 if wrong or not runs else 0
+    return 1 if wrong or not (runs or of_tests) else 0
 
 
 if __name__ == "__main__":

@@ -1,4 +1,5 @@
 //! The lines of `podtool show`.
+use crate::output::Output;
 use crate::run::Failure;
 use libspa::pod::{Pod, PodObjectIter, PodStructIter};
 use std::alloc::Global;
@@ -10,8 +11,8 @@ const WAITING_LIMIT: usize = 65536;
 /// Lists pods on a writer: for each pod, and inside it for each field and each property's value in order, a line with its
 /// depth, type number and size.
 #[derive(Drop)]
-pub struct Listing<'a, W> {
-    output: &'a mut W,
+pub struct Listing<'a, W: Write> {
+    output: Output<'a, W>,
     lines: String,
     alloc: Global,
 }
@@ -27,7 +28,7 @@ impl<'a, W: Write> Listing<'a, W> {
     /// A listing without lines.
     pub fn new(alloc: Global, output: &'a mut W) -> Listing<'a, W> {
         Listing {
-            output,
+            output: Output::new(output),
             lines: String::new(alloc),
             alloc,
         }
@@ -60,10 +61,7 @@ impl<'a, W: Write> Listing<'a, W> {
     /// Writes the lines that wait.
     pub fn finish(mut self) -> Result<(), Failure> {
         self.write_lines()?;
-        match self.output.flush() {
-            Ok(()) => Ok(()),
-            Err(_) => Err(Failure::WriteFailed),
-        }
+        self.output.finish()
     }
 
     fn add_line(&mut self, depth: usize, pod: Pod<'_>) -> Result<(), Failure> {
@@ -80,9 +78,7 @@ impl<'a, W: Write> Listing<'a, W> {
     }
 
     fn write_lines(&mut self) -> Result<(), Failure> {
-        if self.output.write_all(self.lines.as_bytes()).is_err() {
-            return Err(Failure::WriteFailed);
-        }
+        self.output.write(self.lines.as_bytes())?;
         self.lines.clear();
         Ok(())
     }

@@ -4,6 +4,7 @@
 #[cfg(test)]
 mod example_pods;
 mod listing;
+mod output;
 mod run;
 #[cfg(test)]
 mod tests;

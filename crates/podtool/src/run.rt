@@ -3,6 +3,7 @@ ghost use Rattle.std.specs.Prelude.{◌≡◌, ◌≤◌, IfSome, length};
 ghost use Rattle.libspa.specs.Words.{extent, word_at};
 
 use crate::listing::Listing;
+use crate::output::Output;
 use libspa::pod::deserialize::DeserializeError;
 use libspa::pod::{Pod, PodObject, accept_all, rewrite_in_parts};
 use std::alloc::{AllocError, Global};
@@ -168,12 +169,8 @@ fn read_whole<R: Read>(alloc: Global, input: &mut R) -> Result<Vec<u8>, Failure>
 
 /// Writes all bytes, in two parts.
 fn write_whole<W: Write>(output: &mut W, first: &[u8], rest: &[u8]) -> Result<(), Failure> {
-    let written = output
-        .write_all(first)
-        .and_then(|()| output.write_all(rest))
-        .and_then(|()| output.flush());
-    match written {
-        Ok(()) => Ok(()),
-        Err(_) => Err(Failure::WriteFailed),
-    }
+    let mut output = Output::new(output);
+    output.write(first)?;
+    output.write(rest)?;
+    output.finish()
 }

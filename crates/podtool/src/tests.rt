@@ -6,12 +6,13 @@ use std::io::{self, Error, ErrorKind, Read, Write};
 use std::process::Abort;
 use std::test::Fail;
 
-/// A device that takes bytes in small pieces, up to a limit, and then refuses. With a limit of `usize::MAX` it refuses to be
-/// flushed.
+/// A device that takes bytes in small pieces, interrupted now and then, up to a limit, and then refuses. With a limit of
+/// `usize::MAX` it refuses to be flushed.
 #[derive(Drop)]
 struct Device {
     taken: Vec<u8>,
     limit: usize,
+    interrupted: bool,
 }
 
 /// The most bytes that a device takes at once.
@@ -19,6 +20,10 @@ const PIECE: usize = 5;
 
 impl Write for Device {
     fn write(&mut self, bytes: &[u8]) -> io::Result<usize> {
+        self.interrupted = !self.interrupted;
+        if self.interrupted {
+            return Err(Error::from(ErrorKind::Interrupted));
+        }
         let room = self.limit.saturating_sub(self.taken.len());
         let count = bytes.len().min(room).min(PIECE);
         if count == 0 {
@@ -99,10 +104,12 @@ fn found(
     let mut output = Device {
         taken: Vec::new(alloc),
         limit: rooms.0,
+        interrupted: false,
     };
     let mut faults = Device {
         taken: Vec::new(alloc),
         limit: rooms.1,
+        interrupted: false,
     };
     let status = run(alloc, words, &mut source, &mut output, &mut faults);
     (output.taken, faults.taken, status)

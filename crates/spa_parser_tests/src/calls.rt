@@ -49,12 +49,14 @@ fn name_of(error: Errno) -> &'static str {
     "another error"
 }
 
+/// A call that wants memory ends the row.
 fn push_shown<T: Debug + Drop>(
     said: &mut String,
     answer: Result<T, Errno>,
 ) -> Result<(), AllocError> {
     match answer {
         Ok(value) => write!(said, "{value:?}; "),
+        Err(Errno::NOMEM) => Err(AllocError),
         Err(error) => write!(said, "{}; ", name_of(error)),
     }
 }

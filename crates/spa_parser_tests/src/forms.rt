@@ -3,7 +3,7 @@ use crate::bytes::bytes_of;
 use libspa::pod::parser::{Parser, parser_get};
 use libspa::pod::{Frame, Pod};
 use libspa::utils::{Errno, Float32, Float64, Fraction, Id, Rectangle};
-use std::alloc::Global;
+use std::alloc::{AllocError, Global};
 use std::test::Fail;
 
 fn bool_at(alloc: Global, input: &[u8]) -> Result<bool, Errno> {
@@ -23,7 +23,8 @@ fn parse_bool(rt: HostRuntime) -> Result<(), Fail> {
 fn parse_empty_struct(rt: HostRuntime) -> Result<(), Fail> {
     let input = bytes_of(rt.alloc(), &[0, 14])?;
     let mut parser = Parser::new(rt.alloc(), &input);
-    assert_eq!(rt; parser_get!(&mut parser, Struct {}), Ok(()));
+    parser_get!(&mut parser, Struct {})?;
+    assert_eq!(rt; parser.get_int(), Err(Errno::PIPE));
     Ok(())
 }
 
@@ -142,18 +143,24 @@ fn parse_pointer_and_pod(rt: HostRuntime) -> Result<(), Fail> {
     Ok(())
 }
 
+/// What a form answers, and the two numbers that it leaves.
+type Left = (Result<(), Errno>, i32, i64);
+
 /// Two Ints of a struct, of which the second is asked for as a Long.
-fn refused_inside(parser: &mut Parser) -> (Result<(), Errno>, i32, i64) {
+fn refused_inside(parser: &mut Parser) -> Result<Left, AllocError> {
     let (mut int, mut long) = (0, 0);
     let answer = parser_get!(&mut *parser, Struct { Int(&mut int), Long(&mut long) });
-    (answer, int, long)
+    if answer == Err(Errno::NOMEM) {
+        return Err(AllocError);
+    }
+    Ok((answer, int, long))
 }
 
 #[test]
 fn a_refused_form_leaves_the_struct_open(rt: HostRuntime) -> Result<(), Fail> {
     let input = bytes_of(rt.alloc(), &[32, 14, 4, 4, 3, 0, 4, 4, 4, 0])?;
     let mut parser = Parser::new(rt.alloc(), &input);
-    let (answer, int, long) = refused_inside(&mut parser);
+    let (answer, int, long) = refused_inside(&mut parser)?;
     assert_eq!(rt; answer, Err(Errno::INVAL));
     assert_eq!(rt; (int, long), (3, 0));
     assert_eq!(rt; parser.get_int(), Ok(4));

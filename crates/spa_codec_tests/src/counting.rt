@@ -41,7 +41,7 @@ fn verdict_of(
             discard(value);
             Ok("accepted")
         }
-        Err(DeserializeError::OutOfMemory) => Err(Fail::from("out of memory")),
+        Err(DeserializeError::OutOfMemory) => Err(Fail::from(AllocError)),
         Err(error) => Ok(error.kind()),
     }
 }
@@ -172,11 +172,18 @@ fn nests(value: &Value, depth: u32) -> bool {
     matches!(innermost, Value::None)
 }
 
+/// The value at the front, which is there.
+fn read(alloc: Global, input: &[u8]) -> Result<Value, Fail> {
+    match PodDeserializer::deserialize_any_from(alloc, input) {
+        Ok((_, value)) => Ok(value),
+        Err(DeserializeError::OutOfMemory) => Err(Fail::from(AllocError)),
+        Err(_) => Err(Fail::from("it isn't read")),
+    }
+}
+
 /// Whether the clone of what is read nests as deep. Both are taken apart.
 fn clone_nests(alloc: Global, input: &[u8], depth: u32) -> Result<bool, Fail> {
-    let Ok((_, value)) = PodDeserializer::deserialize_any_from(alloc, input) else {
-        return Err(Fail::from("it isn't read"));
-    };
+    let value = read(alloc, input)?;
     let copied: Result<_, _> = value.clone();
     discard(value);
     let copy = copied?;

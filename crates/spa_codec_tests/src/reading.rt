@@ -147,6 +147,7 @@ fn answer_said(alloc: Global, answer: &Answer) -> Result<String, AllocError> {
     match answer {
         Ok((rest, value)) => value_said(alloc, rest.len(), value),
         Err(DeserializeError::Nom(fault)) => fault_said(alloc, fault),
+        Err(DeserializeError::OutOfMemory) => Err(AllocError),
         Err(refusal) => format!(in alloc; "{}", refusal.kind()),
     }
 }

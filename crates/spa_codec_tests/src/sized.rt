@@ -1,5 +1,6 @@
 //! A whole value written front to back, into outputs and devices.
-use crate::compare::assert_bytes;
+use crate::compare::assert_holds;
+use crate::writing::{Example, ROWS, value_of};
 use arrayvec::ArrayVec;
 use spa_device::IoSink;
 use spa_sink::GenError;
@@ -8,12 +9,13 @@ use spa_value::Value;
 use spa_write::write_sized;
 use std::alloc::{AllocError, Global};
 use std::io::{self, Error, ErrorKind, Write};
+use std::process::Abort;
 use std::test::Fail;
 
-/// A device that takes few bytes at a time, and answers an error at one of its writes.
+/// A device that takes few bytes at a time, and answers an error at one of its writes. It takes no memory.
 #[derive(Drop)]
 struct Device {
-    taken: Vec<u8>,
+    taken: ArrayVec<u8, 64>,
     most: usize,
     writes: u32,
     failing: u32,
@@ -26,10 +28,7 @@ impl Write for Device {
             return Err(Error::from(ErrorKind::WriteZero));
         }
         let count = bytes.len().min(self.most);
-        if self.taken.extend_from_slice(&bytes[..count]).is_err() {
-            return Err(Error::from(ErrorKind::OutOfMemory));
-        }
-        Ok(count)
+        self.taken.write(&bytes[..count])
     }
 
     fn flush(&mut self) -> io::Result<()> {
@@ -51,39 +50,45 @@ fn three_and_nul(alloc: Global) -> Result<Value, AllocError> {
     Ok(Value::Struct(vec![in alloc; Value::Int(3), Value::String(text)]?))
 }
 
-/// What the write of a struct answered, how many bytes were taken, how many writes failed, and the device's bytes.
-type Found = (Result<u64, GenError>, u64, u64, Vec<u8>);
+/// What the write of a value answered, how many bytes were taken, how many writes failed, and the device.
+type Found<W> = (Result<u64, GenError>, u64, u64, W);
 
-/// Writes the struct to a device that takes so many bytes at a time, and fails at this write.
-fn found(alloc: Global, most: usize, failing: u32) -> Result<Found, AllocError> {
+/// Writes the value to the device.
+fn found<W: Write + Drop>(device: W, value: &Value) -> Found<W> {
+    let mut sink = IoSink::new(device);
+    let answer = write_sized(&mut sink, value);
+    let (written, failures) = (sink.written(), sink.failures());
+    (answer, written, failures, sink.into_inner())
+}
+
+/// Writes the struct to the device.
+fn found_three<W: Write + Drop>(alloc: Global, device: W) -> Result<Found<W>, AllocError> {
     let value = three(alloc)?;
-    let mut sink = IoSink::new(Device {
-        taken: Vec::new(alloc),
+    Ok(found(device, &value))
+}
+
+/// A device that takes so many bytes at a time, and fails at this write.
+fn limited(most: usize, failing: u32) -> Device {
+    Device {
+        taken: ArrayVec::new(),
         most,
         writes: 0,
         failing,
-    });
-    let answer = write_sized(&mut sink, &value);
-    let (written, failures) = (sink.written(), sink.failures());
-    Ok((answer, written, failures, sink.into_inner().taken))
-}
-
-/// Writes the struct to a vector, as a device.
-fn found_in_vector(alloc: Global) -> Result<Found, AllocError> {
-    let value = three(alloc)?;
-    let mut sink = IoSink::new(Vec::new(alloc));
-    let answer = write_sized(&mut sink, &value);
-    let (written, failures) = (sink.written(), sink.failures());
-    Ok((answer, written, failures, sink.into_inner()))
+    }
 }
 
 #[test]
 fn a_vector_takes_all_of_it(rt: HostRuntime) -> Result<(), Fail> {
-    let (answer, written, failures, taken) = found_in_vector(rt.alloc())?;
     let wanted = bytes_spelled(rt.alloc(), WORDS)?;
+    let (answer, written, failures, taken) = found_three(rt.alloc(), Vec::new(rt.alloc()))?;
+    assert!(rt; wanted.starts_with(taken.as_slice()));
+    assert_eq!(rt; taken.len() as u64, written);
+    if answer == Err(GenError::Io) && failures == 1 {
+        // The vector, which is the device, has no memory.
+        return Err(Fail::from(AllocError));
+    }
     assert_eq!(rt; answer, Ok(24));
     assert_eq!(rt; (written, failures), (24, 0));
-    assert_bytes(&rt, taken.as_slice(), wanted.as_slice(), "the struct");
     Ok(())
 }
 
@@ -101,15 +106,72 @@ fn a_failing_device_has_taken_a_beginning(rt: HostRuntime) -> Result<(), Fail> {
         (0, 7, 0),
     ];
     for (most, failing, expected) in rows {
-        let (answer, written, failures, taken) = found(rt.alloc(), most, failing)?;
+        let (answer, written, failures, it) = found_three(rt.alloc(), limited(most, failing))?;
         assert_eq!(rt; answer, Err(GenError::Io));
         assert_eq!(rt; (written, failures), (expected, 1));
-        assert!(rt; wanted.starts_with(taken.as_slice()));
-        assert_eq!(rt; taken.len() as u64, expected);
+        assert!(rt; wanted.starts_with(it.taken.as_slice()));
+        assert_eq!(rt; it.taken.len() as u64, expected);
     }
-    let (answer, written, failures, _) = found(rt.alloc(), 5, 7)?;
+    let (answer, written, failures, _) = found_three(rt.alloc(), limited(5, 7))?;
     assert_eq!(rt; answer, Ok(24));
     assert_eq!(rt; (written, failures), (24, 0));
+    Ok(())
+}
+
+/// Whether the write failed, and the device holds the first bytes of the encoding, as many as were counted.
+fn is_cut(found: &Found<Device>, encoding: &[u8]) -> bool {
+    let (answer, written, failures, device) = found;
+    let taken = device.taken.as_slice();
+    *answer == Err(GenError::Io)
+        && *failures == 1
+        && *written == taken.len() as u64
+        && taken.len() < encoding.len()
+        && encoding.starts_with(taken)
+}
+
+/// Whether the device holds the encoding, and no write failed.
+fn is_whole(found: &Found<Device>, encoding: &[u8]) -> bool {
+    let (answer, written, failures, device) = found;
+    *answer == Ok(*written)
+        && *failures == 0
+        && *written == encoding.len() as u64
+        && device.taken.as_slice() == encoding
+        && device.writes < device.failing
+}
+
+/// One more than the writes of the longest encoding, byte by byte.
+const MOST_WRITES: u32 = 65;
+
+/// Whether the value is cut at each of its writes in turn, and whole where no write is left to fail.
+fn is_cut_at_each_write(value: &Value, most: usize, encoding: &[u8]) -> bool {
+    for failing in 1..=MOST_WRITES {
+        let found = found(limited(most, failing), value);
+        if !is_cut(&found, encoding) {
+            return is_whole(&found, encoding);
+        }
+    }
+    false
+}
+
+/// Compares what devices hold, by how many bytes they take at a time, after a write of the example's value.
+fn assert_cut(rt: &impl Abort, alloc: Global, example: Example, words: &str) -> Result<(), Fail> {
+    let value = value_of(alloc, example)?;
+    let encoding = bytes_spelled(alloc, words)?;
+    for most in [1, 5, 100] {
+        assert_holds(
+            rt,
+            is_cut_at_each_write(&value, most, encoding.as_slice()),
+            words,
+        );
+    }
+    Ok(())
+}
+
+#[test]
+fn each_write_fails_in_turn(rt: HostRuntime) -> Result<(), Fail> {
+    for (example, words) in ROWS {
+        assert_cut(&rt, rt.alloc(), *example, words)?;
+    }
     Ok(())
 }
 

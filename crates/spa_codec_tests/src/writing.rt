@@ -15,7 +15,7 @@ use std::test::Fail;
 
 /// The values of the rows.
 #[derive(Clone, Copy)]
-enum Example {
+pub(crate) enum Example {
     None,
     Bool,
     Id,
@@ -47,7 +47,7 @@ enum Example {
 }
 
 /// Values, and the words of their encodings.
-const ROWS: &[(Example, &str)] = &[
+pub(crate) const ROWS: &[(Example, &str)] = &[
     (Example::None, "0 1"),
     (Example::Bool, "4 2 1 0"),
     (Example::Id, "4 3 4294967295 0"),
@@ -89,7 +89,7 @@ const TEXTS: &[(&str, &str)] = &[
 ];
 
 /// The value of an example.
-fn value_of(alloc: Global, example: Example) -> Result<Value, AllocError> {
+pub(crate) fn value_of(alloc: Global, example: Example) -> Result<Value, AllocError> {
     match example {
         Example::Text => text(alloc, "1234567"),
         Example::EmptyText => text(alloc, ""),

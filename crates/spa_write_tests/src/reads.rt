@@ -1,12 +1,13 @@
 //! What types of a program's own are read as.
 use crate::compare::assert_words;
-use libspa::pod::deserialize::{PodDeserialize, PodDeserializer};
+use libspa::pod::deserialize::{DeserializeError, PodDeserialize, PodDeserializer};
 use libspa::utils::Float32;
 use spa_spelling::bytes_spelled;
 use spa_uses::{
     Device, Level, Mode, Screen, Size, Song, Tagged, is_number, read_mode, sent, with_volume,
 };
 use std::alloc::{AllocError, Global};
+use std::process::Abort;
 use std::test::Fail;
 
 /// What a test compares.
@@ -66,6 +67,7 @@ fn read_told<'de, P: PodDeserialize<'de> + Told>(
             let told = it.told(alloc)?;
             format!(in alloc; "{told}, {}", rest.len())
         }
+        Err(DeserializeError::OutOfMemory) => Err(AllocError),
         Err(e) => String::from_str(alloc, e.kind()),
     }
 }
@@ -86,12 +88,15 @@ const SCREEN: &str =
 /// A number under an id.
 const TAGGED: &str = "32 14 4 3 9 0 4 4 313 0";
 
-/// Is this what was found?
-fn is_told(found: Result<String, AllocError>, wanted: &str) -> bool {
-    match found {
-        Ok(text) => text.as_str() == wanted,
-        Err(_) => false,
-    }
+/// Compares what was found with what is wanted.
+fn assert_told(
+    rt: &impl Abort,
+    found: Result<String, AllocError>,
+    wanted: &str,
+) -> Result<(), AllocError> {
+    let found = found?;
+    assert_eq!(rt; found.as_str(), wanted);
+    Ok(())
 }
 
 #[test]
@@ -101,17 +106,24 @@ fn structs_of_ones_own_are_read(rt: HostRuntime) -> Result<(), Fail> {
     let song = bytes_spelled(alloc, SONG)?;
     let tagged = bytes_spelled(alloc, TAGGED)?;
     let short = bytes_spelled(alloc, "56 14 32 14")?;
-    assert!(rt; is_told(read_told::<Mode>(alloc, mode.as_slice()), "640 -480 -60, 0"));
-    assert!(rt;
-        is_told(
-            read_told::<Song>(alloc, song.as_slice()),
-            "313 foo 31 14, 0"
-        )
-    );
-    assert!(rt; is_told(read_told::<Tagged>(alloc, tagged.as_slice()), "9 true, 0"));
+    assert_told(
+        &rt,
+        read_told::<Mode>(alloc, mode.as_slice()),
+        "640 -480 -60, 0",
+    )?;
+    assert_told(
+        &rt,
+        read_told::<Song>(alloc, song.as_slice()),
+        "313 foo 31 14, 0",
+    )?;
+    assert_told(
+        &rt,
+        read_told::<Tagged>(alloc, tagged.as_slice()),
+        "9 true, 0",
+    )?;
     // The end is missing, and the first member is of another type.
-    assert!(rt; is_told(read_told::<Mode>(alloc, short.as_slice()), "Short"));
-    assert!(rt; is_told(read_told::<Song>(alloc, tagged.as_slice()), "Tag"));
+    assert_told(&rt, read_told::<Mode>(alloc, short.as_slice()), "Short")?;
+    assert_told(&rt, read_told::<Song>(alloc, tagged.as_slice()), "Tag")?;
     Ok(())
 }
 
@@ -121,21 +133,19 @@ fn objects_and_numbers_of_ones_own_are_read(rt: HostRuntime) -> Result<(), Fail>
     let device = bytes_spelled(alloc, DEVICE)?;
     let screen = bytes_spelled(alloc, SCREEN)?;
     let level = bytes_spelled(alloc, "4 4 4294967289 0 4 4")?;
-    assert!(rt;
-        is_told(
-            read_told::<Device>(alloc, device.as_slice()),
-            "hw:0 1138491392, 0"
-        )
-    );
-    assert!(rt;
-        is_told(
-            read_told::<Screen<Mode>>(alloc, screen.as_slice()),
-            "640 -480 -60, 0"
-        )
-    );
-    assert!(rt; is_told(read_told::<Level>(alloc, level.as_slice()), "-7, 8"));
+    assert_told(
+        &rt,
+        read_told::<Device>(alloc, device.as_slice()),
+        "hw:0 1138491392, 0",
+    )?;
+    assert_told(
+        &rt,
+        read_told::<Screen<Mode>>(alloc, screen.as_slice()),
+        "640 -480 -60, 0",
+    )?;
+    assert_told(&rt, read_told::<Level>(alloc, level.as_slice()), "-7, 8")?;
     // A number is no object.
-    assert!(rt; is_told(read_told::<Device>(alloc, level.as_slice()), "Tag"));
+    assert_told(&rt, read_told::<Device>(alloc, level.as_slice()), "Tag")?;
     Ok(())
 }
 
@@ -164,11 +174,23 @@ fn volume_words(alloc: Global, volume: u32) -> Result<String, AllocError> {
     )
 }
 
+/// The properties with the volume raised. It is asked for twice where it is refused, since the answer doesn't tell want of
+/// memory from other refusals.
+fn raised(alloc: Global, input: &[u8]) -> Option<Vec<u8>> {
+    for _ in 0..2 {
+        let found = with_volume(alloc, input, Float32(1065353216));
+        if found.is_some() {
+            return found;
+        }
+    }
+    None
+}
+
 #[test]
 fn what_is_not_known_is_kept(rt: HostRuntime) -> Result<(), Fail> {
     let words = volume_words(rt.alloc(), 1036831949)?;
     let input = bytes_spelled(rt.alloc(), words.as_str())?;
-    let Some(found) = with_volume(rt.alloc(), input.as_slice(), Float32(1065353216)) else {
+    let Some(found) = raised(rt.alloc(), input.as_slice()) else {
         return Err(Fail::new("no volume"));
     };
     let wanted = volume_words(rt.alloc(), 1065353216)?;

@@ -2,10 +2,10 @@
 ghost use Rattle.std.specs.Prelude.{◌≡◌, ⊤, IfOk, IsSomeAnd, OnOk, string_bytes};
 ghost use Rattle.spa_format.specs.Tree.{Tree, bitmap, bytes, string};
 ghost use Rattle.spa_value.specs.NestedCopies.{CopiesLeaf};
-ghost use Rattle.spa_value.specs.View.{array_view, choice_view, view};
+ghost use Rattle.spa_value.specs.View.{array_view, view};
 
 use crate::array::ValueArray;
-use crate::choice_value::ChoiceValue;
+use crate::choice_copies::put_choice;
 use crate::copies::copy_elements;
 use crate::nested_copies::Nested;
 use crate::value::Value;
@@ -109,15 +109,5 @@ fn put_array<T: Takes>(array: &ValueArray, to: &mut T) -> Result<(), AllocError>
     ensures { OnOk result (T.takes to.old (array_view array.now) to.new) }
 {
     to.put(Value::ValueArray(array.clone()?));
-    Ok(())
-}
-
-/// Puts the copy of a choice.
-#[inline(never)]
-fn put_choice<T: Takes>(choice: &ChoiceValue, to: &mut T) -> Result<(), AllocError>
-    requires { T.has_room to.old }
-    ensures { OnOk result (T.takes to.old (choice_view choice.now) to.new) }
-{
-    to.put(Value::Choice(choice.clone()?));
     Ok(())
 }

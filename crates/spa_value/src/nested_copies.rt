@@ -2,6 +2,8 @@
 ghost use Rattle.std.specs.Prelude.{◌≡◌, ◌++◌, ◌∷◌, ◌<◌, ◌≤◌, [], IfNone, IfOk, IfSome, OnOk, vec_capacity, vec_len};
 ghost use Rattle.spa_value.specs.NestedCopies.{Begins, CopiesOn, Ends, HasPlace, Steps, TakesMember, TakesProperty, completed, copied, nested_view, so_far, values_left, whole};
 ghost use Rattle.spa_value.specs.View.{object_view, view};
+ghost use Rattle.spa_value.specs.Views.{views};
+ghost use Rattle.spa_format.specs.Tree.{struct};
 ghost use Rattle.spa_value.specs.declared.nested_copies.Copying.TheVariants as copying_variant;
 
 use crate::emptying::discard;
@@ -78,13 +80,19 @@ fn begin(nested: Nested<'_>) -> Result<Copying<'_>, AllocError>
     ensures { IfOk result (λ begun. Begins (nested_view nested.entry) begun) }
 {
     match nested {
-        Nested::Struct(members) => {
-            let copies = Vec::with_capacity(*members.allocator(), members.len())?;
-            let left = members.as_slice();
-            Ok(Copying::Struct(CopiedStruct { copies, left }))
-        }
+        Nested::Struct(members) => Ok(Copying::Struct(begin_struct(members)?)),
         Nested::Object(object) => Ok(Copying::Object(begin_object(object)?)),
     }
+}
+
+/// Begins the copy of a struct.
+#[inline(always)]
+fn begin_struct(members: &Vec<Value>) -> Result<CopiedStruct<'_>, AllocError>
+    ensures { IfOk result (λ begun. Begins (struct (views members.now.items)) (copying_variant.Struct begun)) }
+{
+    let copies = Vec::with_capacity(*members.allocator(), members.len())?;
+    let left = members.as_slice();
+    Ok(CopiedStruct { copies, left })
 }
 
 /// Begins the copy of an object.
@@ -264,17 +272,54 @@ impl<'a> Copies<'a> {
     }
 }
 
-/// Copies a struct or an object, by a loop.
-#[inline(never)]
+/// Copies a struct or an object.
+#[inline(always)]
 pub(crate) fn copy_nested(nested: Nested<'_>) -> Result<Value, AllocError>
     ensures { IfOk result (λ copy. view copy ≡ nested_view nested.entry) }
 {
-    let outermost = begin(nested)?;
-    let around = Vec::new(outermost.allocator());
-    let mut copies = Copies {
-        inner: outermost,
-        around,
-    };
+    match nested {
+        Nested::Struct(members) => struct_copy(members),
+        Nested::Object(object) => object_copy(object),
+    }
+}
+
+/// Copies a struct: at once where no struct or object is in it.
+#[inline(never)]
+pub(crate) fn struct_copy(members: &Vec<Value>) -> Result<Value, AllocError>
+    ensures { IfOk result (λ copy. view copy ≡ struct (views members.now.items)) }
+{
+    let mut begun = begin_struct(members)?;
+    match begun.copy_on()? {
+        None => Ok(Value::Struct(begun.copies)),
+        Some(nested) => copy_within(Copying::Struct(begun), nested),
+    }
+}
+
+/// Copies an object: at once where no struct or object is in it.
+#[inline(never)]
+pub(crate) fn object_copy(object: &Object) -> Result<Value, AllocError>
+    ensures { IfOk result (λ copy. view copy ≡ object_view object.now) }
+{
+    let mut begun = begin_object(object)?;
+    match begun.copy_on()? {
+        None => Ok(Value::Object(Object {
+            type_: begun.type_,
+            id: begun.id,
+            properties: begun.copies,
+        })),
+        Some(nested) => copy_within(Copying::Object(begun), nested),
+    }
+}
+
+/// Copies the rest of a begun struct or object, from this one in it on, by a loop.
+#[inline(never)]
+fn copy_within<'a>(outermost: Copying<'a>, nested: Nested<'a>) -> Result<Value, AllocError>
+    ensures { IfOk result (λ copy. view copy ≡ completed outermost.entry (nested_view nested.entry)) }
+{
+    let mut around = Vec::with_capacity(outermost.allocator(), 1)?;
+    let inner = begin(nested)?;
+    around.push_reserved(outermost);
+    let mut copies = Copies { inner, around };
     loop {
         match copies.step() {
             Ok(true) => {}

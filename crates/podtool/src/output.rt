@@ -29,20 +29,20 @@ impl<W: Write> Write for Persistent<'_, W> {
 
 /// A sink over the program's standard output.
 #[derive(Drop)]
-pub struct Output<'a, W: Write> {
+pub(crate) struct Output<'a, W: Write> {
     sink: IoSink<Persistent<'a, W>>,
 }
 
 impl<'a, W: Write> Output<'a, W> {
     /// An output over this device.
-    pub fn new(device: &'a mut W) -> Output<'a, W> {
+    pub(crate) fn new(device: &'a mut W) -> Output<'a, W> {
         Output {
             sink: IoSink::new(Persistent { device }),
         }
     }
 
     /// Writes these bytes.
-    pub fn write(&mut self, bytes: &[u8]) -> Result<(), Failure> {
+    pub(crate) fn write(&mut self, bytes: &[u8]) -> Result<(), Failure> {
         match self.sink.append(bytes) {
             Ok(()) => Ok(()),
             Err(_) => Err(Failure::WriteFailed),
@@ -50,7 +50,7 @@ impl<'a, W: Write> Output<'a, W> {
     }
 
     /// Flushes the device, which then has all that was written.
-    pub fn finish(self) -> Result<(), Failure> {
+    pub(crate) fn finish(self) -> Result<(), Failure> {
         match self.sink.into_inner().flush() {
             Ok(()) => Ok(()),
             Err(_) => Err(Failure::WriteFailed),

@@ -1,0 +1,44 @@
+#!/usr/bin/env python3
+"""levels.py [PROGRAM]: from which depth on the calls that call themselves for each level overflow a stack of 8 MB.
+
+PROGRAM is bench/library.rt.txt, built to bench/out/library. Structs in structs and objects in objects are read and dropped, written,
+compared, and printed by `{:?}`, at depths between one that passes and one that doesn't, until these are a hundredth apart. A run
+passes where it prints its line: what it drops at its end doesn't count.
+"""
+
+import subprocess
+import sys
+
+from deep import HERE, TRUE, limit_stack, objects, structs
+
+MOST = 4_000_000
+
+
+def passes(program, work, given):
+    """Whether one round of this work on these pods came to its end."""
+    with subprocess.Popen([program, work, "1"], stdin=subprocess.PIPE, stdout=subprocess.PIPE, stderr=subprocess.DEVNULL, preexec_fn=limit_stack) as it:
+        written, _ = it.communicate(given)
+    return bool(written)
+
+
+def most_levels(program, work, nest):
+    """The most levels that pass, to a hundredth."""
+    low, high = 1000, MOST
+    while high - low > low // 100:
+        middle = (low + high) // 2
+        if passes(program, work, nest(middle, TRUE)):
+            low = middle
+        else:
+            high = middle
+    return low
+
+
+def main(words):
+    program = words[0] if words else HERE / "out/library"
+    for work in ("read", "write", "equal", "print"):
+        for name, nest in (("structs", structs), ("objects", objects)):
+            print(work, name, most_levels(program, work, nest), flush=True)
+
+
+if __name__ == "__main__":
+    sys.exit(main(sys.argv[1:]))

@@ -7,18 +7,13 @@ use Rattle.spa_format.specs.Words.{word_bytes}
 use Rattle.spa_format.specs.Kind.{Kind, none_kind, bool_kind, id_kind, int_kind, long_kind, float_kind, double_kind, rectangle_kind, fraction_kind, fd_kind, type_number, body_size, Fixed, none, bool, id, int, long, float, double, rectangle, fraction, fd, kind_of, fixed_body}
 use Rattle.spa_format.specs.Tree.{shape_number, fixed, Trees, array_type, choice_type}
 use Rattle.spa_format.specs.Encoding.{array_body, fixed_bodies, member_encodings}
+use Rattle.spa_format.proofs.Elements.{bodies_push}
 use Rattle.spa_builder.specs.State.{Partial, open_struct, open_object, open_property, open_array, open_choice, State}
 use Rattle.spa_builder.specs.Step.{all_fit, takes_trees, placed, child_kind, array_takes}
 use Rattle.spa_builder.specs.Held.{Held, IsAt, IsNested, IsFair, so_far, all_so_far, body_so_far, type_of_partial, frames_of}
 use Rattle.spa_builder.specs.Innermost.{has_room_for, has_elements, takes_elements, is_first, takes_element, with_element}
 use Rattle.spa_builder.proofs.Lengths.{length-word_bytes, length-behind_two, length-two}
 use Rattle.spa_builder.proofs.Sizes.{one_size_decides, room_later, length-array_body}
-
-pub bodies_more : (xs : List Fixed) (x : Fixed) → fixed_bodies (xs ++ x ∷ []) ≡ fixed_bodies xs ++
-    fixed_body x
-bodies_more [] x = append-nil (fixed_body x)
-bodies_more (y ∷ ys) x = ap (λ l. fixed_body y ++ l) (bodies_more ys x)
-    ∙ sym (append_assoc (fixed_body y) (fixed_bodies ys) (fixed_body x))
 
 of_none : (x : Fixed) → kind_of x ≡ none_kind → fixed_body x ≡ []
 of_none none e = refl
@@ -53,7 +48,7 @@ fair_array : (xs : List Fixed) (x : Fixed) → array_takes xs x ≡ true → IsF
 fair_array [] x t f = λ e. append-nil (fixed_body x) ∙ of_none x e
 fair_array (y ∷ ys) x t f = λ e.
     let k = nat_eq-true (type_number (kind_of y)) (type_number (kind_of x)) t in
-    bodies_more (y ∷ ys) x ∙ ap (λ l. l ++ fixed_body x) (f e)
+    bodies_push (y ∷ ys) x ∙ ap (λ l. l ++ fixed_body x) (f e)
     ∙ of_none x (none_alone (kind_of x) (sym k ∙ ap type_number e))
 
 fair_more : (p : Partial) (x : Fixed) → takes_element p x ≡ true → IsFair p →
@@ -71,7 +66,7 @@ length-more_bodies xs x =
     let ys = xs ++ x ∷ [] in
     let e0 = length-array_body (child_kind ys) ys in
     let e1 = length-array_body (child_kind xs) xs in
-    let e2 = ap length (bodies_more xs x) ∙ length-append (fixed_bodies xs) (fixed_body x) in
+    let e2 = ap length (bodies_push xs x) ∙ length-append (fixed_bodies xs) (fixed_body x) in
     omega arith
 
 length-more : (p : Partial) (x : Fixed) → has_elements p ≡ true →
@@ -136,13 +131,13 @@ later_bytes (open_array []) x h t = absurd (cc)
 later_bytes (open_array (y ∷ ys)) x h t =
     ap (λ l. word_bytes 0 ++ (word_bytes array_type ++
     (word_bytes (body_size (kind_of y)) ++ (word_bytes (type_number (kind_of y)) ++ l))))
-    (bodies_more (y ∷ ys) x) ∙ simp append_assoc
+    (bodies_push (y ∷ ys) x) ∙ simp append_assoc
 later_bytes (open_choice k f []) x h t = absurd (cc)
 later_bytes (open_choice k f (y ∷ ys)) x h t =
     ap (λ l. word_bytes 0 ++ (word_bytes choice_type ++
     (word_bytes (shape_number k) ++
     (word_bytes f ++ (word_bytes (body_size (kind_of y)) ++
-    (word_bytes (type_number (kind_of y)) ++ l)))))) (bodies_more (y ∷ ys) x) ∙ simp append_assoc
+    (word_bytes (type_number (kind_of y)) ++ l)))))) (bodies_push (y ∷ ys) x) ∙ simp append_assoc
 
 -- where the first element comes, what is before the child header
 abbrev pub before_child : Partial → List ℕ

@@ -2,13 +2,13 @@
 use Rattle.std.proofs.Common.{◌≡◌, ℕ, ◌+◌, ◌*◌, ◌<◌, ◌≤◌, List, [], ◌∷◌, ◌++◌, length, take, drop}
 use Rattle.std.proofs.Common.{map, get_or, refl, sym, ap, ◌∙◌, subst, arith, append_assoc}
 use Rattle.std.proofs.Common.{length-append, take-append-drop}
-use Rattle.std.proofs.lemmas.List.{append-nil, map-append, take_more}
+use Rattle.std.proofs.lemmas.List.{map-append, take_more}
 use Rattle.spa_format.specs.Kind.{Kind, body_size, Fixed, none, bool, id, int, long, float, double}
 use Rattle.spa_format.specs.Kind.{rectangle, fraction, fd, kind_of, fixed_body}
 use Rattle.spa_format.specs.Encoding.{fixed_bodies}
 use Rattle.spa_format.specs.Typed.{IsTypedFixed, AreOf}
 use Rattle.spa_format.proofs.FixedKinds.{length-fixed_body}
-use Rattle.spa_format.proofs.Elements.{fixed_bodies-append}
+use Rattle.spa_format.proofs.Elements.{bodies_push, fixed_bodies-append}
 use Rattle.spa_sink.specs.declared.gen_error.GenError.{GenError}
 use Rattle.spa_sink.specs.Writing.{Begun, Sent, none_sent, some_sent}
 use Rattle.spa_sink.proofs.Sending.{AppendsMore, RefusesAfter, RefusesLonger, sent_before}
@@ -43,11 +43,6 @@ bodies_length k f s (v ∷ vs) t z =
 pub AreOf-append : (k : Kind) (xs ys : List Fixed) → AreOf k xs → AreOf k ys → AreOf k (xs ++ ys)
 AreOf-append k [] ys h i = i
 AreOf-append k (x ∷ xs) ys h i = (h.0, h.1, AreOf-append k xs ys h.2 i)
-
-bodies_push : (xs : List Fixed) (x : Fixed) →
-    fixed_bodies (xs ++ x ∷ []) ≡ fixed_bodies xs ++ fixed_body x
-bodies_push xs x =
-    fixed_bodies-append xs (x ∷ []) ∙ ap (λ l. fixed_bodies xs ++ l) (append-nil (fixed_body x))
 
 -- the place of a value is in the block
 pub within_block : {at i s n long : ℕ} (most : ℕ) → at ≡ i * s → i < n → n ≤ most → s ≤ 8 →

@@ -1,6 +1,6 @@
 -- Bodies of one kind one after another.
 use Rattle.std.proofs.Common.{◌≡◌, ℕ, ◌+◌, ◌*◌, ◌<◌, ◌≤◌, ◌^◌, List, [], ◌∷◌, ◌++◌, length, take, drop, refl, sym, ap, ◌∙◌, subst, arith, length-append, length-drop, length-take, append_assoc}
-use Rattle.std.proofs.lemmas.List.{take_at, drop_at, take-append-drop, take_all, take-append-le, drop-append-le}
+use Rattle.std.proofs.lemmas.List.{append-nil, take_at, drop_at, take-append-drop, take_all, take-append-le, drop-append-le}
 use Rattle.std.proofs.Common.{drop_of_length-le}
 use Rattle.spa_format.specs.Words.{word_bytes}
 use Rattle.spa_format.specs.Kind.{Kind, none_kind, bool_kind, id_kind, int_kind, long_kind, float_kind, double_kind, rectangle_kind, fraction_kind, fd_kind, type_number, body_size, Fixed, IsFixedBody, fixed_body}
@@ -112,6 +112,10 @@ pub fixed_bodies-append : (xs ys : List Fixed) → fixed_bodies (xs ++ ys) ≡ f
 fixed_bodies-append [] ys = refl
 fixed_bodies-append (x ∷ xs) ys = ap (λ l. fixed_body x ++ l) (fixed_bodies-append xs ys) ∙ sym (append_assoc (fixed_body x) (fixed_bodies xs) (fixed_bodies ys))
 
+-- one more body at the end
+pub bodies_push : (xs : List Fixed) (x : Fixed) → fixed_bodies (xs ++ x ∷ []) ≡ fixed_bodies xs ++ fixed_body x
+bodies_push xs x = fixed_bodies-append xs (x ∷ []) ∙ ap (λ l. fixed_bodies xs ++ l) (append-nil (fixed_body x))
+
 -- the bodies of a front of a list are no longer
 pub fewer_bodies : (n : ℕ) (xs : List Fixed) → length (fixed_bodies (take n xs)) ≤ length (fixed_bodies xs)
 fewer_bodies n xs =
@@ -170,15 +174,23 @@ array_back k xs h =
 pub typed_array : (k : Kind) (xs : List Fixed) (b : List ℕ) → IsBytes b → IsArray k xs b → AreOf k xs
 typed_array k xs b f h = typed_elements k xs (drop 8 b) (IsBytes-drop 8 b f) h.elements
 
+-- some bodies, and others behind them
+pub elements_joined : (k : Kind) (xs ys : List Fixed) (a b : List ℕ) → AreElements k xs a → AreElements k ys b →
+    AreElements k (xs ++ ys) (a ++ b)
+elements_joined k [] ys a b h i = subst (AreElements k ys) (ap (λ l. l ++ b) (sym h)) i
+elements_joined k (x ∷ xs) ys a b h i =
+    let s = body_size k in
+    let w = h.1.whole in
+    let t = length-take s a in
+    let long : s ≤ length a = omega arith in (
+      h.0,
+      subst (λ y. IsFixedBody k y x) (sym (take-append-le s a b long)) h.1,
+      subst (AreElements k (xs ++ ys)) (sym (drop-append-le s a b long)) (elements_joined k xs ys (drop s a) b h.2 i),
+    )
+
 -- one more element at the end
 pub elements_push : (k : Kind) (xs : List Fixed) (x : Fixed) (a c : List ℕ) → 0 < body_size k → AreElements k xs a → IsFixedBody k c x → AreElements k (xs ++ x ∷ []) (a ++ c)
-elements_push k [] x a c l h i =
-    let e : a ++ c ≡ c = ap (λ z. z ++ c) h in
+elements_push k xs x a c l h i =
     let w : length c ≤ body_size k = let n = i.whole in omega arith in
-    subst (AreElements k (x ∷ [])) (sym e) (l, subst (λ b. IsFixedBody k b x) (sym (take_all (body_size k) c w)) i, drop_of_length-le c w)
-elements_push k (y ∷ xs) x a c l h i =
-    let n : body_size k ≤ length a = let w = h.1.whole in let t = length-take (body_size k) a in omega arith in (
-      h.0,
-      subst (λ b. IsFixedBody k b y) (sym (take-append-le (body_size k) a c n)) h.1,
-      subst (AreElements k (xs ++ x ∷ [])) (sym (drop-append-le (body_size k) a c n)) (elements_push k xs x (drop (body_size k) a) c l h.2 i),
-    )
+    elements_joined k xs (x ∷ []) a c h
+    (l, subst (λ b. IsFixedBody k b x) (sym (take_all (body_size k) c w)) i, drop_of_length-le c w)

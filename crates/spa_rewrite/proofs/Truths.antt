@@ -1,12 +1,12 @@
 -- The bodies of truth values, a block at a time.
-use Rattle.std.proofs.Common.{◌≡◌, ℕ, ◌+◌, ◌*◌, ◌%◌, ◌<◌, ◌≤◌, List, [], ◌∷◌, ◌++◌, length, drop, take, refl, sym, ap, ◌∙◌, subst, arith, append_assoc, length-drop, length-take}
+use Rattle.std.proofs.Common.{◌≡◌, ℕ, ◌+◌, ◌*◌, ◌%◌, ◌<◌, ◌≤◌, List, [], ◌∷◌, ◌++◌, length, drop, take, refl, sym, ap, ◌∙◌, subst, arith, append_assoc, length-drop}
 use Rattle.std.specs.Prelude.{min}
 use Rattle.std.proofs.Math.Seq.{take-add}
-use Rattle.std.proofs.lemmas.List.{append-nil, drop-append-le, length-take-le, nil_from_length, take-append-drop, take-append-le, take_all}
-use Rattle.spa_format.specs.Kind.{Kind, Fixed, IsFixedBody, body_size, bool_kind, content, fixed_body}
+use Rattle.std.proofs.lemmas.List.{append-nil, length-take-le, nil_from_length, take-append-drop, take_all}
+use Rattle.spa_format.specs.Kind.{Fixed, body_size, bool_kind, content, fixed_body}
 use Rattle.spa_format.specs.Pod.{AreElements}
 use Rattle.spa_format.specs.Encoding.{fixed_bodies}
-use Rattle.spa_format.proofs.Elements.{elements_push, fixed_bodies-append}
+use Rattle.spa_format.proofs.Elements.{bodies_push, elements_joined, elements_push, fixed_bodies-append}
 use Rattle.spa_format.proofs.FixedKinds.{same_kind}
 use Rattle.spa_fixed.specs.Reading.{AreWhole}
 use Rattle.spa_rewrite.specs.Elements.{AreOfNumber, AreTruths, TakesElements, TakesTruths}
@@ -31,9 +31,6 @@ none_filled words block = record { count = 0; place = refl; within = omega arith
 pub one_left : (words block : List ℕ) (at : ℕ) → AreFilled words block at → AreWhole 4 words → at < length words →
     at + 4 ≤ length words
 one_left words block at h w l = let p = h.place in let c = w.count in omega arith
-
-bodies_push : (xs : List Fixed) (x : Fixed) → fixed_bodies (xs ++ x ∷ []) ≡ fixed_bodies xs ++ fixed_body x
-bodies_push xs x = fixed_bodies-append xs (x ∷ []) ∙ ap (λ l. fixed_bodies xs ++ l) (append-nil (fixed_body x))
 
 pub one_filled : (words block after piece word : List ℕ) (x : Fixed) (at : ℕ) → AreFilled words block at → AreWhole 4 words →
     at < length words → word ≡ take 4 (drop at words) → x ≡ content bool_kind word →
@@ -64,20 +61,6 @@ all_filled words block at h l =
       its_values = subst (AreElements bool_kind h.values) (take_all at words l) h.its_values;
       bodies = ap (λ n. take n block) (sym same) ∙ h.bodies;
     }
-
--- some bodies, and others behind them
-elements_joined : (k : Kind) (xs ys : List Fixed) (a b : List ℕ) → AreElements k xs a → AreElements k ys b →
-    AreElements k (xs ++ ys) (a ++ b)
-elements_joined k [] ys a b h i = subst (AreElements k ys) (ap (λ l. l ++ b) (sym h)) i
-elements_joined k (x ∷ xs) ys a b h i =
-    let s = body_size k in
-    let w = h.1.whole in
-    let t = length-take s a in
-    let long : s ≤ length a = omega arith in (
-      h.0,
-      subst (λ y. IsFixedBody k y x) (sym (take-append-le s a b long)) h.1,
-      subst (AreElements k (xs ++ ys)) (sym (drop-append-le s a b long)) (elements_joined k xs ys (drop s a) b h.2 i),
-    )
 
 -- the first words were appended as they are written, and these are left
 pub record TruthsSoFar (words left : List ℕ) (old new : Tail) : Type 0 where

@@ -18,4 +18,4 @@ pub use fault::{DeserializeError, Fault, FaultKind, Refusal};
 pub use fixed::{CanonicalFixedSizedPod, ChoiceElement};
 pub use fixed_sized::FixedSizedPod;
 pub use pod::{LONGEST_POD_LEN, pod_bytes, put_fixed};
-pub use sizes::{array_size, choice_size, fixed_len};
+pub use sizes::{array_size, choice_size, pod_len};

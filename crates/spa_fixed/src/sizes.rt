@@ -12,7 +12,7 @@ use spa_bytes::{HEADER_LEN, extent_of};
 use spa_utils::{Choice, ChoiceEnum};
 
 /// How many bytes the pod of a value of fixed size takes.
-pub fn fixed_len<T: CanonicalFixedSizedPod>(_value: &T) -> usize
+pub fn pod_len<T: CanonicalFixedSizedPod>(_value: &T) -> usize
     ensures { result ≡ length (framed T.TYPE (fixed_body (T.fixed _value.now))) }
 {
     extent_of(T::SIZE as u32)

@@ -13,7 +13,7 @@ ghost use Rattle.spa_write.specs.Measured.{AreMeasured, IsMeasured, PropertiesAr
 ghost use Rattle.spa_write.specs.Written.{IsLeaf};
 
 use spa_bytes::{HEADER_LEN, POINTER_LEN, extent_of};
-use spa_fixed::{CanonicalFixedSizedPod, ChoiceElement, array_size, choice_size, fixed_len};
+use spa_fixed::{CanonicalFixedSizedPod, ChoiceElement, array_size, choice_size, pod_len};
 use spa_sink::GenError;
 use spa_utils::Choice;
 use spa_value::{ChoiceValue, Property, Value, ValueArray};
@@ -146,7 +146,7 @@ fn number_len<T: CanonicalFixedSizedPod>(value: &T) -> Result<u64, GenError>
     ensures measured { IfOk result (λ n. IsMeasured (tree.fixed (T.fixed value.now)) n) }
     ensures cause { IfErr result (λ e. RefusesWrite (HasNul (tree.fixed (T.fixed value.now))) (IsTooLarge (tree.fixed (T.fixed value.now))) (λ _. ⊥) e) }
 {
-    Ok(fixed_len(value) as u64)
+    Ok(pod_len(value) as u64)
 }
 
 /// The length of a pod whose body has so many bytes.

@@ -3,7 +3,7 @@ use Rattle.spa_format.specs.Kind.{fixed_body}
 use Rattle.spa_format.specs.Words.{extent}
 use Rattle.spa_format.proofs.Encodings.{length-framed}
 use Rattle.spa_fixed.proofs.Pods.{body_length}
-use Rattle.spa_fixed.proofs.sizes.fixed_len.Goals as goal
+use Rattle.spa_fixed.proofs.sizes.pod_len.Goals as goal
 
 pub returns : goal.returns
 returns g c =

@@ -1,5 +1,8 @@
 //! Bytes for tests: from the words of a table, and from a text that spells them. There is nothing here that the library uses.
 #![tactic(auto)]
+ghost use Rattle.std.specs.List.{flat_map};
+ghost use Rattle.std.specs.Prelude.{◌≡◌, IfOk};
+ghost use Rattle.spa_format.specs.Words.{word_bytes};
 
 use std::alloc::{AllocError, Global};
 
@@ -19,7 +22,9 @@ impl From<AllocError> for SpellingError {
 }
 
 /// The bytes of these words, least byte first.
-pub fn bytes_of(alloc: Global, words: &[u32]) -> Result<Vec<u8>, AllocError> {
+pub fn bytes_of(alloc: Global, words: &[u32]) -> Result<Vec<u8>, AllocError>
+    ensures { IfOk result (λ bytes. bytes.items ≡ flat_map word_bytes words.now) }
+{
     let mut bytes = Vec::new(alloc);
     for word in words {
         bytes.extend_from_slice(&word.to_le_bytes())?;

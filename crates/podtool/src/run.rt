@@ -49,10 +49,10 @@ impl From<AllocError> for Failure {
     }
 }
 
-/// Does what the words ask for, and answers the program's status: 0 where the work was done, 1 where it was refused, 2
-/// where the words aren't exactly one of `rewrite`, `fixate` and `show`.
+/// Does what the arguments ask for, and answers the program's status: 0 where the work was done, 1 where it was refused, 2
+/// where they aren't exactly one of `rewrite`, `fixate` and `show`.
 ///
-/// The words are settled before anything is read, the input is read whole, and nothing is written to the output before
+/// The arguments are settled before anything is read, the input is read whole, and nothing is written to the output before
 /// the whole input was accepted. A refusal is one line on `faults`; where that can't be written, nothing changes.
 pub fn run<R: Read, W: Write, E: Write>(
     alloc: Global,

@@ -2,7 +2,7 @@
 use spa_utils::{Float32, Float64, Fraction, Frame, Id, Rectangle};
 use spa_value::ValueArray;
 
-/// A call of a builder, which has its name.
+/// A call of a builder: each variant is the method of its name.
 #[derive(Clone, Copy, Debug)]
 pub enum BuildCall<'a> {
     /// A value that says nothing.
@@ -43,6 +43,6 @@ pub enum BuildCall<'a> {
     PushStruct,
     /// A type and an id.
     PushObject(u32, u32),
-    /// The innermost pod that is begun, of this frame, is closed.
+    /// The innermost pod that is begun, which this frame names, is closed.
     Pop(Frame),
 }

@@ -22,9 +22,9 @@ use std::marker::Model;
 
 /// Builds pods call by call, one behind another, at the end of one vector.
 ///
-/// A value goes to the innermost pod that is begun, or stands for itself where none is. INVAL answers a call that can't
-/// come there, NOSPC one after which the size of the value or of a pod that is begun would be 4294967296 or more, and
-/// NOMEM one for which there is no memory; in this order. A refused call changes nothing.
+/// A value goes to the innermost pod that is begun, or is a top-level pod where none is. A call is refused with INVAL
+/// where it can't come there, with NOSPC where the size of the value or of a pod that is begun would be 4294967296 or more
+/// after it, and with NOMEM where there is no memory; in this order. A refused call changes nothing.
 #[derive(Drop)]
 pub struct Builder {
     bytes: Written,
@@ -218,8 +218,8 @@ impl Builder {
     }
 
     /// Begins a choice of this shape: 0 None, 1 Range, 2 Step, 3 Enum, 4 Flags, and any other number is INVAL. Its
-    /// values are of the first one's kind, of fixed size and not None: one at least, of a range default, minimum and
-    /// maximum, of a step that and the step; and no more, but for Enum and Flags.
+    /// values are of the first one's kind, of fixed size and not None. There is at least one value: of a Range default,
+    /// minimum and maximum, of a Step these and the step. Only Enum and Flags take more.
     pub fn push_choice(&mut self, shape: u32, flags: u32) -> Result<Frame, Errno>
         ensures step { (s : State) → IsAt self.old s → Makes (step s (push_choice shape flags)) self.old self.new result }
         ensures frame { (s : State) → IsAt self.old s → IfOk result (λ f. f.0 ≡ length s.opened + 1) }

@@ -6,7 +6,8 @@
 /// `Pointer(type, v)`, `Fd(v)`, `Rectangle(v)`, `Fraction(v)`, `Struct { .. }` of such forms, and
 /// `Object(type, id) { key => form, .. }`, whose properties have no flags.
 ///
-/// It answers `Ok(())`, or the first refusal. Then the calls before the refused one stand, and what was begun is open.
+/// It answers `Ok(())`, or the first refusal. Then the calls before the refused one keep their effect, and what was begun
+/// stays open.
 #[macro_export]
 macro_rules! builder_add {
     ($builder:expr, None) => {

@@ -5,7 +5,7 @@ use crate::iter::{CIter, Iter, Keys, Values};
 use crate::parse::{ParsableValue, ParseValueError};
 use bitflags::{Flag, bitflag_items};
 
-/// What is known of a dictionary. All bits are kept, and none changes a look-up.
+/// A dictionary's flags. All bits are kept, and none changes a look-up.
 #[derive(Clone, Copy, Debug, PartialEq, Eq)]
 pub struct Flags(u32);
 
@@ -100,14 +100,14 @@ impl<'a> DictRef<'a> {
         self.items.len()
     }
 
-    /// There is no pair.
+    /// Whether there is no pair.
     pub fn is_empty(&self) -> bool
         ensures { IsTrue result ↔ pairs self.now ≡ [] }
     {
         self.items.is_empty()
     }
 
-    /// What is known of the dictionary.
+    /// The dictionary's flags.
     pub fn flags(&self) -> Flags
         ensures { result ≡ self.now.flags }
     {

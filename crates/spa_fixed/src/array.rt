@@ -107,8 +107,8 @@ pub fn read_array<T: CanonicalFixedSizedPod>(alloc: Global, body: &[u8]) -> Resu
 }
 
 /// Appends the pod of an array. It is refused with `TooLarge` where a size word would be 4294967296 or more, before a
-/// byte is appended, and else only where the sink refuses it, which has then taken a beginning of it. Of units only the
-/// child header is written.
+/// byte is appended, and else only where the sink refuses; the sink has then taken a beginning of the pod. Of units only
+/// the child header is written.
 pub fn put_array<T: CanonicalFixedSizedPod, S: PodSink>(
     sink: &mut S,
     values: &[T],

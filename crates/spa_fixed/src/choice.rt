@@ -21,7 +21,7 @@ use spa_sink::{GenError, PodSink};
 use spa_utils::{Choice, ChoiceEnum, ChoiceFlags, SpaTypes};
 use std::alloc::Global;
 
-/// The shape word of a choice with no alternative.
+/// The shape word of a None choice, which has its default alone.
 pub const NONE_SHAPE: u32 = 0;
 
 /// The shape word of a choice with a minimum and a maximum.
@@ -122,7 +122,7 @@ fn read_list<T: ChoiceElement>(alloc: Global, elements: &[u8]) -> Result<(T, Vec
 
 /// Reads the body of a choice over this type. It is refused with `WrongSize` where the child size isn't the type's or the
 /// values aren't whole, with `InvalidChoiceType` where the shape word is above 4, with `MissingChoiceValues` where fewer
-/// values are there than the shape needs, and else only for lack of memory, which alternatives and flags alone take.
+/// values are there than the shape needs, and else only for lack of memory. Only Enum and Flags take memory.
 #[inline(always)]
 pub fn read_choice<T: ChoiceElement>(alloc: Global, body: &[u8]) -> Result<Choice<T>, Refusal>
     requires header { choice_header_size ≤ length body.now }
@@ -225,8 +225,8 @@ fn put_values<T: CanonicalFixedSizedPod, S: PodSink>(
 }
 
 /// Appends the pod of a choice, with its flags as it holds them. It is refused with `TooLarge` where a size word would be
-/// 4294967296 or more, before a byte is appended, and else only where the sink refuses it, which has then taken a beginning
-/// of it.
+/// 4294967296 or more, before a byte is appended, and else only where the sink refuses; the sink has then taken a beginning
+/// of the pod.
 pub fn put_choice<T: ChoiceElement, S: PodSink>(
     sink: &mut S,
     choice: &Choice<T>,

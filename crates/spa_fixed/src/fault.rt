@@ -9,7 +9,7 @@ use std::alloc::{AllocError, AllocFailed};
 /// What is wrong with the bytes at a place.
 #[derive(Clone, Copy, PartialEq, Eq, Debug)]
 pub enum FaultKind {
-    /// Fewer bytes are there than a header, the header's size word, or a property's key and flags need.
+    /// Fewer bytes are left than a header takes, than its size word says, or than a property's key and flags take.
     Short,
     /// A typed read finds another type number.
     Tag,
@@ -28,7 +28,8 @@ pub struct Fault<I> {
 /// Why a pod could not be read.
 #[derive(PartialEq, Debug, Drop)]
 pub enum DeserializeError<I> {
-    /// The bytes at a place are short, of another type than the one asked for, or no text.
+    /// At a place there are too few bytes, a pod of another type than the one asked for, or a string's body that is no text
+    /// with one NUL behind it.
     Nom(Fault<I>),
     /// A visitor doesn't take what it is handed.
     UnsupportedType,
@@ -42,7 +43,7 @@ pub enum DeserializeError<I> {
     InvalidChoiceType,
     /// A choice has fewer values than its shape needs.
     MissingChoiceValues,
-    /// A body isn't as long as its type's bodies are, or isn't made of whole elements.
+    /// A body, or a child size, isn't as long as the bodies of its type, or bytes are left behind whole elements.
     WrongSize,
     /// A struct, object or array reader ended before its last member was read.
     UnreadMembers,
@@ -99,7 +100,7 @@ impl<I> From<AllocError> for DeserializeError<I> {
 /// Why an untyped read refuses, without a place: what the readers of bodies answer to the readers of pods.
 #[derive(Clone, Copy, PartialEq, Eq, Debug)]
 pub enum Refusal {
-    /// Fewer bytes are there than a header, the header's size word, or a property's key and flags need.
+    /// Fewer bytes are left than a header takes, than its size word says, or than a property's key and flags take.
     Short,
     /// A string's body is no text with one NUL behind it.
     Text,
@@ -109,7 +110,7 @@ pub enum Refusal {
     InvalidChoiceType,
     /// A choice has fewer values than its shape needs.
     MissingChoiceValues,
-    /// A body isn't as long as its type's bodies are, or isn't made of whole elements.
+    /// A body, or a child size, isn't as long as the bodies of its type, or bytes are left behind whole elements.
     WrongSize,
     /// A growth was refused.
     OutOfMemory,

@@ -9,10 +9,10 @@ pub trait FixedSizedPod: Sized {
     /// The type that stands for it in a pod.
     type CanonicalType: CanonicalFixedSizedPod;
 
-    /// What a value is written as.
+    /// The canonical value that a value is written as.
     ghost to_canonical: { Self → Self.CanonicalType };
 
-    /// As what a value is read.
+    /// The value that a canonical one is read as.
     ghost of_canonical: { Self.CanonicalType → Self };
 
     /// The value that stands for this one in a pod.

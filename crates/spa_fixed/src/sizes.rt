@@ -18,7 +18,7 @@ pub fn pod_len<T: CanonicalFixedSizedPod>(_value: &T) -> usize
     extent_of(T::SIZE as u32)
 }
 
-/// How many bytes the body of an array's pod takes, or none where they are 4294967296 or more.
+/// How many bytes the body of an array's pod takes, or `None` where they are 4294967296 or more.
 pub fn array_size<T: CanonicalFixedSizedPod>(values: &[T]) -> Option<u32>
     ensures some { IfSome result (λ size. size ≡ length (array_body T.kind (map T.fixed values.now))) }
     ensures none { IfNone result (size_limit ≤ length (array_body T.kind (map T.fixed values.now))) }
@@ -26,7 +26,7 @@ pub fn array_size<T: CanonicalFixedSizedPod>(values: &[T]) -> Option<u32>
     body_len::<T>(HEADER_LEN, values.len())
 }
 
-/// How many bytes the body of a choice's pod takes, or none where they are 4294967296 or more.
+/// How many bytes the body of a choice's pod takes, or `None` where they are 4294967296 or more.
 pub fn choice_size<T: ChoiceElement>(choice: &Choice<T>) -> Option<u32>
     ensures some { IfSome result (λ size. size ≡ length (encoded_body (choice_tree T.kind T.fixed choice.now))) }
     ensures none { IfNone result (size_limit ≤ length (encoded_body (choice_tree T.kind T.fixed choice.now))) }

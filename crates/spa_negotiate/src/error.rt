@@ -13,7 +13,8 @@ pub enum Side {
     Second,
 }
 
-/// Why two objects, or the objects of two pods, don't meet. A key is the first of the first object's keys under which one of these stands.
+/// Why two objects, or the objects of two pods, don't meet. The key in a refusal is the first of the first object's keys under
+/// which one of these stands.
 #[derive(Clone, Copy, PartialEq, Eq, Debug)]
 pub enum NegotiateError {
     /// The types of the objects differ. No key is looked at then.

@@ -114,7 +114,7 @@ impl<'d> Parser<'d> {
         self.open(body_bytes(&pod), false, left)
     }
 
-    /// Opens the next object, whose id comes with its frame; inside it no pod is next. INVAL where the next pod isn't an
+    /// Opens the next object, and answers its frame and its id. Inside it there is no next pod. INVAL where the next pod isn't an
     /// object of at least 8 bytes; else PROTO where it is of another type; else NOMEM where there is no memory for one
     /// more frame.
     pub fn push_object(&mut self, type_: u32) -> Result<(Frame, Id), Errno>

@@ -121,8 +121,9 @@ impl<'de> ObjectPodDeserializer<'de> {
 
     /// Reads the next property, which has to have this key, and answers its value and its flags.
     ///
-    /// Refusals: `PropertyMissing` at the end, and `PropertyWrongKey` with the key of the next property where that is another
-    /// one, which is read then. These two don't make the reader fail. Any other one is that of `deserialize_property`.
+    /// Refusals: `PropertyMissing` at the end, and `PropertyWrongKey` with the next property's key where that is another one;
+    /// the reader then stands behind that property. These two don't make the reader fail. Any other one is that of
+    /// `deserialize_property`.
     pub fn deserialize_property_key<P: PodDeserialize<'de>>(
         &mut self,
         key: u32,

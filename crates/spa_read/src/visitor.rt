@@ -53,8 +53,8 @@ pub enum Visit<'de, E> {
 #[derive(Drop)]
 pub enum Never {}
 
-/// What is made of the pod that a typed read finds. Each call may decline what it is handed, with any refusal:
-/// `UnsupportedType` is that of what a visitor doesn't take.
+/// Makes a value of the pod that a typed read finds. Each call may decline what it is handed, with any error:
+/// `UnsupportedType` is the usual one.
 pub trait Visitor<'de>: Sized + Drop {
     /// What it makes.
     type Value: Drop;

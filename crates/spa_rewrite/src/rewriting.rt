@@ -105,7 +105,7 @@ pub fn rewrite_in_parts(
 
 /// Tells whether `rewrite_all` would accept the input, and else refuses it as that call does.
 ///
-/// It makes no rewriting of the whole: memory is asked for a pod that isn't its own rewriting, of one such pod at a time.
+/// It makes no rewriting of the whole: it takes memory only for pods that aren't their own rewriting, one at a time.
 pub fn accept_all(alloc: Global, input: &[u8]) -> Result<(), (&[u8], DeserializeError<&[u8]>)>
     ensures accepted { OnOk result ((vs : Trees) × AreMembers vs input.now) }
     ensures refused { IfErr result (λ refusal. RefusesList input.now refusal.0.now refusal.1) }

@@ -14,7 +14,7 @@ pub trait PodSink: Drop {
     /// The first, with these bytes at its end, is the second.
     ghost appends: { Self → List ℕ → Self → Type 0 };
 
-    /// The first, asked for this many bytes in all, may refuse so and be left as the second.
+    /// The first, asked to take this many bytes in all, may answer this error and be left as the second.
     ghost refuses: { Self → ℕ → Self → GenError → Type 0 };
 
     /// Appends the bytes. A refusal leaves a beginning of them appended.

@@ -54,13 +54,13 @@ impl SpaTypes {
     /// Timed controls.
     pub const Sequence: SpaTypes = SpaTypes(16);
 
-    /// An address of some type.
+    /// An address, and the type of what it points to.
     pub const Pointer: SpaTypes = SpaTypes(17);
 
     /// A file descriptor.
     pub const Fd: SpaTypes = SpaTypes(18);
 
-    /// A value among others.
+    /// A default, and the values that may be taken in its place.
     pub const Choice: SpaTypes = SpaTypes(19);
 
     /// Any pod.

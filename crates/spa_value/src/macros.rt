@@ -13,7 +13,7 @@ pub fn no_flags() -> ChoiceFlags
 }
 
 /// A property without flags: `property!(in alloc; key, ..)`, where `alloc` is what a list takes memory from. The key,
-/// and the ids below, have `as_raw`. Behind the key stands
+/// and the ids below, are of types with a method `as_raw`, such as `Id`. Behind the key stands
 ///
 /// - a value; or
 /// - `Id` and an id; or
@@ -114,8 +114,8 @@ macro_rules! choice_property {
 }
 
 /// An object: `object!(in alloc; type, id, properties..)`, where `alloc` is what the list takes memory from. The type
-/// and the id have `as_raw`, and each property, of which there may be none, is a `Property`: behind each `property!`
-/// stands a `?`.
+/// and the id are of types with a method `as_raw`, such as `Id`, and each property, of which there may be none, is a
+/// `Property`: behind each `property!` stands a `?`.
 ///
 /// It answers a `Result`, whose one refusal is NOMEM.
 #[macro_export]

@@ -43,9 +43,9 @@ fn fixate_props(props: &mut [u8])
 }
 
 impl<'a> PodObject<'a> {
-    /// Makes each choice among the properties of the object at the front its default: sets the shape word of each
-    /// property's value to 0 that is a choice and whose flags lack DONT_FIXATE, and changes no other byte. INVAL, and
-    /// nothing is changed, where no object is at the front.
+    /// Makes each choice among the properties of the object at the front its default: sets to 0 the shape word of each
+    /// property's value that is a choice, unless the property's flags have DONT_FIXATE, and changes no other byte. INVAL,
+    /// and nothing is changed, where no object is at the front.
     pub fn fixate(bytes: &mut [u8]) -> Result<(), Errno>
         ensures ok { OnOk result (HasObject bytes.old) }
         ensures fixated { OnOk result (bytes.new ≡ fixated_bytes bytes.old) }

@@ -7,7 +7,7 @@ use spa_fixed::DeserializeError;
 use spa_read::{Never, ObjectPodDeserializer, StructPodDeserializer, Visit, Visitor};
 use spa_utils::{Fd, Float32, Float64, Fraction, Id, Rectangle};
 
-/// Answers that no value is there.
+/// Answers the unit of a None pod.
 #[derive(Drop)]
 pub struct NoneVisitor;
 

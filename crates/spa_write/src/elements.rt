@@ -37,8 +37,8 @@ impl<O: PodOutput, P: FixedSizedPod> Model for ArrayPodSerializer<O, P> {
 }
 
 impl<O: PodOutput> PodSerializer<O> {
-    /// Begins an array of so many elements. It is refused as `TooLarge` where its body is 4294967296 bytes or more, which
-    /// is 8 and the size of an element for each of them, and else where the output refuses the 16 bytes before the first.
+    /// Begins an array of this many elements. It is refused as `TooLarge` where its body, which is 8 bytes and one element's
+    /// size for each, is 4294967296 bytes or more, and else where the output refuses the 16 bytes before the first.
     pub fn serialize_array<P: FixedSizedPod>(
         self,
         length: u32,

@@ -4,8 +4,9 @@ ghost use Rattle.spa_format.specs.Kind.{bool_kind};
 ghost use Rattle.spa_format.specs.Tree.{choice_type};
 ghost use Rattle.spa_scan.specs.Canonical.{AreCanonicalElements, IsCanonicalArray, IsCanonicalBody};
 
-use crate::front::{ONE_WORD, TWO_WORDS, fixed_len};
+use crate::front::{ONE_WORD, TWO_WORDS, fixed_len, is_word_type};
 use spa_bytes::{HEADER_LEN, SECOND_WORD, u32_at};
+use spa_fixed::{FLAGS_SHAPE, RANGE_SHAPE, STEP_SHAPE};
 use spa_utils::SpaTypes;
 
 /// The length in bytes of the four words before the values of a choice.
@@ -14,8 +15,37 @@ const CHOICE_HEADER: usize = 16;
 /// The length in bytes of a word.
 const WORD_LEN: usize = 4;
 
-/// Whether the body of an array is as its elements are written.
+/// Whether the body of an array is as its elements are written. Most arrays need no call.
+#[inline(always)]
 pub(crate) fn is_array(body: &[u8]) -> bool
+    ensures canonical { result ≡ true → IsCanonicalArray body.now }
+    ensures found { IsCanonicalArray body.now → result ≡ true }
+{
+    is_sized_array(body) || is_any_array(body)
+}
+
+/// Whether the elements of an array are of a kind of fixed size, Bool and None aside: these are written as they lie.
+#[inline(always)]
+fn is_sized_array(body: &[u8]) -> bool
+    ensures { result ≡ true → IsCanonicalArray body.now }
+{
+    if body.len() < HEADER_LEN {
+        return false;
+    }
+    let type_ = u32_at(body, SECOND_WORD);
+    let size = u32_at(body, 0);
+    let (_, elements) = body.split_at(HEADER_LEN);
+    if size == ONE_WORD {
+        return is_word_type(type_) && elements.len() % WORD_LEN == 0;
+    }
+    if size != TWO_WORDS || fixed_len(type_) != TWO_WORDS {
+        return false;
+    }
+    elements.len() % HEADER_LEN == 0
+}
+
+/// The same as `is_array`, of elements of any kind.
+fn is_any_array(body: &[u8]) -> bool
     ensures canonical { result ≡ true → IsCanonicalArray body.now }
     ensures found { IsCanonicalArray body.now → result ≡ true }
 {
@@ -43,6 +73,7 @@ pub(crate) fn is_array(body: &[u8]) -> bool
 
 /// Whether the body of a choice is as its values are written: their count is that of its shape, and a choice without
 /// alternatives has no flags.
+#[inline(always)]
 pub(crate) fn is_choice(body: &[u8]) -> bool
     ensures canonical { result ≡ true → IsCanonicalBody choice_type body.now }
     ensures found { IsCanonicalBody choice_type body.now → result ≡ true }
@@ -59,19 +90,17 @@ pub(crate) fn is_choice(body: &[u8]) -> bool
     if values == 0 {
         return false;
     }
-    match u32_at(body, 0) {
-        0 => {
-            if u32_at(body, SECOND_WORD) != 0 {
-                return false;
-            }
-            values == size
-        }
-        1 => values == 3 * size,
-        2 => values == 4 * size,
-        3 => true,
-        4 => true,
-        _ => false,
+    let shape = u32_at(body, 0);
+    if shape > STEP_SHAPE {
+        return shape <= FLAGS_SHAPE;
     }
+    if shape == RANGE_SHAPE {
+        return values == 3 * size;
+    }
+    if shape == STEP_SHAPE {
+        return values == 4 * size;
+    }
+    values == size && u32_at(body, SECOND_WORD) == 0
 }
 
 /// Whether the bodies of truth values are each 0 or 1.

@@ -1,7 +1,7 @@
 //! Pods at the front of an input: those of fixed size, and any with zeros as padding.
-ghost use Rattle.std.specs.Prelude.{◌≡◌, ◌+◌, ◌<◌, ◌≤◌, IfNone, IfSome, List, length, true, ℕ};
-ghost use Rattle.spa_format.specs.Kind.{Kind, body_size, type_number};
-ghost use Rattle.spa_format.specs.Words.{padded_size};
+ghost use Rattle.std.specs.Prelude.{◌≡◌, ◌≢◌, ◌+◌, ◌<◌, ◌≤◌, ◌⊎◌, IfNone, IfSome, List, drop, length, true, ℕ};
+ghost use Rattle.spa_format.specs.Kind.{Kind, body_size, bool_kind, type_number};
+ghost use Rattle.spa_format.specs.Words.{header_size, padded_size};
 ghost use Rattle.spa_scan.specs.Canonical.{BeginsCanonical, HasZeros, IsFixedLen, IsSized, OpensPadded};
 
 use spa_bytes::{Front, HEADER_LEN, SECOND_WORD, open, u32_at, u64_at};
@@ -68,25 +68,66 @@ pub(crate) fn fixed_front(input: &[u8]) -> Option<&[u8]>
     if input.len() < SHORT_POD {
         return None;
     }
-    let type_ = u32_at(input, SECOND_WORD);
-    let size = u32_at(input, 0);
-    if size != fixed_len(type_) {
+    if !is_short_pod(input) {
         return None;
     }
     let (_, rest) = input.split_at(SHORT_POD);
-    if size == TWO_WORDS {
-        return Some(rest);
-    }
-    if size != ONE_WORD || u32_at(input, SECOND_OF_BODY) != 0 {
+    Some(rest)
+}
+
+/// The same behind a key and flags.
+#[inline(always)]
+pub(crate) fn fixed_property(input: &[u8]) -> Option<&[u8]>
+    ensures header { IfSome result (λ _. header_size ≤ length input.now) }
+    ensures taken { IfSome result (λ rest. BeginsCanonical (drop header_size input.now) rest.now) }
+    ensures shorter { IfSome result (λ rest. length rest.now + 24 ≤ length input.now) }
+    ensures missed { IfNone result ((rest : List ℕ) (c : BeginsCanonical (drop header_size input.now) rest) → ¬ (IsSized c.value)) }
+{
+    if input.len() < HEADER_LEN + SHORT_POD {
         return None;
     }
-    if type_ == SpaTypes::Bool.0 {
-        if u32_at(input, FIRST_OF_BODY) > 1 {
-            return None;
-        }
-        return Some(rest);
+    let (_, behind) = input.split_at(HEADER_LEN);
+    if !is_short_pod(behind) {
+        return None;
     }
+    let (_, rest) = behind.split_at(SHORT_POD);
     Some(rest)
+}
+
+/// Whether the pod at the front is its own rewriting and of a kind of fixed size, None aside.
+#[inline(always)]
+fn is_short_pod(input: &[u8]) -> bool
+    requires long { 16 ≤ length input.now }
+    ensures taken { result ≡ true → BeginsCanonical input.now (drop 16 input.now) }
+    ensures found { (rest : List ℕ) (c : BeginsCanonical input.now rest) → IsSized c.value → result ≡ true }
+{
+    let type_ = u32_at(input, SECOND_WORD);
+    let size = u32_at(input, 0);
+    if size > ONE_WORD {
+        return size == TWO_WORDS && fixed_len(type_) == TWO_WORDS;
+    }
+    if size != ONE_WORD || u32_at(input, SECOND_OF_BODY) != 0 {
+        return false;
+    }
+    if is_word_type(type_) {
+        return true;
+    }
+    type_ == SpaTypes::Bool.0 && u32_at(input, FIRST_OF_BODY) <= 1
+}
+
+/// Whether this is the type of a kind whose bodies are any word.
+#[inline(always)]
+pub(crate) fn is_word_type(type_: u32) -> bool
+    ensures word { result ≡ true → IsFixedLen type_ 4 }
+    ensures other { result ≡ true → type_ ≢ type_number bool_kind }
+    ensures found { (k : Kind) → type_ ≡ type_number k → body_size k ≡ 4 → (k ≡ bool_kind) ⊎ (result ≡ true) }
+{
+    match SpaTypes(type_) {
+        SpaTypes::Id => true,
+        SpaTypes::Int => true,
+        SpaTypes::Float => true,
+        _ => false,
+    }
 }
 
 /// How long the bodies of this type are, in bytes, where it is a kind of fixed size, and else a number past all of these.

@@ -5,7 +5,7 @@ ghost use Rattle.spa_scan.specs.Canonical.{AreCanonical, AreCanonicalProperties,
 ghost use Rattle.spa_scan.specs.Depth.{AreShallow, AreShallowProperties, IsShallowBody, depth_of, levels_looked_into};
 
 use crate::array::{is_array, is_choice};
-use crate::front::{TWO_WORDS, fixed_front, fixed_len, padded_front};
+use crate::front::{TWO_WORDS, fixed_front, fixed_len, fixed_property, padded_front};
 use crate::text::is_text;
 use spa_bytes::{HEADER_LEN, POINTER_LEN, SECOND_WORD, u32_at};
 use spa_utils::SpaTypes;
@@ -137,9 +137,11 @@ fn are_members(body: &[u8], levels: u32) -> bool
     ensures found { AreShallow levels body.now → result ≡ true }
 {
     let mut left = body;
-    while !left.is_empty() {
+    loop {
         if let Some(rest) = fixed_front(left) {
             left = rest;
+        } else if left.is_empty() {
+            return true;
         } else {
             let Some(front) = padded_front(left) else {
                 return false;
@@ -147,14 +149,13 @@ fn are_members(body: &[u8], levels: u32) -> bool
             if front.type_ == SpaTypes::Struct.0 && front.rest.is_empty() {
                 left = front.body;
             } else {
-                if !is_body(front.type_, front.body, levels) {
+                if !is_any_body(front.type_, front.body, levels) {
                     return false;
                 }
                 left = front.rest;
             }
         }
     }
-    true
 }
 
 /// The same of properties.
@@ -164,24 +165,37 @@ fn are_properties(body: &[u8], levels: u32) -> bool
     ensures found { AreShallowProperties levels body.now → result ≡ true }
 {
     let mut left = body;
-    while !left.is_empty() {
-        if left.len() < HEADER_LEN {
-            return false;
-        }
-        let (_, behind) = left.split_at(HEADER_LEN);
-        if let Some(rest) = fixed_front(behind) {
+    loop {
+        if let Some(rest) = fixed_property(left) {
             left = rest;
+        } else if left.len() <= HEADER_LEN {
+            return left.is_empty();
         } else {
+            let (_, behind) = left.split_at(HEADER_LEN);
             let Some(front) = padded_front(behind) else {
                 return false;
             };
-            if !is_body(front.type_, front.body, levels) {
+            if !is_any_body(front.type_, front.body, levels) {
                 return false;
             }
             left = front.rest;
         }
     }
-    true
+}
+
+/// The same as `is_body`, with the looks at choices, strings and arrays in place: these need no call.
+#[cycle(scan)]
+#[inline(always)]
+fn is_any_body(type_: u32, body: &[u8], levels: u32) -> bool
+    ensures canonical { result ≡ true → IsCanonicalBody type_ body.now }
+    ensures found { (c : IsShallowBody levels type_ body.now) → ¬ (IsSized c.its.value) → result ≡ true }
+{
+    match SpaTypes(type_) {
+        SpaTypes::Choice => is_choice(body),
+        SpaTypes::String => is_text(body),
+        SpaTypes::Array => is_array(body),
+        _ => is_body(type_, body, levels),
+    }
 }
 
 /// Whether a body of this type is as the value that it says is written.

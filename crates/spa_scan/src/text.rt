@@ -5,9 +5,18 @@ ghost use Rattle.spa_scan.specs.Canonical.{IsCanonicalText, IsPlainByte, IsPlain
 use spa_read::text_of;
 
 /// Whether the body of a string is a text without NUL, and one NUL behind it.
+#[inline(always)]
 pub(crate) fn is_text(body: &[u8]) -> bool
     ensures canonical { result ≡ true → IsCanonicalText body.now }
     ensures found { IsCanonicalText body.now → result ≡ true }
+{
+    is_plain_string(body) || holds_text(body)
+}
+
+/// The same, of ASCII characters alone.
+#[inline(always)]
+fn is_plain_string(body: &[u8]) -> bool
+    ensures { result ≡ true → IsCanonicalText body.now }
 {
     let Some((last, text)) = body.split_last() else {
         return false;
@@ -15,9 +24,14 @@ pub(crate) fn is_text(body: &[u8]) -> bool
     if *last != 0 {
         return false;
     }
-    if is_plain_text(text) {
-        return true;
-    }
+    is_plain_text(text)
+}
+
+/// The same as `is_text`, of any characters.
+fn holds_text(body: &[u8]) -> bool
+    ensures canonical { result ≡ true → IsCanonicalText body.now }
+    ensures found { IsCanonicalText body.now → result ≡ true }
+{
     match text_of(body) {
         Some(_) => true,
         None => false,
@@ -28,18 +42,20 @@ pub(crate) fn is_text(body: &[u8]) -> bool
 const PIECE: usize = 8;
 
 /// Whether each byte is an ASCII character other than NUL.
+#[inline(always)]
 fn is_plain_text(text: &[u8]) -> bool
     ensures { result ≡ true → IsPlainFor (length text.now) text.now }
 {
     if text.len() < PIECE {
         return is_short_plain_text(text);
     }
-    // The last piece is looked at whole: the piece before it may reach into it.
+    // The first piece and the last: the pieces between them may reach into the last.
     let (_, last) = text.split_at(text.len() - PIECE);
-    if !are_plain(last) {
+    if !(are_plain(text) & are_plain(last)) {
         return false;
     }
-    let mut left = text;
+    let (_, more) = text.split_at(PIECE);
+    let mut left = more;
     while left.len() > PIECE {
         if !are_plain(left) {
             return false;

@@ -1,10 +1,19 @@
 use Rattle.std.proofs.Common.{◌≤◌, arith, length, subst}
+use Rattle.std.proofs.lemmas.Bool.{and_parts}
 use Rattle.spa_scan.specs.Canonical.{IsPlainFor}
 use Rattle.spa_scan.proofs.Parts.{end_plain, plain_more, shorter_end, whole_end}
 use Rattle.spa_scan.proofs.text.is_plain_text.Goals as goal
 
 pub loop-left-init : goal.loop-left-init
-loop-left-init c = (whole_end c.args.text.now, λ p. p)
+loop-left-init c =
+    let text = c.args.text.now in
+    let long : 8 ≤ length text = omega (arith, c.if-text-lt-PIECE.false) in
+    let back = c.split_at-2.ensures.back in
+    let first = c.are_plain.ensures (and_parts _ _ c.if-not-are_plain.false).0 in (
+      shorter_end text _ _ 8 long back (whole_end text),
+      λ p.
+          plain_more 8 text long first (subst (λ y. IsPlainFor (length y) y) back p),
+    )
 
 pub loop-left-preserved : goal.loop-left-preserved
 loop-left-preserved c =
@@ -24,4 +33,4 @@ returns c = λ _.
     let long : 8 ≤ length c.args.text.now = omega (arith, c.if-text-lt-PIECE.false) in
     before.1
     (end_plain _ _ _ long c.loop-left-test.false before.0 c.split_at.ensures.back
-    (c.are_plain.ensures c.if-not-are_plain.false))
+    (c.are_plain-2.ensures (and_parts _ _ c.if-not-are_plain.false).1))

@@ -7,7 +7,7 @@ use Rattle.spa_format.proofs.WordLemmas.{IsBytes-drop}
 use Rattle.spa_scan.specs.Canonical.{AreCanonicalElements}
 use Rattle.spa_scan.proofs.Missed.{made_array}
 use Rattle.spa_scan.proofs.Parts.{array_found, bools_found, elements_found, no_elements}
-use Rattle.spa_scan.proofs.array.is_array.Goals as goal
+use Rattle.spa_scan.proofs.array.is_any_array.Goals as goal
 
 pub returns-then-type_-clause-canonical : goal.returns-then-type_-clause-canonical
 returns-then-type_-clause-canonical c =

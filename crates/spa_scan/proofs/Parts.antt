@@ -182,6 +182,21 @@ shorter_end left rest text n l e h =
       same = e ∙ ap (drop n) h.same ∙ drop-drop n h.before text;
     }
 
+-- the first such bytes and the last, which reach to each other
+pub plain_ends : (n : ℕ) (text last : List ℕ) → n ≤ length text → length text ≤ n + n →
+    last ≡ drop (length text - n) text → IsPlainFor n text → IsPlainFor n last → IsPlainFor (length text) text
+plain_ends n text last l s e first end = λ i b.
+    elim (cases_lt i n) [
+      | inl lt ↦ first i lt
+      | inr ge ↦
+          let k = i - (length text - n) in
+          let few : k < n = omega arith in
+          let there : slice_index last k ≡ slice_index text (length text - n + k) =
+          ap (λ y. slice_index y k) e ∙ get_or-drop (length text - n) text k 0 in
+          let place : length text - n + k ≡ i = omega arith in
+          subst IsPlainByte (there ∙ ap (slice_index text) place) (end k few)
+    ]
+
 -- where the last eight bytes are such ones, so are fewer
 pub end_plain : (left last text : List ℕ) → 8 ≤ length text → length left ≤ 8 → IsEnd left text →
     last ≡ drop (length text - 8) text → IsPlainFor 8 last → IsPlainFor (length left) left

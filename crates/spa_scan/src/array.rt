@@ -78,7 +78,7 @@ pub(crate) fn is_choice(body: &[u8]) -> bool
     ensures canonical { result ≡ true → IsCanonicalBody choice_type body.now }
     ensures found { IsCanonicalBody choice_type body.now → result ≡ true }
 {
-    if body.len() < CHOICE_HEADER {
+    if body.len() <= CHOICE_HEADER {
         return false;
     }
     let (_, array) = body.split_at(HEADER_LEN);
@@ -87,9 +87,6 @@ pub(crate) fn is_choice(body: &[u8]) -> bool
     }
     let size = u32_at(array, 0) as usize;
     let values = body.len() - CHOICE_HEADER;
-    if values == 0 {
-        return false;
-    }
     let shape = u32_at(body, 0);
     if shape > STEP_SHAPE {
         return shape <= FLAGS_SHAPE;

@@ -103,10 +103,13 @@ fn is_short_pod(input: &[u8]) -> bool
 {
     let type_ = u32_at(input, SECOND_WORD);
     let size = u32_at(input, 0);
-    if size > ONE_WORD {
-        return size == TWO_WORDS && fixed_len(type_) == TWO_WORDS;
+    if size != ONE_WORD {
+        if size > TWO_WORDS {
+            return false;
+        }
+        return fixed_len(type_) == TWO_WORDS && size == TWO_WORDS;
     }
-    if size != ONE_WORD || u32_at(input, SECOND_OF_BODY) != 0 {
+    if u32_at(input, SECOND_OF_BODY) != 0 {
         return false;
     }
     if is_word_type(type_) {

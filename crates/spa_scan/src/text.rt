@@ -41,6 +41,9 @@ fn holds_text(body: &[u8]) -> bool
 /// The length in bytes of the pieces that are looked at at once.
 const PIECE: usize = 8;
 
+/// The length in bytes of the pieces of a shorter text.
+const HALF_PIECE: usize = 4;
+
 /// Whether each byte is an ASCII character other than NUL.
 #[inline(always)]
 fn is_plain_text(text: &[u8]) -> bool
@@ -66,8 +69,20 @@ fn is_plain_text(text: &[u8]) -> bool
     true
 }
 
-/// The same, byte by byte.
+/// The same of fewer than eight bytes.
 fn is_short_plain_text(text: &[u8]) -> bool
+    ensures { result ≡ true → IsPlainFor (length text.now) text.now }
+{
+    if text.len() < HALF_PIECE || text.len() > PIECE {
+        return are_plain_bytes(text);
+    }
+    // The first bytes may reach into the last.
+    let (_, last) = text.split_at(text.len() - HALF_PIECE);
+    are_four_plain(text) & are_four_plain(last)
+}
+
+/// The same, byte by byte.
+fn are_plain_bytes(text: &[u8]) -> bool
     ensures { result ≡ true → IsPlainFor (length text.now) text.now }
 {
     let mut left = text;
@@ -94,6 +109,15 @@ fn are_plain(word: &[u8]) -> bool
         & is_plain(word[5])
         & is_plain(word[6])
         & is_plain(word[7])
+}
+
+/// The same of the first four bytes.
+#[inline(always)]
+fn are_four_plain(word: &[u8]) -> bool
+    requires { 4 ≤ length word.now }
+    ensures { result ≡ true → IsPlainFor 4 word.now }
+{
+    is_plain(word[0]) & is_plain(word[1]) & is_plain(word[2]) & is_plain(word[3])
 }
 
 /// The last ASCII character.

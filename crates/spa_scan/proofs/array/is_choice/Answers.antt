@@ -17,18 +17,17 @@ returns-then-not-is_array-clause-found c = λ a.
     let m = made_choice _ bytes a in
     absurd (not_both _ c.if-not-is_array.true (c.is_array.ensures.found (subst IsCanonicalArray (sym c.split_at.ensures.back) m.its_array)))
 
-pub returns-then-values-eq0-clause-found : goal.returns-then-values-eq0-clause-found
-returns-then-values-eq0-clause-found c = λ a.
+pub returns-then-body-le-CHOICE_HEADER-clause-found : goal.returns-then-body-le-CHOICE_HEADER-clause-found
+returns-then-body-le-CHOICE_HEADER-clause-found c = λ a.
     let bytes : IsBytes c.args.body.now = λ i. omega (arith, c.type_inv.body i) in
     let m = made_choice _ bytes a in
     let some = some_values _ _ _ m.sized m.whole in
-    absurd (let none = c.if-values-eq0.true in omega arith)
+    absurd (let few = c.if-body-le-CHOICE_HEADER.true in omega arith)
 
 pub returns-then-shape-gt-STEP_SHAPE-clause-canonical : goal.returns-then-shape-gt-STEP_SHAPE-clause-canonical
 returns-then-shape-gt-STEP_SHAPE-clause-canonical c =
     let bytes : IsBytes c.args.body.now = λ i. omega (arith, c.type_inv.body i) in
-    let some = c.if-values-eq0.false in
-    let room = c.if-body-lt-CHOICE_HEADER.false in
+    let room = c.if-body-le-CHOICE_HEADER.false in
     let above = c.if-shape-gt-STEP_SHAPE.true in
     let long : 16 < length c.args.body.now = omega arith in
     let array = c.is_array.ensures.canonical c.if-not-is_array.false in
@@ -49,24 +48,21 @@ pub returns-then-shape-eq-RANGE_SHAPE-clause-canonical :
     goal.returns-then-shape-eq-RANGE_SHAPE-clause-canonical
 returns-then-shape-eq-RANGE_SHAPE-clause-canonical c =
     let bytes : IsBytes c.args.body.now = λ i. omega (arith, c.type_inv.body i) in
-    let some = c.if-values-eq0.false in
-    let room = c.if-body-lt-CHOICE_HEADER.false in
+    let room = c.if-body-le-CHOICE_HEADER.false in
     λ e. choice_found range_choice _ _ bytes (omega arith) c.split_at.ensures.back (c.is_array.ensures.canonical c.if-not-is_array.false)
     (sym c.u32_at-shape.ensures ∙ c.if-shape-eq-RANGE_SHAPE.true) refl (λ n k i p m. range_count n k _ p m (eqb-true _ _ e ∙ ap (λ x. 3 * x) (c.u32_at-size.ensures ∙ sym i)))
 
 pub returns-then-shape-eq-STEP_SHAPE-clause-canonical : goal.returns-then-shape-eq-STEP_SHAPE-clause-canonical
 returns-then-shape-eq-STEP_SHAPE-clause-canonical c =
     let bytes : IsBytes c.args.body.now = λ i. omega (arith, c.type_inv.body i) in
-    let some = c.if-values-eq0.false in
-    let room = c.if-body-lt-CHOICE_HEADER.false in
+    let room = c.if-body-le-CHOICE_HEADER.false in
     λ e. choice_found step_choice _ _ bytes (omega arith) c.split_at.ensures.back (c.is_array.ensures.canonical c.if-not-is_array.false)
     (sym c.u32_at-shape.ensures ∙ c.if-shape-eq-STEP_SHAPE.true) refl (λ n k i p m. step_count n k _ p m (eqb-true _ _ e ∙ ap (λ x. 4 * x) (c.u32_at-size.ensures ∙ sym i)))
 
 pub returns-then-values-size-clause-canonical : goal.returns-then-values-size-clause-canonical
 returns-then-values-size-clause-canonical c =
     let bytes : IsBytes c.args.body.now = λ i. omega (arith, c.type_inv.body i) in
-    let some = c.if-values-eq0.false in
-    let room = c.if-body-lt-CHOICE_HEADER.false in
+    let room = c.if-body-le-CHOICE_HEADER.false in
     let up_to_two = c.if-shape-gt-STEP_SHAPE.false in
     let not_one = c.if-shape-eq-RANGE_SHAPE.false in
     let not_two = c.if-shape-eq-STEP_SHAPE.false in

@@ -1,4 +1,4 @@
-use Rattle.std.proofs.Common.{◌≡◌, List, ℕ, drop, sym, subst}
+use Rattle.std.proofs.Common.{◌≡◌, List, ℕ, subst}
 use Rattle.std.specs.Prelude.{true}
 use Rattle.spa_scan.specs.Canonical.{BeginsCanonical, IsSized}
 use Rattle.spa_scan.proofs.Depths.{not_both}

@@ -8,18 +8,16 @@ use Rattle.spa_scan.proofs.Depths.{not_both}
 use Rattle.spa_scan.proofs.Missed.{sized_front}
 use Rattle.spa_scan.proofs.Frames.{fixed_begins}
 use Rattle.spa_scan.proofs.Words.{zeros_of_word}
-use Rattle.spa_scan.proofs.front.is_short_pod.Goals.{then-size-ne-ONE_WORD-via-then-size-ne-ONE_WORD, then-size-ne-ONE_WORD-via-else-size-ne-ONE_WORD+then-u32_at-ne0}
 use Rattle.spa_scan.proofs.front.is_short_pod.Goals as goal
 
-pub returns-then-size-eq-TWO_WORDS-clause-taken : goal.returns-then-size-eq-TWO_WORDS-clause-taken
-returns-then-size-eq-TWO_WORDS-clause-taken c =
+pub returns-then-fixed_len-eq-TWO_WORDS-clause-taken : goal.returns-then-fixed_len-eq-TWO_WORDS-clause-taken
+returns-then-fixed_len-eq-TWO_WORDS-clause-taken c =
     let bytes : IsBytes c.args.input.now = λ i. omega (arith, c.type_inv.input i) in
-    let eight = c.if-size-eq-TWO_WORDS.true in
-    λ e.
-    let len : c.fixed_len.result ≡ 8 = eqb-true _ _ e in
+    let len = c.if-fixed_len-eq-TWO_WORDS.true in
     let f = c.fixed_len.ensures.is_len (omega (arith, len)) in
     let size : 8 ≡ body_size f.0 = sym len ∙ f.2 in
-    fixed_begins _ _ f.0 8 bytes c.requires.long (sym c.u32_at-type_.ensures ∙ f.1) (sym c.u32_at-size.ensures ∙ eight) size
+    λ e.
+    fixed_begins _ _ f.0 8 bytes c.requires.long (sym c.u32_at-type_.ensures ∙ f.1) (sym c.u32_at-size.ensures ∙ eqb-true _ _ e) size
     (omega arith) (omega arith) refl (λ i. absurd (let four : 8 ≡ 4 = size ∙ ap body_size i in omega arith)) refl
 
 pub returns-then-is_word_type-clause-taken : goal.returns-then-is_word_type-clause-taken
@@ -43,36 +41,41 @@ returns-then-type_-clause-taken c =
     fixed_begins _ _ bool_kind 4 bytes c.requires.long (sym c.u32_at-type_.ensures ∙ c.if-type_.true) (sym c.u32_at-size.ensures ∙ four) refl
     (omega arith) (omega arith) zeros (λ _. small) refl
 
-pub returns-then-size-eq-TWO_WORDS-clause-found : goal.returns-then-size-eq-TWO_WORDS-clause-found
-returns-then-size-eq-TWO_WORDS-clause-found c = λ rest k z.
+pub returns-then-size-gt-TWO_WORDS-clause-found : goal.returns-then-size-gt-TWO_WORDS-clause-found
+returns-then-size-gt-TWO_WORDS-clause-found c = λ rest k z.
     let bytes : IsBytes c.args.input.now = λ i. omega (arith, c.type_inv.input i) in
     let f = sized_front _ _ bytes k z in
-    eq-eqb _ 8
-    (c.fixed_len.ensures.found f.kind (c.u32_at-type_.ensures ∙ f.its_type) ∙ sym f.its_size ∙ sym c.u32_at-size.ensures
-    ∙ c.if-size-eq-TWO_WORDS.true)
+    let above = c.if-size-gt-TWO_WORDS.true in
+    elim f.sizes [
+      | inl four ↦ absurd (let e : c.u32_at-size.result ≡ 4 = c.u32_at-size.ensures ∙ f.its_size ∙ four in omega arith)
+      | inr eight ↦ absurd (let e : c.u32_at-size.result ≡ 8 = c.u32_at-size.ensures ∙ f.its_size ∙ eight in omega arith)
+    ]
 
-pub returns-else-size-eq-TWO_WORDS-clause-found : goal.returns-else-size-eq-TWO_WORDS-clause-found
-returns-else-size-eq-TWO_WORDS-clause-found c = λ rest k z.
+pub returns-then-fixed_len-eq-TWO_WORDS-clause-found : goal.returns-then-fixed_len-eq-TWO_WORDS-clause-found
+returns-then-fixed_len-eq-TWO_WORDS-clause-found c = λ rest k z.
     let bytes : IsBytes c.args.input.now = λ i. omega (arith, c.type_inv.input i) in
     let f = sized_front _ _ bytes k z in
     elim f.sizes [
-      | inl four ↦ absurd (let e : c.u32_at-size.result ≡ 4 = c.u32_at-size.ensures ∙ f.its_size ∙ four in let l = c.if-size-gt-ONE_WORD.true in omega arith)
-      | inr eight ↦ absurd (c.if-size-eq-TWO_WORDS.false (c.u32_at-size.ensures ∙ f.its_size ∙ eight))
+      | inl four ↦ absurd (c.if-size-ne-ONE_WORD.true (c.u32_at-size.ensures ∙ f.its_size ∙ four))
+      | inr eight ↦ eq-eqb _ 8 (c.u32_at-size.ensures ∙ f.its_size ∙ eight)
     ]
 
-pub returns-then-size-ne-ONE_WORD-clause-found : goal.returns-then-size-ne-ONE_WORD-clause-found
-returns-then-size-ne-ONE_WORD-clause-found c = λ rest k z.
+pub returns-else-fixed_len-eq-TWO_WORDS-clause-found : goal.returns-else-fixed_len-eq-TWO_WORDS-clause-found
+returns-else-fixed_len-eq-TWO_WORDS-clause-found c = λ rest k z.
     let bytes : IsBytes c.args.input.now = λ i. omega (arith, c.type_inv.input i) in
     let f = sized_front _ _ bytes k z in
     elim f.sizes [
-      | inl four ↦
-          absurd
-          (elim c.then-size-ne-ONE_WORD.branch [
-            | then-size-ne-ONE_WORD-via-then-size-ne-ONE_WORD w ↦ w.if-size-ne-ONE_WORD.true (c.u32_at-size.ensures ∙ f.its_size ∙ four)
-            | then-size-ne-ONE_WORD-via-else-size-ne-ONE_WORD+then-u32_at-ne0 w ↦ w.if-u32_at-ne0.true (w.u32_at.ensures ∙ f.zeros four)
-          ])
-      | inr eight ↦ absurd (let e : c.u32_at-size.result ≡ 8 = c.u32_at-size.ensures ∙ f.its_size ∙ eight in let l = c.if-size-gt-ONE_WORD.false in omega arith)
+      | inl four ↦ absurd (c.if-size-ne-ONE_WORD.true (c.u32_at-size.ensures ∙ f.its_size ∙ four))
+      | inr eight ↦
+          absurd (c.if-fixed_len-eq-TWO_WORDS.false (c.fixed_len.ensures.found f.kind (c.u32_at-type_.ensures ∙ f.its_type) ∙ eight))
     ]
+
+pub returns-then-u32_at-ne0-clause-found : goal.returns-then-u32_at-ne0-clause-found
+returns-then-u32_at-ne0-clause-found c = λ rest k z.
+    let bytes : IsBytes c.args.input.now = λ i. omega (arith, c.type_inv.input i) in
+    let f = sized_front _ _ bytes k z in
+    let four : body_size f.kind ≡ 4 = sym f.its_size ∙ sym c.u32_at-size.ensures ∙ c.if-size-ne-ONE_WORD.false in
+    absurd (c.if-u32_at-ne0.true (c.u32_at.ensures ∙ f.zeros four))
 
 pub returns-then-type_-clause-found : goal.returns-then-type_-clause-found
 returns-then-type_-clause-found c = λ rest k z.

@@ -1,6 +1,6 @@
 use Rattle.std.proofs.Common.{length}
 use Rattle.spa_scan.specs.Canonical.{IsPlainFor}
-use Rattle.spa_scan.proofs.text.is_short_plain_text.Given as goal
+use Rattle.spa_scan.proofs.text.are_plain_bytes.Given as goal
 
 abbrev pub invariant-loop-byte : goal.invariant-loop-byte
 invariant-loop-byte l = IsPlainFor (length l.left) l.left → IsPlainFor (length l.text) l.text

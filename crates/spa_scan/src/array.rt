@@ -38,7 +38,7 @@ fn is_sized_array(body: &[u8]) -> bool
     if size == ONE_WORD {
         return is_word_type(type_) && elements.len() % WORD_LEN == 0;
     }
-    if size != TWO_WORDS || fixed_len(type_) != TWO_WORDS {
+    if fixed_len(type_) != TWO_WORDS || size != TWO_WORDS {
         return false;
     }
     elements.len() % HEADER_LEN == 0
@@ -88,11 +88,11 @@ pub(crate) fn is_choice(body: &[u8]) -> bool
     let size = u32_at(array, 0) as usize;
     let values = body.len() - CHOICE_HEADER;
     let shape = u32_at(body, 0);
-    if shape > STEP_SHAPE {
-        return shape <= FLAGS_SHAPE;
-    }
     if shape == RANGE_SHAPE {
         return values == 3 * size;
+    }
+    if shape > STEP_SHAPE {
+        return shape <= FLAGS_SHAPE;
     }
     if shape == STEP_SHAPE {
         return values == 4 * size;

@@ -70,6 +70,7 @@ fn is_plain_text(text: &[u8]) -> bool
 }
 
 /// The same of fewer than eight bytes.
+#[inline(always)]
 fn is_short_plain_text(text: &[u8]) -> bool
     ensures { result ≡ true → IsPlainFor (length text.now) text.now }
 {

@@ -7,6 +7,7 @@ ghost use Rattle.libspa.specs.View.{object_view};
 ghost use Rattle.spa_uses.specs.Control.{IsControl, control_tree, tree_with, volume_key};
 ghost use Rattle.spa_uses.specs.declared.control.Control.{Control};
 
+use crate::declining::declined;
 use libspa::pod::deserialize::{
     DeserializeError, DeserializeSuccess, Never, ObjectPodDeserializer, PodDeserialize,
     PodDeserializer, StructPodDeserializer, ValueVisitor, Visit, Visitor,
@@ -81,11 +82,11 @@ impl<'de> Visitor<'de> for ControlVisitor {
 
     ghost visits_object = { λ _ type id properties control. IsControl control (object type id properties) };
 
-    fn visit(&self, _given: Visit<'de, Never>) -> Result<Control, DeserializeError<&'de [u8]>>
+    fn visit(&self, given: Visit<'de, Never>) -> Result<Control, DeserializeError<&'de [u8]>>
         ensures made { IfOk result (λ _. ⊥) }
         ensures declined { IfErr result (λ _. ⊤) }
     {
-        Err(DeserializeError::UnsupportedType)
+        Err(declined(given))
     }
 
     #[tactic(auto, using(spa_read::proofs::Stepping::further_same))]

@@ -2,6 +2,7 @@
 #![tactic(auto)]
 
 mod control;
+mod declining;
 mod level;
 mod mode;
 mod screen;

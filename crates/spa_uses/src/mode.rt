@@ -5,6 +5,7 @@ ghost use Rattle.libspa.specs.Front.{Begins, rest_of};
 ghost use Rattle.libspa.specs.Kind as kind;
 ghost use Rattle.libspa.specs.Tree.{Tree, fixed, member, no_trees, struct};
 
+use crate::declining::declined;
 use arrayvec::ArrayVec;
 use libspa::pod::deserialize::{
     DeserializeError, DeserializeSuccess, Never, ObjectPodDeserializer, PodDeserialize,
@@ -82,11 +83,11 @@ impl<'de> Visitor<'de> for SizeVisitor {
 
     ghost visits_object = { λ _ _ _ _ _. ⊥ };
 
-    fn visit(&self, _given: Visit<'de, Never>) -> Result<Size, DeserializeError<&'de [u8]>>
+    fn visit(&self, given: Visit<'de, Never>) -> Result<Size, DeserializeError<&'de [u8]>>
         ensures made { IfOk result (λ _. ⊥) }
         ensures declined { IfErr result (λ _. ⊤) }
     {
-        Err(DeserializeError::UnsupportedType)
+        Err(declined(given))
     }
 
     #[tactic(auto, using(spa_read::proofs::Stepping::further_trans))]
@@ -137,11 +138,11 @@ impl<'de> Visitor<'de> for ModeVisitor {
 
     ghost visits_object = { λ _ _ _ _ _. ⊥ };
 
-    fn visit(&self, _given: Visit<'de, Never>) -> Result<Mode, DeserializeError<&'de [u8]>>
+    fn visit(&self, given: Visit<'de, Never>) -> Result<Mode, DeserializeError<&'de [u8]>>
         ensures made { IfOk result (λ _. ⊥) }
         ensures declined { IfErr result (λ _. ⊤) }
     {
-        Err(DeserializeError::UnsupportedType)
+        Err(declined(given))
     }
 
     #[tactic(auto, using(spa_read::proofs::Stepping::further_trans))]

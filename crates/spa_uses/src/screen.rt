@@ -3,6 +3,7 @@ ghost use Rattle.std.specs.Prelude.{⊤, ◌≡◌, ℕ, IfErr, IfOk};
 ghost use Rattle.libspa.specs.Kind as kind;
 ghost use Rattle.libspa.specs.Tree.{fixed, no_properties, object, property, string};
 
+use crate::declining::declined;
 use crate::mode::Mode;
 use bitflags::Flags;
 use libspa::pod::PropertyFlags;
@@ -61,11 +62,11 @@ impl<'de> Visitor<'de> for DeviceVisitor {
 
     ghost visits_object = { λ _ _ _ properties device. (f : ℕ) × (g : ℕ) × (properties ≡ property 1 f (string device.name.now) (property 2 g (fixed (kind.float device.volume.0)) no_properties)) };
 
-    fn visit(&self, _given: Visit<'de, Never>) -> Result<Device<'de>, DeserializeError<&'de [u8]>>
+    fn visit(&self, given: Visit<'de, Never>) -> Result<Device<'de>, DeserializeError<&'de [u8]>>
         ensures made { IfOk result (λ _. ⊥) }
         ensures declined { IfErr result (λ _. ⊤) }
     {
-        Err(DeserializeError::UnsupportedType)
+        Err(declined(given))
     }
 
     #[tactic(auto, using(spa_read::proofs::Stepping::further_same))]
@@ -132,11 +133,11 @@ impl<'de> Visitor<'de> for ScreenVisitor {
 
     ghost visits_object = { λ _ _ _ properties screen. (f : ℕ) × (properties ≡ property 1 f (⟦<Mode as PodSerialize>⟧.value screen.mode) no_properties) };
 
-    fn visit(&self, _given: Visit<'de, Never>) -> Result<Screen<Mode>, DeserializeError<&'de [u8]>>
+    fn visit(&self, given: Visit<'de, Never>) -> Result<Screen<Mode>, DeserializeError<&'de [u8]>>
         ensures made { IfOk result (λ _. ⊥) }
         ensures declined { IfErr result (λ _. ⊤) }
     {
-        Err(DeserializeError::UnsupportedType)
+        Err(declined(given))
     }
 
     #[tactic(auto, using(spa_read::proofs::Stepping::further_same))]

@@ -3,6 +3,7 @@ ghost use Rattle.std.specs.Prelude.{⊤, ◌≡◌, IfErr, IfOk};
 ghost use Rattle.libspa.specs.Kind as kind;
 ghost use Rattle.libspa.specs.Tree.{fixed, member, no_trees, string, struct};
 
+use crate::declining::declined;
 use libspa::pod::deserialize::{
     DeserializeError, DeserializeSuccess, Never, ObjectPodDeserializer, PodDeserialize,
     PodDeserializer, StructPodDeserializer, Visit, Visitor,
@@ -119,11 +120,11 @@ impl<'de> Visitor<'de> for SongVisitor {
 
     ghost visits_object = { λ _ _ _ _ _. ⊥ };
 
-    fn visit(&self, _given: Visit<'de, Never>) -> Result<Song<'de>, DeserializeError<&'de [u8]>>
+    fn visit(&self, given: Visit<'de, Never>) -> Result<Song<'de>, DeserializeError<&'de [u8]>>
         ensures made { IfOk result (λ _. ⊥) }
         ensures declined { IfErr result (λ _. ⊤) }
     {
-        Err(DeserializeError::UnsupportedType)
+        Err(declined(given))
     }
 
     #[tactic(auto, using(spa_read::proofs::Stepping::further_trans))]

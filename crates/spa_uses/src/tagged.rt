@@ -4,6 +4,7 @@ ghost use Rattle.libspa.specs.Kind as kind;
 ghost use Rattle.libspa.specs.Tree.{fixed, member, no_trees, struct};
 ghost use Rattle.libspa.specs.View.{view};
 
+use crate::declining::declined;
 use libspa::pod::Value;
 use libspa::pod::deserialize::{
     DeserializeError, DeserializeSuccess, Never, ObjectPodDeserializer, PodDeserialize,
@@ -48,11 +49,11 @@ impl<'de> Visitor<'de> for TaggedVisitor {
 
     ghost visits_object = { λ _ _ _ _ _. ⊥ };
 
-    fn visit(&self, _given: Visit<'de, Never>) -> Result<Tagged, DeserializeError<&'de [u8]>>
+    fn visit(&self, given: Visit<'de, Never>) -> Result<Tagged, DeserializeError<&'de [u8]>>
         ensures made { IfOk result (λ _. ⊥) }
         ensures declined { IfErr result (λ _. ⊤) }
     {
-        Err(DeserializeError::UnsupportedType)
+        Err(declined(given))
     }
 
     #[tactic(auto, using(spa_read::proofs::Stepping::further_trans))]

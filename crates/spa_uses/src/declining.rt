@@ -1,0 +1,9 @@
+//! What a visitor answers that takes structs or objects alone.
+
+use libspa::pod::deserialize::{DeserializeError, Never, Visit};
+
+/// Lets go of what a visitor is handed, and declines it. A visitor may as well do so in place, as that of `Cover` does; here it is
+/// proved once for all of them.
+pub(crate) fn declined<'de>(_given: Visit<'de, Never>) -> DeserializeError<&'de [u8]> {
+    DeserializeError::UnsupportedType
+}

@@ -18,8 +18,8 @@ pub const LEVELS: u32 = 1000;
 /// its truth values are 0 or 1, its choices hold no surplus values, its pointers take 16 bytes, and the same holds of its
 /// members. It takes no memory.
 ///
-/// `None` says that it isn't, or that structs and objects stand more than `LEVELS` deep in one another: these may not be looked
-/// into.
+/// `None` says that it isn't, or that structs and objects stand more than `LEVELS` deep in one another: such a pod may not be
+/// looked into, and may still be its own rewriting.
 pub fn canonical_front(input: &[u8]) -> Option<&[u8]>
     ensures taken { IfSome result (λ rest. BeginsCanonical input.now rest.now) }
     ensures shorter { IfSome result (λ rest. length rest.now + 8 ≤ length input.now) }

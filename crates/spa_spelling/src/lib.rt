@@ -1,5 +1,6 @@
 //! Bytes for tests: from the words of a table, and from a text that spells them. There is nothing here that the library uses.
 #![tactic(auto)]
+
 ghost use Rattle.std.specs.List.{flat_map};
 ghost use Rattle.std.specs.Prelude.{◌≡◌, IfOk};
 ghost use Rattle.spa_format.specs.Words.{word_bytes};

@@ -3,7 +3,6 @@ ghost use Rattle.std.specs.Prelude.{⊤, ◌≡◌, IfErr, IfOk};
 ghost use Rattle.libspa.specs.Kind as kind;
 ghost use Rattle.libspa.specs.Tree.{fixed, member, no_trees, string, struct};
 
-use crate::declining::declined;
 use libspa::pod::deserialize::{
     DeserializeError, DeserializeSuccess, Never, ObjectPodDeserializer, PodDeserialize,
     PodDeserializer, StructPodDeserializer, Visit, Visitor,
@@ -120,11 +119,11 @@ impl<'de> Visitor<'de> for SongVisitor {
 
     ghost visits_object = { λ _ _ _ _ _. ⊥ };
 
-    fn visit(&self, given: Visit<'de, Never>) -> Result<Song<'de>, DeserializeError<&'de [u8]>>
+    fn visit(&self, _given: Visit<'de, Never>) -> Result<Song<'de>, DeserializeError<&'de [u8]>>
         ensures made { IfOk result (λ _. ⊥) }
         ensures declined { IfErr result (λ _. ⊤) }
     {
-        Err(declined(given))
+        Err(DeserializeError::UnsupportedType)
     }
 
     #[tactic(auto, using(spa_read::proofs::Stepping::further_trans))]

@@ -5,6 +5,7 @@ pub mod MemberLists
 pub mod PropertyLists
 pub mod Pieces
 pub mod Measuring
+pub mod Shorts
 pub mod Stopping
 pub mod OpenPods
 pub mod OpenArrays

@@ -1,5 +1,5 @@
 -- Values that are measured before they are written, and what a sink takes of them: docs/FORMAT.md, "The encoding of a value".
-use Rattle.std.specs.Prelude.{◌≡◌, ℕ, ◌<◌, List, length}
+use Rattle.std.specs.Prelude.{◌≡◌, ℕ, ◌<◌, List, get_or, length}
 use Rattle.spa_sink.specs.declared.gen_error.GenError.{GenError}
 use Rattle.spa_sink.specs.Writing.{Begun, Sent}
 use Rattle.spa_format.specs.Words.{size_limit}
@@ -7,6 +7,8 @@ use Rattle.spa_format.specs.Tree.{Tree, struct, Trees, Properties}
 use Rattle.spa_format.specs.Encoding.{encoding_of, member_encodings, property_encodings}
 use Rattle.spa_format.specs.Typed.{AllTyped, AllPropertiesTyped}
 use Rattle.spa_format.specs.Writable.{IsWritable, SomeValueHasNul, SomeValueTooLarge}
+use Rattle.spa_value.specs.declared.value.Value.{Value}
+use Rattle.spa_value.specs.View.{view}
 use Rattle.spa_write.specs.Written.{Appending, Refusing}
 
 -- the value can be written, and its encoding has so many bytes
@@ -19,6 +21,10 @@ pub record AreMeasured (vs : Trees) (n : ℕ) : Type 0 where
   pub size : n ≡ length (member_encodings vs)
   pub short : n < size_limit
   pub writable : IsWritable (struct vs)
+
+-- each of these values can be written, and its pod has 16 bytes
+abbrev pub AreShort : List Value → Type 0
+AreShort vs = (i : ℕ) (v : Value) → i < length vs → v ≡ get_or vs i v → IsMeasured (view v) 16
 
 -- each of these properties can be written, and all of them behind one another fit a pod
 pub record PropertiesAreWritable (ps : Properties) : Type 0 where

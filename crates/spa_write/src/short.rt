@@ -1,12 +1,13 @@
 //! Values whose pods have sixteen bytes.
-ghost use Rattle.std.specs.Prelude.{◌≡◌, IfSome, OnSome};
+ghost use Rattle.std.specs.Prelude.{◌≡◌, IfSome, OnSome, true};
 ghost use Rattle.spa_format.specs.Encoding.{encoding_of};
 ghost use Rattle.spa_format.specs.Tree as tree;
 ghost use Rattle.spa_format.specs.Typed.{IsTyped};
 ghost use Rattle.spa_format.specs.Words.{extent};
 ghost use Rattle.spa_value.specs.View.{view};
+ghost use Rattle.spa_write.specs.Measured.{AreShort, IsMeasured};
 
-use spa_fixed::{CanonicalFixedSizedPod, LONGEST_POD_LEN, pod_bytes};
+use spa_fixed::{CanonicalFixedSizedPod, LONGEST_POD_LEN, pod_bytes, pod_len};
 use spa_value::Value;
 
 /// The encoding of a value of one of the nine types whose pods have sixteen bytes. None: it is of another type.
@@ -37,4 +38,55 @@ fn short_pod<T: CanonicalFixedSizedPod>(value: &T) -> [u8; LONGEST_POD_LEN]
     ensures typed { IsTyped (tree.fixed (T.fixed value.now)) }
 {
     pod_bytes(value)
+}
+
+/// In so many places are many values looked at in turn, so that the memory in which they lie is read at several places at once.
+const PLACES: usize = 4;
+
+/// Whether all of these are of one of these nine types.
+pub(crate) fn are_short(values: &[Value]) -> bool
+    ensures { result ≡ true → AreShort values.now }
+{
+    let part = values.len() / PLACES;
+    for index in 0..part {
+        let near = has_short_pod(&values[index]) & has_short_pod(&values[part + index]);
+        let far = has_short_pod(&values[2 * part + index])
+            & has_short_pod(&values[3 * part + index]);
+        if !(near & far) {
+            return false;
+        }
+    }
+    for index in PLACES * part..values.len() {
+        if !has_short_pod(&values[index]) {
+            return false;
+        }
+    }
+    true
+}
+
+/// Whether it is of one of these nine types.
+#[inline(always)]
+fn has_short_pod(value: &Value) -> bool
+    ensures { result ≡ true → IsMeasured (view value.now) LONGEST_POD_LEN }
+{
+    match value {
+        Value::Bool(value) => is_short(value),
+        Value::Id(id) => is_short(id),
+        Value::Int(number) => is_short(number),
+        Value::Long(number) => is_short(number),
+        Value::Float(bits) => is_short(bits),
+        Value::Double(bits) => is_short(bits),
+        Value::Rectangle(rectangle) => is_short(rectangle),
+        Value::Fraction(fraction) => is_short(fraction),
+        Value::Fd(fd) => is_short(fd),
+        _ => false,
+    }
+}
+
+/// Whether the pod of this value of fixed size has sixteen bytes.
+#[inline(always)]
+fn is_short<T: CanonicalFixedSizedPod>(value: &T) -> bool
+    ensures { result ≡ true → IsMeasured (tree.fixed (T.fixed value.now)) LONGEST_POD_LEN }
+{
+    pod_len(value) == LONGEST_POD_LEN
 }

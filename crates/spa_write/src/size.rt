@@ -12,8 +12,11 @@ ghost use Rattle.spa_value.specs.Views.{property_views, views};
 ghost use Rattle.spa_write.specs.Measured.{AreMeasured, IsMeasured, PropertiesAreMeasured};
 ghost use Rattle.spa_write.specs.Written.{IsLeaf};
 
+use crate::short::are_short;
 use spa_bytes::{HEADER_LEN, POINTER_LEN, extent_of};
-use spa_fixed::{CanonicalFixedSizedPod, ChoiceElement, array_size, choice_size, pod_len};
+use spa_fixed::{
+    CanonicalFixedSizedPod, ChoiceElement, LONGEST_POD_LEN, array_size, choice_size, pod_len,
+};
 use spa_sink::GenError;
 use spa_utils::Choice;
 use spa_value::{ChoiceValue, Property, Value, ValueArray};
@@ -70,12 +73,18 @@ fn only_struct(members: &[Value]) -> Option<&[Value]>
     }
 }
 
-/// How many bytes the encodings of these values have, measured one by one.
+/// How many pods of sixteen bytes a size word can't count.
+const SHORT_LIMIT: usize = 1 << 28;
+
+/// How many bytes the encodings of these values have: at once where they are all short, and else measured one by one.
 #[cycle(size)]
 fn all_len(members: &[Value]) -> Result<u64, GenError>
     ensures measured { IfOk result (λ n. AreMeasured (views members.now) n) }
     ensures cause { IfErr result (λ e. RefusesWrite (HasNul (tree.struct (views members.now))) (IsTooLarge (tree.struct (views members.now))) (λ _. ⊥) e) }
 {
+    if members.len() < SHORT_LIMIT && are_short(members) {
+        return Ok((LONGEST_POD_LEN * members.len()) as u64);
+    }
     let mut total = 0;
     for member in members {
         let len = encoded_len(member)?;

@@ -9,6 +9,7 @@ use Rattle.spa_value.proofs.ViewLaws.{view-struct, view-fields}
 use Rattle.spa_write.proofs.LoneStructs.{lone_length, one_within, within_too_long}
 use Rattle.spa_write.proofs.MemberLists.{measured_next, measured_none, member_unwritable, members_length, members_too_long, struct_measured, struct_unwritable}
 use Rattle.spa_write.proofs.PropertyLists.{object_measured, object_too_long, object_unwritable, properties_measured_next, properties_length, properties_measured_none, properties_too_long, property_unwritable}
+use Rattle.spa_write.proofs.Shorts.{short_measured}
 use Rattle.spa_write.proofs.Stopping.{size_of_object, size_of_struct}
 use Rattle.spa_write.proofs.size.+size.Goals as goal
 
@@ -114,6 +115,11 @@ all_len-returns-in_err-total-clause-cause t c =
     passed_on _ _ _ c.from_residual-in_err-total.ensures.1
     (members_too_long c.args.members.now c.loop-member.member-index c.member-item.result c.loop-member.total c.in_ok-len.len
     c.loop-member-test.true c.member-item.is c.loop-member.invariant c.in_ok-len.ensures.measured _ c.in_err-total.ensures.long)
+
+pub all_len-returns-then-are_short-clause-measured : goal.all_len-returns-then-are_short-clause-measured
+all_len-returns-then-are_short-clause-measured t c =
+    let few = c.if-members-lt-SHORT_LIMIT.true in
+    short_measured c.args.members.now (c.are_short.ensures c.if-are_short.true) (omega (arith, few))
 
 pub properties_len-loop-property-init : goal.properties_len-loop-property-init
 properties_len-loop-property-init t c = properties_measured_none

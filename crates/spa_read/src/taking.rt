@@ -27,6 +27,6 @@ impl Takes for Option<Value> {
 
     #[inline(always)]
     fn put(&mut self, value: Value) {
-        *self = Some(value);
+        drop(self.replace(value));
     }
 }

@@ -7,7 +7,6 @@ ghost use Rattle.libspa.specs.View.{object_view};
 ghost use Rattle.spa_uses.specs.Control.{IsControl, control_tree, tree_with, volume_key};
 ghost use Rattle.spa_uses.specs.declared.control.Control.{Control};
 
-use crate::declining::declined;
 use libspa::pod::deserialize::{
     DeserializeError, DeserializeSuccess, Never, ObjectPodDeserializer, PodDeserialize,
     PodDeserializer, StructPodDeserializer, ValueVisitor, Visit, Visitor,
@@ -86,7 +85,8 @@ impl<'de> Visitor<'de> for ControlVisitor {
         ensures made { IfOk result (λ _. ⊥) }
         ensures declined { IfErr result (λ _. ⊤) }
     {
-        Err(declined(given))
+        drop(given);
+        Err(DeserializeError::UnsupportedType)
     }
 
     #[tactic(auto, using(spa_read::proofs::Stepping::further_same))]
@@ -104,10 +104,13 @@ impl<'de> Visitor<'de> for ControlVisitor {
         let visitor = ValueVisitor {
             alloc: reader.allocator(),
         };
-        let Value::Object(object) = visitor.visit_object(reader)? else {
-            return Err(DeserializeError::UnsupportedType);
-        };
-        control_of(object)
+        match visitor.visit_object(reader)? {
+            Value::Object(object) => control_of(object),
+            other => {
+                drop(other);
+                Err(DeserializeError::UnsupportedType)
+            }
+        }
     }
 }
 
@@ -139,8 +142,12 @@ fn control_of<'de>(object: Object) -> Result<Control, DeserializeError<&'de [u8]
     };
     let mut behind = before.split_off(place)?;
     let Property { flags, value, .. } = behind.remove(0);
-    let Value::Float(volume) = value else {
-        return Err(DeserializeError::UnsupportedType);
+    let volume = match value {
+        Value::Float(volume) => volume,
+        other => {
+            drop(other);
+            return Err(DeserializeError::UnsupportedType);
+        }
     };
     Ok(Control {
         type_,
@@ -166,14 +173,9 @@ fn volume_place(properties: &[Property]) -> Option<usize>
 pub fn with_volume(alloc: Global, input: &[u8], volume: Float32) -> Option<Vec<u8>>
     ensures { IfSome result (λ bytes. (control : Control) × (value : Tree) × Begins input.now value × IsControl control value × (bytes.items ≡ encoding_of (tree_with control volume.0))) }
 {
-    let Ok((_, control)) = PodDeserializer::deserialize_from::<Control>(alloc, input) else {
-        return None;
-    };
-    let Ok(object) = Control { volume, ..control }.into_object() else {
-        return None;
-    };
-    let Ok((bytes, _)) = PodSerializer::serialize(Vec::new(alloc), &Value::Object(object)) else {
-        return None;
-    };
+    let (_, mut control) = PodDeserializer::deserialize_from::<Control>(alloc, input).ok()?;
+    control.volume = volume;
+    let object = control.into_object().ok()?;
+    let (bytes, _) = PodSerializer::serialize(Vec::new(alloc), &Value::Object(object)).ok()?;
     Some(bytes)
 }

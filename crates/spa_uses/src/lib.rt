@@ -2,7 +2,6 @@
 #![tactic(auto)]
 
 mod control;
-mod declining;
 mod level;
 mod mode;
 mod screen;

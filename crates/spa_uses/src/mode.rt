@@ -5,7 +5,6 @@ ghost use Rattle.libspa.specs.Front.{Begins, rest_of};
 ghost use Rattle.libspa.specs.Kind as kind;
 ghost use Rattle.libspa.specs.Tree.{Tree, fixed, member, no_trees, struct};
 
-use crate::declining::declined;
 use arrayvec::ArrayVec;
 use libspa::pod::deserialize::{
     DeserializeError, DeserializeSuccess, Never, ObjectPodDeserializer, PodDeserialize,
@@ -87,7 +86,8 @@ impl<'de> Visitor<'de> for SizeVisitor {
         ensures made { IfOk result (λ _. ⊥) }
         ensures declined { IfErr result (λ _. ⊤) }
     {
-        Err(declined(given))
+        drop(given);
+        Err(DeserializeError::UnsupportedType)
     }
 
     #[tactic(auto, using(spa_read::proofs::Stepping::further_trans))]
@@ -142,7 +142,8 @@ impl<'de> Visitor<'de> for ModeVisitor {
         ensures made { IfOk result (λ _. ⊥) }
         ensures declined { IfErr result (λ _. ⊤) }
     {
-        Err(declined(given))
+        drop(given);
+        Err(DeserializeError::UnsupportedType)
     }
 
     #[tactic(auto, using(spa_read::proofs::Stepping::further_trans))]

@@ -3,7 +3,6 @@ ghost use Rattle.std.specs.Prelude.{⊤, ◌≡◌, ℕ, IfErr, IfOk};
 ghost use Rattle.libspa.specs.Kind as kind;
 ghost use Rattle.libspa.specs.Tree.{fixed, no_properties, object, property, string};
 
-use crate::declining::declined;
 use crate::mode::Mode;
 use bitflags::Flags;
 use libspa::pod::PropertyFlags;
@@ -66,7 +65,8 @@ impl<'de> Visitor<'de> for DeviceVisitor {
         ensures made { IfOk result (λ _. ⊥) }
         ensures declined { IfErr result (λ _. ⊤) }
     {
-        Err(declined(given))
+        drop(given);
+        Err(DeserializeError::UnsupportedType)
     }
 
     #[tactic(auto, using(spa_read::proofs::Stepping::further_same))]
@@ -137,7 +137,8 @@ impl<'de> Visitor<'de> for ScreenVisitor {
         ensures made { IfOk result (λ _. ⊥) }
         ensures declined { IfErr result (λ _. ⊤) }
     {
-        Err(declined(given))
+        drop(given);
+        Err(DeserializeError::UnsupportedType)
     }
 
     #[tactic(auto, using(spa_read::proofs::Stepping::further_same))]

@@ -67,10 +67,11 @@ impl<'de> Visitor<'de> for CoverVisitor {
 
     ghost visits_object = { λ _ _ _ _ _. ⊥ };
 
-    fn visit(&self, _given: Visit<'de, Never>) -> Result<Cover, DeserializeError<&'de [u8]>>
+    fn visit(&self, given: Visit<'de, Never>) -> Result<Cover, DeserializeError<&'de [u8]>>
         ensures made { IfOk result (λ _. ⊥) }
         ensures declined { IfErr result (λ _. ⊤) }
     {
+        drop(given);
         Err(DeserializeError::UnsupportedType)
     }
 
@@ -119,10 +120,11 @@ impl<'de> Visitor<'de> for SongVisitor {
 
     ghost visits_object = { λ _ _ _ _ _. ⊥ };
 
-    fn visit(&self, _given: Visit<'de, Never>) -> Result<Song<'de>, DeserializeError<&'de [u8]>>
+    fn visit(&self, given: Visit<'de, Never>) -> Result<Song<'de>, DeserializeError<&'de [u8]>>
         ensures made { IfOk result (λ _. ⊥) }
         ensures declined { IfErr result (λ _. ⊤) }
     {
+        drop(given);
         Err(DeserializeError::UnsupportedType)
     }
 

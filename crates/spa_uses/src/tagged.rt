@@ -4,7 +4,6 @@ ghost use Rattle.libspa.specs.Kind as kind;
 ghost use Rattle.libspa.specs.Tree.{fixed, member, no_trees, struct};
 ghost use Rattle.libspa.specs.View.{view};
 
-use crate::declining::declined;
 use libspa::pod::Value;
 use libspa::pod::deserialize::{
     DeserializeError, DeserializeSuccess, Never, ObjectPodDeserializer, PodDeserialize,
@@ -53,7 +52,8 @@ impl<'de> Visitor<'de> for TaggedVisitor {
         ensures made { IfOk result (λ _. ⊥) }
         ensures declined { IfErr result (λ _. ⊤) }
     {
-        Err(declined(given))
+        drop(given);
+        Err(DeserializeError::UnsupportedType)
     }
 
     #[tactic(auto, using(spa_read::proofs::Stepping::further_trans))]

@@ -33,7 +33,7 @@ impl Takes for Option<Value> {
 
     #[inline(always)]
     fn put(&mut self, value: Value) {
-        *self = Some(value);
+        drop(self.replace(value));
     }
 }
 

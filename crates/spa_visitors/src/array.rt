@@ -40,7 +40,10 @@ impl<'de, E: Drop> Visitor<'de> for VecVisitor<E> {
     {
         match given {
             Visit::Array(items) => Ok(items),
-            _ => Err(DeserializeError::UnsupportedType),
+            other => {
+                drop(other);
+                Err(DeserializeError::UnsupportedType)
+            }
         }
     }
 

@@ -32,7 +32,10 @@ impl<'de> Visitor<'de> for ChoiceBoolVisitor {
     {
         match given {
             Visit::Choice(ChoiceValue::Bool(x)) => Ok(x),
-            _ => Err(DeserializeError::UnsupportedType),
+            other => {
+                drop(other);
+                Err(DeserializeError::UnsupportedType)
+            }
         }
     }
 
@@ -76,7 +79,10 @@ impl<'de> Visitor<'de> for ChoiceIntVisitor {
     {
         match given {
             Visit::Choice(ChoiceValue::Int(x)) => Ok(x),
-            _ => Err(DeserializeError::UnsupportedType),
+            other => {
+                drop(other);
+                Err(DeserializeError::UnsupportedType)
+            }
         }
     }
 
@@ -120,7 +126,10 @@ impl<'de> Visitor<'de> for ChoiceLongVisitor {
     {
         match given {
             Visit::Choice(ChoiceValue::Long(x)) => Ok(x),
-            _ => Err(DeserializeError::UnsupportedType),
+            other => {
+                drop(other);
+                Err(DeserializeError::UnsupportedType)
+            }
         }
     }
 
@@ -167,7 +176,10 @@ impl<'de> Visitor<'de> for ChoiceFloatVisitor {
     {
         match given {
             Visit::Choice(ChoiceValue::Float(x)) => Ok(x),
-            _ => Err(DeserializeError::UnsupportedType),
+            other => {
+                drop(other);
+                Err(DeserializeError::UnsupportedType)
+            }
         }
     }
 
@@ -214,7 +226,10 @@ impl<'de> Visitor<'de> for ChoiceDoubleVisitor {
     {
         match given {
             Visit::Choice(ChoiceValue::Double(x)) => Ok(x),
-            _ => Err(DeserializeError::UnsupportedType),
+            other => {
+                drop(other);
+                Err(DeserializeError::UnsupportedType)
+            }
         }
     }
 
@@ -258,7 +273,10 @@ impl<'de> Visitor<'de> for ChoiceIdVisitor {
     {
         match given {
             Visit::Choice(ChoiceValue::Id(x)) => Ok(x),
-            _ => Err(DeserializeError::UnsupportedType),
+            other => {
+                drop(other);
+                Err(DeserializeError::UnsupportedType)
+            }
         }
     }
 
@@ -305,7 +323,10 @@ impl<'de> Visitor<'de> for ChoiceRectangleVisitor {
     {
         match given {
             Visit::Choice(ChoiceValue::Rectangle(x)) => Ok(x),
-            _ => Err(DeserializeError::UnsupportedType),
+            other => {
+                drop(other);
+                Err(DeserializeError::UnsupportedType)
+            }
         }
     }
 
@@ -352,7 +373,10 @@ impl<'de> Visitor<'de> for ChoiceFractionVisitor {
     {
         match given {
             Visit::Choice(ChoiceValue::Fraction(x)) => Ok(x),
-            _ => Err(DeserializeError::UnsupportedType),
+            other => {
+                drop(other);
+                Err(DeserializeError::UnsupportedType)
+            }
         }
     }
 
@@ -396,7 +420,10 @@ impl<'de> Visitor<'de> for ChoiceFdVisitor {
     {
         match given {
             Visit::Choice(ChoiceValue::Fd(x)) => Ok(x),
-            _ => Err(DeserializeError::UnsupportedType),
+            other => {
+                drop(other);
+                Err(DeserializeError::UnsupportedType)
+            }
         }
     }
 

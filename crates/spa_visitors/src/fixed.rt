@@ -30,7 +30,10 @@ impl<'de> Visitor<'de> for NoneVisitor {
     {
         match given {
             Visit::None => Ok(()),
-            _ => Err(DeserializeError::UnsupportedType),
+            other => {
+                drop(other);
+                Err(DeserializeError::UnsupportedType)
+            }
         }
     }
 
@@ -74,7 +77,10 @@ impl<'de> Visitor<'de> for BoolVisitor {
     {
         match given {
             Visit::Bool(x) => Ok(x),
-            _ => Err(DeserializeError::UnsupportedType),
+            other => {
+                drop(other);
+                Err(DeserializeError::UnsupportedType)
+            }
         }
     }
 
@@ -118,7 +124,10 @@ impl<'de> Visitor<'de> for IntVisitor {
     {
         match given {
             Visit::Int(x) => Ok(x),
-            _ => Err(DeserializeError::UnsupportedType),
+            other => {
+                drop(other);
+                Err(DeserializeError::UnsupportedType)
+            }
         }
     }
 
@@ -162,7 +171,10 @@ impl<'de> Visitor<'de> for LongVisitor {
     {
         match given {
             Visit::Long(x) => Ok(x),
-            _ => Err(DeserializeError::UnsupportedType),
+            other => {
+                drop(other);
+                Err(DeserializeError::UnsupportedType)
+            }
         }
     }
 
@@ -206,7 +218,10 @@ impl<'de> Visitor<'de> for FloatVisitor {
     {
         match given {
             Visit::Float(x) => Ok(x),
-            _ => Err(DeserializeError::UnsupportedType),
+            other => {
+                drop(other);
+                Err(DeserializeError::UnsupportedType)
+            }
         }
     }
 
@@ -250,7 +265,10 @@ impl<'de> Visitor<'de> for DoubleVisitor {
     {
         match given {
             Visit::Double(x) => Ok(x),
-            _ => Err(DeserializeError::UnsupportedType),
+            other => {
+                drop(other);
+                Err(DeserializeError::UnsupportedType)
+            }
         }
     }
 
@@ -294,7 +312,10 @@ impl<'de> Visitor<'de> for RectangleVisitor {
     {
         match given {
             Visit::Rectangle(x) => Ok(x),
-            _ => Err(DeserializeError::UnsupportedType),
+            other => {
+                drop(other);
+                Err(DeserializeError::UnsupportedType)
+            }
         }
     }
 
@@ -338,7 +359,10 @@ impl<'de> Visitor<'de> for FractionVisitor {
     {
         match given {
             Visit::Fraction(x) => Ok(x),
-            _ => Err(DeserializeError::UnsupportedType),
+            other => {
+                drop(other);
+                Err(DeserializeError::UnsupportedType)
+            }
         }
     }
 
@@ -382,7 +406,10 @@ impl<'de> Visitor<'de> for IdVisitor {
     {
         match given {
             Visit::Id(x) => Ok(x),
-            _ => Err(DeserializeError::UnsupportedType),
+            other => {
+                drop(other);
+                Err(DeserializeError::UnsupportedType)
+            }
         }
     }
 
@@ -426,7 +453,10 @@ impl<'de> Visitor<'de> for FdVisitor {
     {
         match given {
             Visit::Fd(x) => Ok(x),
-            _ => Err(DeserializeError::UnsupportedType),
+            other => {
+                drop(other);
+                Err(DeserializeError::UnsupportedType)
+            }
         }
     }
 

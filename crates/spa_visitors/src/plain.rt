@@ -29,7 +29,10 @@ impl<'de> Visitor<'de> for StringVisitor {
     {
         match given {
             Visit::String(x) => Ok(x),
-            _ => Err(DeserializeError::UnsupportedType),
+            other => {
+                drop(other);
+                Err(DeserializeError::UnsupportedType)
+            }
         }
     }
 
@@ -73,7 +76,10 @@ impl<'de> Visitor<'de> for BytesVisitor {
     {
         match given {
             Visit::Bytes(x) => Ok(x),
-            _ => Err(DeserializeError::UnsupportedType),
+            other => {
+                drop(other);
+                Err(DeserializeError::UnsupportedType)
+            }
         }
     }
 
@@ -117,7 +123,10 @@ impl<'de> Visitor<'de> for BitmapVisitor {
     {
         match given {
             Visit::Bitmap(x) => Ok(x),
-            _ => Err(DeserializeError::UnsupportedType),
+            other => {
+                drop(other);
+                Err(DeserializeError::UnsupportedType)
+            }
         }
     }
 
@@ -161,7 +170,10 @@ impl<'de> Visitor<'de> for PointerVisitor {
     {
         match given {
             Visit::Pointer(type_, address) => Ok((type_, address)),
-            _ => Err(DeserializeError::UnsupportedType),
+            other => {
+                drop(other);
+                Err(DeserializeError::UnsupportedType)
+            }
         }
     }
 

@@ -173,9 +173,14 @@ fn volume_place(properties: &[Property]) -> Option<usize>
 pub fn with_volume(alloc: Global, input: &[u8], volume: Float32) -> Option<Vec<u8>>
     ensures { IfSome result (λ bytes. (control : Control) × (value : Tree) × Begins input.now value × IsControl control value × (bytes.items ≡ encoding_of (tree_with control volume.0))) }
 {
-    let (_, mut control) = PodDeserializer::deserialize_from::<Control>(alloc, input).ok()?;
-    control.volume = volume;
-    let object = control.into_object().ok()?;
-    let (bytes, _) = PodSerializer::serialize(Vec::new(alloc), &Value::Object(object)).ok()?;
+    let Ok((_, control)) = PodDeserializer::deserialize_from::<Control>(alloc, input) else {
+        return None;
+    };
+    let Ok(object) = Control { volume, ..control }.into_object() else {
+        return None;
+    };
+    let Ok((bytes, _)) = PodSerializer::serialize(Vec::new(alloc), &Value::Object(object)) else {
+        return None;
+    };
     Some(bytes)
 }

@@ -8,8 +8,3 @@ mod parse;
 pub use dict::{DictRef, Flags};
 pub use iter::{CIter, Iter, Keys, Values};
 pub use parse::{ParsableValue, ParseValueError};
-
-#[cfg(test)]
-mod equality;
-#[cfg(test)]
-mod tests;

@@ -8,8 +8,3 @@ mod error;
 pub use async_seq::AsyncSeq;
 pub use code::{SpaResult, SpaSuccess};
 pub use error::Error;
-
-#[cfg(test)]
-mod equality;
-#[cfg(test)]
-mod tests;

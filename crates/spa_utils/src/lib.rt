@@ -23,8 +23,3 @@ pub use frame::Frame;
 pub use id::Id;
 pub use rectangle::Rectangle;
 pub use types::SpaTypes;
-
-#[cfg(test)]
-mod equality;
-#[cfg(test)]
-mod tests;

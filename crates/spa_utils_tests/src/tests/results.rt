@@ -1,14 +1,8 @@
 //! Codes with their meanings, from outside, and each call once.
-use crate::{AsyncSeq, SpaResult, SpaSuccess};
+use crate::compare::assert_same;
+use spa_result::{AsyncSeq, SpaResult, SpaSuccess};
 use spa_utils::Errno;
-use std::fmt::Debug;
-use std::process::Abort;
 use std::test::Fail;
-
-/// Compares what is found with what is wanted. The text says where.
-fn assert_same<T: PartialEq + Debug>(rt: &impl Abort, found: &T, wanted: &T, at: &str) {
-    assert_eq!(rt; *found, *wanted, "at {at}");
-}
 
 /// How many sequence numbers there are.
 const COUNT: i32 = 1073741824;

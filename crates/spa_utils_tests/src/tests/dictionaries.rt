@@ -1,20 +1,11 @@
 //! Look-ups, iterators and readings, against values from outside, and each call once.
-use crate::{DictRef, Flags, ParsableValue};
+use crate::compare::{assert_holds, assert_same};
 use bitflags::Flags as _;
+use spa_dict::{DictRef, Flags, ParsableValue};
 use std::alloc::{AllocError, Global};
 use std::fmt::Debug;
 use std::process::Abort;
 use std::test::Fail;
-
-/// Compares what is found with what is wanted. The text says where.
-fn assert_same<T: PartialEq + Debug>(rt: &impl Abort, found: &T, wanted: &T, at: &str) {
-    assert_eq!(rt; *found, *wanted, "at {at}");
-}
-
-/// Something holds. The text says what.
-fn assert_holds(rt: &impl Abort, holds: bool, what: &str) {
-    assert!(rt; holds, "{what}");
-}
 
 #[test]
 fn pairs_come_in_order(rt: HostRuntime) -> Result<(), Fail> {

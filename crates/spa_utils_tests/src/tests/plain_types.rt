@@ -1,23 +1,12 @@
 //! Numbers and texts from outside, and each call once.
-use crate::constants::ID_INVALID;
-use crate::{
+use crate::compare::{assert_holds, assert_same};
+use bitflags::Flags;
+use spa_utils::constants::ID_INVALID;
+use spa_utils::{
     Choice, ChoiceEnum, ChoiceFlags, Direction, Errno, Fd, Float32, Float64, Fraction, Id,
     Rectangle, SpaTypes,
 };
-use bitflags::Flags;
-use std::fmt::Debug;
-use std::process::Abort;
 use std::test::Fail;
-
-/// Compares what is found with what is wanted. The text says where.
-fn assert_same<T: PartialEq + Debug>(rt: &impl Abort, found: &T, wanted: &T, at: &str) {
-    assert_eq!(rt; *found, *wanted, "at {at}");
-}
-
-/// Something holds. The text says what.
-fn assert_holds(rt: &impl Abort, holds: bool, what: &str) {
-    assert!(rt; holds, "{what}");
-}
 
 #[test]
 fn types_have_their_numbers(rt: HostRuntime) {

@@ -1,10 +1,13 @@
 //! What a caller knows of `==` and `clone`: the contract of each function says it, for all values.
 ghost use Rattle.std.specs.Prelude.{◌≡◌, ◌↔◌, ◌==◌, ◌&&◌, IfOk, IsTrue};
 ghost use Rattle.std.specs.Cmp.Lexicographic.{pointwise};
+ghost use Rattle.spa_dict.specs.Left.{pairs_left};
 ghost use Rattle.spa_utils.specs.Copies.{IsChoiceCopyOf};
 ghost use Rattle.spa_utils.specs.Equality.{shape_of, values_of};
 
-use crate::{
+use spa_dict::{CIter, Flags, ParseValueError};
+use spa_result::{AsyncSeq, Error, SpaResult, SpaSuccess};
+use spa_utils::{
     Choice, ChoiceEnum, ChoiceFlags, Direction, Errno, Fd, Float32, Float64, Fraction, Frame, Id,
     Rectangle, SpaTypes,
 };
@@ -70,7 +73,7 @@ fn same_errno(a: Errno, b: Errno) -> bool
     a == b
 }
 
-fn same_flags(a: ChoiceFlags, b: ChoiceFlags) -> bool
+fn same_choice_flags(a: ChoiceFlags, b: ChoiceFlags) -> bool
     ensures { IsTrue result ↔ a.0 ≡ b.0 }
 {
     a == b
@@ -92,4 +95,46 @@ fn copied<T: Copy>(a: &Choice<T>) -> Result<Choice<T>, AllocError>
     ensures { IfOk result (λ b. IsChoiceCopyOf a.now b) }
 {
     a.clone()
+}
+
+fn same_flags(a: Flags, b: Flags) -> bool
+    ensures { IsTrue result ↔ a.0 ≡ b.0 }
+{
+    a == b
+}
+
+fn same_refusal(a: &ParseValueError, b: &ParseValueError) -> bool
+    ensures { IsTrue result ↔ (a.now.text.now ≡ b.now.text.now) × (a.now.type_name.now ≡ b.now.type_name.now) }
+{
+    a == b
+}
+
+fn iter_copied<'a>(a: &CIter<'a>) -> Result<CIter<'a>, AllocError>
+    ensures { IfOk result (λ b. pairs_left b ≡ pairs_left a.now) }
+{
+    a.clone()
+}
+
+fn same_seq(a: AsyncSeq, b: AsyncSeq) -> bool
+    ensures { IsTrue result ↔ a.0 ≡ b.0 }
+{
+    a == b
+}
+
+fn same_error(a: &Error, b: &Error) -> bool
+    ensures { IsTrue result ↔ a.now.0.0 ≡ b.now.0.0 }
+{
+    a == b
+}
+
+fn same_result(a: &SpaResult, b: &SpaResult) -> bool
+    ensures { IsTrue result ↔ a.now.0 ≡ b.now.0 }
+{
+    a == b
+}
+
+fn same_success(a: &SpaSuccess, b: &SpaSuccess) -> bool
+    ensures { IsTrue result ↔ a.now ≡ b.now }
+{
+    a == b
 }

@@ -1,0 +1,4 @@
+//! The tests, by subject.
+mod dictionaries;
+mod plain_types;
+mod results;

@@ -139,7 +139,9 @@ fn user_read(alloc: Global, input: &[u8]) -> Answer<'_> {
 }
 
 fn said(alloc: Global, answer: Answer) -> Result<String, AllocError> {
-    answer_said(alloc, &answer)
+    let said = answer_said(alloc, &answer);
+    drop(answer);
+    said
 }
 
 /// What a read answers, as a row has it.

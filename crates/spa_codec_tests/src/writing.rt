@@ -282,7 +282,9 @@ fn assert_example(
     words: &str,
 ) -> Result<(), Fail> {
     let value = value_of(alloc, example)?;
-    assert_written(rt, alloc, &value, words)
+    let compared = assert_written(rt, alloc, &value, words);
+    drop(value);
+    compared
 }
 
 #[test]
@@ -341,7 +343,9 @@ fn a_fixed_output_takes_what_fits(rt: HostRuntime) -> Result<(), Fail> {
 /// Why the text with NUL isn't written.
 fn nul_refusal(alloc: Global) -> Result<Option<GenError>, AllocError> {
     let value = members_with_nul(alloc)?;
-    Ok(written(alloc, &value).err())
+    let refusal = written(alloc, &value).err();
+    drop(value);
+    Ok(refusal)
 }
 
 #[test]
@@ -358,7 +362,9 @@ fn put_true(out: &mut Vec<u8>) -> Result<(), GenError> {
 /// Appends a struct.
 fn put_struct(out: &mut Vec<u8>, alloc: Global) -> Result<(), GenError> {
     let value = struct_of(alloc, Value::Int(3))?;
-    write_sized(out, &value)?;
+    let answer = write_sized(out, &value);
+    drop(value);
+    answer?;
     Ok(())
 }
 

@@ -31,12 +31,16 @@ fn write_owned(alloc: Global, value: Value) -> Result<(Vec<u8>, u64), GenError> 
 /// Is what is read there the value?
 fn reads_the_value(alloc: Global, bytes: &[u8]) -> Result<bool, Fail> {
     let read = value_of(alloc, bytes)?;
-    Ok(is_the_value(alloc, &read)?)
+    let is_read = is_the_value(alloc, &read);
+    drop(read);
+    Ok(is_read?)
 }
 
 fn is_the_value(alloc: Global, read: &Value) -> Result<bool, AllocError> {
     let value = written_value(alloc)?;
-    Ok(*read == value)
+    let is_same = *read == value;
+    drop(value);
+    Ok(is_same)
 }
 
 fn compare_written(rt: &impl Abort, alloc: Global, bytes: &[u8]) -> Result<(), Fail> {

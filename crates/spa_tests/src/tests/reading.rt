@@ -52,7 +52,9 @@ fn clones_alike(value: Value) -> Result<bool, AllocError> {
 
 fn is_like_its_clone(value: &Value) -> Result<bool, AllocError> {
     let clone = clone_of(value)?;
-    Ok(are_equal(&clone, value))
+    let is_alike = are_equal(&clone, value);
+    drop(clone);
+    Ok(is_alike)
 }
 
 fn clone_of(value: &Value) -> Result<Value, AllocError> {

@@ -252,7 +252,10 @@ fn push_element(array: &mut ValueArray, number: u8) -> Result<(), AllocError> {
 fn array_of(alloc: Global, type_: u32, numbers: &[u8]) -> Result<ValueArray, AllocError> {
     let mut array = empty_array(alloc, type_);
     for number in numbers {
-        push_element(&mut array, *number)?;
+        if let Err(error) = push_element(&mut array, *number) {
+            drop(array);
+            return Err(error);
+        }
     }
     Ok(array)
 }

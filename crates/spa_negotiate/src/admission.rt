@@ -1,5 +1,5 @@
 //! The search for a value that two offers both admit.
-ghost use Rattle.std.specs.Prelude.{◌≡◌, ◌↔◌, IfOk, IsTrue, MatchOption, All, map};
+ghost use Rattle.std.specs.Prelude.{◌≡◌, ◌↔◌, IsTrue, MatchOption, All, map};
 ghost use Rattle.spa_format.specs.Tree.{Tree};
 ghost use Rattle.spa_value.specs.View.{view};
 ghost use Rattle.spa_negotiate.specs.Admits.{IsAtMost};
@@ -9,7 +9,6 @@ use crate::numbers::has;
 use crate::offer::{Offer, Rule};
 use libspa::pod::Value;
 use libspa::pod::value_laws::{equal_trees_are_the_same, trees_have_their_types};
-use std::alloc::AllocError;
 
 /// Whether the first is no greater than the second, where both are ids, both ints or both longs.
 fn is_at_most(value: &Value, other: &Value) -> bool
@@ -65,17 +64,17 @@ fn both_admit(a: &Offer, b: &Offer, value: &Value) -> bool
     admits(a, value) && admits(b, value)
 }
 
-/// A copy of the first of these values that both offers admit, where there is one.
-fn first_of(values: &[Value], a: &Offer, b: &Offer) -> Result<Option<Value>, AllocError>
+/// The first of these values that both offers admit, where there is one.
+fn first_of<'v>(values: &'v [Value], a: &Offer, b: &Offer) -> Option<&'v Value>
     requires { IsIndexed a.now × IsIndexed b.now }
-    ensures { IfOk result (λ found. MatchOption found (All (λ x. ¬ (BothAdmit a.now b.now x)) (map view values.now)) (λ x. BothAdmit a.now b.now (view x))) }
+    ensures { MatchOption result (All (λ x. ¬ (BothAdmit a.now b.now x)) (map view values.now)) (λ x. BothAdmit a.now b.now (view x.now)) }
 {
     for value in values {
         if both_admit(a, b, value) {
-            return Ok(Some(value.clone()?));
+            return Some(value);
         }
     }
-    Ok(None)
+    None
 }
 
 /// The alternatives of an Enum, and nothing of other values.
@@ -103,27 +102,27 @@ fn floor(offer: &Offer) -> &Value
 
 /// The first of these that both offers admit: a's default, b's default, a's alternatives, b's alternatives, a's
 /// minimum, b's minimum. Where both admit none of these, they admit no value.
-pub(crate) fn first_common(a: &Offer, b: &Offer) -> Result<Option<Value>, AllocError>
+pub(crate) fn first_common<'v>(a: &'v Offer, b: &'v Offer) -> Option<&'v Value>
     requires { IsIndexed a.now × IsIndexed b.now }
-    ensures { IfOk result (λ found. MatchOption found ((x : Tree) → ¬ (BothAdmit a.now b.now x)) (λ x. BothAdmit a.now b.now (view x))) }
+    ensures { MatchOption result ((x : Tree) → ¬ (BothAdmit a.now b.now x)) (λ x. BothAdmit a.now b.now (view x.now)) }
 {
     if both_admit(a, b, &a.default) {
-        return Ok(Some(a.default.clone()?));
+        return Some(&a.default);
     }
     if both_admit(a, b, &b.default) {
-        return Ok(Some(b.default.clone()?));
+        return Some(&b.default);
     }
-    if let Some(value) = first_of(alternatives(a), a, b)? {
-        return Ok(Some(value));
+    if let Some(value) = first_of(alternatives(a), a, b) {
+        return Some(value);
     }
-    if let Some(value) = first_of(alternatives(b), a, b)? {
-        return Ok(Some(value));
+    if let Some(value) = first_of(alternatives(b), a, b) {
+        return Some(value);
     }
     if both_admit(a, b, floor(a)) {
-        return Ok(Some(floor(a).clone()?));
+        return Some(floor(a));
     }
     if both_admit(a, b, floor(b)) {
-        return Ok(Some(floor(b).clone()?));
+        return Some(floor(b));
     }
-    Ok(None)
+    None
 }

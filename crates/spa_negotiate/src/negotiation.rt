@@ -137,8 +137,8 @@ fn common_of(key: u32, first: &Offer, second: &Offer) -> Result<Value, Negotiate
     if !first.rule.is_supported() || !second.rule.is_supported() {
         return Err(NegotiateError::Unsupported(key));
     }
-    match first_common(first, second)? {
-        Some(value) => Ok(value),
+    match first_common(first, second) {
+        Some(value) => Ok(value.clone()?),
         None => Err(NegotiateError::Disjoint(key)),
     }
 }

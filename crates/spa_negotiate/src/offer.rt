@@ -165,11 +165,13 @@ fn offer_of_choice<T: Element>(alloc: Global, choice: &ChoiceEnum<T>) -> Result<
     ensures offer { IfOk result (λ offer. IsOfferOf (choice_enum_tree T.kind T.fixed 0 choice.now) offer) }
     ensures indexed { IfOk result (λ offer. IsIndexed offer) }
 {
+    let values = further_values_of(alloc, choice)?;
+    let index = index_of(alloc, choice)?;
     Ok(Offer {
         rule: rule_of(choice),
         default: plain_of(choice),
-        values: further_values_of(alloc, choice)?,
-        index: index_of(alloc, choice)?,
+        values,
+        index,
     })
 }
 

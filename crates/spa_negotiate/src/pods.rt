@@ -86,7 +86,10 @@ fn encoded(alloc: Global, object: Object) -> Result<Vec<u8>, NegotiateError>
     ensures pod { IfOk result (λ bytes. IsPod bytes.items (object_view object)) }
     ensures cause { IfErr result (IsWriteRefused (object_view object)) }
 {
-    match PodSerializer::serialize(Vec::new(alloc), &Value::Object(object)) {
+    let value = Value::Object(object);
+    let written = PodSerializer::serialize(Vec::new(alloc), &value);
+    drop(value);
+    match written {
         Ok((bytes, _len)) => Ok(bytes),
         Err(GenError::TooLarge) => Err(NegotiateError::TooLarge),
         Err(GenError::OutOfMemory) => Err(NegotiateError::OutOfMemory),

@@ -1,8 +1,9 @@
 //! Objects and properties in one expression.
-ghost use Rattle.std.specs.Prelude.{◌≡◌};
+ghost use Rattle.std.specs.Prelude.{◌≡◌, ◌++◌, ◌∷◌, [], IfErr, OnErr, OnOk};
 
+use crate::object::Property;
 use bitflags::Flags;
-use spa_utils::ChoiceFlags;
+use spa_utils::{ChoiceFlags, Errno};
 
 /// The flags of a choice that a macro makes: none.
 #[doc(hidden)]
@@ -10,6 +11,23 @@ pub fn no_flags() -> ChoiceFlags
     ensures { result.0 ≡ 0 }
 {
     ChoiceFlags::empty()
+}
+
+/// Puts a property behind those that an object of a macro has so far. Where there is no memory for it the list stays, and the
+/// answer is NOMEM.
+#[doc(hidden)]
+pub fn put_property(properties: &mut Vec<Property>, property: Property) -> Result<(), Errno>
+    ensures put { OnOk result (properties.new.items ≡ properties.old.items ++ property ∷ []) }
+    ensures kept { OnErr result (properties.new.items ≡ properties.old.items) }
+    ensures cause { IfErr result (λ e. e ≡ Errno.NOMEM) }
+{
+    match properties.push(property) {
+        Ok(()) => Ok(()),
+        Err(failed) => {
+            drop(failed);
+            Err(Errno::NOMEM)
+        }
+    }
 }
 
 /// A property without flags: `property!(in alloc; key, ..)`, where `alloc` is what a list takes memory from. The key,
@@ -117,17 +135,40 @@ macro_rules! choice_property {
 /// and the id are of types with a method `as_raw`, such as `Id`, and each property, of which there may be none, is a
 /// `Property`: behind each `property!` stands a `?`.
 ///
-/// It answers a `Result`, whose one refusal is NOMEM.
+/// It answers a `Result`, whose one refusal is NOMEM. The properties are made in their order, each put behind those before it
+/// once it is made; where there is no memory for one, those behind it aren't made.
 #[macro_export]
 macro_rules! object {
-    (in $alloc:expr; $type_:expr, $id:expr $(, $property:expr)* $(,)?) => {
-        match vec![in $alloc; $($property),*] {
-            Ok(properties) => Ok::<$crate::Object, $crate::Errno>($crate::Object {
-                type_: $type_.as_raw(),
-                id: $id.as_raw(),
-                properties,
-            }),
-            Err(_) => Err($crate::Errno::NOMEM),
+    (in $alloc:expr; $type_:expr, $id:expr $(,)?) => {{
+        let properties = Vec::new($alloc);
+        $crate::object_of!(properties; $type_, $id)
+    }};
+    (in $alloc:expr; $type_:expr, $id:expr $(, $property:expr)+ $(,)?) => {{
+        let mut properties = Vec::new($alloc);
+        $crate::object_of!(properties; $type_, $id $(, $property)+)
+    }};
+}
+
+/// An object of the properties in a list, and of those that are put behind them.
+// Each property is handed over as soon as it is made, so that only the list is left over where the next one is refused: held side
+// by side, n of them would be dropped at n places, and the proof of the caller would grow with their square.
+#[doc(hidden)]
+#[macro_export]
+macro_rules! object_of {
+    ($properties:ident; $type_:expr, $id:expr) => {
+        Ok::<$crate::Object, $crate::Errno>($crate::Object {
+            type_: $type_.as_raw(),
+            id: $id.as_raw(),
+            properties: $properties,
+        })
+    };
+    ($properties:ident; $type_:expr, $id:expr, $property:expr $(, $more:expr)*) => {
+        match $crate::put_property(&mut $properties, $property) {
+            Ok(()) => $crate::object_of!($properties; $type_, $id $(, $more)*),
+            Err(why) => {
+                drop($properties);
+                Err(why)
+            }
         }
     };
 }

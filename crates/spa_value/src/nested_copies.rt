@@ -80,8 +80,14 @@ fn begin(nested: Nested<'_>) -> Result<Copying<'_>, AllocError>
     ensures { IfOk result (λ begun. Begins (nested_view nested.entry) begun) }
 {
     match nested {
-        Nested::Struct(members) => Ok(Copying::Struct(begin_struct(members)?)),
-        Nested::Object(object) => Ok(Copying::Object(begin_object(object)?)),
+        Nested::Struct(members) => match begin_struct(members) {
+            Ok(begun) => Ok(Copying::Struct(begun)),
+            Err(error) => Err(error),
+        },
+        Nested::Object(object) => match begin_object(object) {
+            Ok(begun) => Ok(Copying::Object(begun)),
+            Err(error) => Err(error),
+        },
     }
 }
 
@@ -236,7 +242,10 @@ impl<'a> Copies<'a> {
             return self.end();
         };
         let begun = begin(nested)?;
-        self.around.reserve(1)?;
+        if let Err(error) = self.around.reserve(1) {
+            drop(begun);
+            return Err(error);
+        }
         let outer = mem::replace(&mut self.inner, begun);
         self.around.push_reserved(outer);
         Ok(true)
@@ -316,14 +325,30 @@ pub(crate) fn object_copy(object: &Object) -> Result<Value, AllocError>
 fn copy_within<'a>(outermost: Copying<'a>, nested: Nested<'a>) -> Result<Value, AllocError>
     ensures { IfOk result (λ copy. view copy ≡ completed outermost.entry (nested_view nested.entry)) }
 {
-    let mut around = Vec::with_capacity(outermost.allocator(), 1)?;
-    let inner = begin(nested)?;
+    let mut around = match Vec::with_capacity(outermost.allocator(), 1) {
+        Ok(around) => around,
+        Err(error) => {
+            drop(outermost);
+            return Err(error);
+        }
+    };
+    let inner = match begin(nested) {
+        Ok(inner) => inner,
+        Err(error) => {
+            drop(around);
+            drop(outermost);
+            return Err(error);
+        }
+    };
     around.push_reserved(outermost);
     let mut copies = Copies { inner, around };
     loop {
         match copies.step() {
             Ok(true) => {}
-            Ok(false) => return Ok(copies.inner.into_value()),
+            Ok(false) => {
+                drop(copies.around);
+                return Ok(copies.inner.into_value());
+            }
             Err(error) => {
                 copies.give_up();
                 return Err(error);

@@ -1,4 +1,4 @@
-use Rattle.std.proofs.Common.{true≢false, sym}
+use Rattle.std.proofs.Common.{rules, true≢false, sym}
 use Rattle.spa_value.specs.View.{view}
 use Rattle.spa_negotiate.proofs.Plain.{not_below, not_above_id, not_above_int, not_above_long}
 use Rattle.spa_negotiate.proofs.admission.is_at_most.Goals as goal
@@ -31,3 +31,12 @@ returns-in_default c =
     let none =
     not_below law.arrays law.choices law.objects c.args.value.now (view c.args.other.now) d.not-Id d.not-Int d.not-Long in
     (λ h. absurd (true≢false (sym h)), λ h. absurd (none h))
+
+pub returns-in-Id-other : goal.returns-in-Id-other
+returns-in-Id-other c = rw (c.in-Id.is, c.in-Id-other.is) (search rules)
+
+pub returns-in-Int-other : goal.returns-in-Int-other
+returns-in-Int-other c = rw (c.in-Int.is, c.in-Int-other.is) (search rules)
+
+pub returns-in-Long-other : goal.returns-in-Long-other
+returns-in-Long-other c = rw (c.in-Long.is, c.in-Long-other.is) (search rules)

@@ -23,5 +23,5 @@ returns c =
     let fewer = found.1 in
     let to : Copies = record { inner = c.replace-outer.new.dest; around = c.push_reserved.new.self } in
     begins_step was to mid (ap (λ i. completed mid (whole i)) after ∙ ap (completed mid) begun.0 ∙ found.0) (omega arith)
-    (c.push_reserved.ensures.items ∙ ap (λ l. l ++ c.replace-outer.result ∷ []) c.in_ok-reserve.ensures.items
+    (c.push_reserved.ensures.items ∙ ap (λ l. l ++ c.replace-outer.result ∷ []) c.reserve.ensures.items
     ∙ ap (λ o. was.around.items ++ o ∷ []) c.replace-outer.ensures.value)

@@ -181,6 +181,10 @@ three_whole s n b b1 b2 b3 p w l d0 d1 d2 =
 pub room : (n m s l : ℕ) → m * s ≡ l → n ≤ m → n * s ≤ l
 room n m s l e h = grind arith
 
+-- fewer elements take fewer bytes
+pub too_few : (n m s l : ℕ) → m * s ≡ l → m < n → 0 < s → l < n * s
+too_few n m s l e h p = grind arith
+
 pub enum_reads :
     {T : Type 0} (k : Kind) (f : T → Fixed) (x : T) (xs : Vec T Global) (elements : List ℕ) →
     AreElements k (f x ∷ map f xs.items) elements → ReadsAs enum_choice k f elements (E.Enum x xs)

@@ -35,7 +35,10 @@ fn compare_output(
 fn written(alloc: Global, value: Value) -> Result<(Vec<u8>, u64), Fail> {
     match bytes_spelled(alloc, "x0102") {
         Ok(before) => Ok(write_owned(before, value)?),
-        Err(error) => Err(Fail::from(error)),
+        Err(error) => {
+            drop(value);
+            Err(Fail::from(error))
+        }
     }
 }
 

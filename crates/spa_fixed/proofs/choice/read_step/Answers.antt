@@ -1,6 +1,6 @@
-use Rattle.std.proofs.Common.{◌≤◌, ◌*◌, ◌∷◌, length, arith}
+use Rattle.std.proofs.Common.{◌≤◌, ◌*◌, ◌∷◌, length, ap, arith, length-drop, ◌∙◌}
 use Rattle.spa_fixed.proofs.ChoiceReading.{step_reads, before, whole_behind, three_before}
-use Rattle.spa_fixed.proofs.ChoiceReading.{three_whole, left_over, room}
+use Rattle.spa_fixed.proofs.ChoiceReading.{three_whole, left_over, room, too_few}
 use Rattle.spa_fixed.proofs.choice.read_step.Goals as goal
 
 pub returns-clause-read : goal.returns-clause-read
@@ -27,3 +27,47 @@ returns-clause-read g c =
     step_reads k f _ _ _ _ more.0 c.args.elements.now (three_before
     k s _ _ _ (f c.next_element-step.result.1 ∷ more.0) c.args.elements.now _ _ _ met.its_size
     p first.says first.rest second.says second.rest third.says third.rest last)
+
+pub returns-then-count-lt4-clause-refused : goal.returns-then-count-lt4-clause-refused
+returns-then-count-lt4-clause-refused g c =
+    too_few 4 c.count.result _ _ c.count.ensures c.if-count-lt4.true g.met.T.ChoiceElement.sized
+
+pub next_element-default-requires : goal.next_element-default-requires
+next_element-default-requires g c =
+    let s = g.T.CanonicalFixedSizedPod.SIZE in
+    let all : 4 * s ≤ length c.args.elements.now =
+    room 4 c.count.result s _ c.count.ensures c.if-count-lt4.false in
+    omega (arith, all)
+
+pub next_element-min-requires : goal.next_element-min-requires
+next_element-min-requires g c =
+    let s = g.T.CanonicalFixedSizedPod.SIZE in
+    let all : 4 * s ≤ length c.args.elements.now =
+    room 4 c.count.result s _ c.count.ensures c.if-count-lt4.false in
+    let behind_default =
+    ap length c.next_element-default.ensures.rest ∙ length-drop s c.args.elements.now in
+    omega (arith, all, behind_default)
+
+pub next_element-max-requires : goal.next_element-max-requires
+next_element-max-requires g c =
+    let s = g.T.CanonicalFixedSizedPod.SIZE in
+    let all : 4 * s ≤ length c.args.elements.now =
+    room 4 c.count.result s _ c.count.ensures c.if-count-lt4.false in
+    let behind_default =
+    ap length c.next_element-default.ensures.rest ∙ length-drop s c.args.elements.now in
+    let behind_min =
+    ap length c.next_element-min.ensures.rest ∙ length-drop s c.next_element-default.result.0.now in
+    omega (arith, all, behind_default, behind_min)
+
+pub next_element-step-requires : goal.next_element-step-requires
+next_element-step-requires g c =
+    let s = g.T.CanonicalFixedSizedPod.SIZE in
+    let all : 4 * s ≤ length c.args.elements.now =
+    room 4 c.count.result s _ c.count.ensures c.if-count-lt4.false in
+    let behind_default =
+    ap length c.next_element-default.ensures.rest ∙ length-drop s c.args.elements.now in
+    let behind_min =
+    ap length c.next_element-min.ensures.rest ∙ length-drop s c.next_element-default.result.0.now in
+    let behind_max =
+    ap length c.next_element-max.ensures.rest ∙ length-drop s c.next_element-min.result.0.now in
+    omega (arith, all, behind_default, behind_min, behind_max)

@@ -179,7 +179,10 @@ pub fn with_volume(alloc: Global, input: &[u8], volume: Float32) -> Option<Vec<u
     let Ok(object) = Control { volume, ..control }.into_object() else {
         return None;
     };
-    let Ok((bytes, _)) = PodSerializer::serialize(Vec::new(alloc), &Value::Object(object)) else {
+    let value = Value::Object(object);
+    let written = PodSerializer::serialize(Vec::new(alloc), &value);
+    drop(value);
+    let Ok((bytes, _)) = written else {
         return None;
     };
     Some(bytes)

@@ -1,5 +1,5 @@
 //! Each typed read, with the visitor of what it hands over.
-ghost use Rattle.std.specs.Prelude.{⊤, ◌≡◌, IfOk};
+ghost use Rattle.std.specs.Prelude.{⊤, ◌≡◌, IfOk, IsOk, OnOk};
 ghost use Rattle.spa_read.specs.Reading.{IsRead};
 
 use crate::telling::TellingVisitor;
@@ -22,14 +22,15 @@ use std::test::Fail;
 #[derive(Drop)]
 struct Answer<const CALL: u8>(String);
 
-/// What a visitor made, as a text.
+/// What a call's visitor made, as a text, and the rest that the call leaves; or the call's refusal.
 fn told<'de, T: Debug + Drop, const CALL: u8>(
     alloc: Global,
-    made: T,
-    success: DeserializeSuccess<'de>,
+    read: Result<(T, DeserializeSuccess<'de>), DeserializeError<&'de [u8]>>,
 ) -> Result<(Answer<CALL>, DeserializeSuccess<'de>), DeserializeError<&'de [u8]>>
-    ensures { IfOk result (λ it. it.1 ≡ success.entry) }
+    ensures ok { OnOk result (IsOk read.entry) }
+    ensures rest { IfOk result (λ it. IfOk read.entry (λ r. it.1 ≡ r.1)) }
 {
+    let (made, success) = read?;
     match format!(in alloc; "{made:?}") {
         Ok(text) => Ok((Answer(text), success)),
         Err(_) => Err(DeserializeError::OutOfMemory),
@@ -45,26 +46,11 @@ fn number_call<'de, const CALL: u8>(
     ensures { IfOk result (λ it. IsRead deserializer.entry it.1 (λ _. ⊤)) }
 {
     match CALL {
-        1 => {
-            let (made, success) = deserializer.deserialize_none(NoneVisitor)?;
-            told(alloc, made, success)
-        }
-        2 => {
-            let (made, success) = deserializer.deserialize_bool(BoolVisitor)?;
-            told(alloc, made, success)
-        }
-        3 => {
-            let (made, success) = deserializer.deserialize_id(IdVisitor)?;
-            told(alloc, made, success)
-        }
-        4 => {
-            let (made, success) = deserializer.deserialize_int(IntVisitor)?;
-            told(alloc, made, success)
-        }
-        5 => {
-            let (made, success) = deserializer.deserialize_long(LongVisitor)?;
-            told(alloc, made, success)
-        }
+        1 => told(alloc, deserializer.deserialize_none(NoneVisitor)),
+        2 => told(alloc, deserializer.deserialize_bool(BoolVisitor)),
+        3 => told(alloc, deserializer.deserialize_id(IdVisitor)),
+        4 => told(alloc, deserializer.deserialize_int(IntVisitor)),
+        5 => told(alloc, deserializer.deserialize_long(LongVisitor)),
         _ => pair_call::<CALL>(alloc, deserializer),
     }
 }
@@ -78,26 +64,11 @@ fn pair_call<'de, const CALL: u8>(
     ensures { IfOk result (λ it. IsRead deserializer.entry it.1 (λ _. ⊤)) }
 {
     match CALL {
-        6 => {
-            let (made, success) = deserializer.deserialize_float(FloatVisitor)?;
-            told(alloc, made, success)
-        }
-        7 => {
-            let (made, success) = deserializer.deserialize_double(DoubleVisitor)?;
-            told(alloc, made, success)
-        }
-        10 => {
-            let (made, success) = deserializer.deserialize_rectangle(RectangleVisitor)?;
-            told(alloc, made, success)
-        }
-        11 => {
-            let (made, success) = deserializer.deserialize_fraction(FractionVisitor)?;
-            told(alloc, made, success)
-        }
-        18 => {
-            let (made, success) = deserializer.deserialize_fd(FdVisitor)?;
-            told(alloc, made, success)
-        }
+        6 => told(alloc, deserializer.deserialize_float(FloatVisitor)),
+        7 => told(alloc, deserializer.deserialize_double(DoubleVisitor)),
+        10 => told(alloc, deserializer.deserialize_rectangle(RectangleVisitor)),
+        11 => told(alloc, deserializer.deserialize_fraction(FractionVisitor)),
+        18 => told(alloc, deserializer.deserialize_fd(FdVisitor)),
         _ => plain_call::<CALL>(alloc, deserializer),
     }
 }
@@ -111,30 +82,15 @@ fn plain_call<'de, const CALL: u8>(
     ensures { IfOk result (λ it. IsRead deserializer.entry it.1 (λ _. ⊤)) }
 {
     match CALL {
-        8 => {
-            let (made, success) = deserializer.deserialize_str(StringVisitor)?;
-            told(alloc, made, success)
-        }
-        9 => {
-            let (made, success) = deserializer.deserialize_bytes(BytesVisitor)?;
-            told(alloc, made, success)
-        }
-        12 => {
-            let (made, success) = deserializer.deserialize_bitmap(BitmapVisitor)?;
-            told(alloc, made, success)
-        }
-        13 => {
-            let (made, success) = deserializer.deserialize_array(VecVisitor::<i32>::default())?;
-            told(alloc, made, success)
-        }
-        17 => {
-            let (made, success) = deserializer.deserialize_pointer(PointerVisitor)?;
-            told(alloc, made, success)
-        }
-        19 => {
-            let (made, success) = deserializer.deserialize_choice(ChoiceIntVisitor)?;
-            told(alloc, made, success)
-        }
+        8 => told(alloc, deserializer.deserialize_str(StringVisitor)),
+        9 => told(alloc, deserializer.deserialize_bytes(BytesVisitor)),
+        12 => told(alloc, deserializer.deserialize_bitmap(BitmapVisitor)),
+        13 => told(
+            alloc,
+            deserializer.deserialize_array(VecVisitor::<i32>::default()),
+        ),
+        17 => told(alloc, deserializer.deserialize_pointer(PointerVisitor)),
+        19 => told(alloc, deserializer.deserialize_choice(ChoiceIntVisitor)),
         _ => value_call::<CALL>(alloc, deserializer),
     }
 }
@@ -148,30 +104,21 @@ fn value_call<'de, const CALL: u8>(
     ensures { IfOk result (λ it. IsRead deserializer.entry it.1 (λ _. ⊤)) }
 {
     match CALL {
-        14 => {
-            let (made, success) = deserializer.deserialize_struct(ValueVisitor { alloc })?;
-            told(alloc, made, success)
-        }
-        15 => {
-            let (made, success) = deserializer.deserialize_object(ValueVisitor { alloc })?;
-            told(alloc, made, success)
-        }
-        20 => {
-            let (made, success) = deserializer.deserialize_choice(ValueVisitor { alloc })?;
-            told(alloc, made, success)
-        }
-        21 => {
-            let (made, success) = deserializer.deserialize_int(BoolVisitor)?;
-            told(alloc, made, success)
-        }
-        22 => {
-            let (made, success) = deserializer.deserialize_struct(TellingVisitor)?;
-            told(alloc, made, success)
-        }
-        23 => {
-            let (made, success) = deserializer.deserialize_object(TellingVisitor)?;
-            told(alloc, made, success)
-        }
+        14 => told(
+            alloc,
+            deserializer.deserialize_struct(ValueVisitor { alloc }),
+        ),
+        15 => told(
+            alloc,
+            deserializer.deserialize_object(ValueVisitor { alloc }),
+        ),
+        20 => told(
+            alloc,
+            deserializer.deserialize_choice(ValueVisitor { alloc }),
+        ),
+        21 => told(alloc, deserializer.deserialize_int(BoolVisitor)),
+        22 => told(alloc, deserializer.deserialize_struct(TellingVisitor)),
+        23 => told(alloc, deserializer.deserialize_object(TellingVisitor)),
         _ => choice_call::<CALL>(alloc, deserializer),
     }
 }
@@ -185,26 +132,11 @@ fn choice_call<'de, const CALL: u8>(
     ensures { IfOk result (λ it. IsRead deserializer.entry it.1 (λ _. ⊤)) }
 {
     match CALL {
-        42 => {
-            let (made, success) = deserializer.deserialize_choice(ChoiceBoolVisitor)?;
-            told(alloc, made, success)
-        }
-        43 => {
-            let (made, success) = deserializer.deserialize_choice(ChoiceIdVisitor)?;
-            told(alloc, made, success)
-        }
-        45 => {
-            let (made, success) = deserializer.deserialize_choice(ChoiceLongVisitor)?;
-            told(alloc, made, success)
-        }
-        46 => {
-            let (made, success) = deserializer.deserialize_choice(ChoiceFloatVisitor)?;
-            told(alloc, made, success)
-        }
-        47 => {
-            let (made, success) = deserializer.deserialize_choice(ChoiceDoubleVisitor)?;
-            told(alloc, made, success)
-        }
+        42 => told(alloc, deserializer.deserialize_choice(ChoiceBoolVisitor)),
+        43 => told(alloc, deserializer.deserialize_choice(ChoiceIdVisitor)),
+        45 => told(alloc, deserializer.deserialize_choice(ChoiceLongVisitor)),
+        46 => told(alloc, deserializer.deserialize_choice(ChoiceFloatVisitor)),
+        47 => told(alloc, deserializer.deserialize_choice(ChoiceDoubleVisitor)),
         _ => paired_call::<CALL>(alloc, deserializer),
     }
 }
@@ -218,18 +150,15 @@ fn paired_call<'de, const CALL: u8>(
     ensures { IfOk result (λ it. IsRead deserializer.entry it.1 (λ _. ⊤)) }
 {
     match CALL {
-        50 => {
-            let (made, success) = deserializer.deserialize_choice(ChoiceRectangleVisitor)?;
-            told(alloc, made, success)
-        }
-        51 => {
-            let (made, success) = deserializer.deserialize_choice(ChoiceFractionVisitor)?;
-            told(alloc, made, success)
-        }
-        _ => {
-            let (made, success) = deserializer.deserialize_choice(ChoiceFdVisitor)?;
-            told(alloc, made, success)
-        }
+        50 => told(
+            alloc,
+            deserializer.deserialize_choice(ChoiceRectangleVisitor),
+        ),
+        51 => told(
+            alloc,
+            deserializer.deserialize_choice(ChoiceFractionVisitor),
+        ),
+        _ => told(alloc, deserializer.deserialize_choice(ChoiceFdVisitor)),
     }
 }
 

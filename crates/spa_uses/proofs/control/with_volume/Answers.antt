@@ -7,5 +7,5 @@ pub returns : goal.returns
 returns c =
     let read = c.in-Ok.ensures.read in
     let object = c.in-Ok-into_object.object in
-    let bytes = c.in-Ok-serialize.ensures.encoding ∙ ap (λ l. l ++ encoding_of (object_view object)) c.new.ensures.items in
+    let bytes = c.in-Ok-written.ensures.encoding ∙ ap (λ l. l ++ encoding_of (object_view object)) c.new.ensures.items in
     (c.in-Ok.control, read.value, read.begins, read.holds, bytes ∙ ap encoding_of c.in-Ok-into_object.ensures)

@@ -1,6 +1,21 @@
 use Rattle.std.proofs.Common.{rules, ◌∙◌}
-use Rattle.spa_read.proofs.Stepping.{all_as, all_member, all_none}
+use Rattle.spa_read.proofs.Stepping.{all_as, all_member, all_none, further_trans}
 use Rattle.spa_uses.proofs.song.SongVisitorVisitor.visit_struct.Goals as goal
+
+pub returns-in_err-cover-clause-same : goal.returns-in_err-cover-clause-same
+returns-in_err-cover-clause-same c =
+    further_trans _ _ _ c.deserialize_field.ensures.same
+    (further_trans _ _ _ c.deserialize_field-2.ensures.same c.deserialize_field-3.ensures.same)
+
+pub returns-in_default-3-clause-same : goal.returns-in_default-3-clause-same
+returns-in_default-3-clause-same c =
+    further_trans _ _ _ c.deserialize_field.ensures.same
+    (further_trans _ _ _ c.deserialize_field-2.ensures.same c.deserialize_field-3.ensures.same)
+
+pub returns-clause-same : goal.returns-clause-same
+returns-clause-same c =
+    further_trans _ _ _ c.deserialize_field.ensures.same
+    (further_trans _ _ _ c.deserialize_field-2.ensures.same c.deserialize_field-3.ensures.same)
 
 pub returns-clause-made : goal.returns-clause-made
 returns-clause-made c =

@@ -1,8 +1,7 @@
 -- What is taken of an array, element by element.
-use Rattle.std.proofs.Common.{◌≡◌, ℕ, ◌+◌, ◌*◌, ◌<◌, List, [], ◌∷◌, ◌++◌, length, drop, take, map, refl, sym, subst, ◌∙◌, ap, arith, length-drop}
-use Rattle.spa_format.specs.Words.{header_size}
+use Rattle.std.proofs.Common.{◌≡◌, ℕ, ◌*◌, ◌<◌, List, [], ◌∷◌, ◌++◌, length, map, refl, sym, subst, ◌∙◌, ap, arith, length-drop}
 use Rattle.spa_format.specs.Kind.{Kind, Fixed, body_size, none_kind, bool_kind, id_kind, int_kind, long_kind, float_kind, double_kind, rectangle_kind, fraction_kind, fd_kind}
-use Rattle.spa_format.specs.Tree.{Tree, array, array_type}
+use Rattle.spa_format.specs.Tree.{array, array_type}
 use Rattle.spa_format.specs.Pod.{AreElements, IsArray}
 use Rattle.spa_format.specs.Encoding.{encoding_of}
 use Rattle.spa_format.specs.Front.{Begins, front_of}

@@ -1,5 +1,5 @@
 -- A list of properties, parted at one of them.
-use Rattle.std.proofs.Common.{◌≡◌, ◌≢◌, ◌==◌, Some, ℕ, ◌<◌, List, [], ◌∷◌, ◌++◌, length, take, drop, get_or, refl, sym, ap, ◌∙◌, append_assoc, arith, length-drop, length-take, true≢false}
+use Rattle.std.proofs.Common.{◌≡◌, ◌≢◌, ◌==◌, Some, ℕ, ◌<◌, List, [], ◌∷◌, ◌++◌, length, take, drop, get_or, sym, ap, ◌∙◌, append_assoc, arith, length-drop, length-take, true≢false}
 use Rattle.std.specs.Cmp.{unsigned_Decides}
 use Rattle.std.specs.List.{All, position}
 use Rattle.std.proofs.lemmas.List.{take-append-drop, get_or-drop, get_or-take}

@@ -1,12 +1,12 @@
 -- What a writer did to its output: docs/FORMAT.md, "The encoding of a value".
 use Rattle.std.specs.Prelude.{◌≡◌, ℕ, ◌+◌, ◌-◌, ◌<◌, ◌≤◌, List, ◌++◌, length, take, drop}
 use Rattle.spa_sink.specs.declared.gen_error.GenError.{GenError}
-use Rattle.spa_sink.specs.Writing.{RefusesPiece, RefusesWrite}
+use Rattle.spa_sink.specs.Writing.{RefusesPiece}
 use Rattle.spa_format.specs.Words.{header_size, padded_size, size_limit, word_bytes}
-use Rattle.spa_format.specs.Tree.{Tree, fixed, string, bytes, bitmap, array, choice, pointer, struct, object, Trees, Properties}
-use Rattle.spa_format.specs.Encoding.{encoding_of, framed, member_encodings, property_encodings}
-use Rattle.spa_format.specs.Typed.{IsTyped, AllTyped, AllPropertiesTyped}
-use Rattle.spa_format.specs.Writable.{IsWritable, HasNul, IsTooLarge, SomeHasNul, SomeTooLarge, SomeValueHasNul, SomeValueTooLarge}
+use Rattle.spa_format.specs.Tree.{Tree, fixed, string, bytes, bitmap, array, choice, pointer, struct, object}
+use Rattle.spa_format.specs.Encoding.{encoding_of, framed}
+use Rattle.spa_format.specs.Typed.{IsTyped}
+use Rattle.spa_format.specs.Writable.{IsWritable, HasNul, IsTooLarge}
 
 -- what a sink may refuse: the sink as it was, how many bytes were asked for in all, the sink as it is left, and the answer
 abbrev pub Refusing : Type 0 → Type 1

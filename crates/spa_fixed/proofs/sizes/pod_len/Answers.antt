@@ -1,4 +1,4 @@
-use Rattle.std.proofs.Common.{◌≡◌, ◌∙◌, length, ap, sym, arith}
+use Rattle.std.proofs.Common.{◌∙◌, ap, sym}
 use Rattle.spa_format.specs.Kind.{fixed_body}
 use Rattle.spa_format.specs.Words.{extent}
 use Rattle.spa_format.proofs.Encodings.{length-framed}

@@ -1,5 +1,4 @@
 use Rattle.std.proofs.Common.{◌≡◌, ℕ, ◌+◌, ◌*◌, List, [], ◌∷◌, length, map, ap, ◌∙◌, arith}
-use Rattle.spa_format.specs.Kind.{Kind, Fixed}
 use Rattle.spa_format.specs.Encoding.{encoded_body}
 use Rattle.spa_utils.specs.declared.choice.ChoiceEnum.{ChoiceEnum}
 use Rattle.spa_fixed.specs.Choices.{choice_body, choice_enum_tree}

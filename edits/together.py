@@ -1,0 +1,316 @@
+"""Edits tried together: several wrong changes of a crate in one check of it.
+
+What a function is proved from is its own body and the contracts of what it calls. So wrong bodies of several functions
+stand in one copy of the crate, a round, and one check tells of each function by name whether it is proved. An edit is
+refused where the function that it changes is named for its own failure. One whose function is only told to call what
+isn't proved goes into a further round, without what it calls. One whose function is still proved, and one that changes
+no function, is tried by itself: then the crate must be refused, by whatever function.
+"""
+
+import dataclasses
+import pathlib
+import re
+import shutil
+import subprocess
+import tempfile
+import time
+
+PARTS = ("src", "specs", "proofs")
+
+# The head of a function, as `rt fmt` lays it out: its indentation and its name.
+HEAD = re.compile(r"( *)(?:pub(?:\([^)]*\))? )?(?:(?:const|unsafe|final) )*fn (\w+)")
+
+# A line of a function's head behind its first one, or the brace that opens its body.
+HEAD_GOES_ON = re.compile(r" *([{)]|requires|ensures|ghost|where|decreases|->)")
+
+# What the prover says of a function, a type or an impl.
+VERDICT = re.compile(r"(?:fn|impl|struct|enum|trait|closure) (\S+?): (.*)")
+
+# Where a goal stayed open, or what was refused: a file, a line and words.
+PLACE = re.compile(r"(?:note: |error: )?(?:\./)?((?:src|specs|proofs)/\S+?):(\d+):\d+: (.*)")
+
+# Words of an error in a proof that names what the edit took away: they say nothing of a contract.
+TAKEN_AWAY = re.compile(r"has no field|is not in scope|has no `|was not admitted")
+
+# Words of an error that another one brings.
+DEPENDS = re.compile(r"declarations? that depends? on .*, which (?:was|were) rejected")
+
+# What a function calls isn't proved.
+CALLS = re.compile(r"it calls (.*), which (?:is|are) not proved")
+
+
+@dataclasses.dataclass
+class Edit:
+    """A wrong change of a crate: the texts that it replaces, in order, as (file, old, new)."""
+
+    name: str
+    changes: list
+    # The functions that it changes, as (file, name); the name is empty where a line is in none.
+    functions: set
+    # Edits that aren't tried beside it: they change what its function calls.
+    avoided: set = dataclasses.field(default_factory=set)
+    is_alone: bool = False
+
+
+@dataclasses.dataclass
+class Verdict:
+    """What became of an edit: whether it was refused, and by which goal of which function, or why it wasn't."""
+
+    edit: Edit
+    is_refused: bool
+    why: str
+    # A proof names what the edit took away, and nothing else is told.
+    is_by_names: bool = False
+
+
+def changes_in(text):
+    """The changes that the text of an edit names."""
+    changes, path, old = [], "", None
+    for line in text.split("\n"):
+        if line.startswith("file: "):
+            path = line[len("file: ") :].strip()
+        elif line.startswith("old: "):
+            old = line[len("old: ") :]
+        elif line.startswith("new:") and old is not None:
+            changes.append((path, old, line[len("new:") :].removeprefix(" ")))
+            old = None
+    return changes
+
+
+def function_at(lines, at):
+    """The name of the innermost function whose text has this line; empty where none has it."""
+    for start in range(at, -1, -1):
+        head = HEAD.match(lines[start])
+        if head and end_of(lines, start, head[1]) >= at:
+            return head[2]
+    return ""
+
+
+def end_of(lines, start, indent):
+    """The last line of the function whose head is there."""
+    depth = 0
+    for at in range(start, len(lines)):
+        depth += lines[at].count("{") - lines[at].count("}")
+        is_closed = depth == 0 and lines[at].endswith(("}", ";"))
+        goes_on = at + 1 < len(lines) and HEAD_GOES_ON.match(lines[at + 1])
+        if lines[at] == f"{indent}}}" or (is_closed and not goes_on):
+            return at
+    return len(lines) - 1
+
+
+class Crate:
+    """A crate of the repository, and what a check of it needs: `lines` has the libraries that each crate names."""
+
+    def __init__(self, root, kit, lines, name):
+        self.root, self.kit, self.lines, self.name = root, kit, lines, name
+        self.folder = root / "crates" / name
+
+    def below(self):
+        """The repository's crates that this one stands on."""
+        found, left = [], [*self.lines[self.name]]
+        while left:
+            name = left.pop()
+            if name in self.lines and name not in found:
+                found.append(name)
+                left += self.lines[name]
+        return [it for it in self.lines if it in found]
+
+    def edits(self, without_the_gates):
+        """The edits in order of their names, with those that the gate tries one by one, or without them."""
+        files = [*self.root.glob(f"edits/{self.name}/*.edit")]
+        files += [] if without_the_gates else self.folder.glob("must-fail/*.edit")
+        return [self.edit(file) for file in sorted(files, key=lambda it: it.name)]
+
+    def edit(self, file):
+        changes, functions, texts = changes_in(file.read_text(encoding="utf-8")), set(), {}
+        for path, old, new in changes:
+            text = texts.get(path) or (self.folder / path).read_text(encoding="utf-8")
+            before = text[: text.index(old)]
+            name = function_at(text.split("\n"), before.count("\n")) if path.startswith("src/") else ""
+            functions.add((path, name))
+            texts[path] = text.replace(old, new)
+        return Edit(f"{self.name}/{file.stem}", changes, functions, is_alone=("" in {it[1] for it in functions}))
+
+    def applied(self, edits):
+        """The texts of the files that these edits change; None where one doesn't fit what those before it left."""
+        texts = {}
+        for edit in edits:
+            for path, old, new in edit.changes:
+                text = texts.get(path) or (self.folder / path).read_text(encoding="utf-8")
+                if text.count(old) != 1:
+                    return None
+                texts[path] = text.replace(old, new)
+        return texts
+
+    def check(self, texts, kept):
+        """Checks a copy of the crate with these texts in place of its own, over the kept work."""
+        with tempfile.TemporaryDirectory(prefix="edits-") as name:
+            room = pathlib.Path(name)
+            for part in PARTS:
+                if (self.folder / part).is_dir():
+                    shutil.copytree(self.folder / part, room / part)
+            for path, text in texts.items():
+                (room / path).write_text(text, encoding="utf-8")
+            ran = subprocess.run(
+                [*self.words(), "--incremental", kept],
+                cwd=room,
+                stdin=subprocess.DEVNULL,
+                stdout=subprocess.PIPE,
+                stderr=subprocess.STDOUT,
+                errors="replace",
+            )
+        return Said(ran.stdout.rstrip("\n").split("\n"))
+
+    def words(self):
+        """The prover and its arguments: the crate over its libraries as out/ has them."""
+        top = "main" if (self.folder / "src/main.rt").is_file() else "lib"
+        words = [self.kit / "bin/rattle", "check", "--crate-name", self.name, f"src/{top}.rt"]
+        named = self.lines[self.name]
+        for it in ["std", *(it for it in named if it not in self.lines)]:
+            words += ["--extern", f"{it}={self.kit}/rlibs/{it}.rlib"]
+        words += ["-L", f"dependency={self.kit}/rlibs"]
+        for it in named:
+            if it in self.lines:
+                words += ["--extern", f"{it}={self.rlib_of(it)}"]
+        for it in self.below():
+            words += ["-L", f"dependency={self.rlib_of(it).parent}"]
+        words += ["--antt-project", self.kit / "rattle/logic/antt-project.json"]
+        return [*words, "--logic-built", self.kit / "logic_built", "--jobs", "1"]
+
+    def rlib_of(self, name):
+        return self.root / "crates" / name / "out/rlib" / f"{name}.rlib"
+
+
+class Said:
+    """What a check said: of each function whether it is proved, and if not, why and where."""
+
+    def __init__(self, lines):
+        self.lines, self.verdicts, self.places = lines, {}, {}
+        # What is told of a source stands right above the line on its function.
+        above, in_proofs = [], []
+        for line in lines:
+            found, place = VERDICT.match(line), PLACE.match(line)
+            if found:
+                self.verdicts[found[1]] = found[2]
+                self.places[found[1]], above = above, []
+            elif place and place[1].startswith("proofs/"):
+                in_proofs.append(place)
+            elif place:
+                above.append(place)
+        # What is told of a proof names the file, which lies at the function's path.
+        for path, places in self.places.items():
+            folder = "/".join(["proofs", *path.split("::")[1:], ""])
+            places += [it for it in in_proofs if it[1].startswith(folder)]
+
+    def is_answered(self):
+        """Whether the prover judged the crate at all."""
+        return self.lines[-1].startswith("logic=")
+
+    def is_proved(self):
+        return self.lines[-1].startswith("logic=proved")
+
+    def first_words(self):
+        told = [it for it in self.lines if ": error" in it or it.startswith(("error", "rattle:"))]
+        return (told or self.lines)[0][:200]
+
+    def failed(self):
+        """The functions that are named for their own failure."""
+        return [it for it, said in self.verdicts.items() if is_own_failure(said)]
+
+    def goals_of(self, path):
+        """The goals of this function that stayed open, each with its place; and whether all that is told are names
+        that the edit took away."""
+        said, places = self.verdicts[path], self.places[path]
+        searched = re.search(r"`search` did not prove (.*?)(?:;|$)", said)
+        if searched:
+            return f"nothing found for {searched[1]}", False
+        errors = [it for it in places if not DEPENDS.search(it[3])]
+        telling = [it for it in errors if not TAKEN_AWAY.search(it[3])]
+        told = "; ".join(f"{it[1]}:{it[2]}: {it[3]}" for it in (telling or errors or places)[:2])
+        return (told or said)[:300], bool(errors) and not telling
+
+
+def is_own_failure(said):
+    """Whether these words on a function tell of its own failure, and not of what it calls alone."""
+    if said.startswith("proved") or said.startswith("could not tell"):
+        return False
+    return said.startswith("not proved") or "did not prove" in said or not CALLS.search(said)
+
+
+def paths_of(crate, said, file, name):
+    """The paths by which a check names the functions of this name in this file."""
+    parts = [*pathlib.PurePath(file).with_suffix("").parts[1:]]
+    prefix = "::".join([crate.name, *(it for it in parts if [it] not in (["lib"], ["main"]))])
+    return [it for it in said.verdicts if it.startswith(f"{prefix}::") and it.endswith(f"::{name}")]
+
+
+def judged(crate, edit, said, is_alone):
+    """The verdict on an edit after a round; None where it has to be tried again."""
+    paths = [path for file, name in edit.functions for path in paths_of(crate, said, file, name)]
+    own = [it for it in paths if is_own_failure(said.verdicts[it])]
+    if not own and is_alone:
+        own = said.failed()
+    if own:
+        told = [(it, *said.goals_of(it)) for it in own]
+        told.sort(key=lambda it: it[2])
+        return Verdict(edit, True, f"{told[0][0]}: {told[0][1]}", told[0][2])
+    if is_alone:
+        return Verdict(edit, False, "NOT REFUSED: the crate is still proved with this edit" if said.is_proved() else f"NO VERDICT: {said.first_words()}")
+    return None
+
+
+def round_of(crate, edits):
+    """The edits of the next round: the first, and each further one that changes other functions and fits beside them."""
+    if edits[0].is_alone:
+        return edits[:1], crate.applied(edits[:1])
+    chosen, texts = [], {}
+    for edit in edits:
+        taken = {it for other in chosen for it in other.functions}
+        apart = any(edit.name in it.avoided or it.name in edit.avoided for it in chosen)
+        if edit.is_alone or apart or edit.functions & taken:
+            continue
+        found = crate.applied([*chosen, edit])
+        if found is not None:
+            chosen, texts = [*chosen, edit], found
+    return chosen, texts
+
+
+def tried(crate, left, kept, tell, ends):
+    """Tries these edits of a crate over the kept work, a round at a time until the clock says `ends`, where it isn't None;
+    answers the verdicts, the edits that are left and the number of rounds."""
+    verdicts, rounds = [], 0
+    while left and (ends is None or time.monotonic() < ends):
+        chosen, texts = round_of(crate, left)
+        rounds += 1
+        is_alone = len(chosen) == 1
+        if texts is None:
+            verdicts.append(Verdict(chosen[0], False, "BAD EDIT: an 'old:' doesn't stand there once"))
+            left = left[1:]
+            continue
+        said = crate.check(texts, kept)
+        if not said.is_answered() and not is_alone:
+            # One of them isn't read: each by itself.
+            for edit in chosen:
+                edit.is_alone = True
+            continue
+        again = []
+        for edit in chosen:
+            verdict = judged(crate, edit, said, is_alone)
+            if verdict:
+                verdicts.append(verdict)
+                tell(verdict)
+                continue
+            hidden = [said.verdicts[it] for file, name in edit.functions for it in paths_of(crate, said, file, name)]
+            called = {it for words in hidden for found in CALLS.findall(words) for it in re.findall(r"`([^`]*)`", found)}
+            beside = {
+                other.name
+                for other in chosen
+                if other is not edit
+                and any(path in called for file, name in other.functions for path in paths_of(crate, said, file, name))
+            }
+            edit.avoided |= beside
+            # Nothing told of its function, or its function is proved: by itself.
+            edit.is_alone = not beside
+            again.append(edit)
+        left = again + [it for it in left if it not in chosen]
+    return verdicts, left, rounds

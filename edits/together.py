@@ -20,6 +20,9 @@ PARTS = ("src", "specs", "proofs")
 # The head of a function, as `rt fmt` lays it out: its indentation and its name.
 HEAD = re.compile(r"( *)(?:pub(?:\([^)]*\))? )?(?:(?:const|unsafe|final) )*fn (\w+)")
 
+# The head of an impl of no trait, which a check names by its type, whatever file it stands in.
+INHERENT = re.compile(r"(?!.* for )impl(?:<.*?>)? (\w+)\b")
+
 # A line of a function's head behind its first one, or the brace that opens its body.
 HEAD_GOES_ON = re.compile(r" *([{)]|requires|ensures|ghost|where|decreases|->)")
 
@@ -45,7 +48,7 @@ class Edit:
 
     name: str
     changes: list
-    # The functions that it changes, as (file, name); the name is empty where a line is in none.
+    # The functions that it changes, as (file, name); the name is empty where a line is in no function.
     functions: set
     # Edits that aren't tried beside it: they change what its function calls.
     avoided: set = dataclasses.field(default_factory=set)
@@ -78,11 +81,14 @@ def changes_in(text):
 
 
 def function_at(lines, at):
-    """The name of the innermost function whose text has this line; empty where none has it."""
+    """The name of the innermost function whose text has this line, behind its type's in an impl of no trait; empty where
+    no function has it."""
     for start in range(at, -1, -1):
         head = HEAD.match(lines[start])
         if head and end_of(lines, start, head[1]) >= at:
-            return head[2]
+            above = next((it for it in reversed(lines[:start]) if it and not it.startswith((" ", "}", "{"))), "")
+            owner = INHERENT.match(above) if head[1] else None
+            return f"{owner[1]}::{head[2]}" if owner else head[2]
     return ""
 
 
@@ -92,8 +98,8 @@ def end_of(lines, start, indent):
     for at in range(start, len(lines)):
         depth += lines[at].count("{") - lines[at].count("}")
         is_closed = depth == 0 and lines[at].endswith(("}", ";"))
-        goes_on = at + 1 < len(lines) and HEAD_GOES_ON.match(lines[at + 1])
-        if lines[at] == f"{indent}}}" or (is_closed and not goes_on):
+        below = next((it for it in lines[at + 1 :] if not it.lstrip().startswith("//")), "")
+        if lines[at] == f"{indent}}}" or (is_closed and not HEAD_GOES_ON.match(below)):
             return at
     return len(lines) - 1
 
@@ -217,6 +223,16 @@ class Said:
         """The functions that are named for their own failure."""
         return [it for it, said in self.verdicts.items() if is_own_failure(said)]
 
+    def not_proved_below(self, paths):
+        """The functions that these call, or that are called further down, as far as they are said not to be proved."""
+        found, left = set(), [*paths]
+        while left:
+            words = CALLS.search(self.verdicts.get(left.pop(), ""))
+            called = re.findall(r"`([^`]*)`", words[1]) if words else []
+            left += [it for it in called if it not in found]
+            found |= {*called}
+        return found
+
     def goals_of(self, path):
         """The goals of this function that stayed open, each with its place; and whether all that is told are names
         that the edit took away."""
@@ -237,17 +253,20 @@ def is_own_failure(said):
     return said.startswith("not proved") or "did not prove" in said or not CALLS.search(said)
 
 
-def paths_of(crate, said, file, name):
-    """The paths by which a check names the functions of this name in this file."""
-    parts = [*pathlib.PurePath(file).with_suffix("").parts[1:]]
-    prefix = "::".join([crate.name, *(it for it in parts if [it] not in (["lib"], ["main"]))])
-    return [it for it in said.verdicts if it.startswith(f"{prefix}::") and it.endswith(f"::{name}")]
+def paths_of(crate, said, edit):
+    """The paths by which a check names the functions that an edit changes: of that type, or of that name in that file."""
+    found = []
+    for file, name in edit.functions:
+        parts = [*pathlib.PurePath(file).with_suffix("").parts[1:]]
+        module = "::".join([crate.name, *([] if parts in (["lib"], ["main"]) else parts), ""])
+        prefix = f"{crate.name}::" if "::" in name else module
+        found += [it for it in said.verdicts if it.startswith(prefix) and it.endswith(f"::{name}")]
+    return found
 
 
 def judged(crate, edit, said, is_alone):
     """The verdict on an edit after a round; None where it has to be tried again."""
-    paths = [path for file, name in edit.functions for path in paths_of(crate, said, file, name)]
-    own = [it for it in paths if is_own_failure(said.verdicts[it])]
+    own = [it for it in paths_of(crate, said, edit) if is_own_failure(said.verdicts[it])]
     if not own and is_alone:
         own = said.failed()
     if own:
@@ -300,16 +319,10 @@ def tried(crate, left, kept, tell, ends):
                 verdicts.append(verdict)
                 tell(verdict)
                 continue
-            hidden = [said.verdicts[it] for file, name in edit.functions for it in paths_of(crate, said, file, name)]
-            called = {it for words in hidden for found in CALLS.findall(words) for it in re.findall(r"`([^`]*)`", found)}
-            beside = {
-                other.name
-                for other in chosen
-                if other is not edit
-                and any(path in called for file, name in other.functions for path in paths_of(crate, said, file, name))
-            }
+            called = said.not_proved_below(paths_of(crate, said, edit))
+            beside = {it.name for it in chosen if it is not edit and called & {*paths_of(crate, said, it)}}
             edit.avoided |= beside
-            # Nothing told of its function, or its function is proved: by itself.
+            # Nothing is told of its function, or its function is proved: by itself.
             edit.is_alone = not beside
             again.append(edit)
         left = again + [it for it in left if it not in chosen]

@@ -1,7 +1,7 @@
 //! The lines of `podtool show`.
 use crate::output::Output;
 use crate::run::Failure;
-use libspa::pod::{Pod, PodObjectIter, PodStructIter};
+use spa_view::{Pod, PodObjectIter, PodStructIter};
 use std::alloc::Global;
 use std::io::Write;
 

@@ -1,7 +1,8 @@
 //! Where the program's answer goes.
 
 use crate::run::Failure;
-use libspa::pod::serialize::{IoSink, PodSink};
+use spa_device::IoSink;
+use spa_sink::PodSink;
 use std::io::{self, ErrorKind, Write};
 
 /// A device whose interrupted writes are made again.

@@ -1,11 +1,12 @@
 //! The program's work, over a reader and two writers.
 ghost use Rattle.std.specs.Prelude.{◌≡◌, ◌≤◌, IfSome, length};
-ghost use Rattle.libspa.specs.Words.{extent, word_at};
+ghost use Rattle.spa_format.specs.Words.{extent, word_at};
 
 use crate::listing::Listing;
 use crate::output::Output;
-use libspa::pod::deserialize::DeserializeError;
-use libspa::pod::{Pod, PodObject, accept_all, rewrite_in_parts};
+use spa_fixed::DeserializeError;
+use spa_rewrite::{accept_all, rewrite_in_parts};
+use spa_view::{Pod, PodObject};
 use std::alloc::{AllocError, Global};
 use std::fmt;
 use std::io::{ErrorKind, Read, Write};

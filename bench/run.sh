@@ -8,7 +8,7 @@ rounds=${ROUNDS:-7}
 read -ra words <<< "${WORDS:-rewrite fixate show}"
 
 [ -d "$inputs" ] || python3 "$here/make.py" "$inputs"
-# built where a source is newer; then the program itself is timed, and not the script that finds it
+# built where a source changed; then the program itself is timed, and not the script that finds it
 "$here/../podtool" rewrite < /dev/null
 program=$here/../crates/podtool/out/podtool
 # as the script sets it

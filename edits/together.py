@@ -130,7 +130,7 @@ class Crate:
     def edit(self, file):
         changes, functions, texts = changes_in(file.read_text(encoding="utf-8")), set(), {}
         for path, old, new in changes:
-            text = texts.get(path) or (self.folder / path).read_text(encoding="utf-8")
+            text = texts.get(path) or self.text_of(path)
             before = text[: text.index(old)]
             name = function_at(text.split("\n"), before.count("\n")) if path.startswith("src/") else ""
             functions.add((path, name))
@@ -142,11 +142,14 @@ class Crate:
         texts = {}
         for edit in edits:
             for path, old, new in edit.changes:
-                text = texts.get(path) or (self.folder / path).read_text(encoding="utf-8")
+                text = texts.get(path) or self.text_of(path)
                 if text.count(old) != 1:
                     return None
                 texts[path] = text.replace(old, new)
         return texts
+
+    def text_of(self, path):
+        return (self.folder / path).read_text(encoding="utf-8")
 
     def check(self, texts, kept):
         """Checks a copy of the crate with these texts in place of its own, over the kept work."""
@@ -280,50 +283,51 @@ def judged(crate, edit, said, is_alone):
 
 def round_of(crate, edits):
     """The edits of the next round: the first, and each further one that changes other functions and fits beside them."""
-    if edits[0].is_alone:
-        return edits[:1], crate.applied(edits[:1])
-    chosen, texts = [], {}
-    for edit in edits:
+    chosen = edits[:1]
+    for edit in edits[1:]:
         taken = {it for other in chosen for it in other.functions}
         apart = any(edit.name in it.avoided or it.name in edit.avoided for it in chosen)
-        if edit.is_alone or apart or edit.functions & taken:
-            continue
-        found = crate.applied([*chosen, edit])
-        if found is not None:
-            chosen, texts = [*chosen, edit], found
-    return chosen, texts
+        alone = edit.is_alone or chosen[0].is_alone
+        if not (alone or apart or edit.functions & taken) and crate.applied([*chosen, edit]):
+            chosen.append(edit)
+    return chosen
 
 
 def tried(crate, left, kept, tell, ends):
     """Tries these edits of a crate over the kept work, a round at a time until the clock says `ends`, where it isn't None;
-    answers the verdicts, the edits that are left and the number of rounds."""
-    verdicts, rounds = [], 0
+    answers the verdicts, the edits that are left and the number of checks."""
+    verdicts, checks = [], 0
     while left and (ends is None or time.monotonic() < ends):
-        chosen, texts = round_of(crate, left)
-        rounds += 1
-        is_alone = len(chosen) == 1
-        if texts is None:
-            verdicts.append(Verdict(chosen[0], False, "BAD EDIT: an 'old:' doesn't stand there once"))
-            left = left[1:]
-            continue
-        said = crate.check(texts, kept)
-        if not said.is_answered() and not is_alone:
-            # One of them isn't read: each by itself.
-            for edit in chosen:
-                edit.is_alone = True
-            continue
-        again = []
-        for edit in chosen:
-            verdict = judged(crate, edit, said, is_alone)
-            if verdict:
-                verdicts.append(verdict)
-                tell(verdict)
+        chosen = round_of(crate, left)
+        left = [it for it in left if it not in chosen]
+        parts = [chosen]
+        while parts:
+            part = parts.pop()
+            said, checks = crate.check(crate.applied(part), kept), checks + 1
+            if not said.is_answered() and len(part) > 1:
+                # One of them can't be read.
+                parts += [part[: len(part) // 2], part[len(part) // 2 :]]
                 continue
-            called = said.not_proved_below(paths_of(crate, said, edit))
-            beside = {it.name for it in chosen if it is not edit and called & {*paths_of(crate, said, it)}}
-            edit.avoided |= beside
-            # Nothing is told of its function, or its function is proved: by itself.
-            edit.is_alone = not beside
-            again.append(edit)
-        left = again + [it for it in left if it not in chosen]
-    return verdicts, left, rounds
+            found, again = sorted_out(crate, part, said)
+            left = again + left
+            verdicts += found
+            for verdict in found:
+                tell(verdict)
+    return verdicts, left, checks
+
+
+def sorted_out(crate, part, said):
+    """The verdicts on the edits of a round, and those that are to be tried again."""
+    verdicts, again = [], []
+    for edit in part:
+        verdict = judged(crate, edit, said, len(part) == 1)
+        if verdict:
+            verdicts.append(verdict)
+            continue
+        called = said.not_proved_below(paths_of(crate, said, edit))
+        beside = {it.name for it in part if it is not edit and called & {*paths_of(crate, said, it)}}
+        edit.avoided |= beside
+        # Nothing is told of its function, or its function is proved: by itself.
+        edit.is_alone = not beside
+        again.append(edit)
+    return verdicts, again

@@ -13,9 +13,16 @@ import re
 import shutil
 import subprocess
 import tempfile
+import threading
 import time
 
 PARTS = ("src", "specs", "proofs")
+
+# How many edits are tried in one check at the most: a check of so many takes a few minutes.
+ROUND = 12
+
+# The checks that run, and whether no further one is to begin.
+RUNNING, ENDED = set(), threading.Event()
 
 # The head of a function, as `rt fmt` lays it out: its indentation and its name.
 HEAD = re.compile(r"( *)(?:pub(?:\([^)]*\))? )?(?:(?:const|unsafe|final) )*fn (\w+)")
@@ -160,15 +167,18 @@ class Crate:
                     shutil.copytree(self.folder / part, room / part)
             for path, text in texts.items():
                 (room / path).write_text(text, encoding="utf-8")
-            ran = subprocess.run(
+            with subprocess.Popen(
                 [*self.words(), "--incremental", kept],
                 cwd=room,
                 stdin=subprocess.DEVNULL,
                 stdout=subprocess.PIPE,
                 stderr=subprocess.STDOUT,
                 errors="replace",
-            )
-        return Said(ran.stdout.rstrip("\n").split("\n"))
+            ) as check:
+                RUNNING.add(check)
+                said = check.communicate()[0]
+                RUNNING.discard(check)
+        return Said(said.rstrip("\n").split("\n"))
 
     def words(self):
         """The prover and its arguments: the crate over its libraries as out/ has them."""
@@ -250,10 +260,8 @@ class Said:
 
 
 def is_own_failure(said):
-    """Whether these words on a function tell of its own failure, and not of what it calls alone."""
-    if said.startswith("proved") or said.startswith("could not tell"):
-        return False
-    return said.startswith("not proved") or "did not prove" in said or not CALLS.search(said)
+    """Whether these words on a function tell of its own failure, and not of what it calls or passes on alone."""
+    return said.startswith(("not proved", "no proof: expected")) or "did not prove" in said
 
 
 def paths_of(crate, said, edit):
@@ -287,7 +295,7 @@ def round_of(crate, edits):
     for edit in edits[1:]:
         taken = {it for other in chosen for it in other.functions}
         apart = any(edit.name in it.avoided or it.name in edit.avoided for it in chosen)
-        alone = edit.is_alone or chosen[0].is_alone
+        alone = edit.is_alone or chosen[0].is_alone or len(chosen) == ROUND
         if not (alone or apart or edit.functions & taken) and crate.applied([*chosen, edit]):
             chosen.append(edit)
     return chosen
@@ -297,11 +305,11 @@ def tried(crate, left, kept, tell, ends):
     """Tries these edits of a crate over the kept work, a round at a time until the clock says `ends`, where it isn't None;
     answers the verdicts, the edits that are left and the number of checks."""
     verdicts, checks = [], 0
-    while left and (ends is None or time.monotonic() < ends):
+    while left and not ENDED.is_set() and (ends is None or time.monotonic() < ends):
         chosen = round_of(crate, left)
         left = [it for it in left if it not in chosen]
         parts = [chosen]
-        while parts:
+        while parts and not ENDED.is_set():
             part = parts.pop()
             said, checks = crate.check(crate.applied(part), kept), checks + 1
             if not said.is_answered() and len(part) > 1:

@@ -1,6 +1,7 @@
 #!/usr/bin/env python3
 """refuse.py [PROGRAM ..]: runs the built programs with each of their requests of memory refused in turn.
-refuse.py tests CRATE ..: does so with each test of these crates, as `rt test` has built them.
+refuse.py tests CRATE ..: does so with each test of these crates, as `rt test` has built them. CRATE/START: of those alone whose
+names begin so.
 
 Each word of podtool runs on each pod of examples/, on all of them one after another, and on a list whose last pod is
 short; meet runs on pairs of objects, of which some meet and some don't. A run must end as it does with memory, or write
@@ -126,10 +127,11 @@ def refuse_in_test(library, program, test):
 def refuse_in_tests(library, crates):
     """Refuses each request of each test of the crates, and returns how many there were and how many ended wrongly."""
     runs = wrong = 0
-    for crate in crates:
+    for given in crates:
+        crate, _, start = given.partition("/")
         program = HERE.parent / f"crates/{crate}/out/{crate}_tests"
         listed = subprocess.run([program, "--list"], check=True, capture_output=True, text=True).stdout
-        for test in re.findall(r"^(.+): test$", listed, re.MULTILINE):
+        for test in re.findall(rf"^({re.escape(start)}.*): test$", listed, re.MULTILINE):
             count, found = refuse_in_test(library, program, test)
             print(f"{crate} {test}: {count} requests", flush=True)
             for it in found:

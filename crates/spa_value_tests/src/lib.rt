@@ -1,8 +1,9 @@
-//! Tests of values, and of the types, bodies and outputs below them. There is nothing here but tests.
+//! Tests of plain types, dictionaries and result codes, of values, and of the bodies and outputs below them. There is nothing
+//! here but tests.
 #![tactic(auto)]
 
 #[cfg(test)]
-mod bytes;
+mod compare;
 #[cfg(test)]
 mod equality;
 #[cfg(test)]

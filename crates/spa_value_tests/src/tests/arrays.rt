@@ -1,5 +1,5 @@
 //! Bodies of arrays, read and written, with bytes from outside.
-use crate::bytes::{
+use crate::compare::{
     assert_holds, assert_same, assert_same_at, assert_words, cut_bytes, refusal_of,
 };
 use spa_bytes::{HEADER_LEN, u32_at};

@@ -1,5 +1,5 @@
 //! Bodies of choices, read and written, with bytes from outside.
-use crate::bytes::{assert_holds_at, assert_same_at, assert_words, cut_bytes, refusal_of};
+use crate::compare::{assert_holds_at, assert_same_at, assert_words, cut_bytes, refusal_of};
 use bitflags::Flags;
 use spa_bytes::u32_at;
 use spa_fixed::{ChoiceElement, Refusal, put_choice, read_choice};

@@ -1,5 +1,5 @@
 //! A clone equals its source.
-use crate::bytes::assert_same;
+use crate::compare::assert_same;
 use crate::values::{
     arrays, choices, deep_values, distinct_values, objects, properties, worked_values,
 };

@@ -1,5 +1,5 @@
 //! Sinks over devices.
-use crate::bytes::assert_same;
+use crate::compare::assert_same;
 use arrayvec::ArrayVec;
 use spa_device::IoSink;
 use spa_fixed::put_fixed;

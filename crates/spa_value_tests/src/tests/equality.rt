@@ -1,5 +1,5 @@
 //! Values, and parts of values, equal themselves alone.
-use crate::bytes::assert_same;
+use crate::compare::assert_same;
 use crate::values::{arrays, choices, deep_values, distinct_values, properties};
 use std::alloc::AllocError;
 use std::process::Abort;

@@ -1,5 +1,5 @@
 //! The ten types of fixed size, with bytes from outside.
-use crate::bytes::{assert_holds_at, assert_same, assert_same_at, assert_words};
+use crate::compare::{assert_holds_at, assert_same, assert_same_at, assert_words};
 use spa_fixed::{CanonicalFixedSizedPod, Fault, FaultKind, FixedSizedPod, put_fixed};
 use spa_sink::GenError;
 use spa_utils::{Fd, Float32, Float64, Fraction, Id, Rectangle};

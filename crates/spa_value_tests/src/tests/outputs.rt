@@ -1,5 +1,5 @@
 //! What bytes are written to: vectors, and outputs of fixed room.
-use crate::bytes::{assert_holds, assert_same, assert_words};
+use crate::compare::{assert_holds, assert_same, assert_words};
 use arrayvec::ArrayVec;
 use spa_bytes::{two_words, u32_at, u64_at};
 use spa_fixed::put_fixed;

@@ -1,5 +1,5 @@
 //! Properties and their flags.
-use crate::bytes::{assert_holds, assert_same, assert_same_at};
+use crate::compare::{assert_holds, assert_same, assert_same_at};
 use crate::values::int_property;
 use bitflags::Flags;
 use spa_value::{Property, PropertyFlags, Value};

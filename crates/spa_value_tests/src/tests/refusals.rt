@@ -1,5 +1,5 @@
 //! The names of refusals.
-use crate::bytes::assert_same;
+use crate::compare::assert_same;
 use spa_fixed::{DeserializeError, Fault, FaultKind, Refusal};
 use spa_sink::GenError;
 use std::alloc::{AllocError, Global};

@@ -1,0 +1,7 @@
+//! The builder, and the macros beside it.
+mod calls;
+mod forms;
+mod objects;
+mod refused;
+mod rows;
+mod shown;

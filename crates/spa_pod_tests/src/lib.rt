@@ -1,0 +1,24 @@
+//! Tests of views, readers, writers, visitors and the builder, each by the calls of its own crate. There is nothing here but
+//! tests.
+#![tactic(auto)]
+
+#[cfg(test)]
+mod builder;
+#[cfg(test)]
+mod compare;
+#[cfg(test)]
+mod counting;
+#[cfg(test)]
+mod equality;
+#[cfg(test)]
+mod hostile_sizes;
+#[cfg(test)]
+mod reading;
+#[cfg(test)]
+mod sized;
+#[cfg(test)]
+mod typed;
+#[cfg(test)]
+mod viewing;
+#[cfg(test)]
+mod writing;

@@ -1,0 +1,8 @@
+//! Typed reads, visitors and a user's own readers.
+mod answers;
+mod built;
+mod elements;
+mod objects;
+mod structs;
+mod telling;
+mod visitors;

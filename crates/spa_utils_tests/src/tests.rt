@@ -1,4 +1,0 @@
-//! The tests, by subject.
-mod dictionaries;
-mod plain_types;
-mod results;

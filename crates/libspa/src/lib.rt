@@ -63,8 +63,10 @@ pub mod pod {
     pub mod deserialize {
         pub use spa_fixed::{DeserializeError, Fault, FaultKind};
         pub use spa_read::{
-            ArrayPodDeserializer, DeserializeSuccess, Never, ObjectPodDeserializer, PodDeserialize,
-            PodDeserializer, StructPodDeserializer, ValueVisitor, Visit, Visitor, laws,
+            ArrayPodDeserializer, DeserializeAs, DeserializeMembers, DeserializeProperties,
+            DeserializeSuccess, ExactDeserialize, Never, ObjectOf, ObjectPodDeserializer, Optional,
+            PodDeserialize, PodDeserializer, Required, StructOf, StructPodDeserializer,
+            ValueVisitor, Visit, Visitor, laws,
         };
         pub use spa_visitors::{
             BitmapVisitor, BoolVisitor, BytesVisitor, ChoiceBoolVisitor, ChoiceDoubleVisitor,

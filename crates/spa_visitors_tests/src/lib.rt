@@ -8,6 +8,8 @@ mod built;
 #[cfg(test)]
 mod compare;
 #[cfg(test)]
+mod declining;
+#[cfg(test)]
 mod elements;
 #[cfg(test)]
 mod objects;

@@ -54,8 +54,9 @@ pub mod pod {
         pub use spa_device::IoSink;
         pub use spa_sink::{GenError, PodOutput, PodSink};
         pub use spa_write::{
-            ArrayPodSerializer, ObjectPodSerializer, PodSerialize, PodSerializer, SerializeSuccess,
-            StructPodSerializer, laws, write_sized,
+            ArrayPodSerializer, MaybeUnder, ObjectPodSerializer, PodSerialize, PodSerializer,
+            SerializeMembers, SerializeProperties, SerializeSuccess, StructPodSerializer, Under,
+            laws, write_sized,
         };
     }
 

@@ -39,11 +39,9 @@ impl PodSerialize for Curve {
         &self,
         serializer: PodSerializer<O>,
     ) -> Result<SerializeSuccess<O>, GenError> {
-        let mut members = serializer.serialize_struct()?;
-        members.serialize_field(&self.name.as_str())?;
-        members.serialize_field(&self.order)?;
-        members.serialize_field(&self.channel)?;
-        members.serialize_field(&self.points.as_slice())?;
-        members.end()
+        let text = self.name.as_str();
+        let points = self.points.as_slice();
+        let members = (&text, (&self.order, (&self.channel, (&points, ()))));
+        serializer.serialize_members(&members)
     }
 }

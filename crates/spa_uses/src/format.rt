@@ -1,8 +1,14 @@
 //! An object that is declared by what it is made of.
-ghost use Rattle.std.specs.Prelude.{◌≡◌};
+ghost use Rattle.std.specs.Prelude.{◌≡◌, map};
+ghost use Rattle.libspa.specs.Kind as kind;
+ghost use Rattle.libspa.specs.Listed.{optional_property};
+ghost use Rattle.libspa.specs.Tree.{array, fixed, no_properties, object, property};
 
 use crate::curve::Curve;
 use libspa::pod::deserialize::{DeserializeAs, ObjectOf, Optional, Required};
+use libspa::pod::serialize::{
+    GenError, MaybeUnder, PodOutput, PodSerialize, PodSerializer, SerializeSuccess, Under,
+};
 use libspa::utils::Id;
 
 /// An audio format.
@@ -52,5 +58,24 @@ impl DeserializeAs for AudioFormat {
             positions,
             curve,
         }
+    }
+}
+
+impl PodSerialize for AudioFormat {
+    ghost value = { λ f. object 262147 4 (property 65537 0 (fixed (kind.id f.encoding.0)) (property 65539 0 (fixed (kind.int f.rate)) (optional_property 65540 (λ n. fixed (kind.int n)) f.channels (property 65541 0 (array kind.id_kind (map (λ x. kind.id x.0) f.positions.items)) (property 65550 0 (⟦<Curve as PodSerialize>⟧.value f.curve) no_properties))))) };
+
+    fn serialize<O: PodOutput>(
+        &self,
+        serializer: PodSerializer<O>,
+    ) -> Result<SerializeSuccess<O>, GenError> {
+        let positions = self.positions.as_slice();
+        let optional = MaybeUnder::<65540, i32>(&self.channels);
+        let last = (
+            Under::<65541, &[Id]>(&positions),
+            (Under::<65550, Curve>(&self.curve), ()),
+        );
+        let first = Under::<65537, Id>(&self.encoding);
+        let properties = (first, (Under::<65539, i32>(&self.rate), (optional, last)));
+        serializer.serialize_properties(262147, 4, &properties)
     }
 }

@@ -18,10 +18,13 @@ pub use Rattle.spa_read.specs.Reading
 pub use Rattle.spa_read.specs.Asking
 pub use Rattle.spa_read.specs.Visiting
 pub use Rattle.spa_read.specs.Members
+pub use Rattle.spa_read.specs.Exactly
+pub use Rattle.spa_read.specs.Lookup
 pub use Rattle.spa_visitors.specs.Declining
 pub use Rattle.spa_write.specs.Written
 pub use Rattle.spa_write.specs.Success
 pub use Rattle.spa_write.specs.Unfinished
+pub use Rattle.spa_write.specs.Listed
 pub use Rattle.spa_scan.specs.Canonical
 pub use Rattle.spa_scan.specs.Depth
 pub use Rattle.spa_rewrite.specs.Rewriting

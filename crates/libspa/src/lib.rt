@@ -54,8 +54,9 @@ pub mod pod {
         pub use spa_device::IoSink;
         pub use spa_sink::{GenError, PodOutput, PodSink};
         pub use spa_write::{
-            ArrayPodSerializer, ObjectPodSerializer, PodSerialize, PodSerializer, SerializeSuccess,
-            StructPodSerializer, laws, write_sized,
+            ArrayPodSerializer, MaybeUnder, ObjectPodSerializer, PodSerialize, PodSerializer,
+            SerializeMembers, SerializeProperties, SerializeSuccess, StructPodSerializer, Under,
+            laws, write_sized,
         };
     }
 
@@ -63,8 +64,10 @@ pub mod pod {
     pub mod deserialize {
         pub use spa_fixed::{DeserializeError, Fault, FaultKind};
         pub use spa_read::{
-            ArrayPodDeserializer, DeserializeSuccess, Never, ObjectPodDeserializer, PodDeserialize,
-            PodDeserializer, StructPodDeserializer, ValueVisitor, Visit, Visitor, laws,
+            ArrayPodDeserializer, DeserializeAs, DeserializeMembers, DeserializeProperties,
+            DeserializeSuccess, ExactDeserialize, Never, ObjectOf, ObjectPodDeserializer, Optional,
+            PodDeserialize, PodDeserializer, Required, StructOf, StructPodDeserializer,
+            ValueVisitor, Visit, Visitor, laws,
         };
         pub use spa_visitors::{
             BitmapVisitor, BoolVisitor, BytesVisitor, ChoiceBoolVisitor, ChoiceDoubleVisitor,

@@ -1,6 +1,6 @@
 -- What a device took of the bytes that it was handed: docs/FORMAT.md, "Values that can be written".
-use Rattle.std.specs.Prelude.{◌≡◌, ℕ, ◌+◌, ◌^◌, ◌<◌, ◌≤◌, ◌⊎◌, List, length, Option}
-use Rattle.std.specs.Io.KnownBytes.{Appends}
+use Rattle.std.specs.Prelude.{◌≡◌, ℕ, ◌+◌, ◌^◌, ◌<◌, ◌≤◌, ◌⊎◌, List, [], length, take, drop, Option, Some, None, Bool, true, false}
+use Rattle.std.specs.Io.KnownBytes.{Appends, Keeps}
 use Rattle.spa_sink.specs.declared.gen_error.GenError.{GenError}
 use Rattle.spa_sink.specs.declared.gen_error.GenError.TheVariants.{Io, Failed}
 
@@ -16,6 +16,19 @@ pub record Took {W : Type 0} (contents : W → Option (List ℕ)) (old : Counted
   pub counted : new.written ≡ old.written + length bytes
   pub grew : old.failures ≤ new.failures
   pub known : Appends (contents old.device) (contents new.device) bytes
+
+-- what one write of these bytes did: it took so many of them, or it failed and took none
+abbrev pub Attempted : Option (List ℕ) → Option (List ℕ) → List ℕ → Option ℕ → Type 0
+Attempted old new bytes None = Keeps old new
+Attempted old new bytes (Some n) = (0 < n) × (n ≤ length bytes) × Appends old new (take n bytes)
+
+-- Writes, each of the bytes that the one before left over: each took some, until all were taken or one failed, which was the last.
+-- So many bytes were taken in all.
+pub data Handed {D : Type 0} (attempts : D → List ℕ → Option ℕ → D → Type 0) (last : D) (failed : Bool) : ℕ → D → List ℕ → Type 0 where
+  all_taken : failed ≡ false → Handed attempts last failed 0 last []
+  one_failed : (old : D) (bytes : List ℕ) → failed ≡ true → attempts old bytes None last → Handed attempts last failed 0 old bytes
+  some_taken : (old next : D) (bytes : List ℕ) (n more : ℕ) → attempts old bytes (Some n) next →
+      Handed attempts last failed more next (drop n bytes) → Handed attempts last failed (n + more) old bytes
 
 -- the first number that a count has no room for
 abbrev pub count_limit : ℕ

@@ -1,13 +1,13 @@
 -- The laws of a sink, for one over a device.
 use Rattle.std.specs.Prelude.{◌≡◌, ℕ, ◌+◌, ◌≤◌, List, ◌++◌, length, Option, Some, None}
 use Rattle.std.specs.Io.KnownBytes.{Appends, Keeps}
-use Rattle.std.proofs.Common.{arith, inl, inr, length-append, append_assoc, append-nil, sym}
+use Rattle.std.proofs.Common.{arith, inl, inr, length-append, append_assoc, append-nil, ◌∙◌}
 use Rattle.std.proofs.Common.{take}
 use Rattle.spa_sink.specs.declared.gen_error.GenError.{GenError}
 use Rattle.spa_sink.specs.declared.gen_error.GenError.TheVariants.{Io, Failed}
 use Rattle.spa_device.specs.Counting.{Counted, RefusesBytes, Took}
 
-known_more : (a b c : Option (List ℕ)) (xs ys : List ℕ) → Appends a b xs → Appends b c ys →
+pub known_more : (a b c : Option (List ℕ)) (xs ys : List ℕ) → Appends a b xs → Appends b c ys →
     Appends a c (xs ++ ys)
 known_more None b c xs ys p q = tt
 known_more (Some a) None c xs ys p q = absurd p
@@ -51,8 +51,8 @@ pub no_other : {W : Type 0} (a b : Counted W) (n : ℕ) (e : GenError) → Refus
     (e ≡ Io → ⊥) → (e ≡ Failed → ⊥) → ⊥
 no_other a b n e r f g = elim r [ inl p ↦ f p.0 | inr p ↦ g p.0 ]
 
--- what stays has grown by nothing
-pub nothing_taken : (a b : Option (List ℕ)) (xs : List ℕ) → Keeps a b → Appends a b (take 0 xs)
-nothing_taken None b xs k = tt
-nothing_taken (Some a) None xs k = absurd k
-nothing_taken (Some a) (Some b) xs k = rw k (sym (append-nil a))
+-- bytes of which none was taken stay as they were
+pub nothing_kept : (a b : Option (List ℕ)) (xs : List ℕ) → Appends a b (take 0 xs) → Keeps a b
+nothing_kept None b xs k = tt
+nothing_kept (Some a) None xs k = absurd k
+nothing_kept (Some a) (Some b) xs k = k ∙ append-nil a

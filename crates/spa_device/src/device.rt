@@ -1,8 +1,7 @@
 //! A sink over any writer.
-ghost use Rattle.std.specs.Prelude.{◌≡◌, ◌+◌, ◌≤◌, ℕ, OnErr, OnOk, IfErr, length, take};
-ghost use Rattle.std.specs.Io.KnownBytes.{Appends};
+ghost use Rattle.std.specs.Prelude.{◌≡◌, ◌+◌, ℕ, List, OnErr, OnOk, Option, IfErr, length, take};
 ghost use Rattle.spa_sink.specs.declared.gen_error.GenError.TheVariants.{Failed, Io, NulInText, TooLarge};
-ghost use Rattle.spa_device.specs.Counting.{RefusesBytes, Took};
+ghost use Rattle.spa_device.specs.Counting.{Attempted, Handed, RefusesBytes, Took};
 ghost use Rattle.spa_device.specs.CountingLaws.{no_other, refuses_after, refuses_longer, took_more};
 
 use spa_sink::{GenError, PodSink};
@@ -63,16 +62,54 @@ impl<W: Write + Drop> IoSink<W> {
     }
 }
 
-/// How many bytes one write takes, none where it fails.
-#[tactic(auto, using(crate::specs::CountingLaws::nothing_taken))]
-fn taken<W: Write>(device: &mut W, bytes: &[u8]) -> usize
-    ensures most { result ≤ length bytes.now }
-    ensures known { Appends (W.contents device.old) (W.contents device.new) (take result bytes.now) }
-{
-    match device.write(bytes) {
-        Ok(count) => count,
-        Err(_) => 0,
+/// What is written by one attempt after another.
+trait Attempts {
+    /// The bytes that it holds, where they are known.
+    ghost holds: { Self → Option (List ℕ) };
+
+    /// The first, handed these bytes, took so many of them and is the second; or it failed and is the second.
+    ghost attempts: { Self → List ℕ → Option ℕ → Self → Type 0 };
+
+    /// One write: how many bytes it took, or nothing where it failed.
+    fn attempt(&mut self, bytes: &[u8]) -> Option<usize>
+        ensures { attempts self.old bytes.now result self.new };
+
+    ghost known: { (a b : Self) (bytes : List ℕ) (taken : Option ℕ) → attempts a bytes taken b → Attempted (holds a) (holds b) bytes taken };
+}
+
+impl<W: Write> Attempts for W {
+    ghost holds = { λ it. W.contents it };
+
+    ghost attempts = { λ a bytes taken b. Attempted (W.contents a) (W.contents b) bytes taken };
+
+    ghost known = { λ a b bytes taken h. h };
+
+    #[tactic(auto, using(crate::specs::CountingLaws::nothing_kept))]
+    fn attempt(&mut self, bytes: &[u8]) -> Option<usize> {
+        match self.write(bytes) {
+            Ok(0) => None,
+            Ok(count) => Some(count),
+            Err(_) => None,
+        }
     }
+}
+
+/// Hands the bytes over by one write after another, until all are taken or one fails, which isn't tried again. The answer is how
+/// many were taken, and whether one failed.
+fn hand_over<D: Attempts>(device: &mut D, bytes: &[u8]) -> (usize, bool)
+    ensures { Handed D.attempts device.new result.1 result.0 device.old bytes.now }
+{
+    let mut left = bytes;
+    let mut done = 0;
+    while !left.is_empty() {
+        let Some(count) = device.attempt(left) else {
+            return (done, true);
+        };
+        let (_, behind) = left.split_at(count);
+        left = behind;
+        done += count;
+    }
+    (done, false)
 }
 
 impl<W: Write + Drop> PodSink for IoSink<W> {
@@ -105,15 +142,11 @@ impl<W: Write + Drop> PodSink for IoSink<W> {
         if self.failures == u64::MAX || bytes.len() as u64 > u64::MAX - self.written {
             return Err(GenError::Failed);
         }
-        let mut done = 0;
-        while done < bytes.len() {
-            let count = taken(&mut self.device, &bytes[done..]);
-            if count == 0 {
-                self.failures += 1;
-                return Err(GenError::Io);
-            }
-            done += count;
-            self.written += count as u64;
+        let (taken, failed) = hand_over(&mut self.device, bytes);
+        self.written += taken as u64;
+        if failed {
+            self.failures += 1;
+            return Err(GenError::Io);
         }
         Ok(())
     }

@@ -1,6 +1,7 @@
 //! Typed reads, visitors and a user's own readers.
 mod answers;
 mod built;
+mod declining;
 mod elements;
 mod objects;
 mod structs;

@@ -2,6 +2,7 @@
 use Rattle.std.proofs.Common.{◌≡◌, ℕ, ◌*◌, ◌<◌, List, [], ◌∷◌, ◌++◌, length, map, refl, sym, subst, ◌∙◌, ap, arith, length-drop}
 use Rattle.spa_format.specs.Kind.{Kind, Fixed, body_size, none_kind, bool_kind, id_kind, int_kind, long_kind, float_kind, double_kind, rectangle_kind, fraction_kind, fd_kind}
 use Rattle.spa_format.specs.Tree.{array, array_type}
+use Rattle.spa_format.specs.Tree as tree
 use Rattle.spa_format.specs.Pod.{AreElements, IsArray}
 use Rattle.spa_format.specs.Encoding.{encoding_of}
 use Rattle.spa_format.specs.Front.{Begins, front_of}
@@ -10,7 +11,7 @@ use Rattle.spa_format.specs.Typed.{IsTyped}
 use Rattle.spa_format.specs.Writable.{IsWritable}
 use Rattle.spa_format.proofs.Back.{encoding_begins}
 use Rattle.spa_format.proofs.Unique.{one_value}
-use Rattle.spa_read.specs.Members.{ArrayReader, HasElements, IsMadeOf, OpensArray, TakesElement, TakesElements, list_tree}
+use Rattle.spa_read.specs.Members.{ArrayReader, HasElements, IsMadeOf, OpensArray, TakesElement, TakesElements, list_tree, single_tree}
 use Rattle.spa_read.specs.Reading.{IsRead}
 use Rattle.spa_read.proofs.Steps.{pod_read}
 
@@ -164,3 +165,19 @@ pub no_units : {C X : Type 0} (k : Kind) (fixed : C → Fixed) (made_of : C → 
 no_units k fixed made_of input [] first last z o t = refl
 no_units k fixed made_of input (y ∷ ys) first last z o t =
     absurd (omega (arith, o.elements.units z, t.1.counted))
+
+-- Values that come back.
+
+fixed_content : (x y : Fixed) → tree.fixed x ≡ tree.fixed y → x ≡ y
+fixed_content x y e = cc e
+
+pub single_back : {C X : Type 0} (says : C → Fixed) (stands_for : X → C) (made_of : C → X) →
+    ((c d : C) → says c ≡ says d → c ≡ d) → (input rest : List ℕ) (x : X) (c : C) → made_of (stands_for x) ≡ x →
+    Begins input (single_tree says stands_for x) → IsRead input rest (λ v. v ≡ tree.fixed (says c)) → made_of c ≡ x
+single_back says stands_for made_of same input rest x c lawful b r =
+    let one : tree.fixed (says c) ≡ tree.fixed (says (stands_for x)) =
+    sym r.holds ∙ one_value (front_of input) r.value (single_tree says stands_for x) r.begins.pod b.pod in
+    ap made_of (same c (stands_for x) (fixed_content (says c) (says (stands_for x)) one)) ∙ lawful
+
+pub single_begins : (x : Fixed) (rest : List ℕ) → IsTyped (tree.fixed x) → Begins (encoding_of (tree.fixed x) ++ rest) (tree.fixed x)
+single_begins x rest t = (encoding_begins (tree.fixed x) rest t (record { no_nul = λ n. n; fits = λ n. n })).1

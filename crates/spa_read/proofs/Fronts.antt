@@ -1,5 +1,5 @@
 -- Whole pods of one type: what is read of an opened front, and what is refused of it.
-use Rattle.std.proofs.Common.{◌≡◌, ◌≢◌, ℕ, ◌<◌, ◌≤◌, List, length, refl, sym, ap, ◌∙◌, subst, inr}
+use Rattle.std.proofs.Common.{◌≡◌, ◌≢◌, ℕ, ◌<◌, ◌≤◌, List, length, refl, sym, ap, ◌∙◌, subst, inl, inr}
 use Rattle.std.specs.Borrow.{Bor}
 use Rattle.spa_format.specs.Words.{word_at, body_of, header_size}
 use Rattle.spa_format.specs.Kind.{Kind, Fixed, type_number, kind_of, IsFixedBody}
@@ -8,11 +8,13 @@ use Rattle.spa_format.specs.Pod.{AreProperties, IsBody}
 use Rattle.spa_format.specs.Faults.{short_array, short_choice, of_array, choice_header_size, IsWrongArray}
 use Rattle.spa_format.proofs.WordLemmas.{word_at-drop}
 use Rattle.spa_fixed.specs.declared.fault.FaultKind.TheVariants as fault_kind
+use Rattle.spa_fixed.specs.declared.fault.DeserializeError.{DeserializeError}
 use Rattle.spa_fixed.specs.declared.fault.DeserializeError.TheVariants as error
 use Rattle.spa_bytes.specs.Opening.{Opens}
 use Rattle.spa_read.specs.Reading.{IsRead}
 use Rattle.spa_read.specs.Asking.{array_of, choice_of, IsAsked, RefusesAsked}
-use Rattle.spa_read.specs.Members.{AllMembers, AllProperties, AtEnd, Further, FurtherIn, ObjectReader, OpensObject, OpensStruct, Reader}
+use Rattle.spa_read.specs.Members.{AllMembers, AllProperties, AtEnd, Further, FurtherIn, ObjectReader, OpensObject, OpensStruct, Reader, RefusesEnd}
+use Rattle.spa_read.specs.Visiting.{RefusesObject, RefusesStruct, failed_object, failed_struct, unread_object, unread_struct}
 use Rattle.spa_read.proofs.Asking.{asked_refused, size_refused}
 use Rattle.spa_read.proofs.Steps.{pod_read}
 
@@ -41,6 +43,16 @@ struct_read input s lent now P o f e i all =
       holds = (all.members, refl, all.holds);
     }
 
+-- its reader isn't ended
+pub struct_unended : (declines : Reader → Reader → DeserializeError (Bor (List ℕ)) → Type 0) (leaves : Reader → Reader → Type 0)
+    (input : List ℕ) (e : DeserializeError (Bor (List ℕ))) (lent now : Reader) → OpensStruct input lent → Further lent now →
+    leaves lent now → RefusesEnd now e → RefusesStruct declines leaves input e
+struct_unended declines leaves input e lent now o f l r =
+    elim r [
+      | inl h ↦ failed_struct lent now o l h.0 h.1
+      | inr h ↦ unread_struct lent now o (f.ahead h.0) l h.1 h.2
+    ]
+
 -- all properties of the object at the front are read
 pub object_read : (input s : List ℕ) (lent now : ObjectReader) (P : ℕ → ℕ → Properties → Type 0) →
     OpensObject input lent → FurtherIn lent now → AtEnd now.reader → s ≡ now.reader.after →
@@ -56,6 +68,17 @@ object_read input s lent now P o f e i all =
       follows = i ∙ (f.ahead e.good).after ∙ r.follows;
       holds = (lent.type, lent.id, all.properties, refl, all.holds);
     }
+
+-- its reader isn't ended
+pub object_unended : (declines : ObjectReader → ObjectReader → DeserializeError (Bor (List ℕ)) → Type 0)
+    (leaves : ObjectReader → ObjectReader → Type 0) (input : List ℕ) (e : DeserializeError (Bor (List ℕ)))
+    (lent now : ObjectReader) → OpensObject input lent → FurtherIn lent now → leaves lent now → RefusesEnd now.reader e →
+    RefusesObject declines leaves input e
+object_unended declines leaves input e lent now o f l r =
+    elim r [
+      | inl h ↦ failed_object lent now o l h.0 h.1
+      | inr h ↦ unread_object lent now o (f.ahead h.0) l h.1 h.2
+    ]
 
 -- an array's body lacks its child header
 pub short_array_refused : (k : Kind) (m : Type 0) (b body rest : List ℕ) → Opens b array_type body rest →

@@ -1,8 +1,9 @@
 -- Readers of a struct's members and of an object's properties: what they have left, and what their calls take.
-use Rattle.std.specs.Prelude.{◌≡◌, ◌≢◌, ℕ, ◌+◌, ◌*◌, ◌≤◌, Bool, true, false, List, [], ◌∷◌, ◌++◌, length, drop, map, take}
+use Rattle.std.specs.Prelude.{◌≡◌, ◌≢◌, ℕ, ◌+◌, ◌*◌, ◌≤◌, ◌⊎◌, Bool, true, false, List, [], ◌∷◌, ◌++◌, length, drop, map, take}
 use Rattle.spa_format.specs.Words.{word_at, header_size}
 use Rattle.spa_format.specs.Kind.{Kind, Fixed, IsFixedBody, body_size, type_number}
 use Rattle.spa_format.specs.Tree.{Tree, Trees, Properties, array, array_type, object_type, struct_type}
+use Rattle.spa_format.specs.Tree as tree
 use Rattle.spa_format.specs.Pod.{AreMembers, AreProperties}
 use Rattle.spa_bytes.specs.Opening.{Opens}
 use Rattle.std.specs.Borrow.{Bor}
@@ -20,6 +21,12 @@ pub record Reader : Type 0 where
 pub record AtEnd (r : Reader) : Type 0 where
   pub good : r.failed ≡ false
   pub none_left : r.left ≡ []
+
+-- it isn't ended where a call was refused, nor where something is left
+abbrev pub RefusesEnd : Reader → DeserializeError (Bor (List ℕ)) → Type 0
+RefusesEnd r e =
+    ((r.failed ≡ true) × (e ≡ error.FailedReader))
+    ⊎ ((r.failed ≡ false) × (r.left ≢ []) × (e ≡ error.UnreadMembers))
 
 -- the reader of the struct at the front, at its first member
 pub record OpensStruct (input : List ℕ) (r : Reader) : Type 0 where
@@ -141,6 +148,10 @@ abbrev pub TakesElements : {C X : Type 0} → Kind → (C → Fixed) → (C → 
 TakesElements k fixed made_of old [] new = new ≡ old
 TakesElements k fixed made_of old (x ∷ xs) new =
     (next : ArrayReader) × TakesElement k fixed made_of old next x × TakesElements k fixed made_of next xs new
+
+-- the value that one of a type of fixed size is written as, by the one that stands for it
+abbrev pub single_tree : {C X : Type 0} → (C → Fixed) → (X → C) → X → Tree
+single_tree says stands_for x = tree.fixed (says (stands_for x))
 
 -- the array that a list is written as, each of it by the value that stands for it
 abbrev pub list_tree : {C X : Type 0} → Kind → (C → Fixed) → (X → C) → List X → Tree

@@ -1,16 +1,16 @@
 -- What a visitor is handed, and what is made of it.
-use Rattle.std.specs.Prelude.{◌≡◌, ℕ, List, map, ⊤, Vec}
+use Rattle.std.specs.Prelude.{◌≡◌, ◌≢◌, ℕ, List, [], map, true, ⊤, Vec}
 use Rattle.std.specs.Borrow.{Bor}
 use Rattle.std.specs.Global.{Global}
-use Rattle.spa_format.specs.Words.{word_at}
 use Rattle.spa_format.specs.Kind.{Kind, Fixed, none, bool, id, int, long, float, double, rectangle, fraction, fd}
-use Rattle.spa_format.specs.Tree.{Tree, fixed, string, bytes, bitmap, array, pointer, type_of, choice_type}
+use Rattle.spa_format.specs.Tree.{Tree, fixed, string, bytes, bitmap, array, pointer, type_of, choice_type, struct_type}
 use Rattle.spa_format.specs.Pod.{IsBody}
-use Rattle.spa_format.specs.Front.{Begins, HasFront, rest_of}
+use Rattle.spa_format.specs.Front.{Begins, rest_of}
 use Rattle.spa_fixed.specs.declared.fault.DeserializeError.{DeserializeError}
 use Rattle.spa_fixed.specs.declared.fault.DeserializeError.TheVariants as error
 use Rattle.spa_value.specs.View.{choice_view}
-use Rattle.spa_read.specs.Asking.{array_of, of_type, RefusesAsked}
+use Rattle.spa_read.specs.Asking.{LacksFront, LacksObject, array_of, of_type, RefusesAsked}
+use Rattle.spa_read.specs.Members.{Ahead, AheadIn, Further, FurtherIn, ObjectReader, OpensObject, OpensStruct, Reader}
 use Rattle.spa_read.specs.declared.visitor.Visit.{Visit}
 use Rattle.spa_read.specs.declared.visitor.Visit.TheVariants as visit
 
@@ -66,10 +66,20 @@ pub data RefusesArrayVisit {E : Type 0} (k : Kind) (fixed : E → Fixed) (declin
   no_array : RefusesAsked (array_of k) ⊤ input e → RefusesArrayVisit k fixed declines input e
   declined_array : (xs : Vec E Global) → Begins input (array k (map fixed xs.items)) → declines (visit.Array xs) e → RefusesArrayVisit k fixed declines input e
 
--- The struct or the object at the front isn't opened; or it is, and its visitor or its reader refuses what is inside.
-pub data RefusesInside (unopened : Type 0) (type : ℕ) (input : List ℕ) : Type 0 where
-  outside : unopened → RefusesInside unopened type input
-  inside : HasFront input → word_at input 4 ≡ type → RefusesInside unopened type input
+-- The struct at the front isn't opened. Or its reader was lent to the visitor, which declined it; or which answered, and left the
+-- reader failed, or members unread.
+pub data RefusesStruct (declines : Reader → Reader → DeserializeError (Bor (List ℕ)) → Type 0) (leaves : Reader → Reader → Type 0) (input : List ℕ) (e : DeserializeError (Bor (List ℕ))) : Type 0 where
+  no_struct : LacksFront struct_type input e → RefusesStruct declines leaves input e
+  declined_struct : (lent now : Reader) → OpensStruct input lent → Further lent now → declines lent now e → RefusesStruct declines leaves input e
+  failed_struct : (lent now : Reader) → OpensStruct input lent → leaves lent now → now.failed ≡ true → e ≡ error.FailedReader → RefusesStruct declines leaves input e
+  unread_struct : (lent now : Reader) → OpensStruct input lent → Ahead lent now → leaves lent now → now.left ≢ [] → e ≡ error.UnreadMembers → RefusesStruct declines leaves input e
+
+-- the same of the object at the front
+pub data RefusesObject (declines : ObjectReader → ObjectReader → DeserializeError (Bor (List ℕ)) → Type 0) (leaves : ObjectReader → ObjectReader → Type 0) (input : List ℕ) (e : DeserializeError (Bor (List ℕ))) : Type 0 where
+  no_object : LacksObject input e → RefusesObject declines leaves input e
+  declined_object : (lent now : ObjectReader) → OpensObject input lent → FurtherIn lent now → declines lent now e → RefusesObject declines leaves input e
+  failed_object : (lent now : ObjectReader) → OpensObject input lent → leaves lent now → now.reader.failed ≡ true → e ≡ error.FailedReader → RefusesObject declines leaves input e
+  unread_object : (lent now : ObjectReader) → OpensObject input lent → AheadIn lent now → leaves lent now → now.reader.left ≢ [] → e ≡ error.UnreadMembers → RefusesObject declines leaves input e
 
 -- What the visitor that makes values declines: the elements of an array, and what it has no memory for.
 abbrev pub DeclinesValue : {E : Type 0} → Visit E → DeserializeError (Bor (List ℕ)) → Type 0

@@ -1,10 +1,11 @@
-//! Laws of arrays that are read element by element. Each function does nothing: its contract is the law.
+//! Laws of values of fixed size, and of arrays that are read element by element. Each function does nothing: its contract is the law.
 ghost use Rattle.std.specs.Prelude.{◌≡◌, ◌<◌, ◌++◌, [], List, ℕ};
 ghost use Rattle.spa_format.specs.Encoding.{encoding_of};
 ghost use Rattle.spa_format.specs.Front.{Begins};
+ghost use Rattle.spa_format.specs.Tree.{fixed};
 ghost use Rattle.spa_format.specs.Typed.{IsTyped};
 ghost use Rattle.spa_format.specs.Writable.{IsWritable};
-ghost use Rattle.spa_read.specs.Members.{ArrayReader, IsMadeOf, OpensArray, TakesElements, list_tree};
+ghost use Rattle.spa_read.specs.Members.{ArrayReader, IsMadeOf, OpensArray, TakesElements, list_tree, single_tree};
 ghost use Rattle.spa_read.specs.Reading.{IsRead};
 
 use spa_fixed::{CanonicalFixedSizedPod, FixedSizedPod};
@@ -23,4 +24,12 @@ pub fn lists_come_back<E: FixedSizedPod>()
     ensures encoding { (rest : List ℕ) (xs : List E) → 0 < E.CanonicalType.SIZE → IsTyped (list_tree E.CanonicalType.kind E.CanonicalType.fixed E.to_canonical xs) → IsWritable (list_tree E.CanonicalType.kind E.CanonicalType.fixed E.to_canonical xs) → Begins (encoding_of (list_tree E.CanonicalType.kind E.CanonicalType.fixed E.to_canonical xs) ++ rest) (list_tree E.CanonicalType.kind E.CanonicalType.fixed E.to_canonical xs) }
     // but that of units.
     ensures units { (input : List ℕ) (ys : List E) (first last : ArrayReader) → E.CanonicalType.SIZE ≡ 0 → OpensArray E.CanonicalType.kind input first → TakesElements E.CanonicalType.kind E.CanonicalType.fixed E.of_canonical first ys last → ys ≡ [] }
+{}
+
+/// A value is read back as itself from a pod of the value that stands for it, where the definitions of its type give it back.
+pub fn values_come_back<E: FixedSizedPod>()
+    // What is read of a pod of it stands for it,
+    ensures pod { (input rest : List ℕ) (x : E) (c : E.CanonicalType) → E.of_canonical (E.to_canonical x) ≡ x → Begins input (single_tree E.CanonicalType.fixed E.to_canonical x) → IsRead input rest (λ v. v ≡ fixed (E.CanonicalType.fixed c)) → E.of_canonical c ≡ x }
+    // and its encoding is such a pod.
+    ensures encoding { (rest : List ℕ) (x : E) → IsTyped (single_tree E.CanonicalType.fixed E.to_canonical x) → Begins (encoding_of (single_tree E.CanonicalType.fixed E.to_canonical x) ++ rest) (single_tree E.CanonicalType.fixed E.to_canonical x) }
 {}

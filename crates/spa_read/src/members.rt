@@ -1,9 +1,9 @@
 //! The members of a struct, read one by one.
-ghost use Rattle.std.specs.Prelude.{◌≡◌, ◌≢◌, [], false, true, IfErr, IfOk, IsErrAnd, IsOk, MatchOption, OnErr};
+ghost use Rattle.std.specs.Prelude.{◌≡◌, ◌≢◌, [], false, true, IfErr, IfOk, IsErrAnd, IsOk, MatchOption, OnErr, OnOk};
 ghost use Rattle.spa_fixed.specs.declared.fault.DeserializeError.TheVariants as error;
 ghost use Rattle.spa_format.specs.Tree.{struct_type};
 ghost use Rattle.spa_read.specs.Asking.{LacksFront};
-ghost use Rattle.spa_read.specs.Members.{AtEnd, Further, OpensStruct, TakesField};
+ghost use Rattle.spa_read.specs.Members.{AtEnd, Further, OpensStruct, RefusesEnd, TakesField};
 
 use crate::deserializer::{DeserializeSuccess, PodDeserialize, PodDeserializer};
 use crate::typed::open_as;
@@ -79,13 +79,10 @@ impl<'de> StructPodDeserializer<'de> {
         Ok(Some(value))
     }
 
-    /// Ends the struct, all of whose members have to be read. Refusals: `FailedReader` where a member was refused, else
-    /// `UnreadMembers` where one is left.
-    pub fn end(self) -> Result<DeserializeSuccess<'de>, DeserializeError<&'de [u8]>>
-        ensures ok { IfOk result (λ success. (success ≡ self.entry.after) × AtEnd self.entry) }
-        ensures done { AtEnd self.entry → IsOk result }
-        ensures failed { self.entry.failed ≡ true → IsErrAnd result (λ e. e ≡ error.FailedReader) }
-        ensures unread { self.entry.failed ≡ false → self.entry.left ≢ [] → IsErrAnd result (λ e. e ≡ error.UnreadMembers) }
+    /// Are all members read? Refusals are those of `end`.
+    pub(crate) fn ended(&self) -> Result<(), DeserializeError<&'de [u8]>>
+        ensures ok { OnOk result (AtEnd self.now) }
+        ensures refused { IfErr result (RefusesEnd self.now) }
     {
         if self.failed {
             return Err(DeserializeError::FailedReader);
@@ -93,7 +90,22 @@ impl<'de> StructPodDeserializer<'de> {
         if !self.left.is_empty() {
             return Err(DeserializeError::UnreadMembers);
         }
-        Ok(DeserializeSuccess::before(self.alloc, self.after))
+        Ok(())
+    }
+
+    /// Ends the struct, all of whose members have to be read. Refusals: `FailedReader` where a member was refused, else
+    /// `UnreadMembers` where one is left.
+    pub fn end(self) -> Result<DeserializeSuccess<'de>, DeserializeError<&'de [u8]>>
+        ensures ok { IfOk result (λ success. (success ≡ self.entry.after) × AtEnd self.entry) }
+        ensures done { AtEnd self.entry → IsOk result }
+        ensures failed { self.entry.failed ≡ true → IsErrAnd result (λ e. e ≡ error.FailedReader) }
+        ensures unread { self.entry.failed ≡ false → self.entry.left ≢ [] → IsErrAnd result (λ e. e ≡ error.UnreadMembers) }
+        ensures refused { IfErr result (RefusesEnd self.entry) }
+    {
+        match self.ended() {
+            Ok(()) => Ok(DeserializeSuccess::before(self.alloc, self.after)),
+            Err(e) => Err(e),
+        }
     }
 
     /// The allocator that it was given.

@@ -1,20 +1,31 @@
 //! The properties of an object, read one by one.
-ghost use Rattle.std.specs.Prelude.{◌≡◌, ◌≢◌, ℕ, ◌<◌, ◌≤◌, ◌⊎◌, [], drop, false, length, true, IfErr, IfOk, IsErrAnd, IsOk, MatchOption, OnErr};
+ghost use Rattle.std.specs.Prelude.{◌≡◌, ◌≢◌, ℕ, ◌<◌, ◌≤◌, ◌⊎◌, [], drop, false, length, true, IfErr, IfOk, IsErrAnd, IsOk, MatchOption, OnErr, OnOk};
 ghost use Rattle.spa_fixed.specs.declared.fault.DeserializeError.TheVariants as error;
 ghost use Rattle.spa_format.specs.Words.{header_size};
 ghost use Rattle.spa_read.specs.Asking.{LacksObject};
-ghost use Rattle.spa_read.specs.Members.{AtEnd, FurtherIn, OpensObject, RefusesKey, TakesProperty};
-ghost use Rattle.spa_read.specs.Reading.{IsShortAt};
+ghost use Rattle.spa_read.specs.Lookup.{AreNoProperties, FindsFirst, RefusesFirst};
+ghost use Rattle.spa_read.specs.Members.{AtEnd, FurtherIn, OpensObject, RefusesEnd, RefusesKey, TakesProperty};
+ghost use Rattle.spa_read.specs.Reading.{IsShortAt, OnFault};
 
 use crate::deserializer::{DeserializeSuccess, PodDeserialize, PodDeserializer};
 use crate::typed::open_as;
 use bitflags::Flags;
-use spa_bytes::{HEADER_LEN, SECOND_WORD, u32_at};
+use spa_bytes::{HEADER_LEN, SECOND_WORD, open, u32_at};
 use spa_fixed::{DeserializeError, Fault, FaultKind};
 use spa_utils::SpaTypes;
-use spa_value::PropertyFlags;
+use spa_value::{PropertyFlags, Value, discard};
 use std::alloc::Global;
 use std::marker::Model;
+
+/// The input is short, at this place.
+fn short_at(place: &[u8]) -> DeserializeError<&[u8]>
+    ensures { IsShortAt place.now result }
+{
+    DeserializeError::Nom(Fault {
+        input: place,
+        kind: FaultKind::Short,
+    })
+}
 
 /// Reads an object's properties one by one. Once a property was refused, every call answers `FailedReader`.
 ///
@@ -62,14 +73,14 @@ impl<'de> ObjectPodDeserializer<'de> {
     }
 
     /// The object's type.
-    pub(crate) fn type_(&self) -> u32
+    pub fn type_(&self) -> u32
         ensures { result ≡ self.now.type }
     {
         self.type_
     }
 
     /// The object's id.
-    pub(crate) fn id(&self) -> u32
+    pub fn id(&self) -> u32
         ensures { result ≡ self.now.id }
     {
         self.id
@@ -102,10 +113,7 @@ impl<'de> ObjectPodDeserializer<'de> {
         }
         self.failed = true;
         if self.left.len() < HEADER_LEN {
-            return Err(DeserializeError::Nom(Fault {
-                input: self.left,
-                kind: FaultKind::Short,
-            }));
+            return Err(short_at(self.left));
         }
         let (_, input) = self.left.split_at(HEADER_LEN);
         let key = u32_at(self.left, 0);
@@ -149,6 +157,65 @@ impl<'de> ObjectPodDeserializer<'de> {
         }
     }
 
+    /// Looks for the first property under this key among those that are left, and reads its value as one of this type; where none
+    /// is under the key there is none. The reader stays where it is, so that properties are found in any order. It looks at 16
+    /// bytes of each property before that one, and at nothing behind it.
+    ///
+    /// Refusals: `FailedReader` where a property was refused before; `Nom` with `Short` where a property isn't there as its size
+    /// says; else that of the type.
+    pub fn find_property<P: PodDeserialize<'de>>(
+        &self,
+        key: u32,
+    ) -> Result<Option<P>, DeserializeError<&'de [u8]>>
+        // Where properties are left, it is the first of them under the key, or there is none.
+        ensures found { self.now.reader.failed ≡ false → IfOk result (FindsFirst P.reads key self.now.reader.left) }
+        ensures stays { self.now.reader.failed ≡ true → IsErrAnd result (λ e. e ≡ error.FailedReader) }
+        // It is refused where no properties are left, or as the type refuses the first one's value.
+        ensures refused { self.now.reader.failed ≡ false → IfErr result (RefusesFirst P.refuses key self.now.reader.left) }
+    {
+        if self.failed {
+            return Err(DeserializeError::FailedReader);
+        }
+        let mut left = self.left;
+        while !left.is_empty() {
+            if left.len() < HEADER_LEN {
+                return Err(short_at(left));
+            }
+            let (_, behind) = left.split_at(HEADER_LEN);
+            if u32_at(left, 0) == key {
+                return match P::deserialize(PodDeserializer {
+                    input: behind,
+                    alloc: self.alloc,
+                }) {
+                    Ok((value, _)) => Ok(Some(value)),
+                    Err(e) => Err(e),
+                };
+            }
+            let Some(front) = open(behind) else {
+                return Err(short_at(behind));
+            };
+            left = front.rest;
+        }
+        Ok(None)
+    }
+
+    /// Reads all properties that are left, whatever they are, and lets them go. Refusals are those of `deserialize_property`
+    /// into a `Value`.
+    pub fn skip_properties(&mut self) -> Result<(), DeserializeError<&'de [u8]>>
+        ensures same { FurtherIn self.old self.new }
+        ensures end { OnOk result (AtEnd self.new.reader) }
+        // Any refusal but one for lack of memory says that no properties were left.
+        ensures refused { self.old.reader.failed ≡ false → IfErr result (OnFault (AreNoProperties self.old.reader.left)) }
+    {
+        loop {
+            match self.deserialize_property::<Value>() {
+                Ok(Some((value, _, _))) => discard(value),
+                Ok(None) => return Ok(()),
+                Err(e) => return Err(e),
+            }
+        }
+    }
+
     /// Ends the object, all of whose properties have to be read. Refusals: `FailedReader` where a property was refused, else
     /// `UnreadMembers` where one is left.
     pub fn end(self) -> Result<DeserializeSuccess<'de>, DeserializeError<&'de [u8]>>
@@ -156,6 +223,7 @@ impl<'de> ObjectPodDeserializer<'de> {
         ensures done { AtEnd self.entry.reader → IsOk result }
         ensures failed { self.entry.reader.failed ≡ true → IsErrAnd result (λ e. e ≡ error.FailedReader) }
         ensures unread { self.entry.reader.failed ≡ false → self.entry.reader.left ≢ [] → IsErrAnd result (λ e. e ≡ error.UnreadMembers) }
+        ensures refused { IfErr result (RefusesEnd self.entry.reader) }
     {
         if self.failed {
             return Err(DeserializeError::FailedReader);

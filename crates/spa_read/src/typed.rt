@@ -5,11 +5,11 @@ ghost use Rattle.spa_fixed.specs.declared.fault.Refusal.TheVariants as refusal;
 ghost use Rattle.spa_format.specs.Kind as k;
 ghost use Rattle.spa_format.specs.Kind.{type_number};
 ghost use Rattle.spa_format.specs.Tree.{Properties, Trees, array, array_type, bitmap_type, bytes_type, choice_type, object, object_type, pointer_type, string_type, struct, struct_type};
-ghost use Rattle.spa_read.specs.Asking.{LacksFront, LacksObject, RefusesAsked, array_of};
+ghost use Rattle.spa_read.specs.Asking.{LacksFront, RefusesAsked, array_of};
 ghost use Rattle.spa_read.specs.Members.{OpensArray};
 ghost use Rattle.spa_read.specs.Reading.{IsRead};
 ghost use Rattle.spa_read.specs.Refusing.{RefusesBody};
-ghost use Rattle.spa_read.specs.Visiting.{IsVisited, RefusesArrayVisit, RefusesInside, RefusesVisit, SaysBody};
+ghost use Rattle.spa_read.specs.Visiting.{IsVisited, RefusesArrayVisit, RefusesObject, RefusesStruct, RefusesVisit, SaysBody};
 ghost use Rattle.spa_read.specs.declared.visitor.Visit.TheVariants as visit;
 
 use crate::choice::read_any_choice;
@@ -353,7 +353,7 @@ impl<'de> PodDeserializer<'de> {
         visitor: V,
     ) -> Result<(V::Value, DeserializeSuccess<'de>), DeserializeError<&'de [u8]>>
         ensures read { IfOk result (λ read. IsRead self.entry read.1 (λ value. (members : Trees) × (value ≡ struct members) × V.visits_struct visitor members read.0)) }
-        ensures refused { IfErr result (λ e. RefusesInside (LacksFront struct_type self.entry e) struct_type self.entry) }
+        ensures refused { IfErr result (RefusesStruct (V.declines_struct visitor) (V.leaves_struct visitor) self.entry) }
     {
         let mut reader = StructPodDeserializer::open(self)?;
         let value = visitor.visit_struct(&mut reader)?;
@@ -371,7 +371,7 @@ impl<'de> PodDeserializer<'de> {
         visitor: V,
     ) -> Result<(V::Value, DeserializeSuccess<'de>), DeserializeError<&'de [u8]>>
         ensures read { IfOk result (λ read. IsRead self.entry read.1 (λ value. (type : ℕ) × (id : ℕ) × (properties : Properties) × (value ≡ object type id properties) × V.visits_object visitor type id properties read.0)) }
-        ensures refused { IfErr result (λ e. RefusesInside (LacksObject self.entry e) object_type self.entry) }
+        ensures refused { IfErr result (RefusesObject (V.declines_object visitor) (V.leaves_object visitor) self.entry) }
     {
         let mut reader = ObjectPodDeserializer::open(self)?;
         let value = visitor.visit_object(&mut reader)?;

@@ -1,9 +1,9 @@
 //! Visitors: what is made of the pod that a typed read finds.
-ghost use Rattle.std.specs.Prelude.{⊤, ℕ, IfErr, IfOk, List};
+ghost use Rattle.std.specs.Prelude.{⊤, ℕ, IfErr, IfOk, List, OnOk};
 ghost use Rattle.std.specs.Borrow.{Bor};
 ghost use Rattle.spa_fixed.specs.declared.fault.DeserializeError.{DeserializeError};
 ghost use Rattle.spa_format.specs.Tree.{Properties, Trees};
-ghost use Rattle.spa_read.specs.Members.{AllMembers, AllProperties, AtEnd, Further, FurtherIn};
+ghost use Rattle.spa_read.specs.Members.{AllMembers, AllProperties, AtEnd, Further, FurtherIn, ObjectReader, Reader};
 ghost use Rattle.spa_read.specs.declared.visitor.Visit.{Visit};
 
 use crate::members::StructPodDeserializer;
@@ -74,6 +74,18 @@ pub trait Visitor<'de>: Sized + Drop {
     /// What it may decline, and how. A visitor that promises nothing of that keeps the default.
     ghost declines: { Self → Visit Self.ArrayElem → DeserializeError (Bor (List ℕ)) → Type 0 } = { λ _ _ _. ⊤ };
 
+    /// What it may decline of a struct, and how: by the reader as it was lent and as it is left.
+    ghost declines_struct: { Self → Reader → Reader → DeserializeError (Bor (List ℕ)) → Type 0 } = { λ _ _ _ _. ⊤ };
+
+    /// How it may leave the reader of a struct where it answers: by the reader as it was lent and as it is left.
+    ghost leaves_struct: { Self → Reader → Reader → Type 0 } = { λ _ _ _. ⊤ };
+
+    /// What it may decline of an object, and how.
+    ghost declines_object: { Self → ObjectReader → ObjectReader → DeserializeError (Bor (List ℕ)) → Type 0 } = { λ _ _ _ _. ⊤ };
+
+    /// How it may leave the reader of an object where it answers.
+    ghost leaves_object: { Self → ObjectReader → ObjectReader → Type 0 } = { λ _ _ _. ⊤ };
+
     /// Takes the content of a pod that is no struct and no object.
     fn visit(
         &self,
@@ -89,6 +101,8 @@ pub trait Visitor<'de>: Sized + Drop {
         reader: &mut StructPodDeserializer<'de>,
     ) -> Result<Self::Value, DeserializeError<&'de [u8]>>
         ensures same { Further reader.old reader.new }
+        ensures declined { IfErr result (λ e. declines_struct self.now reader.old reader.new e) }
+        ensures left { OnOk result (leaves_struct self.now reader.old reader.new) }
         ensures made { IfOk result (λ x. AtEnd reader.new → AllMembers reader.old (λ members. visits_struct self.now members x)) };
 
     /// Reads an object's properties, up to the last one where it succeeds: what it makes is owed only where they are all
@@ -98,5 +112,7 @@ pub trait Visitor<'de>: Sized + Drop {
         reader: &mut ObjectPodDeserializer<'de>,
     ) -> Result<Self::Value, DeserializeError<&'de [u8]>>
         ensures same { FurtherIn reader.old reader.new }
+        ensures declined { IfErr result (λ e. declines_object self.now reader.old reader.new e) }
+        ensures left { OnOk result (leaves_object self.now reader.old reader.new) }
         ensures made { IfOk result (λ x. AtEnd reader.new.reader → AllProperties reader.old (λ properties. visits_object self.now reader.old.type reader.old.id properties x)) };
 }

@@ -2,6 +2,8 @@
 #![tactic(auto)]
 
 mod control;
+mod curve;
+mod format;
 mod level;
 mod mode;
 mod screen;
@@ -9,6 +11,8 @@ mod song;
 mod tagged;
 
 pub use control::{Control, with_volume};
+pub use curve::Curve;
+pub use format::AudioFormat;
 pub use level::{Level, Pair};
 pub use mode::{Mode, Size, put_mode, read_mode, sent};
 pub use screen::{Device, Screen};

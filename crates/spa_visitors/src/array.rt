@@ -1,7 +1,7 @@
 //! The visitor of arrays.
 ghost use Rattle.std.specs.Prelude.{◌≡◌, IfErr, IfOk};
 ghost use Rattle.spa_read.specs.declared.visitor.Visit.TheVariants as visit;
-ghost use Rattle.spa_visitors.specs.Declining.{DeclinesOthers};
+ghost use Rattle.spa_visitors.specs.Declining.{DeclinesAll, DeclinesOthers};
 
 use spa_fixed::DeserializeError;
 use spa_read::{ObjectPodDeserializer, StructPodDeserializer, Visit, Visitor};
@@ -33,6 +33,14 @@ impl<'de, E: Drop> Visitor<'de> for VecVisitor<E> {
     ghost visits_object = { λ _ _ _ _ _. ⊥ };
 
     ghost declines = { λ _ given e. DeclinesOthers visit.Array given e };
+
+    ghost declines_struct = { λ _ lent now e. DeclinesAll lent now e };
+
+    ghost leaves_struct = { λ _ _ _. ⊥ };
+
+    ghost declines_object = { λ _ lent now e. DeclinesAll lent now e };
+
+    ghost leaves_object = { λ _ _ _. ⊥ };
 
     fn visit(&self, given: Visit<'de, E>) -> Result<Vec<E>, DeserializeError<&'de [u8]>>
         ensures made { IfOk result (λ x. given.entry ≡ visit.Array x) }

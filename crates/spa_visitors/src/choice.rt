@@ -2,7 +2,7 @@
 ghost use Rattle.std.specs.Prelude.{◌≡◌, IfErr, IfOk};
 ghost use Rattle.spa_read.specs.declared.visitor.Visit.TheVariants as visit;
 ghost use Rattle.spa_value.specs.declared.choice_value.ChoiceValue.TheVariants as choice_value;
-ghost use Rattle.spa_visitors.specs.Declining.{DeclinesOthers};
+ghost use Rattle.spa_visitors.specs.Declining.{DeclinesAll, DeclinesOthers};
 
 use spa_fixed::DeserializeError;
 use spa_read::{Never, ObjectPodDeserializer, StructPodDeserializer, Visit, Visitor};
@@ -25,6 +25,14 @@ impl<'de> Visitor<'de> for ChoiceBoolVisitor {
     ghost visits_object = { λ _ _ _ _ _. ⊥ };
 
     ghost declines = { λ _ given e. DeclinesOthers (λ (x : _). visit.Choice (choice_value.Bool x)) given e };
+
+    ghost declines_struct = { λ _ lent now e. DeclinesAll lent now e };
+
+    ghost leaves_struct = { λ _ _ _. ⊥ };
+
+    ghost declines_object = { λ _ lent now e. DeclinesAll lent now e };
+
+    ghost leaves_object = { λ _ _ _. ⊥ };
 
     fn visit(&self, given: Visit<'de, Never>) -> Result<Choice<bool>, DeserializeError<&'de [u8]>>
         ensures made { IfOk result (λ x. given.entry ≡ visit.Choice (choice_value.Bool x)) }
@@ -73,6 +81,14 @@ impl<'de> Visitor<'de> for ChoiceIntVisitor {
 
     ghost declines = { λ _ given e. DeclinesOthers (λ (x : _). visit.Choice (choice_value.Int x)) given e };
 
+    ghost declines_struct = { λ _ lent now e. DeclinesAll lent now e };
+
+    ghost leaves_struct = { λ _ _ _. ⊥ };
+
+    ghost declines_object = { λ _ lent now e. DeclinesAll lent now e };
+
+    ghost leaves_object = { λ _ _ _. ⊥ };
+
     fn visit(&self, given: Visit<'de, Never>) -> Result<Choice<i32>, DeserializeError<&'de [u8]>>
         ensures made { IfOk result (λ x. given.entry ≡ visit.Choice (choice_value.Int x)) }
         ensures declined { IfErr result (DeclinesOthers (λ (x : _). visit.Choice (choice_value.Int x)) given.entry) }
@@ -120,6 +136,14 @@ impl<'de> Visitor<'de> for ChoiceLongVisitor {
 
     ghost declines = { λ _ given e. DeclinesOthers (λ (x : _). visit.Choice (choice_value.Long x)) given e };
 
+    ghost declines_struct = { λ _ lent now e. DeclinesAll lent now e };
+
+    ghost leaves_struct = { λ _ _ _. ⊥ };
+
+    ghost declines_object = { λ _ lent now e. DeclinesAll lent now e };
+
+    ghost leaves_object = { λ _ _ _. ⊥ };
+
     fn visit(&self, given: Visit<'de, Never>) -> Result<Choice<i64>, DeserializeError<&'de [u8]>>
         ensures made { IfOk result (λ x. given.entry ≡ visit.Choice (choice_value.Long x)) }
         ensures declined { IfErr result (DeclinesOthers (λ (x : _). visit.Choice (choice_value.Long x)) given.entry) }
@@ -166,6 +190,14 @@ impl<'de> Visitor<'de> for ChoiceFloatVisitor {
     ghost visits_object = { λ _ _ _ _ _. ⊥ };
 
     ghost declines = { λ _ given e. DeclinesOthers (λ (x : _). visit.Choice (choice_value.Float x)) given e };
+
+    ghost declines_struct = { λ _ lent now e. DeclinesAll lent now e };
+
+    ghost leaves_struct = { λ _ _ _. ⊥ };
+
+    ghost declines_object = { λ _ lent now e. DeclinesAll lent now e };
+
+    ghost leaves_object = { λ _ _ _. ⊥ };
 
     fn visit(
         &self,
@@ -217,6 +249,14 @@ impl<'de> Visitor<'de> for ChoiceDoubleVisitor {
 
     ghost declines = { λ _ given e. DeclinesOthers (λ (x : _). visit.Choice (choice_value.Double x)) given e };
 
+    ghost declines_struct = { λ _ lent now e. DeclinesAll lent now e };
+
+    ghost leaves_struct = { λ _ _ _. ⊥ };
+
+    ghost declines_object = { λ _ lent now e. DeclinesAll lent now e };
+
+    ghost leaves_object = { λ _ _ _. ⊥ };
+
     fn visit(
         &self,
         given: Visit<'de, Never>,
@@ -267,6 +307,14 @@ impl<'de> Visitor<'de> for ChoiceIdVisitor {
 
     ghost declines = { λ _ given e. DeclinesOthers (λ (x : _). visit.Choice (choice_value.Id x)) given e };
 
+    ghost declines_struct = { λ _ lent now e. DeclinesAll lent now e };
+
+    ghost leaves_struct = { λ _ _ _. ⊥ };
+
+    ghost declines_object = { λ _ lent now e. DeclinesAll lent now e };
+
+    ghost leaves_object = { λ _ _ _. ⊥ };
+
     fn visit(&self, given: Visit<'de, Never>) -> Result<Choice<Id>, DeserializeError<&'de [u8]>>
         ensures made { IfOk result (λ x. given.entry ≡ visit.Choice (choice_value.Id x)) }
         ensures declined { IfErr result (DeclinesOthers (λ (x : _). visit.Choice (choice_value.Id x)) given.entry) }
@@ -313,6 +361,14 @@ impl<'de> Visitor<'de> for ChoiceRectangleVisitor {
     ghost visits_object = { λ _ _ _ _ _. ⊥ };
 
     ghost declines = { λ _ given e. DeclinesOthers (λ (x : _). visit.Choice (choice_value.Rectangle x)) given e };
+
+    ghost declines_struct = { λ _ lent now e. DeclinesAll lent now e };
+
+    ghost leaves_struct = { λ _ _ _. ⊥ };
+
+    ghost declines_object = { λ _ lent now e. DeclinesAll lent now e };
+
+    ghost leaves_object = { λ _ _ _. ⊥ };
 
     fn visit(
         &self,
@@ -364,6 +420,14 @@ impl<'de> Visitor<'de> for ChoiceFractionVisitor {
 
     ghost declines = { λ _ given e. DeclinesOthers (λ (x : _). visit.Choice (choice_value.Fraction x)) given e };
 
+    ghost declines_struct = { λ _ lent now e. DeclinesAll lent now e };
+
+    ghost leaves_struct = { λ _ _ _. ⊥ };
+
+    ghost declines_object = { λ _ lent now e. DeclinesAll lent now e };
+
+    ghost leaves_object = { λ _ _ _. ⊥ };
+
     fn visit(
         &self,
         given: Visit<'de, Never>,
@@ -413,6 +477,14 @@ impl<'de> Visitor<'de> for ChoiceFdVisitor {
     ghost visits_object = { λ _ _ _ _ _. ⊥ };
 
     ghost declines = { λ _ given e. DeclinesOthers (λ (x : _). visit.Choice (choice_value.Fd x)) given e };
+
+    ghost declines_struct = { λ _ lent now e. DeclinesAll lent now e };
+
+    ghost leaves_struct = { λ _ _ _. ⊥ };
+
+    ghost declines_object = { λ _ lent now e. DeclinesAll lent now e };
+
+    ghost leaves_object = { λ _ _ _. ⊥ };
 
     fn visit(&self, given: Visit<'de, Never>) -> Result<Choice<Fd>, DeserializeError<&'de [u8]>>
         ensures made { IfOk result (λ x. given.entry ≡ visit.Choice (choice_value.Fd x)) }

@@ -1,7 +1,7 @@
 //! Visitors of the types of fixed size.
 ghost use Rattle.std.specs.Prelude.{◌≡◌, IfErr, IfOk};
 ghost use Rattle.spa_read.specs.declared.visitor.Visit.TheVariants as visit;
-ghost use Rattle.spa_visitors.specs.Declining.{DeclinesOthers};
+ghost use Rattle.spa_visitors.specs.Declining.{DeclinesAll, DeclinesOthers};
 
 use spa_fixed::DeserializeError;
 use spa_read::{Never, ObjectPodDeserializer, StructPodDeserializer, Visit, Visitor};
@@ -23,6 +23,14 @@ impl<'de> Visitor<'de> for NoneVisitor {
     ghost visits_object = { λ _ _ _ _ _. ⊥ };
 
     ghost declines = { λ _ given e. DeclinesOthers (λ (x : Unit {0}). visit.None) given e };
+
+    ghost declines_struct = { λ _ lent now e. DeclinesAll lent now e };
+
+    ghost leaves_struct = { λ _ _ _. ⊥ };
+
+    ghost declines_object = { λ _ lent now e. DeclinesAll lent now e };
+
+    ghost leaves_object = { λ _ _ _. ⊥ };
 
     fn visit(&self, given: Visit<'de, Never>) -> Result<(), DeserializeError<&'de [u8]>>
         ensures made { IfOk result (λ x. given.entry ≡ visit.None) }
@@ -71,6 +79,14 @@ impl<'de> Visitor<'de> for BoolVisitor {
 
     ghost declines = { λ _ given e. DeclinesOthers visit.Bool given e };
 
+    ghost declines_struct = { λ _ lent now e. DeclinesAll lent now e };
+
+    ghost leaves_struct = { λ _ _ _. ⊥ };
+
+    ghost declines_object = { λ _ lent now e. DeclinesAll lent now e };
+
+    ghost leaves_object = { λ _ _ _. ⊥ };
+
     fn visit(&self, given: Visit<'de, Never>) -> Result<bool, DeserializeError<&'de [u8]>>
         ensures made { IfOk result (λ x. given.entry ≡ visit.Bool x) }
         ensures declined { IfErr result (DeclinesOthers visit.Bool given.entry) }
@@ -117,6 +133,14 @@ impl<'de> Visitor<'de> for IntVisitor {
     ghost visits_object = { λ _ _ _ _ _. ⊥ };
 
     ghost declines = { λ _ given e. DeclinesOthers visit.Int given e };
+
+    ghost declines_struct = { λ _ lent now e. DeclinesAll lent now e };
+
+    ghost leaves_struct = { λ _ _ _. ⊥ };
+
+    ghost declines_object = { λ _ lent now e. DeclinesAll lent now e };
+
+    ghost leaves_object = { λ _ _ _. ⊥ };
 
     fn visit(&self, given: Visit<'de, Never>) -> Result<i32, DeserializeError<&'de [u8]>>
         ensures made { IfOk result (λ x. given.entry ≡ visit.Int x) }
@@ -165,6 +189,14 @@ impl<'de> Visitor<'de> for LongVisitor {
 
     ghost declines = { λ _ given e. DeclinesOthers visit.Long given e };
 
+    ghost declines_struct = { λ _ lent now e. DeclinesAll lent now e };
+
+    ghost leaves_struct = { λ _ _ _. ⊥ };
+
+    ghost declines_object = { λ _ lent now e. DeclinesAll lent now e };
+
+    ghost leaves_object = { λ _ _ _. ⊥ };
+
     fn visit(&self, given: Visit<'de, Never>) -> Result<i64, DeserializeError<&'de [u8]>>
         ensures made { IfOk result (λ x. given.entry ≡ visit.Long x) }
         ensures declined { IfErr result (DeclinesOthers visit.Long given.entry) }
@@ -211,6 +243,14 @@ impl<'de> Visitor<'de> for FloatVisitor {
     ghost visits_object = { λ _ _ _ _ _. ⊥ };
 
     ghost declines = { λ _ given e. DeclinesOthers visit.Float given e };
+
+    ghost declines_struct = { λ _ lent now e. DeclinesAll lent now e };
+
+    ghost leaves_struct = { λ _ _ _. ⊥ };
+
+    ghost declines_object = { λ _ lent now e. DeclinesAll lent now e };
+
+    ghost leaves_object = { λ _ _ _. ⊥ };
 
     fn visit(&self, given: Visit<'de, Never>) -> Result<Float32, DeserializeError<&'de [u8]>>
         ensures made { IfOk result (λ x. given.entry ≡ visit.Float x) }
@@ -259,6 +299,14 @@ impl<'de> Visitor<'de> for DoubleVisitor {
 
     ghost declines = { λ _ given e. DeclinesOthers visit.Double given e };
 
+    ghost declines_struct = { λ _ lent now e. DeclinesAll lent now e };
+
+    ghost leaves_struct = { λ _ _ _. ⊥ };
+
+    ghost declines_object = { λ _ lent now e. DeclinesAll lent now e };
+
+    ghost leaves_object = { λ _ _ _. ⊥ };
+
     fn visit(&self, given: Visit<'de, Never>) -> Result<Float64, DeserializeError<&'de [u8]>>
         ensures made { IfOk result (λ x. given.entry ≡ visit.Double x) }
         ensures declined { IfErr result (DeclinesOthers visit.Double given.entry) }
@@ -305,6 +353,14 @@ impl<'de> Visitor<'de> for RectangleVisitor {
     ghost visits_object = { λ _ _ _ _ _. ⊥ };
 
     ghost declines = { λ _ given e. DeclinesOthers visit.Rectangle given e };
+
+    ghost declines_struct = { λ _ lent now e. DeclinesAll lent now e };
+
+    ghost leaves_struct = { λ _ _ _. ⊥ };
+
+    ghost declines_object = { λ _ lent now e. DeclinesAll lent now e };
+
+    ghost leaves_object = { λ _ _ _. ⊥ };
 
     fn visit(&self, given: Visit<'de, Never>) -> Result<Rectangle, DeserializeError<&'de [u8]>>
         ensures made { IfOk result (λ x. given.entry ≡ visit.Rectangle x) }
@@ -353,6 +409,14 @@ impl<'de> Visitor<'de> for FractionVisitor {
 
     ghost declines = { λ _ given e. DeclinesOthers visit.Fraction given e };
 
+    ghost declines_struct = { λ _ lent now e. DeclinesAll lent now e };
+
+    ghost leaves_struct = { λ _ _ _. ⊥ };
+
+    ghost declines_object = { λ _ lent now e. DeclinesAll lent now e };
+
+    ghost leaves_object = { λ _ _ _. ⊥ };
+
     fn visit(&self, given: Visit<'de, Never>) -> Result<Fraction, DeserializeError<&'de [u8]>>
         ensures made { IfOk result (λ x. given.entry ≡ visit.Fraction x) }
         ensures declined { IfErr result (DeclinesOthers visit.Fraction given.entry) }
@@ -400,6 +464,14 @@ impl<'de> Visitor<'de> for IdVisitor {
 
     ghost declines = { λ _ given e. DeclinesOthers visit.Id given e };
 
+    ghost declines_struct = { λ _ lent now e. DeclinesAll lent now e };
+
+    ghost leaves_struct = { λ _ _ _. ⊥ };
+
+    ghost declines_object = { λ _ lent now e. DeclinesAll lent now e };
+
+    ghost leaves_object = { λ _ _ _. ⊥ };
+
     fn visit(&self, given: Visit<'de, Never>) -> Result<Id, DeserializeError<&'de [u8]>>
         ensures made { IfOk result (λ x. given.entry ≡ visit.Id x) }
         ensures declined { IfErr result (DeclinesOthers visit.Id given.entry) }
@@ -446,6 +518,14 @@ impl<'de> Visitor<'de> for FdVisitor {
     ghost visits_object = { λ _ _ _ _ _. ⊥ };
 
     ghost declines = { λ _ given e. DeclinesOthers visit.Fd given e };
+
+    ghost declines_struct = { λ _ lent now e. DeclinesAll lent now e };
+
+    ghost leaves_struct = { λ _ _ _. ⊥ };
+
+    ghost declines_object = { λ _ lent now e. DeclinesAll lent now e };
+
+    ghost leaves_object = { λ _ _ _. ⊥ };
 
     fn visit(&self, given: Visit<'de, Never>) -> Result<Fd, DeserializeError<&'de [u8]>>
         ensures made { IfOk result (λ x. given.entry ≡ visit.Fd x) }

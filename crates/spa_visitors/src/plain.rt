@@ -1,7 +1,7 @@
 //! Visitors of texts, bytes, bitmaps and pointers.
 ghost use Rattle.std.specs.Prelude.{◌≡◌, ℕ, IfErr, IfOk};
 ghost use Rattle.spa_read.specs.declared.visitor.Visit.TheVariants as visit;
-ghost use Rattle.spa_visitors.specs.Declining.{DeclinesOthers};
+ghost use Rattle.spa_visitors.specs.Declining.{DeclinesAll, DeclinesOthers};
 
 use spa_fixed::DeserializeError;
 use spa_read::{Never, ObjectPodDeserializer, StructPodDeserializer, Visit, Visitor};
@@ -22,6 +22,14 @@ impl<'de> Visitor<'de> for StringVisitor {
     ghost visits_object = { λ _ _ _ _ _. ⊥ };
 
     ghost declines = { λ _ given e. DeclinesOthers visit.String given e };
+
+    ghost declines_struct = { λ _ lent now e. DeclinesAll lent now e };
+
+    ghost leaves_struct = { λ _ _ _. ⊥ };
+
+    ghost declines_object = { λ _ lent now e. DeclinesAll lent now e };
+
+    ghost leaves_object = { λ _ _ _. ⊥ };
 
     fn visit(&self, given: Visit<'de, Never>) -> Result<&'de str, DeserializeError<&'de [u8]>>
         ensures made { IfOk result (λ x. given.entry ≡ visit.String x) }
@@ -70,6 +78,14 @@ impl<'de> Visitor<'de> for BytesVisitor {
 
     ghost declines = { λ _ given e. DeclinesOthers visit.Bytes given e };
 
+    ghost declines_struct = { λ _ lent now e. DeclinesAll lent now e };
+
+    ghost leaves_struct = { λ _ _ _. ⊥ };
+
+    ghost declines_object = { λ _ lent now e. DeclinesAll lent now e };
+
+    ghost leaves_object = { λ _ _ _. ⊥ };
+
     fn visit(&self, given: Visit<'de, Never>) -> Result<&'de [u8], DeserializeError<&'de [u8]>>
         ensures made { IfOk result (λ x. given.entry ≡ visit.Bytes x) }
         ensures declined { IfErr result (DeclinesOthers visit.Bytes given.entry) }
@@ -117,6 +133,14 @@ impl<'de> Visitor<'de> for BitmapVisitor {
 
     ghost declines = { λ _ given e. DeclinesOthers visit.Bitmap given e };
 
+    ghost declines_struct = { λ _ lent now e. DeclinesAll lent now e };
+
+    ghost leaves_struct = { λ _ _ _. ⊥ };
+
+    ghost declines_object = { λ _ lent now e. DeclinesAll lent now e };
+
+    ghost leaves_object = { λ _ _ _. ⊥ };
+
     fn visit(&self, given: Visit<'de, Never>) -> Result<&'de [u8], DeserializeError<&'de [u8]>>
         ensures made { IfOk result (λ x. given.entry ≡ visit.Bitmap x) }
         ensures declined { IfErr result (DeclinesOthers visit.Bitmap given.entry) }
@@ -163,6 +187,14 @@ impl<'de> Visitor<'de> for PointerVisitor {
     ghost visits_object = { λ _ _ _ _ _. ⊥ };
 
     ghost declines = { λ _ given e. DeclinesOthers (λ (x : ℕ × ℕ). visit.Pointer x.0 x.1) given e };
+
+    ghost declines_struct = { λ _ lent now e. DeclinesAll lent now e };
+
+    ghost leaves_struct = { λ _ _ _. ⊥ };
+
+    ghost declines_object = { λ _ lent now e. DeclinesAll lent now e };
+
+    ghost leaves_object = { λ _ _ _. ⊥ };
 
     fn visit(&self, given: Visit<'de, Never>) -> Result<(u32, u64), DeserializeError<&'de [u8]>>
         ensures made { IfOk result (λ x. given.entry ≡ visit.Pointer x.0 x.1) }

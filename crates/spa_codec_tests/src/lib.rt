@@ -4,6 +4,8 @@
 #[cfg(test)]
 mod compare;
 #[cfg(test)]
+mod comparing;
+#[cfg(test)]
 mod counting;
 #[cfg(test)]
 mod equality;

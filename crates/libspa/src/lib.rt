@@ -36,8 +36,8 @@ pub mod pod {
     pub use spa_scan::nests_within;
     pub use spa_utils::Frame;
     pub use spa_value::{
-        Bitmap, ChoiceValue, Object, Property, PropertyFlags, Value, ValueArray, discard,
-        laws as value_laws, object, property,
+        Bitmap, ChoiceValue, Held, Object, Property, PropertyFlags, Value, ValueArray, discard,
+        laws as value_laws, object, property, same,
     };
     pub use spa_view::{
         Pod, PodObject, PodObjectIter, PodProp, PodPropFlags, PodStruct, PodStructIter,

@@ -13,9 +13,6 @@ const DONE: u8 = 0;
 /// The status of a run that was refused.
 const REFUSED: u8 = 1;
 
-/// The length in bytes of a pod's header, and the number of which a whole pod's length is a multiple.
-const HEADER_LEN: usize = 8;
-
 /// Why a run was refused.
 #[derive(Debug, Drop)]
 pub enum Failure {
@@ -106,11 +103,10 @@ fn meet<R: Read, W: Write>(alloc: Global, input: &mut R, output: &mut W) -> Resu
 
 /// The whole pod at the front, and what follows it; all of the bytes, and nothing, where none is there.
 fn split_front(bytes: &[u8]) -> (&[u8], &[u8]) {
-    let Some(pod) = Pod::from_bytes(bytes) else {
-        return (bytes, &[]);
-    };
-    let extent = HEADER_LEN + (pod.size() as usize).div_ceil(HEADER_LEN) * HEADER_LEN;
-    bytes.split_at(extent)
+    match Pod::from_bytes(bytes) {
+        Some(pod) => bytes.split_at(pod.extent()),
+        None => (bytes, &[]),
+    }
 }
 
 /// All bytes that the reader gives.

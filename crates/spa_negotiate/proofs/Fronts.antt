@@ -1,5 +1,5 @@
 -- The objects at the fronts of two inputs, and the bytes of that in which they meet.
-use Rattle.std.proofs.Common.{◌≡◌, ℕ, zero, suc, List, [], ◌∷◌, take, sym, ◌∙◌, subst, true, inl, inr, arith, Result, Ok, Err, IfOk, Vec, Global}
+use Rattle.std.proofs.Common.{◌≡◌, ℕ, zero, suc, List, [], ◌∷◌, take, ◌∙◌, true, inl, inr, arith, Result, Ok, Err, IfOk, Vec, Global}
 use Rattle.std.specs.Bool.{IsTrue}
 use Rattle.spa_format.specs.Encoding.{encoding_of}
 use Rattle.spa_format.specs.Fixation.{all_settled, are_settled}
@@ -11,25 +11,12 @@ use Rattle.spa_format.specs.Walk.{ArePropertiesOf, property_walk, properties_of}
 use Rattle.spa_format.specs.Typed.{IsBytes}
 use Rattle.spa_format.specs.Words.{word_at, extent}
 use Rattle.spa_format.specs.Writable.{IsWritable}
-use Rattle.spa_value.specs.declared.object.Object.{Object}
-use Rattle.spa_value.specs.View.{object_view}
-use Rattle.spa_value.specs.ObjectLaws.{ObjectsHaveTheirFields}
 use Rattle.spa_negotiate.specs.declared.error.Side.TheVariants.{First, Second}
 use Rattle.spa_negotiate.specs.declared.error.NegotiateError.{NegotiateError}
 use Rattle.spa_negotiate.specs.declared.error.NegotiateError.TheVariants.{Unread, NotObject, OutOfMemory}
-use Rattle.spa_negotiate.specs.Fronts.{IsObject, BeginsObject, BeginBoth, MeetIn, ReadsBack, IsFrontRefused, AreFrontsRefused}
+use Rattle.spa_negotiate.specs.Fronts.{BeginsObject, BeginBoth, MeetIn, ReadsBack, IsFrontRefused, AreFrontsRefused}
 use Rattle.spa_negotiate.specs.Meeting.{Meet}
 use Rattle.spa_negotiate.proofs.Values.{NoNul-met, IsNormal-met, are_settled-met}
-
--- the tree of an object is one
-is_object : ObjectsHaveTheirFields → (o : Object) → IsObject (object_view o)
-is_object fields o = subst IsObject (sym (fields o)) tt
-
--- an input that begins with an object
-pub BeginsObject-read : ObjectsHaveTheirFields → (b : List ℕ) (o : Object) → Begins b (object_view o) →
-    BeginsObject b
-BeginsObject-read fields b o h =
-    record { value = object_view o; begins = h; is_object = is_object fields o }
 
 -- the second side's refusal, behind a first side that is an object
 pub second_refused : (a b : List ℕ) → BeginsObject a → (e : NegotiateError) →

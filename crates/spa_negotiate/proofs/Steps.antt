@@ -70,25 +70,25 @@ module _ (go_on : PropertyListsGoOn) (are_cut : PropertyListsAreCut) (ours their
     first_keys = subst (HasKeys keys) one_more_first (more_keys (firsts ours i) h.keys)
 
     -- its key was there
-    pub first_seen : is_new ≡ false → SettlesListed ours theirs (firsts ours (i + 1)) s.met.items
+    pub first_seen : is_new ≡ false → SettlesListed ours theirs (firsts ours (i + 1)) s.met.properties.items
     first_seen was =
         let os = property_views ours in
         let ts = property_views theirs in
-        let met = property_views s.met.items in
+        let met = property_views s.met.properties.items in
         let before = firsts ours i in
         let key = there before h.keys was in
-        subst (λ ss. SettlesListed ours theirs ss s.met.items) one_more_first
+        subst (λ ss. SettlesListed ours theirs ss s.met.properties.items) one_more_first
         (SettlesKeys-seen os ts before met p.key h.settles p.flags.0 (view p.value) key)
 
     -- its key was not there, and x settles it
     pub first_new : is_new ≡ true → (now : List Property) (x : Tree) →
-        IsPushed s.met.items p.key x now → IsPlain x →
+        IsPushed s.met.properties.items p.key x now → IsPlain x →
         Settles (Some (view p.value)) (found_at p.key theirs) x →
         SettlesListed ours theirs (firsts ours (i + 1)) now
     first_new was now x m plain settles =
         let os = property_views ours in
         let ts = property_views theirs in
-        let met = property_views s.met.items in
+        let met = property_views s.met.properties.items in
         let before = firsts ours i in
         let behind = property_views (drop (i + 1) ours) in
         let at = are_cut ours i p l e in
@@ -106,7 +106,7 @@ module _ (go_on : PropertyListsGoOn) (are_cut : PropertyListsAreCut) (ours their
     first_refused was why r =
         let os = property_views ours in
         let ts = property_views theirs in
-        let met = property_views s.met.items in
+        let met = property_views s.met.properties.items in
         let before = firsts ours i in
         let behind = property_views (drop (i + 1) ours) in
         let at = are_cut ours i p l e in
@@ -127,24 +127,24 @@ module _ (go_on : PropertyListsGoOn) (are_cut : PropertyListsAreCut) (ours their
 
     -- its key was there
     pub other_seen : is_new ≡ false →
-        SettlesListed ours theirs (others ours theirs (i + 1)) s.met.items
+        SettlesListed ours theirs (others ours theirs (i + 1)) s.met.properties.items
     other_seen was =
         let os = property_views ours in
         let ts = property_views theirs in
-        let met = property_views s.met.items in
+        let met = property_views s.met.properties.items in
         let before = others ours theirs i in
         let key = there before h.keys was in
-        subst (λ ss. SettlesListed ours theirs ss s.met.items) one_more_other
+        subst (λ ss. SettlesListed ours theirs ss s.met.properties.items) one_more_other
         (SettlesKeys-seen os ts before met p.key h.settles p.flags.0 (view p.value) key)
 
     -- its key was not there, and its default settles it
     pub other_new : is_new ≡ true → (now : List Property) (x : Tree) →
-        IsPushed s.met.items p.key x now → IsPlain x → x ≡ plain_of (view p.value) →
+        IsPushed s.met.properties.items p.key x now → IsPlain x → x ≡ plain_of (view p.value) →
         SettlesListed ours theirs (others ours theirs (i + 1)) now
     other_new was now x m plain settles =
         let os = property_views ours in
         let ts = property_views theirs in
-        let met = property_views s.met.items in
+        let met = property_views s.met.properties.items in
         let before = others ours theirs i in
         let behind = property_views (drop (i + 1) theirs) in
         let at = are_cut theirs i p l e in

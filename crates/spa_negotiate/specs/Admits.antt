@@ -1,4 +1,4 @@
--- Which plain values a value admits, and which values are supported: README.md, "Values".
+-- Which plain values a value admits, and which values are supported: docs/NEGOTIATION.md, "Values".
 use Rattle.std.specs.Prelude.{⊤, ◌≡◌, ◌≤◌, ◌≤ℤ◌, ◌∷◌, map, Contains}
 use Rattle.spa_format.specs.Kind.{Kind, id_kind, int_kind, long_kind, Fixed, id, int, long}
 use Rattle.spa_format.specs.Tree.{none_choice, range_choice, enum_choice, Tree, fixed, choice}

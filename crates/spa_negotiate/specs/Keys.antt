@@ -1,4 +1,4 @@
--- The keys of properties, and the values under them: README.md, "The rules".
+-- The keys of properties, and the values under them: docs/NEGOTIATION.md, "The rules".
 use Rattle.std.specs.Prelude.{ℕ, List, [], ◌∷◌, not, ◌==◌, if◌then◌else◌, Option, Some, None}
 use Rattle.std.specs.List.{filter}
 use Rattle.spa_format.specs.Tree.{Tree, Properties, no_properties, property}

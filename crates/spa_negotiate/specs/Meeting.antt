@@ -1,4 +1,4 @@
--- When two objects can meet, and in which object they do: README.md, "The rules".
+-- When two objects can meet, and in which object they do: docs/NEGOTIATION.md, "The rules".
 use Rattle.std.specs.Prelude.{⊤, ◌≡◌, ℕ, Option, Some, None}
 use Rattle.std.specs.List.{All}
 use Rattle.spa_format.specs.Tree.{Tree, object, Properties, no_properties, property, join_properties}

@@ -51,7 +51,7 @@ SettlesListed ours theirs these met =
 
 -- the same, and the set has these keys
 pub record IsSettled (ours theirs : List Property) (these : Properties) (s : Settled) : Type 0 where
-  pub settles : SettlesListed ours theirs these s.met.items
+  pub settles : SettlesListed ours theirs these s.met.properties.items
   pub keys : HasKeys s.keys these
 
 -- a property with this key and value, and empty flags, was appended

@@ -1,4 +1,4 @@
--- Why two objects don't meet: README.md, "Refusals".
+-- Why two objects don't meet: docs/NEGOTIATION.md, "Refusals".
 use Rattle.std.specs.Prelude.{⊤, ◌≡◌, ℕ, List, ◌∷◌, ◌++◌, Option, Some}
 use Rattle.std.specs.List.{All}
 use Rattle.spa_format.specs.Tree.{Tree, object, Properties}

@@ -1,5 +1,5 @@
 //! The search for a value that two offers both admit.
-ghost use Rattle.std.specs.Prelude.{◌≡◌, ◌↔◌, IsTrue, MatchOption, All, map};
+ghost use Rattle.std.specs.Prelude.{◌≡◌, ◌↔◌, IfOk, IsTrue, MatchOption, All, map};
 ghost use Rattle.spa_format.specs.Tree.{Tree};
 ghost use Rattle.spa_value.specs.View.{view};
 ghost use Rattle.spa_negotiate.specs.Admits.{IsAtMost};
@@ -7,8 +7,9 @@ ghost use Rattle.spa_negotiate.specs.Offers.{BothAdmit, IsIndexed, OfferAdmits, 
 
 use crate::numbers::has;
 use crate::offer::{Offer, Rule};
-use libspa::pod::Value;
 use libspa::pod::value_laws::{equal_trees_are_the_same, trees_have_their_types};
+use libspa::pod::{Value, same};
+use std::alloc::{AllocError, Global};
 
 /// Whether the first is no greater than the second, where both are ids, both ints or both longs.
 fn is_at_most(value: &Value, other: &Value) -> bool
@@ -33,48 +34,56 @@ fn is_at_most(value: &Value, other: &Value) -> bool
 }
 
 /// Whether the two are the same value.
-fn is_same(value: &Value, other: &Value) -> bool
-    ensures { IsTrue result ↔ (view value.now ≡ view other.now) }
+fn is_same(alloc: Global, value: &Value, other: &Value) -> Result<bool, AllocError>
+    ensures { IfOk result (λ is_same. IsTrue is_same ↔ (view value.now ≡ view other.now)) }
 {
     equal_trees_are_the_same();
-    value == other
+    let is_same = same(alloc, value, other)?;
+    Ok(is_same)
 }
 
 /// Whether the offer admits the value.
-fn admits(offer: &Offer, value: &Value) -> bool
+fn admits(alloc: Global, offer: &Offer, value: &Value) -> Result<bool, AllocError>
     requires { IsIndexed offer.now }
-    ensures { IsTrue result ↔ OfferAdmits offer.now (view value.now) }
+    ensures { IfOk result (λ admits. IsTrue admits ↔ OfferAdmits offer.now (view value.now)) }
 {
     match offer.rule {
-        Rule::Only => is_same(value, &offer.default),
-        Rule::Among => has(&offer.index, value),
+        Rule::Only => is_same(alloc, value, &offer.default),
+        Rule::Among => Ok(has(&offer.index, value)),
         Rule::Between => match offer.values.as_slice() {
-            [low, high, ..] => is_at_most(low, value) && is_at_most(value, high),
-            _ => false,
+            [low, high, ..] => Ok(is_at_most(low, value) && is_at_most(value, high)),
+            _ => Ok(false),
         },
-        Rule::Unsupported => false,
+        Rule::Unsupported => Ok(false),
     }
 }
 
 /// Whether both offers admit the value.
-fn both_admit(a: &Offer, b: &Offer, value: &Value) -> bool
+fn both_admit(alloc: Global, a: &Offer, b: &Offer, value: &Value) -> Result<bool, AllocError>
     requires { IsIndexed a.now × IsIndexed b.now }
-    ensures { IsTrue result ↔ BothAdmit a.now b.now (view value.now) }
+    ensures { IfOk result (λ admit. IsTrue admit ↔ BothAdmit a.now b.now (view value.now)) }
 {
-    admits(a, value) && admits(b, value)
+    let first = admits(alloc, a, value)?;
+    let second = admits(alloc, b, value)?;
+    Ok(first && second)
 }
 
 /// The first of these values that both offers admit, where there is one.
-fn first_of<'v>(values: &'v [Value], a: &Offer, b: &Offer) -> Option<&'v Value>
+fn first_of<'v>(
+    alloc: Global,
+    values: &'v [Value],
+    a: &Offer,
+    b: &Offer,
+) -> Result<Option<&'v Value>, AllocError>
     requires { IsIndexed a.now × IsIndexed b.now }
-    ensures { MatchOption result (All (λ x. ¬ (BothAdmit a.now b.now x)) (map view values.now)) (λ x. BothAdmit a.now b.now (view x.now)) }
+    ensures { IfOk result (λ first. MatchOption first (All (λ x. ¬ (BothAdmit a.now b.now x)) (map view values.now)) (λ x. BothAdmit a.now b.now (view x.now))) }
 {
     for value in values {
-        if both_admit(a, b, value) {
-            return Some(value);
+        if both_admit(alloc, a, b, value)? {
+            return Ok(Some(value));
         }
     }
-    None
+    Ok(None)
 }
 
 /// The alternatives of an Enum, and nothing of other values.
@@ -102,27 +111,31 @@ fn floor(offer: &Offer) -> &Value
 
 /// The first of these that both offers admit: a's default, b's default, a's alternatives, b's alternatives, a's
 /// minimum, b's minimum. Where both admit none of these, they admit no value.
-pub(crate) fn first_common<'v>(a: &'v Offer, b: &'v Offer) -> Option<&'v Value>
+pub(crate) fn first_common<'v>(
+    alloc: Global,
+    a: &'v Offer,
+    b: &'v Offer,
+) -> Result<Option<&'v Value>, AllocError>
     requires { IsIndexed a.now × IsIndexed b.now }
-    ensures { MatchOption result ((x : Tree) → ¬ (BothAdmit a.now b.now x)) (λ x. BothAdmit a.now b.now (view x.now)) }
+    ensures { IfOk result (λ first. MatchOption first ((x : Tree) → ¬ (BothAdmit a.now b.now x)) (λ x. BothAdmit a.now b.now (view x.now))) }
 {
-    if both_admit(a, b, &a.default) {
-        return Some(&a.default);
+    if both_admit(alloc, a, b, &a.default)? {
+        return Ok(Some(&a.default));
     }
-    if both_admit(a, b, &b.default) {
-        return Some(&b.default);
+    if both_admit(alloc, a, b, &b.default)? {
+        return Ok(Some(&b.default));
     }
-    if let Some(value) = first_of(alternatives(a), a, b) {
-        return Some(value);
+    if let Some(value) = first_of(alloc, alternatives(a), a, b)? {
+        return Ok(Some(value));
     }
-    if let Some(value) = first_of(alternatives(b), a, b) {
-        return Some(value);
+    if let Some(value) = first_of(alloc, alternatives(b), a, b)? {
+        return Ok(Some(value));
     }
-    if both_admit(a, b, floor(a)) {
-        return Some(floor(a));
+    if both_admit(alloc, a, b, floor(a))? {
+        return Ok(Some(floor(a)));
     }
-    if both_admit(a, b, floor(b)) {
-        return Some(floor(b));
+    if both_admit(alloc, a, b, floor(b))? {
+        return Ok(Some(floor(b)));
     }
-    None
+    Ok(None)
 }

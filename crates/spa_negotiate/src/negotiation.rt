@@ -1,5 +1,5 @@
 //! Two objects meet.
-ghost use Rattle.std.specs.Prelude.{IfErr, IfOk, OnOk, Some};
+ghost use Rattle.std.specs.Prelude.{◌≡◌, IfErr, IfOk, OnOk, Some};
 ghost use Rattle.spa_format.specs.Tree.{join_properties};
 ghost use Rattle.spa_value.specs.View.{object_view, view};
 ghost use Rattle.spa_value.specs.Views.{property_views};
@@ -14,7 +14,7 @@ use crate::error::NegotiateError;
 use crate::keyed::{Keyed, add_key};
 use crate::offer::{Offer, offer_of, settled};
 use libspa::pod::value_laws::{objects_are_their_fields, property_lists_are_in_order};
-use libspa::pod::{Object, Property, Value};
+use libspa::pod::{Object, Property, Value, discard};
 use std::alloc::{AllocError, Global};
 use std::collections::BTreeSet;
 
@@ -58,10 +58,36 @@ pub fn negotiate(alloc: Global, a: &Object, b: &Object) -> Result<Object, Negoti
     })
 }
 
+/// Settled properties. Their values may be nested deep, so they are taken apart by a loop.
+struct Met {
+    properties: Vec<Property>,
+}
+
+impl Met {
+    /// The properties themselves.
+    fn into_properties(self) -> Vec<Property>
+        ensures { result ≡ self.properties }
+    {
+        let Met { properties } = self;
+        properties
+    }
+}
+
+impl Drop for Met {
+    fn drop(self) {
+        let Met { properties } = self;
+        discard(Value::Object(Object {
+            type_: 0,
+            id: 0,
+            properties,
+        }));
+    }
+}
+
 /// Settled properties, and the keys that were settled.
 #[derive(Drop)]
 struct Settled {
-    met: Vec<Property>,
+    met: Met,
     keys: BTreeSet<u32>,
 }
 
@@ -72,7 +98,9 @@ fn settle_first(alloc: Global, a: &[Property], b: &Keyed<'_>) -> Result<Settled,
     ensures cause { IfErr result (IsRefusal (property_views a.now) (property_views b.now.properties.now)) }
 {
     property_lists_are_in_order();
-    let mut met = Vec::new(alloc);
+    let mut met = Met {
+        properties: Vec::new(alloc),
+    };
     let mut keys = BTreeSet::new(alloc);
     for property in a {
         if add_key(&mut keys, property.key)? {
@@ -101,7 +129,7 @@ fn settle_others(
             push(&mut met, property.key, value)?;
         }
     }
-    Ok(met)
+    Ok(met.into_properties())
 }
 
 /// A plain value that settles the key of a property of the first side, where the second side has these.
@@ -125,11 +153,16 @@ fn common(alloc: Global, key: u32, a: &Value, b: &Value) -> Result<Value, Negoti
 {
     let first = offer_of(alloc, a)?;
     let second = offer_of(alloc, b)?;
-    common_of(key, &first, &second)
+    common_of(alloc, key, &first, &second)
 }
 
 /// A value that both offers admit.
-fn common_of(key: u32, first: &Offer, second: &Offer) -> Result<Value, NegotiateError>
+fn common_of(
+    alloc: Global,
+    key: u32,
+    first: &Offer,
+    second: &Offer,
+) -> Result<Value, NegotiateError>
     requires { IsIndexed first.now × IsIndexed second.now }
     ensures common { IfOk result (λ x. BothAdmit first.now second.now (view x)) }
     ensures cause { IfErr result (IsOfferRefusal key first.now second.now) }
@@ -137,17 +170,21 @@ fn common_of(key: u32, first: &Offer, second: &Offer) -> Result<Value, Negotiate
     if !first.rule.is_supported() || !second.rule.is_supported() {
         return Err(NegotiateError::Unsupported(key));
     }
-    match first_common(first, second) {
+    match first_common(alloc, first, second)? {
         Some(value) => Ok(value.clone()?),
         None => Err(NegotiateError::Disjoint(key)),
     }
 }
 
 /// Appends a property with empty flags.
-fn push(properties: &mut Vec<Property>, key: u32, value: Value) -> Result<(), AllocError>
-    ensures { OnOk result (IsPushed properties.old.items key (view value) properties.new.items) }
+fn push(met: &mut Met, key: u32, value: Value) -> Result<(), AllocError>
+    ensures { OnOk result (IsPushed met.old.properties.items key (view value) met.new.properties.items) }
 {
     property_lists_are_in_order();
-    properties.push(Property::new(key, value))?;
+    if let Err(error) = met.properties.reserve(1) {
+        discard(value);
+        return Err(error);
+    }
+    met.properties.push_reserved(Property::new(key, value));
     Ok(())
 }

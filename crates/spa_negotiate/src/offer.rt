@@ -10,7 +10,7 @@ ghost use Rattle.spa_negotiate.specs.Offers.{IsIndexed, IsOfferOf, further_value
 use crate::element::Element;
 use crate::numbers::{Numbers, add};
 use libspa::pod::value_laws::trees_have_their_types;
-use libspa::pod::{ChoiceValue, Value};
+use libspa::pod::{ChoiceValue, Value, discard};
 use libspa::utils::ChoiceEnum;
 use std::alloc::{AllocError, Global};
 use std::collections::BTreeSet;
@@ -51,15 +51,16 @@ pub(crate) struct Offer {
     pub(crate) index: BTreeSet<Numbers>,
 }
 
-// By hand, so that a function that holds two offers calls this and isn't proved along each path of a drop.
+// By hand, so that a default that is nested deep is taken apart by a loop.
 impl Drop for Offer {
     fn drop(self) {
         let Offer {
             rule: _,
-            default: _,
+            default,
             values: _,
             index: _,
         } = self;
+        discard(default);
     }
 }
 

@@ -1,5 +1,5 @@
 //! The objects of two pods meet.
-ghost use Rattle.std.specs.Prelude.{◌≡◌, IfErr, IfOk, IsTrue, MatchOption, OnOk};
+ghost use Rattle.std.specs.Prelude.{◌≡◌, ◌↔◌, IfErr, IfOk, IsTrue, OnOk};
 ghost use Rattle.spa_format.specs.Encoding.{encoding_of};
 ghost use Rattle.spa_format.specs.Fixation.{all_settled};
 ghost use Rattle.spa_format.specs.Front.{Begins};
@@ -7,7 +7,8 @@ ghost use Rattle.spa_format.specs.Pod.{IsPod};
 ghost use Rattle.spa_format.specs.Walk.{properties_of, property_walk};
 ghost use Rattle.spa_value.specs.View.{object_view, view};
 ghost use Rattle.spa_negotiate.specs.Fronts.{AreFrontsRefused, BeginBoth, IsFrontRefused, IsObject, IsWriteRefused, MeetIn, OnNoMeeting, ReadsBack};
-ghost use Rattle.spa_negotiate.specs.Meeting.{CanMeet};
+ghost use Rattle.spa_negotiate.specs.Meeting.{CanMeet, Meet};
+ghost use Rattle.spa_negotiate.specs.Refusals.{AreRefused, OnDisagreement};
 
 use crate::error::{NegotiateError, Side};
 use crate::negotiation::negotiate;
@@ -16,7 +17,7 @@ use libspa::pod::laws::{pods_have_one_value, readings_are_normal};
 use libspa::pod::serialize::{GenError, PodSerializer};
 use libspa::pod::value_laws::{objects_are_their_fields, trees_have_their_types};
 use libspa::pod::view_laws::{settled_properties_are_settled, walks_find_members};
-use libspa::pod::{Object, Value, discard};
+use libspa::pod::{Held, Object, Value};
 use std::alloc::Global;
 
 /// The encoding of the object in which the objects at the fronts of two inputs meet, by the rules of `negotiate`. What follows
@@ -44,38 +45,58 @@ pub fn negotiate_pods(alloc: Global, a: &[u8], b: &[u8]) -> Result<Vec<u8>, Nego
     settled_properties_are_settled();
     let first = object_at(alloc, a, Side::First)?;
     let second = object_at(alloc, b, Side::Second)?;
-    let met = negotiate(alloc, &first, &second)?;
+    let met = meeting(alloc, &*first, &*second)?;
     encoded(alloc, met)
 }
 
 /// The object at the front of a side's bytes.
-fn object_at(alloc: Global, bytes: &[u8], side: Side) -> Result<Object, NegotiateError>
-    ensures value { IfOk result (λ object. Begins bytes.now (object_view object)) }
-    ensures back { IfOk result (λ object. ReadsBack (object_view object)) }
+fn object_at(alloc: Global, bytes: &[u8], side: Side) -> Result<Held, NegotiateError>
+    ensures value { IfOk result (λ held. Begins bytes.now (view held)) }
+    ensures object { IfOk result (λ held. IsObject (view held)) }
+    ensures back { IfOk result (λ held. ReadsBack (view held)) }
     ensures cause { IfErr result (IsFrontRefused side bytes.now) }
 {
     readings_are_normal();
     match PodDeserializer::deserialize_any_from(alloc, bytes) {
-        Ok((_rest, value)) => match object_of(value) {
-            Some(object) => Ok(object),
-            None => Err(NegotiateError::NotObject(side)),
-        },
+        Ok((_rest, value)) => {
+            let held = Held::from(value);
+            if is_object(&*held) {
+                return Ok(held);
+            }
+            Err(NegotiateError::NotObject(side))
+        }
         Err(DeserializeError::OutOfMemory) => Err(NegotiateError::OutOfMemory),
         Err(_) => Err(NegotiateError::Unread(side)),
     }
 }
 
-/// The object that the value is, where it is one.
-fn object_of(value: Value) -> Option<Object>
-    ensures { MatchOption result (¬ (IsObject (view value))) (λ object. view value ≡ object_view object) }
+/// Whether the value is an object.
+fn is_object(value: &Value) -> bool
+    ensures { IsTrue result ↔ IsObject (view value.now) }
 {
     trees_have_their_types();
     match value {
-        Value::Object(object) => Some(object),
-        other => {
-            discard(other);
-            None
-        }
+        Value::Object(_) => true,
+        _ => false,
+    }
+}
+
+/// The object in which two values meet that are objects.
+fn meeting(alloc: Global, a: &Value, b: &Value) -> Result<Object, NegotiateError>
+    requires first { IsObject (view a.now) }
+    requires second { IsObject (view b.now) }
+    ensures accepted { OnOk result (CanMeet (view a.now) (view b.now)) }
+    ensures refused { IfErr result (OnDisagreement (¬ (CanMeet (view a.now) (view b.now)))) }
+    ensures value { IfOk result (λ met. Meet (view a.now) (view b.now) (object_view met)) }
+    ensures cause { IfErr result (AreRefused (view a.now) (view b.now)) }
+{
+    trees_have_their_types();
+    match a {
+        Value::Object(ours) => match b {
+            Value::Object(theirs) => negotiate(alloc, ours, theirs),
+            _ => unreachable!(),
+        },
+        _ => unreachable!(),
     }
 }
 
@@ -86,10 +107,8 @@ fn encoded(alloc: Global, object: Object) -> Result<Vec<u8>, NegotiateError>
     ensures pod { IfOk result (λ bytes. IsPod bytes.items (object_view object)) }
     ensures cause { IfErr result (IsWriteRefused (object_view object)) }
 {
-    let value = Value::Object(object);
-    let written = PodSerializer::serialize(Vec::new(alloc), &value);
-    drop(value);
-    match written {
+    let value = Held::from(Value::Object(object));
+    match PodSerializer::serialize(Vec::new(alloc), &*value) {
         Ok((bytes, _len)) => Ok(bytes),
         Err(GenError::TooLarge) => Err(NegotiateError::TooLarge),
         Err(GenError::OutOfMemory) => Err(NegotiateError::OutOfMemory),

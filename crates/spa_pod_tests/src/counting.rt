@@ -82,7 +82,7 @@ fn headers_are_counted(rt: HostRuntime) -> Result<(), Fail> {
 }
 
 /// The bytes of structs, so many, each holding the next one, and the last one the pod of these words.
-fn nested(alloc: Global, depth: u32, inner: &[u32; 2]) -> Result<Vec<u8>, AllocError> {
+pub(crate) fn nested(alloc: Global, depth: u32, inner: &[u32; 2]) -> Result<Vec<u8>, AllocError> {
     let mut input = Vec::new(alloc);
     for level in 0..depth {
         let size = depth.saturating_sub(level).saturating_mul(8);
@@ -96,7 +96,11 @@ fn nested(alloc: Global, depth: u32, inner: &[u32; 2]) -> Result<Vec<u8>, AllocE
 }
 
 /// The bytes of objects, so many, each with one property that holds the next one, and the last one the pod of these words.
-fn nested_objects(alloc: Global, depth: u32, inner: &[u32; 2]) -> Result<Vec<u8>, AllocError> {
+pub(crate) fn nested_objects(
+    alloc: Global,
+    depth: u32,
+    inner: &[u32; 2],
+) -> Result<Vec<u8>, AllocError> {
     let mut input = Vec::new(alloc);
     for level in 0..depth {
         let size = depth.saturating_sub(level).saturating_mul(24);

@@ -7,6 +7,8 @@ mod builder;
 #[cfg(test)]
 mod compare;
 #[cfg(test)]
+mod comparing;
+#[cfg(test)]
 mod counting;
 #[cfg(test)]
 mod equality;

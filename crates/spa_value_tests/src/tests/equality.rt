@@ -1,7 +1,8 @@
 //! Values, and parts of values, equal themselves alone.
 use crate::compare::assert_same;
 use crate::values::{arrays, choices, deep_values, distinct_values, properties};
-use std::alloc::AllocError;
+use spa_value::{Value, same};
+use std::alloc::{AllocError, Global};
 use std::process::Abort;
 use std::test::Fail;
 
@@ -41,6 +42,43 @@ fn assert_distinct<T: PartialEq + Drop>(
     let wrong = wrongly_answered(values.as_slice(), twins.as_slice());
     assert_same(rt, &wrong, &None, "each of the two");
     Ok(())
+}
+
+/// The places of the first value and twin that `same` wrongly tells to be equal, or not to be.
+fn wrongly_told(
+    alloc: Global,
+    values: &[Value],
+    twins: &[Value],
+) -> Result<Option<(usize, usize)>, AllocError> {
+    for (i, value) in values.iter().enumerate() {
+        for (j, twin) in twins.iter().enumerate() {
+            if same(alloc, value, twin)? != (i == j) {
+                return Ok(Some((i, j)));
+            }
+        }
+    }
+    Ok(None)
+}
+
+/// Each of these is told to be the same as its twin alone.
+fn assert_told(
+    rt: &impl Abort,
+    alloc: Global,
+    values: Result<Vec<Value>, AllocError>,
+    twins: Result<Vec<Value>, AllocError>,
+) -> Result<(), Fail> {
+    let values = values?;
+    let twins = twins?;
+    let wrong = wrongly_told(alloc, values.as_slice(), twins.as_slice())?;
+    assert_same(rt, &wrong, &None, "each of the two");
+    Ok(())
+}
+
+#[test]
+fn values_are_the_same_as_themselves_alone(rt: HostRuntime) -> Result<(), Fail> {
+    let alloc = rt.alloc();
+    assert_told(&rt, alloc, distinct_values(alloc), distinct_values(alloc))?;
+    assert_told(&rt, alloc, deep_values(alloc), deep_values(alloc))
 }
 
 #[test]

@@ -67,4 +67,4 @@ returns-clause-accepted c =
     let first = c.in_ok-first in
     objects_can law.fields law.made c.args.a.now c.args.b.now _ _ c.as_slice-ours.ensures.value
     (c.in_ok-others.ensures.properties ∙ c.as_slice-theirs.ensures.value) c.if-a-b.false
-    (property_views first.first.met.items) first.ensures.settled.settles
+    (property_views first.first.met.properties.items) first.ensures.settled.settles

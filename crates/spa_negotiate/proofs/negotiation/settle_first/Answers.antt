@@ -34,18 +34,18 @@ loop-property-preserved c =
     elim c.if-branch.branch [
       | then-branch+in_ok-value+in_ok-push w ↦
           let x = w.in_ok-value in
-          let pushed = ap (λ v. property_views v.items) w.met-is ∙ w.in_ok-push.ensures in
+          let pushed = ap (λ v. property_views v.properties.items) w.met-is ∙ w.in_ok-push.ensures in
           record {
             settles =
                 first_new law.first law.cut ours theirs i p s _ _ added more is l.invariant w.if-branch.true
-                c.if-branch.met.items (view x.value) pushed x.ensures.plain x.ensures.settles;
+                c.if-branch.met.properties.items (view x.value) pushed x.ensures.plain x.ensures.settles;
             keys = keys;
           }
       | else-branch w ↦
           let seen = first_seen law.first law.cut ours theirs i p s _ _ added more is l.invariant w.if-branch.false in
           record {
             settles =
-                subst (λ v. SettlesListed ours theirs (firsts ours (i + 1)) v.items) (sym w.met-is) seen;
+                subst (λ v. SettlesListed ours theirs (firsts ours (i + 1)) v.properties.items) (sym w.met-is) seen;
             keys = keys;
           }
     ]

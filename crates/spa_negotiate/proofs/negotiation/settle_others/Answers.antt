@@ -30,18 +30,18 @@ loop-property-preserved c =
     elim c.if-branch.branch [
       | then-branch+in_ok-value+in_ok-push w ↦
           let x = w.in_ok-value in
-          let pushed = ap (λ v. property_views v.items) w.met-is ∙ w.in_ok-push.ensures in
+          let pushed = ap (λ v. property_views v.properties.items) w.met-is ∙ w.in_ok-push.ensures in
           record {
             settles =
                 other_new law.first law.cut ours theirs i p s _ _ added more is l.invariant w.if-branch.true
-                c.if-branch.met.items (view x.value) pushed x.ensures.plain x.ensures.settled;
+                c.if-branch.met.properties.items (view x.value) pushed x.ensures.plain x.ensures.settled;
             keys = keys;
           }
       | else-branch w ↦
           let seen = other_seen law.first law.cut ours theirs i p s _ _ added more is l.invariant w.if-branch.false in
           record {
             settles =
-                subst (λ v. SettlesListed ours theirs (others ours theirs (i + 1)) v.items) (sym w.met-is)
+                subst (λ v. SettlesListed ours theirs (others ours theirs (i + 1)) v.properties.items) (sym w.met-is)
                 seen;
             keys = keys;
           }

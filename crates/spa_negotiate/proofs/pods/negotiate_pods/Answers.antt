@@ -1,36 +1,53 @@
-use Rattle.spa_value.specs.View.{object_view}
-use Rattle.spa_negotiate.proofs.Fronts.{BeginsObject-read, second_refused, ReadsBack-met, MeetIn-written, settled-written}
+use Rattle.std.proofs.Common.{ap, subst}
+use Rattle.spa_value.specs.View.{object_view, view}
+use Rattle.spa_negotiate.specs.Fronts.{BeginsObject}
+use Rattle.spa_negotiate.specs.Meeting.{Meet}
+use Rattle.spa_negotiate.proofs.Fronts.{second_refused, ReadsBack-met, MeetIn-written, settled-written}
 use Rattle.spa_negotiate.proofs.Passing.{passed_on}
 use Rattle.spa_negotiate.proofs.pods.negotiate_pods.Goals as goal
 
 pub returns-in_err-second-clause-cause : goal.returns-in_err-second-clause-cause
 returns-in_err-second-clause-cause c =
-    let first = BeginsObject-read c.objects_are_their_fields.ensures.fields c.args.a.now c.in_ok-first.first c.in_ok-first.ensures.value in
+    let first : BeginsObject c.args.a.now =
+    record {
+      value = view c.in_ok-first.first;
+      begins = c.in_ok-first.ensures.value;
+      is_object = c.in_ok-first.ensures.object;
+    } in
     passed_on _ _ _ c.from_residual-in_err-second.ensures.1
     (second_refused c.args.a.now c.args.b.now first _ c.in_err-second.ensures.cause)
 
 pub encoded-requires : goal.encoded-requires
 encoded-requires c =
-    let v = object_view c.in_ok-first.first in
-    let w = object_view c.in_ok-second.second in
+    let v = view c.in_ok-first.first in
+    let w = view c.in_ok-second.second in
     let x = object_view c.in_ok-met.met in
-    ReadsBack-met v w x c.in_ok-first.ensures.back c.in_ok-second.ensures.back c.in_ok-met.ensures.value
+    let met : Meet v w x =
+    subst (λ t. Meet t w x) (ap view c.deref.ensures)
+    (subst (λ t. Meet (view c.deref.result.now) t x) (ap view c.deref-2.ensures) c.in_ok-met.ensures.value) in
+    ReadsBack-met v w x c.in_ok-first.ensures.back c.in_ok-second.ensures.back met
 
 pub returns-clause-value : goal.returns-clause-value
 returns-clause-value c =
-    let v = object_view c.in_ok-first.first in
-    let w = object_view c.in_ok-second.second in
+    let v = view c.in_ok-first.first in
+    let w = view c.in_ok-second.second in
     let x = object_view c.in_ok-met.met in
+    let met : Meet v w x =
+    subst (λ t. Meet t w x) (ap view c.deref.ensures)
+    (subst (λ t. Meet (view c.deref.result.now) t x) (ap view c.deref-2.ensures) c.in_ok-met.ensures.value) in
     let first = c.in_ok-first.ensures.value in
     let second = c.in_ok-second.ensures.value in
     let written = c.encoded.ensures in
-    MeetIn-written _ _ v w x first second c.in_ok-met.ensures.value _ written.encoding written.pod
+    MeetIn-written _ _ v w x first second met _ written.encoding written.pod
 
 pub returns-clause-fixated : goal.returns-clause-fixated
 returns-clause-fixated c =
-    let v = object_view c.in_ok-first.first in
-    let w = object_view c.in_ok-second.second in
+    let v = view c.in_ok-first.first in
+    let w = view c.in_ok-second.second in
     let x = object_view c.in_ok-met.met in
+    let met : Meet v w x =
+    subst (λ t. Meet t w x) (ap view c.deref.ensures)
+    (subst (λ t. Meet (view c.deref.result.now) t x) (ap view c.deref-2.ensures) c.in_ok-met.ensures.value) in
     let walks = c.walks_find_members.ensures.of_object in
     let settled = c.settled_properties_are_settled.ensures in
-    settled-written v w x c.in_ok-met.ensures.value walks settled _ c.encoded.ensures.pod
+    settled-written v w x met walks settled _ c.encoded.ensures.pod

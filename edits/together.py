@@ -282,7 +282,8 @@ def judged(crate, edit, said, is_alone):
         own = said.failed()
     if own:
         told = [(it, *said.goals_of(it)) for it in own]
-        told.sort(key=lambda it: it[2])
+        # First what tells of a goal, and not of a function that another one waits for.
+        told.sort(key=lambda it: (it[2], "it waits for" in it[1]))
         return Verdict(edit, True, f"{told[0][0]}: {told[0][1]}", told[0][2])
     if is_alone:
         return Verdict(edit, False, "NOT REFUSED: the crate is still proved with this edit" if said.is_proved() else f"NO VERDICT: {said.first_words()}")

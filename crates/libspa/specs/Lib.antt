@@ -14,14 +14,14 @@ pub use Rattle.spa_sink.specs.Writing
 pub use Rattle.spa_device.specs.Counting
 pub use Rattle.spa_value.specs.View
 pub use Rattle.spa_value.specs.Equality
-pub use Rattle.spa_read.specs.Reading
+pub use Rattle.spa_leaf.specs.Reading
 pub use Rattle.spa_read.specs.Asking
 pub use Rattle.spa_read.specs.Visiting
 pub use Rattle.spa_read.specs.Members
 pub use Rattle.spa_read.specs.Exactly
 pub use Rattle.spa_read.specs.Lookup
 pub use Rattle.spa_visitors.specs.Declining
-pub use Rattle.spa_write.specs.Written
+pub use Rattle.spa_leaf.specs.Written
 pub use Rattle.spa_write.specs.Success
 pub use Rattle.spa_write.specs.Unfinished
 pub use Rattle.spa_write.specs.Listed

@@ -6,7 +6,7 @@ use Rattle.spa_format.specs.Encoding.{encoding_of}
 use Rattle.spa_format.specs.Pod.{IsPod}
 use Rattle.spa_format.specs.Normal.{normal_of}
 use Rattle.spa_format.specs.Writable.{HasNul, IsTooLarge}
-use Rattle.spa_read.specs.Reading.{MayLackMemory}
+use Rattle.spa_leaf.specs.Reading.{MayLackMemory}
 use Rattle.spa_negotiate.specs.Meeting.{Meet}
 use Rattle.spa_negotiate.specs.Refusals.{AreRefused}
 use Rattle.spa_negotiate.specs.declared.error.Side.{Side}

@@ -3,13 +3,12 @@ use crate::compare::{assert_bytes, assert_holds, assert_said};
 use crate::counting::read;
 use arrayvec::ArrayVec;
 use bitflags::Flags;
+use spa_leaf::{put_bitmap, put_bytes, put_leaf, put_pointer, put_text};
 use spa_sink::GenError;
 use spa_spelling::bytes_spelled;
 use spa_utils::{Choice, ChoiceEnum, ChoiceFlags};
 use spa_value::{ChoiceValue, Value, ValueArray};
-use spa_write::{
-    PodSerializer, laws, put_bitmap, put_bytes, put_leaf, put_pointer, put_text, write_sized,
-};
+use spa_write::{PodSerializer, laws, write_sized};
 use std::alloc::{AllocError, Global};
 use std::process::Abort;
 use std::test::Fail;

@@ -21,16 +21,16 @@ use Rattle.spa_value.specs.Views.{property_views, views}
 use Rattle.spa_value.specs.declared.object.Property.{Property}
 use Rattle.spa_value.specs.declared.value.Value.{Value}
 use Rattle.spa_bytes.specs.Opening.{Opens}
-use Rattle.spa_read.specs.Opening.{BeginsWith, CountsShort}
-use Rattle.spa_read.specs.Reading.{MayLackMemory, TakesMemory}
-use Rattle.spa_read.specs.Refusing.{RefusesBody}
+use Rattle.spa_read.specs.Opening.{CountsShort}
+use Rattle.spa_leaf.specs.Reading.{BeginsWith, MayLackMemory, TakesMemory}
+use Rattle.spa_leaf.specs.Refusing.{RefusesBody}
 use Rattle.spa_read.specs.Nesting.{IsAlike, IsReadUpTo, LacksKey, Reaches, Reads, RefusesAt, RefusesBehind, so_far, with_child}
 use Rattle.spa_read.specs.declared.inside.Inside.{Inside}
 use Rattle.spa_read.specs.declared.inside.Inside.TheVariants as inside
 use Rattle.spa_read.specs.declared.inside.OpenObject.{OpenObject}
 use Rattle.spa_read.proofs.Counting.{count_with, is_one, plain_at, short_at}
-use Rattle.spa_read.proofs.Refusals.{says_through}
-use Rattle.spa_read.proofs.Steps.{parted, pod_read}
+use Rattle.spa_leaf.proofs.Refusals.{says_through}
+use Rattle.spa_leaf.proofs.Steps.{parted, pod_read}
 
 pub type_with : (i : Inside) (v : Tree) → type_of (with_child i v) ≡ type_of (so_far i)
 type_with (inside.Struct vs) v = refl

@@ -13,13 +13,13 @@ use Rattle.spa_fixed.specs.declared.fault.Refusal.TheVariants as refusal
 use Rattle.spa_value.specs.Views.{property_views, views}
 use Rattle.spa_bytes.specs.Opening.{Opens}
 use Rattle.spa_read.specs.Opening.{CountsShort}
-use Rattle.spa_read.specs.Reading.{MayLackMemory, OnFault}
-use Rattle.spa_read.specs.Refusing.{RefusesBody, RefusesPod, error_of}
+use Rattle.spa_leaf.specs.Reading.{MayLackMemory, OnFault}
+use Rattle.spa_leaf.specs.Refusing.{RefusesBody, RefusesPod, error_of}
 use Rattle.spa_read.specs.Nesting.{IsReadCounted, RefusesAt, so_far, with_child}
 use Rattle.spa_read.specs.declared.inside.Inside.{Inside}
 use Rattle.spa_read.specs.declared.inside.Inside.TheVariants as inside
-use Rattle.spa_read.proofs.Refusals.{body_refused, says_through, short_object_refused}
-use Rattle.spa_read.proofs.Steps.{pod_read}
+use Rattle.spa_leaf.proofs.Refusals.{body_refused, says_through, short_object_refused}
+use Rattle.spa_leaf.proofs.Steps.{pod_read}
 
 -- Pods in a value.
 

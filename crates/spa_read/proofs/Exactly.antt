@@ -16,7 +16,7 @@ use Rattle.spa_read.specs.Exactly.{AreUnread, IsUnread, ReadsFirst, ReadsStruct,
 use Rattle.spa_read.specs.ExactlyLaws.{asked_exactly, fault_to}
 use Rattle.spa_read.specs.Lookup.{ReadsObject}
 use Rattle.spa_read.specs.Members.{ObjectReader, OpensObject, OpensStruct, Reader}
-use Rattle.spa_read.specs.Reading.{IsShortAt, OnFault, OnMemory}
+use Rattle.spa_leaf.specs.Reading.{IsShortAt, OnFault, OnMemory}
 use Rattle.spa_read.proofs.Asking.{front_refused}
 
 -- where nothing is left, there is no member

@@ -16,7 +16,7 @@ use Rattle.spa_read.specs.ExactlyLaws.{fault_to}
 use Rattle.spa_read.specs.Exactly.{IsUnread, RefusesExactly}
 use Rattle.spa_read.specs.Lookup.{AreNoProperties, HasFirst, LacksProperty, NoneRead, RefusesFirst, cut, refused_first}
 use Rattle.spa_read.specs.Members.{FurtherIn, ObjectReader}
-use Rattle.spa_read.specs.Reading.{IsRead, OnFault, RefusesInput}
+use Rattle.spa_leaf.specs.Reading.{IsRead, OnFault, RefusesInput}
 
 -- these properties, behind some first ones that aren't under the key, are those
 abbrev pub IsBehind : ℕ → Properties → Properties → Type 0

@@ -7,13 +7,12 @@ use Rattle.spa_format.specs.Tree.{Tree, Trees, no_trees, member, join_members, P
 use Rattle.spa_format.specs.Pod.{AreMembers, AreProperties, IsPod}
 use Rattle.spa_format.specs.Front.{front_of}
 use Rattle.spa_format.proofs.Sequences.{members_joined, members_push, props_joined}
-use Rattle.spa_read.specs.Opening.{BeginsWith}
-use Rattle.spa_read.specs.Reading.{IsRead}
+use Rattle.spa_leaf.specs.Reading.{BeginsWith, IsRead}
 use Rattle.spa_read.specs.Members.{AllMembers, AllProperties, AtEnd, Further, FurtherIn, ObjectReader, Reader, TakesField, TakesProperty}
 use Rattle.spa_read.specs.declared.visitor.Visit.{Visit}
 use Rattle.spa_read.specs.Visiting.{IsVisited}
 use Rattle.spa_read.proofs.Bodies.{first_property, HasKey}
-use Rattle.spa_read.proofs.Steps.{parted}
+use Rattle.spa_leaf.proofs.Steps.{parted}
 
 -- what was read begins the input, and the rest follows
 begun_with : (input rest : List ℕ) (P : Tree → Type 0) → (r : IsRead input rest P) → BeginsWith input r.value rest

@@ -11,7 +11,7 @@ use Rattle.spa_fixed.specs.declared.fault.FaultKind.{FaultKind}
 use Rattle.spa_fixed.specs.declared.fault.FaultKind.TheVariants as fault_kind
 use Rattle.spa_fixed.specs.declared.fault.DeserializeError.{DeserializeError}
 use Rattle.spa_fixed.specs.declared.fault.DeserializeError.TheVariants as error
-use Rattle.spa_read.specs.Reading.{OnFault, OnMemory, IsShortAt}
+use Rattle.spa_leaf.specs.Reading.{OnFault, OnMemory, IsShortAt}
 
 -- the front isn't there, or is of another type: the input is short, or its type number isn't the one asked for
 abbrev pub LacksBytes : ℕ → List ℕ → FaultKind → Type 0

@@ -5,7 +5,7 @@ use Rattle.spa_format.specs.Tree.{Tree, Trees, member, struct}
 use Rattle.spa_format.specs.Pod.{AreMembers}
 use Rattle.spa_format.specs.Front.{HasFront, Begins}
 use Rattle.spa_fixed.specs.declared.fault.DeserializeError.{DeserializeError}
-use Rattle.spa_read.specs.Reading.{IsShortAt, OnFault, OnMemory}
+use Rattle.spa_leaf.specs.Reading.{IsShortAt, OnFault, OnMemory}
 
 -- the input begins with no value that is read as one of this type
 abbrev pub IsUnread : {X : Type 0} → (Tree → X → Type 0) → List ℕ → Type 0

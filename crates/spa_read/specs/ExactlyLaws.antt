@@ -13,7 +13,7 @@ use Rattle.spa_utils.specs.declared.choice.Choice.{Choice}
 use Rattle.spa_fixed.specs.Choices.{choice_enum_tree, choice_tree}
 use Rattle.spa_read.specs.Asking.{Asked, choice_of, IsAsked, RefusesAsked, asked_type}
 use Rattle.spa_read.specs.Exactly.{IsUnread, RefusesExactly}
-use Rattle.spa_read.specs.Reading.{MayLackMemory, OnFault, OnMemory, RefusesInput}
+use Rattle.spa_leaf.specs.Reading.{MayLackMemory, OnFault, OnMemory, RefusesInput}
 
 -- what a refusal says is weakened
 pub fault_to : {I : Type 0} (A B : Type 0) (e : DeserializeError I) → (A → B) → OnFault A e → OnFault B e

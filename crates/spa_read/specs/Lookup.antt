@@ -5,7 +5,7 @@ use Rattle.spa_format.specs.Tree.{Tree, Properties, no_properties, property, obj
 use Rattle.spa_format.specs.Pod.{AreProperties}
 use Rattle.spa_format.specs.Front.{Begins}
 use Rattle.spa_fixed.specs.declared.fault.DeserializeError.{DeserializeError}
-use Rattle.spa_read.specs.Reading.{IsShortAt}
+use Rattle.spa_leaf.specs.Reading.{IsShortAt}
 
 -- the fact holds of the value of the first property under this key
 abbrev pub HasFirst : ℕ → (Tree → Type 0) → Properties → Type 0

@@ -9,7 +9,7 @@ use Rattle.spa_bytes.specs.Opening.{Opens}
 use Rattle.std.specs.Borrow.{Bor}
 use Rattle.spa_fixed.specs.declared.fault.DeserializeError.{DeserializeError}
 use Rattle.spa_fixed.specs.declared.fault.DeserializeError.TheVariants as error
-use Rattle.spa_read.specs.Reading.{IsRead}
+use Rattle.spa_leaf.specs.Reading.{IsRead}
 
 -- what a reader has left of its body, what follows the pod, and whether the reader has failed
 pub record Reader : Type 0 where

@@ -6,7 +6,7 @@ ghost use Rattle.spa_format.specs.Tree.{Tree, Trees, no_trees};
 ghost use Rattle.spa_read.specs.Exactly.{AreUnread, ReadsFirst, ReadsStruct, RefusesExactly};
 ghost use Rattle.spa_read.specs.ExactlyLaws.{made_exactly};
 ghost use Rattle.spa_read.specs.Members.{AllMembers, AtEnd, Further};
-ghost use Rattle.spa_read.specs.Reading.{OnFault};
+ghost use Rattle.spa_leaf.specs.Reading.{OnFault};
 
 use crate::deserializer::{DeserializeSuccess, PodDeserialize, PodDeserializer};
 use crate::exact::ExactDeserialize;

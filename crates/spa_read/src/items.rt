@@ -6,7 +6,7 @@ ghost use Rattle.spa_format.specs.Tree.{array_type};
 ghost use Rattle.spa_format.specs.Words.{header_size, word_at};
 ghost use Rattle.spa_read.specs.Asking.{RefusesAsked, array_of};
 ghost use Rattle.spa_read.specs.Members.{HasElements, OpensArray, TakesElement};
-ghost use Rattle.spa_read.specs.Reading.{IsShortAt};
+ghost use Rattle.spa_leaf.specs.Reading.{IsShortAt};
 
 use crate::deserializer::{DeserializeSuccess, PodDeserializer};
 use crate::typed::open_as;

@@ -6,7 +6,7 @@ ghost use Rattle.spa_format.specs.Tree.{fixed};
 ghost use Rattle.spa_format.specs.Typed.{IsTyped};
 ghost use Rattle.spa_format.specs.Writable.{IsWritable};
 ghost use Rattle.spa_read.specs.Members.{ArrayReader, IsMadeOf, OpensArray, TakesElements, list_tree, single_tree};
-ghost use Rattle.spa_read.specs.Reading.{IsRead};
+ghost use Rattle.spa_leaf.specs.Reading.{IsRead};
 
 use spa_fixed::{CanonicalFixedSizedPod, FixedSizedPod};
 

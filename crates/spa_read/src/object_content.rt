@@ -7,7 +7,7 @@ ghost use Rattle.spa_format.specs.Tree.{Properties, Tree};
 ghost use Rattle.spa_read.specs.Exactly.{RefusesExactly};
 ghost use Rattle.spa_read.specs.ExactlyLaws.{made_exactly};
 ghost use Rattle.spa_read.specs.Lookup.{HasFirst, LacksProperty, NoneRead, ReadsObject};
-ghost use Rattle.spa_read.specs.Reading.{OnFault};
+ghost use Rattle.spa_leaf.specs.Reading.{OnFault};
 
 use crate::deserializer::{DeserializeSuccess, PodDeserialize, PodDeserializer};
 use crate::exact::ExactDeserialize;

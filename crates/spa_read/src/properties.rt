@@ -5,7 +5,7 @@ ghost use Rattle.spa_format.specs.Words.{header_size};
 ghost use Rattle.spa_read.specs.Asking.{LacksObject};
 ghost use Rattle.spa_read.specs.Lookup.{AreNoProperties, FindsFirst, RefusesFirst};
 ghost use Rattle.spa_read.specs.Members.{AtEnd, FurtherIn, OpensObject, RefusesEnd, RefusesKey, TakesProperty};
-ghost use Rattle.spa_read.specs.Reading.{IsShortAt, OnFault};
+ghost use Rattle.spa_leaf.specs.Reading.{IsShortAt, OnFault};
 
 use crate::deserializer::{DeserializeSuccess, PodDeserialize, PodDeserializer};
 use crate::typed::open_as;

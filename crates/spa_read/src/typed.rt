@@ -7,23 +7,21 @@ ghost use Rattle.spa_format.specs.Kind.{type_number};
 ghost use Rattle.spa_format.specs.Tree.{Properties, Trees, array, array_type, bitmap_type, bytes_type, choice_type, object, object_type, pointer_type, string_type, struct, struct_type};
 ghost use Rattle.spa_read.specs.Asking.{LacksFront, RefusesAsked, array_of};
 ghost use Rattle.spa_read.specs.Members.{OpensArray};
-ghost use Rattle.spa_read.specs.Reading.{IsRead};
-ghost use Rattle.spa_read.specs.Refusing.{RefusesBody};
+ghost use Rattle.spa_leaf.specs.Reading.{IsRead};
+ghost use Rattle.spa_leaf.specs.Refusing.{RefusesBody};
 ghost use Rattle.spa_read.specs.Visiting.{IsVisited, RefusesArrayVisit, RefusesObject, RefusesStruct, RefusesVisit, SaysBody};
 ghost use Rattle.spa_read.specs.declared.visitor.Visit.TheVariants as visit;
 
-use crate::choice::read_any_choice;
 use crate::deserializer::{DeserializeSuccess, PodDeserializer};
 use crate::items::ArrayPodDeserializer;
 use crate::members::StructPodDeserializer;
-use crate::plain::{read_fixed, read_pointer, text_of};
 use crate::properties::ObjectPodDeserializer;
-use crate::refused::error_at;
 use crate::visitor::{Visit, Visitor};
 use spa_bytes::{Front, open};
 use spa_fixed::{
     CanonicalFixedSizedPod, DeserializeError, Fault, FaultKind, FixedSizedPod, Refusal,
 };
+use spa_leaf::{error_at, read_any_choice, read_fixed, read_pointer, text_of};
 use spa_utils::{Fd, Float32, Float64, Fraction, Id, Rectangle, SpaTypes};
 use std::alloc::Global;
 

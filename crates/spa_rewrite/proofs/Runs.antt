@@ -9,8 +9,8 @@ use Rattle.spa_format.specs.Faults.{Fault}
 use Rattle.spa_format.proofs.Sequences.{members_joined, props_joined}
 use Rattle.spa_fixed.specs.declared.fault.Refusal.{Refusal}
 use Rattle.spa_fixed.specs.declared.fault.Refusal.TheVariants as refusal
-use Rattle.spa_read.specs.Refusing.{StandsInMembers, StandsInProperties}
-use Rattle.spa_read.proofs.Refusals.{says_through}
+use Rattle.spa_leaf.specs.Refusing.{StandsInMembers, StandsInProperties}
+use Rattle.spa_leaf.proofs.Refusals.{says_through}
 use Rattle.spa_scan.specs.Canonical.{AreCanonical, AreCanonicalProperties}
 use Rattle.spa_rewrite.specs.Nesting.{AreCanonicalInside, AwaitsAllClosing, LeavesInside, PassesOver}
 use Rattle.spa_rewrite.specs.Rewriting.{LeavesMembers, LeavesProperties, TakesProperties}

@@ -4,14 +4,14 @@ ghost use Rattle.spa_format.specs.Faults.{Stands};
 ghost use Rattle.spa_format.specs.Front.{HasFront, IsRefused, rest_of};
 ghost use Rattle.spa_format.specs.Pod.{AreMembers};
 ghost use Rattle.spa_format.specs.Tree.{Trees};
-ghost use Rattle.spa_read.specs.Reading.{IsShortAt, Names, OnFault, OnMemory};
+ghost use Rattle.spa_leaf.specs.Reading.{IsShortAt, Names, OnFault, OnMemory};
 ghost use Rattle.spa_rewrite.specs.Rewriting.{AreRewritten, AreRewrittenInParts, IsLeft, IsRewriting, RefusesFront, RefusesList, TakesMembers, TakesStretch};
 ghost use Rattle.spa_rewrite.specs.Tails.{KeepsStart};
 
 use crate::pod::rewrite_pod;
 use crate::tail::Tail;
 use spa_fixed::{DeserializeError, Refusal};
-use spa_read::error_at;
+use spa_leaf::error_at;
 use spa_scan::canonical_stretch;
 use spa_sink::PodSink;
 use std::alloc::Global;

@@ -1,27 +1,21 @@
 -- The front with zeros as its padding is a framed encoding.
-use Rattle.std.proofs.Common.{◌≡◌, ℕ, ◌+◌, ◌<◌, ◌≤◌, ◌-◌, List, [], ◌++◌, length, take, drop, refl, sym, ap, ◌∙◌, subst, arith, length-append, length-drop, append_assoc}
+use Rattle.std.proofs.Common.{List, [], ap, append_assoc, arith, drop, inr, length, length-append, length-drop, refl, subst, sym, take, ℕ, ◌++◌, ◌+◌, ◌-◌, ◌<◌, ◌∙◌, ◌≡◌, ◌≤◌}
 use Rattle.std.proofs.Math.Seq.{take-add}
 use Rattle.std.proofs.lemmas.List.{length-take-le, take_at, nil_from_length, take-append-drop}
-use Rattle.spa_format.specs.Words.{word_at, word_bytes, padded_size, extent, padding, body_of, header_size}
-use Rattle.spa_format.specs.Tree.{struct_type, Tree, type_of, struct, no_trees, member, Trees, property, no_properties}
-use Rattle.spa_format.specs.Pod.{IsBody}
+use Rattle.spa_format.specs.Words.{body_of, extent, header_size, padded_size, padding, wide_at, wide_bytes, word_at, word_bytes}
+use Rattle.spa_format.specs.Tree.{Tree, Trees, fixed, member, no_properties, no_trees, object, object_type, pointer, pointer_type, property, struct, struct_type, type_of}
+use Rattle.spa_format.specs.Pod.{AreMembers, AreProperties, IsBody}
 use Rattle.spa_format.specs.Encoding.{framed, encoded_body, property_encodings}
 use Rattle.spa_format.specs.Typed.{IsBytes}
 use Rattle.spa_format.specs.Front.{HasFront, front_of}
 use Rattle.spa_format.proofs.Fronts.{front_of_whole, length-body_of, front_and_rest}
 use Rattle.spa_format.proofs.Short.{padded_above}
 use Rattle.spa_bytes.specs.Opening.{Opens}
-use Rattle.spa_read.specs.Opening.{BeginsWith}
-use Rattle.spa_read.proofs.Steps.{pod_read}
+use Rattle.spa_leaf.specs.Reading.{BeginsWith}
+use Rattle.spa_leaf.proofs.Steps.{pod_read}
 use Rattle.spa_scan.specs.Canonical.{AreCanonical, AreCanonicalProperties, BeginsCanonical, HasZeros, IsCanonicalBody, IsStretch, OpensPadded}
-use Rattle.std.proofs.Common.{inr}
-use Rattle.spa_format.specs.Words.{wide_at, wide_bytes}
-use Rattle.spa_format.specs.Tree.{object, object_type, pointer, pointer_type}
-use Rattle.spa_format.specs.Pod.{AreMembers, AreProperties}
-use Rattle.spa_format.proofs.WordLemmas.{wide_at-drop}
+use Rattle.spa_format.proofs.WordLemmas.{IsBytes-drop, IsBytes-take, wide_at-drop, word_at-drop, word_at-take}
 use Rattle.spa_format.specs.Kind.{none, Kind, bool_kind, IsFixedBody, type_number, body_size, content}
-use Rattle.spa_format.specs.Tree.{fixed}
-use Rattle.spa_format.proofs.WordLemmas.{IsBytes-drop, IsBytes-take, word_at-drop, word_at-take}
 use Rattle.spa_format.proofs.FixedKinds.{kind_of_content}
 use Rattle.spa_scan.proofs.Words.{content_kept, two_words_back, wide_back, word_there}
 

@@ -1,9 +1,6 @@
-pub mod Refusals
-pub mod Frames
 pub mod LoneStructs
 pub mod MemberLists
 pub mod PropertyLists
-pub mod Pieces
 pub mod Measuring
 pub mod Shorts
 pub mod Stopping

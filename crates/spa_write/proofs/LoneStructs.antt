@@ -9,7 +9,7 @@ use Rattle.spa_format.specs.Tree.{struct, struct_type, Trees, no_trees, member}
 use Rattle.spa_format.specs.Encoding.{encoding_of, member_encodings}
 use Rattle.spa_format.specs.Writable.{HasNul, IsTooLarge, SomeHasNul}
 use Rattle.spa_format.proofs.Encodings.{length-framed, whole_members}
-use Rattle.spa_write.proofs.Frames.{size_refused}
+use Rattle.spa_leaf.proofs.Frames.{size_refused}
 
 -- so many bytes of headers stand before the second members in the encodings of the first
 pub record AreWithin (vs : Trees) (outer : ℕ) (ws : Trees) : Type 0 where

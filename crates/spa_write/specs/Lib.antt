@@ -1,4 +1,3 @@
-pub mod Written
 pub mod Success
 pub mod Measured
 pub mod Unfinished

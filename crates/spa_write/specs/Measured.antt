@@ -9,7 +9,7 @@ use Rattle.spa_format.specs.Typed.{AllTyped, AllPropertiesTyped}
 use Rattle.spa_format.specs.Writable.{IsWritable, SomeValueHasNul, SomeValueTooLarge}
 use Rattle.spa_value.specs.declared.value.Value.{Value}
 use Rattle.spa_value.specs.View.{view}
-use Rattle.spa_write.specs.Written.{Appending, Refusing}
+use Rattle.spa_leaf.specs.Written.{Appending, Refusing}
 
 -- the value can be written, and its encoding has so many bytes
 pub record IsMeasured (v : Tree) (n : ℕ) : Type 0 where
@@ -46,9 +46,3 @@ pub record ArePut {S : Type 0} (appends : Appending S) (old : S) (vs : Trees) (n
 pub record ArePropertiesPut {S : Type 0} (appends : Appending S) (old : S) (ps : Properties) (new : S) : Type 0 where
   pub encodings : Sent appends old (property_encodings ps) new
   pub typed : AllPropertiesTyped ps
-
--- a sink refused these bytes, of which it took a beginning
-pub record Stops {S : Type 0} (appends : Appending S) (refuses : Refusing S)
-    (old : S) (bytes : List ℕ) (new : S) (e : GenError) : Type 0 where
-  pub begun : Begun appends old bytes new
-  pub cause : refuses old (length bytes) new e

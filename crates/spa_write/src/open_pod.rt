@@ -8,8 +8,8 @@ ghost use Rattle.spa_format.specs.Words.{header_size, size_limit, word_bytes};
 ghost use Rattle.spa_format.specs.Writable.{IsWritable};
 ghost use Rattle.spa_write.specs.Unfinished.{Grows, MayRefuseBehind, held};
 
-use crate::frame::{begin, close};
 use crate::serializer::{PodSerialize, PodSerializer, SerializeSuccess};
+use spa_leaf::{begin, close};
 use spa_sink::{GenError, PodOutput, put_two};
 use std::marker::Model;
 

@@ -10,7 +10,7 @@ ghost use Rattle.spa_format.specs.Writable.{HasNul, IsTooLarge, SomeValueHasNul,
 ghost use Rattle.spa_value.specs.View.{array_view, choice_view, view};
 ghost use Rattle.spa_value.specs.Views.{property_views, views};
 ghost use Rattle.spa_write.specs.Measured.{AreMeasured, IsMeasured, PropertiesAreMeasured};
-ghost use Rattle.spa_write.specs.Written.{IsLeaf};
+ghost use Rattle.spa_leaf.specs.Written.{IsLeaf};
 
 use crate::short::are_short;
 use spa_bytes::{HEADER_LEN, POINTER_LEN, extent_of};

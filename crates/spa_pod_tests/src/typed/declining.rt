@@ -1,6 +1,6 @@
 //! What the library's visitors answer to a struct and to an object.
 ghost use Rattle.std.specs.Prelude.{⊤, IfOk, IsOk, OnOk, ◌≡◌};
-ghost use Rattle.spa_read.specs.Reading.{IsRead};
+ghost use Rattle.spa_leaf.specs.Reading.{IsRead};
 
 use spa_fixed::DeserializeError;
 use spa_read::{DeserializeSuccess, PodDeserialize, PodDeserializer};

@@ -1,6 +1,6 @@
 //! Each typed read, with the visitor of what it hands over.
 ghost use Rattle.std.specs.Prelude.{⊤, ◌≡◌, IfOk, IsOk, OnOk};
-ghost use Rattle.spa_read.specs.Reading.{IsRead};
+ghost use Rattle.spa_leaf.specs.Reading.{IsRead};
 
 use crate::compare::assert_said;
 use crate::typed::answers::refused;

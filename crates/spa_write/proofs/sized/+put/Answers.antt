@@ -12,7 +12,8 @@ use Rattle.spa_value.proofs.ViewLaws.{view-struct, view-fields}
 use Rattle.spa_write.specs.Measured.{PropertiesAreWritable}
 use Rattle.spa_write.proofs.MemberLists.{members_length, only_encoding, writable_there}
 use Rattle.spa_write.proofs.PropertyLists.{properties_length, properties_of_writable, property_writable_there}
-use Rattle.spa_write.proofs.Stopping.{TakesParts, body_stops, four_stop, head_stops, keyed_at, member_known, next_key_stops, next_property_put, next_put, next_stops, next_value_stops, no_property_put, none_put, object_fits, object_head, object_put, size_of_object, size_of_struct, struct_fits, struct_head, struct_put, property_known, two_stop, two_stop_at}
+use Rattle.spa_write.proofs.Stopping.{body_stops, four_stop, head_stops, keyed_at, member_known, next_key_stops, next_property_put, next_put, next_stops, next_value_stops, no_property_put, none_put, object_fits, object_head, object_put, size_of_object, size_of_struct, struct_fits, struct_head, struct_put, property_known, two_stop_at}
+use Rattle.spa_leaf.proofs.Parts.{TakesParts, two_stop}
 use Rattle.spa_write.proofs.sized.+put.Given.{Over}
 use Rattle.spa_write.proofs.sized.+put.Goals as goal
 

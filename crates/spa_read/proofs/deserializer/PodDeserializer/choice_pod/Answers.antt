@@ -5,8 +5,8 @@ use Rattle.spa_fixed.specs.Choices.{choice_tree}
 use Rattle.spa_read.specs.Asking.{choice_of}
 use Rattle.spa_read.proofs.Asking.{body_refused_as, front_refused}
 use Rattle.spa_read.proofs.Fronts.{other_choice_refused, read_as, short_choice_refused}
-use Rattle.spa_read.proofs.Refusals.{choice_refused}
-use Rattle.spa_read.proofs.Steps.{type_of_choice}
+use Rattle.spa_leaf.proofs.Refusals.{choice_refused}
+use Rattle.spa_leaf.proofs.Steps.{type_of_choice}
 use Rattle.spa_read.proofs.deserializer.PodDeserializer.choice_pod.Goals as goal
 
 pub returns-in_err-front-clause-refused : goal.returns-in_err-front-clause-refused

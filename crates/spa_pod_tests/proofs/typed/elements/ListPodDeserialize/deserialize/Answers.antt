@@ -1,6 +1,6 @@
 use Rattle.std.proofs.Common.{subst, sym}
 use Rattle.spa_read.specs.Members.{IsMadeOf}
-use Rattle.spa_read.specs.Reading.{IsRead}
+use Rattle.spa_leaf.specs.Reading.{IsRead}
 use Rattle.spa_read.proofs.Elements.{all_elements}
 use Rattle.spa_pod_tests.proofs.typed.elements.ListPodDeserialize.deserialize.Goals as goal
 

@@ -1,0 +1,57 @@
+//! Bodies of one piece: those of fixed size, texts and pointers.
+ghost use Rattle.std.specs.Prelude.{◌≡◌, ◌≢◌, ◌++◌, ◌∷◌, [], List, ℕ, IfErr, IfNone, IfOk, IfSome};
+ghost use Rattle.spa_fixed.specs.declared.fault.Refusal.TheVariants as refusal;
+ghost use Rattle.spa_format.specs.Kind.{IsFixedBody, type_number};
+ghost use Rattle.spa_format.specs.Pod.{IsPointer, IsText};
+ghost use Rattle.spa_format.specs.Tree.{pointer_type};
+ghost use Rattle.spa_leaf.specs.Refusing.{RefusesBody};
+
+use spa_bytes::{POINTER_LEN, SHORT_POINTER_LEN, u32_at, u64_at};
+use spa_fixed::{CanonicalFixedSizedPod, Refusal};
+use std::str;
+
+/// The value of a body that is one of this type's, and nothing else. A body of another length is refused as `WrongSize`.
+pub fn read_fixed<T: CanonicalFixedSizedPod>(body: &[u8]) -> Result<T, Refusal>
+    ensures read { IfOk result (λ x. IsFixedBody T.kind body.now (T.fixed x)) }
+    ensures refused { IfErr result (RefusesBody (type_number T.kind) body.now) }
+    ensures cause { IfErr result (λ why. why ≡ refusal.WrongSize) }
+{
+    if body.len() != T::SIZE {
+        return Err(Refusal::WrongSize);
+    }
+    Ok(T::of_body(body))
+}
+
+/// The text that a body holds before its one NUL, which is its last byte. There is none where the body is empty, where its
+/// last byte isn't NUL or another one is, and where the bytes before it aren't UTF-8.
+pub fn text_of(body: &[u8]) -> Option<&str>
+    ensures some { IfSome result (λ s. IsText s.now × (body.now ≡ s.now ++ 0 ∷ [])) }
+    ensures none { IfNone result ((s : List ℕ) → IsText s → body.now ≢ s ++ 0 ∷ []) }
+{
+    let Some((last, text)) = body.split_last() else {
+        return None;
+    };
+    if *last != 0 || text.contains(&0) {
+        return None;
+    }
+    match str::from_utf8(text) {
+        Ok(s) => Some(s),
+        Err(_) => None,
+    }
+}
+
+/// Where a pointer's address stands in its body, behind the type and a free word.
+const ADDRESS_AT: usize = 8;
+
+/// A pointer's type and address.
+pub fn read_pointer(body: &[u8]) -> Result<(u32, u64), Refusal>
+    ensures read { IfOk result (λ p. IsPointer p.0 p.1 body.now) }
+    ensures refused { IfErr result (RefusesBody pointer_type body.now) }
+    ensures cause { IfErr result (λ why. why ≡ refusal.WrongSize) }
+{
+    match body.len() {
+        SHORT_POINTER_LEN => Ok((u32_at(body, 0), u64::from(u32_at(body, ADDRESS_AT)))),
+        POINTER_LEN => Ok((u32_at(body, 0), u64_at(body, ADDRESS_AT))),
+        _ => Err(Refusal::WrongSize),
+    }
+}

@@ -1,0 +1,113 @@
+//! What negotiation answers, as plain as the tests compare it: a test needs no clause of the library's.
+use crate::negotiation::objects::{Given, object};
+use spa_negotiate::{NegotiateError, negotiate};
+use libspa::pod::Object;
+use std::alloc::{AllocError, Global};
+use std::process::Abort;
+use std::test::Fail;
+
+/// What is to be answered: the properties of the object, or a refusal.
+#[derive(Clone, Copy)]
+pub enum Answer {
+    Met(&'static [Given]),
+    Refused(NegotiateError),
+}
+
+/// What two objects have under their keys, and what is to be answered.
+#[derive(Clone, Copy)]
+pub struct Row {
+    pub case: &'static str,
+    pub ours: &'static [Given],
+    pub theirs: &'static [Given],
+    pub answer: Answer,
+    /// The same with the two objects in the other order.
+    pub swapped: Answer,
+}
+
+/// The type of both objects.
+const TYPE: u32 = 5;
+
+/// The id of an object, and the flags of its properties. An answer has none.
+type Side = (u32, u32);
+
+/// Flags MANDATORY and DONT_FIXATE.
+const OURS: Side = (3, 24);
+
+/// Flags READONLY, and one without a name.
+const THEIRS: Side = (7, 0x8000_0001);
+
+/// An object of a side.
+fn side(alloc: Global, side: Side, given: &[Given]) -> Result<Object, AllocError> {
+    object(alloc, TYPE, side.0, side.1, given)
+}
+
+/// Whether the answer has the type, this id, and these properties with empty flags.
+fn has_met(alloc: Global, met: &Object, id: u32, wanted: &[Given]) -> Result<bool, AllocError> {
+    Ok(*met == object(alloc, TYPE, id, 0, wanted)?)
+}
+
+/// The answer for two objects, or that memory ran out.
+fn first_answer(
+    alloc: Global,
+    a: &Object,
+    b: &Object,
+) -> Result<Result<Object, NegotiateError>, AllocError> {
+    match negotiate(alloc, a, b) {
+        Err(NegotiateError::OutOfMemory) => Err(AllocError),
+        answer => Ok(answer),
+    }
+}
+
+/// The answer for two objects. Where memory ran out, they are asked once more: a run of the tests may refuse one request.
+pub(crate) fn answer_of(
+    alloc: Global,
+    a: &Object,
+    b: &Object,
+) -> Result<Result<Object, NegotiateError>, AllocError> {
+    match first_answer(alloc, a, b) {
+        Err(_) => first_answer(alloc, a, b),
+        answer => answer,
+    }
+}
+
+/// Whether this is the answer where an object of the first side, with this id, and one of the second meet.
+fn is_answer(
+    alloc: Global,
+    a: &Object,
+    b: &Object,
+    id: u32,
+    wanted: Answer,
+) -> Result<bool, AllocError> {
+    match (answer_of(alloc, a, b)?, wanted) {
+        (Ok(met), Answer::Met(properties)) => has_met(alloc, &met, id, properties),
+        (Err(found), Answer::Refused(refusal)) => Ok(found == refusal),
+        _ => Ok(false),
+    }
+}
+
+/// Whether the row's answer comes, and whether it does in the other order.
+fn found(alloc: Global, row: Row) -> Result<(bool, bool), AllocError> {
+    let ours = side(alloc, OURS, row.ours)?;
+    let theirs = side(alloc, THEIRS, row.theirs)?;
+    let answered = is_answer(alloc, &ours, &theirs, OURS.0, row.answer)?;
+    let swapped = is_answer(alloc, &theirs, &ours, THEIRS.0, row.swapped)?;
+    Ok((answered, swapped))
+}
+
+/// The same, once more where memory ran out for the objects themselves.
+fn found_again(alloc: Global, row: Row) -> Result<(bool, bool), AllocError> {
+    match found(alloc, row) {
+        Err(_) => found(alloc, row),
+        answers => answers,
+    }
+}
+
+/// Each row's answers come.
+pub(crate) fn assert_rows(rt: &impl Abort, alloc: Global, rows: &[Row]) -> Result<(), Fail> {
+    for row in rows {
+        let (answered, swapped) = found_again(alloc, *row)?;
+        assert!(rt; answered, "{}", row.case);
+        assert!(rt; swapped, "{}, in the other order", row.case);
+    }
+    Ok(())
+}

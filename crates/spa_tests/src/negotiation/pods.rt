@@ -1,0 +1,210 @@
+//! Pods that meet: worked rows, as the bytes of their words.
+use spa_negotiate::NegotiateError::{Disjoint, NotObject, TypeMismatch, Unread, Unsupported};
+use spa_negotiate::{NegotiateError, Side, negotiate_pods};
+use libspa::pod::Pod;
+use std::alloc::{AllocError, Global};
+use std::test::Fail;
+
+/// What is to be answered: the words of a pod, or a refusal.
+#[derive(Clone, Copy)]
+enum Answer {
+    Words(&'static [u32]),
+    Refused(NegotiateError),
+}
+
+use Answer::{Refused, Words};
+
+/// The words of two inputs, and what is to be answered.
+#[derive(Clone, Copy)]
+struct Row {
+    case: &'static str,
+    a: &'static [u32],
+    b: &'static [u32],
+    answer: Answer,
+    /// The same with the two inputs in the other order.
+    swapped: Answer,
+}
+
+/// An object of type 5 whose key 1 is a Range of Ints from 2 to 10 with the default 5.
+const RANGE: &[u32] = &[56, 15, 5, 3, 1, 0, 28, 19, 1, 0, 4, 4, 5, 2, 10, 0];
+
+/// An object of type 5 without properties.
+const EMPTY: &[u32] = &[8, 15, 5, 3];
+
+/// A struct without members.
+const STRUCT: &[u32] = &[0, 14];
+
+const ROWS: &[Row] = &[
+    Row {
+        case: "an Enum of 12 and 4",
+        a: RANGE,
+        b: &[56, 15, 5, 7, 1, 0, 28, 19, 3, 0, 4, 4, 12, 12, 4, 0],
+        answer: Words(&[32, 15, 5, 3, 1, 0, 4, 4, 4, 0]),
+        swapped: Words(&[32, 15, 5, 7, 1, 0, 4, 4, 4, 0]),
+    },
+    Row {
+        case: "an Enum of 12 alone",
+        a: RANGE,
+        b: &[48, 15, 5, 7, 1, 0, 20, 19, 3, 0, 4, 4, 12, 0],
+        answer: Refused(Disjoint(1)),
+        swapped: Refused(Disjoint(1)),
+    },
+    Row {
+        case: "a Long",
+        a: RANGE,
+        b: &[32, 15, 5, 7, 1, 0, 8, 5, 5, 0],
+        answer: Refused(Disjoint(1)),
+        swapped: Refused(Disjoint(1)),
+    },
+    Row {
+        case: "a Step",
+        a: RANGE,
+        b: &[56, 15, 5, 7, 1, 0, 32, 19, 2, 0, 4, 4, 5, 2, 10, 1],
+        answer: Refused(Unsupported(1)),
+        swapped: Refused(Unsupported(1)),
+    },
+    Row {
+        case: "another Range",
+        a: RANGE,
+        b: &[56, 15, 5, 7, 1, 0, 28, 19, 1, 0, 4, 4, 20, 8, 20, 0],
+        answer: Words(&[32, 15, 5, 3, 1, 0, 4, 4, 8, 0]),
+        swapped: Words(&[32, 15, 5, 7, 1, 0, 4, 4, 8, 0]),
+    },
+    Row {
+        case: "another type",
+        a: RANGE,
+        b: &[8, 15, 6, 7],
+        answer: Refused(TypeMismatch),
+        swapped: Refused(TypeMismatch),
+    },
+    Row {
+        case: "another key",
+        a: &[32, 15, 5, 3, 1, 0, 4, 4, 3, 0],
+        b: &[48, 15, 5, 7, 2, 0, 24, 19, 3, 0, 4, 2, 1, 0],
+        answer: Words(&[56, 15, 5, 3, 1, 0, 4, 4, 3, 0, 2, 0, 4, 2, 1, 0]),
+        swapped: Words(&[56, 15, 5, 7, 2, 0, 4, 2, 1, 0, 1, 0, 4, 4, 3, 0]),
+    },
+    Row {
+        case: "no object",
+        a: RANGE,
+        b: STRUCT,
+        answer: Refused(NotObject(Side::Second)),
+        swapped: Refused(NotObject(Side::First)),
+    },
+    Row {
+        case: "no bytes",
+        a: RANGE,
+        b: &[],
+        answer: Refused(Unread(Side::Second)),
+        swapped: Refused(Unread(Side::First)),
+    },
+    Row {
+        case: "the first side before the second",
+        a: STRUCT,
+        b: &[],
+        answer: Refused(NotObject(Side::First)),
+        swapped: Refused(Unread(Side::First)),
+    },
+    Row {
+        case: "both sides before the types",
+        a: &[8, 15, 6, 7],
+        b: &[16, 15, 5, 7, 1, 0],
+        answer: Refused(Unread(Side::Second)),
+        swapped: Refused(Unread(Side::First)),
+    },
+    Row {
+        case: "what follows the objects doesn't count",
+        a: &[8, 15, 5, 3, 1, 2],
+        b: &[8, 15, 5, 7, 3],
+        answer: Words(EMPTY),
+        swapped: Words(&[8, 15, 5, 7]),
+    },
+];
+
+/// The bytes of these words, least byte first.
+fn bytes_of(alloc: Global, words: &[u32]) -> Result<Vec<u8>, AllocError> {
+    let mut bytes = Vec::new(alloc);
+    for word in words {
+        bytes.extend_from_slice(&word.to_le_bytes())?;
+    }
+    Ok(bytes)
+}
+
+/// Whether these are the bytes of a pod of an object that needs no fixation.
+fn is_fixated(bytes: &[u8]) -> bool {
+    match Pod::from_bytes(bytes) {
+        Some(pod) => match pod.as_object() {
+            Ok(object) => object.is_fixated(),
+            Err(_) => false,
+        },
+        None => false,
+    }
+}
+
+/// Whether these are the bytes of the words, and of an object that needs no fixation.
+fn is_met(alloc: Global, found: &[u8], words: &[u32]) -> Result<bool, AllocError> {
+    let wanted = bytes_of(alloc, words)?;
+    Ok(found == wanted.as_slice() && is_fixated(found))
+}
+
+/// The answer for two inputs, or that memory ran out.
+fn first_answer(
+    alloc: Global,
+    a: &[u8],
+    b: &[u8],
+) -> Result<Result<Vec<u8>, NegotiateError>, AllocError> {
+    match negotiate_pods(alloc, a, b) {
+        Err(NegotiateError::OutOfMemory) => Err(AllocError),
+        answer => Ok(answer),
+    }
+}
+
+/// The same. Where memory ran out, they are asked once more: a run of the tests may refuse one request.
+fn answer_of(
+    alloc: Global,
+    a: &[u8],
+    b: &[u8],
+) -> Result<Result<Vec<u8>, NegotiateError>, AllocError> {
+    match first_answer(alloc, a, b) {
+        Err(_) => first_answer(alloc, a, b),
+        answer => answer,
+    }
+}
+
+/// Whether this is answered.
+fn is_answer(alloc: Global, a: &[u32], b: &[u32], answer: Answer) -> Result<bool, AllocError> {
+    let first = bytes_of(alloc, a)?;
+    let second = bytes_of(alloc, b)?;
+    match (
+        answer_of(alloc, first.as_slice(), second.as_slice())?,
+        answer,
+    ) {
+        (Ok(found), Words(words)) => is_met(alloc, found.as_slice(), words),
+        (Err(found), Refused(refusal)) => Ok(found == refusal),
+        _ => Ok(false),
+    }
+}
+
+/// The same, once more where memory ran out for the inputs themselves.
+fn is_answer_again(
+    alloc: Global,
+    a: &[u32],
+    b: &[u32],
+    answer: Answer,
+) -> Result<bool, AllocError> {
+    match is_answer(alloc, a, b, answer) {
+        Err(_) => is_answer(alloc, a, b, answer),
+        found => found,
+    }
+}
+
+#[test]
+fn pods_meet(rt: HostRuntime) -> Result<(), Fail> {
+    for row in ROWS {
+        let answered = is_answer_again(rt.alloc(), row.a, row.b, row.answer)?;
+        let swapped = is_answer_again(rt.alloc(), row.b, row.a, row.swapped)?;
+        assert!(rt; answered, "{}", row.case);
+        assert!(rt; swapped, "{}, in the other order", row.case);
+    }
+    Ok(())
+}

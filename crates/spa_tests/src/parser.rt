@@ -1,0 +1,6 @@
+//! The parser: each call, each form of its macro, what docs/CALLING.md shows, and want of memory.
+mod bytes;
+mod calling;
+mod calls;
+mod forms;
+mod refused;

@@ -1,5 +1,5 @@
 -- What a sink takes of bytes that come in parts, and where it stops.
-use Rattle.std.proofs.Common.{◌≡◌, ℕ, ◌+◌, List, ◌++◌, length, take, Result, Ok, Err, IfErr, OnErr, sym, subst, arith, length-append}
+use Rattle.std.proofs.Common.{◌≡◌, ℕ, List, ◌++◌, length, take, Result, Ok, Err, IfErr, OnErr, sym, subst, arith, length-append}
 use Rattle.spa_sink.specs.declared.gen_error.GenError.{GenError}
 use Rattle.spa_sink.specs.Writing.{Sent}
 use Rattle.spa_sink.proofs.Sending.{AppendsMore, RefusesAfter, RefusesLonger, begun_behind, begun_by, begun_first, refused_behind}

@@ -13,7 +13,9 @@ use spa_bytes::u32_at;
 use spa_fixed::{
     CanonicalFixedSizedPod, ChoiceElement, DeserializeError, Refusal, read_array, read_choice,
 };
-use spa_leaf::{CHOICE_HEADER_LEN, VALUE_TYPE_AT, check_choice, error_at, read_fixed, read_pointer, text_of};
+use spa_leaf::{
+    CHOICE_HEADER_LEN, VALUE_TYPE_AT, check_choice, error_at, read_fixed, read_pointer, text_of,
+};
 use spa_utils::{Choice, SpaTypes};
 
 impl<'de> PodDeserializer<'de> {

@@ -4,7 +4,6 @@ ghost use Rattle.spa_scan.specs.Canonical.{IsCanonicalText, IsPlainByte, IsPlain
 
 use spa_leaf::text_of;
 
-
 /// Whether the body of a string is a text without NUL, and one NUL behind it.
 #[inline(always)]
 pub(crate) fn is_text(body: &[u8]) -> bool

@@ -1,11 +1,11 @@
 -- What a sink takes of bytes that come in parts, and where it stops.
-use Rattle.std.proofs.Common.{◌≡◌, ℕ, ◌+◌, ◌-◌, ◌<◌, ◌^◌, inl, List, ◌++◌, length, take, drop, get_or, Option, Some, None, IfSome, Result, Ok, Err, IfErr, OnErr, refl, sym, ap, ◌∙◌, subst, arith, append_assoc, length-append}
+use Rattle.std.proofs.Common.{◌≡◌, ℕ, ◌+◌, ◌-◌, ◌<◌, ◌^◌, inl, List, ◌++◌, length, take, drop, get_or, Option, Some, None, IfSome, refl, sym, ap, ◌∙◌, subst, arith, append_assoc, length-append}
 use Rattle.std.specs.Prelude.{replicate}
 use Rattle.std.proofs.lemmas.List.{append-nil}
 use Rattle.spa_sink.specs.declared.gen_error.GenError.{GenError}
 use Rattle.spa_sink.specs.declared.gen_error.GenError.TheVariants.{Full, TooLarge, NulInText, WrongCount, Failed, Io, OutOfMemory}
 use Rattle.spa_sink.specs.Writing.{RefusesWrite, Sent, none_sent, some_sent}
-use Rattle.spa_sink.proofs.Sending.{AppendsMore, RefusesAfter, RefusesLonger, begun_behind, begun_by, begun_first, refused_behind, sent_before, sent_behind}
+use Rattle.spa_sink.proofs.Sending.{AppendsMore, sent_before, sent_behind}
 use Rattle.spa_format.specs.Words.{header_size, padded_size, padding, size_limit, word_bytes}
 use Rattle.spa_format.specs.Tree.{Tree, struct, struct_type, object, object_type, Trees, no_trees, Properties, no_properties}
 use Rattle.spa_format.specs.Encoding.{encoded_body, encoding_of, member_encodings, property_encodings}

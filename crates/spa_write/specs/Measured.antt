@@ -1,7 +1,6 @@
 -- Values that are measured before they are written, and what a sink takes of them: docs/FORMAT.md, "The encoding of a value".
 use Rattle.std.specs.Prelude.{◌≡◌, ℕ, ◌<◌, List, get_or, length}
-use Rattle.spa_sink.specs.declared.gen_error.GenError.{GenError}
-use Rattle.spa_sink.specs.Writing.{Begun, Sent}
+use Rattle.spa_sink.specs.Writing.{Sent}
 use Rattle.spa_format.specs.Words.{size_limit}
 use Rattle.spa_format.specs.Tree.{Tree, struct, Trees, Properties}
 use Rattle.spa_format.specs.Encoding.{encoding_of, member_encodings, property_encodings}
@@ -9,7 +8,7 @@ use Rattle.spa_format.specs.Typed.{AllTyped, AllPropertiesTyped}
 use Rattle.spa_format.specs.Writable.{IsWritable, SomeValueHasNul, SomeValueTooLarge}
 use Rattle.spa_value.specs.declared.value.Value.{Value}
 use Rattle.spa_value.specs.View.{view}
-use Rattle.spa_leaf.specs.Written.{Appending, Refusing}
+use Rattle.spa_leaf.specs.Written.{Appending}
 
 -- the value can be written, and its encoding has so many bytes
 pub record IsMeasured (v : Tree) (n : ℕ) : Type 0 where

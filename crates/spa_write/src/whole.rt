@@ -9,7 +9,9 @@ ghost use Rattle.spa_format.specs.Writable.{HasNul, IsTooLarge, IsWritable};
 
 use crate::serializer::{PodSerializer, SerializeSuccess};
 use spa_fixed::{CanonicalFixedSizedPod, ChoiceElement, FixedSizedPod};
-use spa_leaf::{put_alternatives, put_bitmap, put_bytes, put_elements, put_number, put_pointer, put_text};
+use spa_leaf::{
+    put_alternatives, put_bitmap, put_bytes, put_elements, put_number, put_pointer, put_text,
+};
 use spa_sink::{GenError, PodOutput};
 use spa_utils::Choice;
 

@@ -70,7 +70,7 @@ pub fn run<R: Read, W: Write + Drop, E: Write>(
         WritesRewritings (R.remaining input.old) (W.contents device) (W.contents result.1) }
     ensures fixated { IsOneWord words.now (codes "fixate") → result.0 ≡ 0 →
         WritesFixated (R.remaining input.old) (W.contents device) (W.contents result.1) }
-    // It is 2 exactly where the words are misused, and then nothing is written to the output.
+    // It is 2 wherever the words are misused, and where it is 2 nothing is written to the output.
     ensures misuse { ¬ (IsUse words.now) → result.0 ≡ 2 }
     ensures misused { result.0 ≡ 2 → Keeps (W.contents device) (W.contents result.1) }
 {

@@ -11,8 +11,8 @@ const WAITING_LIMIT: usize = 65536;
 /// Lists pods on a writer: for each pod, and inside it for each field and each property's value in order, a line with its
 /// depth, type number and size.
 #[derive(Drop)]
-pub struct Listing<'a, W: Write> {
-    output: Output<'a, W>,
+pub struct Listing<'a, W: Write + Drop> {
+    output: &'a mut Output<W>,
     lines: String,
     alloc: Global,
 }
@@ -24,11 +24,11 @@ enum Level<'a> {
     Properties(PodObjectIter<'a>),
 }
 
-impl<'a, W: Write> Listing<'a, W> {
+impl<'a, W: Write + Drop> Listing<'a, W> {
     /// A listing without lines.
-    pub fn new(alloc: Global, output: &'a mut W) -> Listing<'a, W> {
+    pub fn new(alloc: Global, output: &'a mut Output<W>) -> Listing<'a, W> {
         Listing {
-            output: Output::new(output),
+            output,
             lines: String::new(alloc),
             alloc,
         }
@@ -60,8 +60,7 @@ impl<'a, W: Write> Listing<'a, W> {
 
     /// Writes the lines that wait.
     pub fn finish(mut self) -> Result<(), Failure> {
-        self.write_lines()?;
-        self.output.finish()
+        self.write_lines()
     }
 
     fn add_line(&mut self, depth: usize, pod: Pod<'_>) -> Result<(), Failure> {

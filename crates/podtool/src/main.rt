@@ -28,11 +28,11 @@ fn main(rt: HostRuntime) -> ExitCode {
         let _ = eprintln!(rt; "podtool: out of memory");
         return ExitCode::FAILURE;
     };
-    let status = run::run(
+    let (status, _) = run::run(
         rt.alloc(),
         words.as_slice(),
         &mut rt.stdin(),
-        &mut rt.stdout(),
+        rt.stdout(),
         &mut rt.stderr(),
     );
     ExitCode::from(status)

@@ -1,4 +1,7 @@
 //! Where the program's answer goes.
+ghost use Rattle.std.specs.Prelude.{ℕ, Err, IfErr, IsOk, OnErr, OnOk, take, ◌≡◌};
+ghost use Rattle.std.specs.Io.KnownBytes.{Appends, Keeps};
+ghost use Rattle.podtool.specs.Answers.{held};
 
 use crate::run::Failure;
 use spa_device::IoSink;
@@ -7,11 +10,14 @@ use std::io::{self, ErrorKind, Write};
 
 /// A device whose interrupted writes are made again.
 #[derive(Drop)]
-struct Persistent<'a, W> {
-    device: &'a mut W,
+pub(crate) struct Persistent<W> {
+    device: W,
 }
 
-impl<W: Write> Write for Persistent<'_, W> {
+impl<W: Write> Write for Persistent<W> {
+    ghost contents = { λ it. W.contents it.device };
+
+    #[tactic(auto, using(crate::proofs::Keeping::keeps_first, crate::proofs::Keeping::keeps_keeps, crate::proofs::Keeping::keeps_appends, crate::proofs::Keeping::keeps_nothing))]
     fn write(&mut self, bytes: &[u8]) -> io::Result<usize> {
         // Far more often than a write is interrupted.
         for _ in 0..u64::MAX {
@@ -30,31 +36,53 @@ impl<W: Write> Write for Persistent<'_, W> {
 
 /// A sink over the program's standard output.
 #[derive(Drop)]
-pub(crate) struct Output<'a, W: Write> {
-    sink: IoSink<Persistent<'a, W>>,
+pub(crate) struct Output<W: Write + Drop> {
+    sink: IoSink<Persistent<W>>,
 }
 
-impl<'a, W: Write> Output<'a, W> {
+impl<W: Write + Drop> Output<W> {
     /// An output over this device.
-    pub(crate) fn new(device: &'a mut W) -> Output<'a, W> {
+    pub(crate) fn new(device: W) -> Output<W>
+        ensures { held W.contents result ≡ W.contents device }
+    {
         Output {
             sink: IoSink::new(Persistent { device }),
         }
     }
 
-    /// Writes these bytes.
-    pub(crate) fn write(&mut self, bytes: &[u8]) -> Result<(), Failure> {
+    /// Writes these bytes. Where that fails, the device has taken a beginning of them.
+    pub(crate) fn write(&mut self, bytes: &[u8]) -> Result<(), Failure>
+        ensures taken { OnOk result (Appends (held W.contents self.old) (held W.contents self.new) bytes.now) }
+        ensures begun { OnErr result ((n : ℕ) × Appends (held W.contents self.old) (held W.contents self.new) (take n bytes.now)) }
+        ensures cause { IfErr result (λ failure. failure ≡ Failure.WriteFailed) }
+    {
         match self.sink.append(bytes) {
             Ok(()) => Ok(()),
             Err(_) => Err(Failure::WriteFailed),
         }
     }
 
-    /// Flushes the device, which then has all that was written.
-    pub(crate) fn finish(self) -> Result<(), Failure> {
-        match self.sink.into_inner().flush() {
-            Ok(()) => Ok(()),
-            Err(_) => Err(Failure::WriteFailed),
+    /// The device.
+    pub(crate) fn into_inner(self) -> W
+        ensures { W.contents result ≡ held W.contents self }
+    {
+        self.sink.into_inner().device
+    }
+
+    /// The device, and the answer so far; where the work is done, it is flushed and then has all that was written.
+    pub(crate) fn closed(self, done: Result<(), Failure>) -> (Result<(), Failure>, W)
+        ensures kept { Keeps (held W.contents self) (W.contents result.1) }
+        ensures done { OnOk result.0 (IsOk done) }
+        ensures failed { IfErr done (λ failure. result.0 ≡ Err failure) }
+        ensures cause { OnOk done (IfErr result.0 (λ failure. failure ≡ Failure.WriteFailed)) }
+    {
+        let mut device = self.sink.into_inner().device;
+        match done {
+            Ok(()) => match device.flush() {
+                Ok(()) => (Ok(()), device),
+                Err(_) => (Err(Failure::WriteFailed), device),
+            },
+            Err(failure) => (Err(failure), device),
         }
     }
 }

@@ -1,6 +1,8 @@
 //! The program's work, over a reader and two writers.
-ghost use Rattle.std.specs.Prelude.{◌≡◌, ◌≤◌, IfSome, length};
+ghost use Rattle.std.specs.Prelude.{◌≡◌, ◌≤◌, ◌⊎◌, ◌++◌, codes, IfErr, IfOk, IfSome, OnErr, OnOk, length};
+ghost use Rattle.std.specs.Io.KnownBytes.{Appends, Keeps};
 ghost use Rattle.spa_format.specs.Words.{extent, word_at};
+ghost use Rattle.podtool.specs.Answers.{Begins, IsAllOf, IsNotRewritten, IsOneWord, IsTold, IsUse, WritesFixated, WritesRewritings, held};
 
 use crate::listing::Listing;
 use crate::output::Output;
@@ -55,46 +57,70 @@ impl From<AllocError> for Failure {
 ///
 /// The arguments are settled before anything is read, the input is read whole, and nothing is written to the output before
 /// the whole input was accepted. A refusal is one line on `faults`; where that can't be written, nothing changes.
-pub fn run<R: Read, W: Write, E: Write>(
+#[tactic(auto, using(crate::proofs::Keeping::rewritings_kept))]
+pub fn run<R: Read, W: Write + Drop, E: Write>(
     alloc: Global,
     words: &[&str],
     input: &mut R,
-    output: &mut W,
+    device: W,
     faults: &mut E,
-) -> u8
-    ensures { result ≤ 2 }
+) -> (u8, W)
+    ensures status { result.0 ≤ 2 }
+    ensures rewritten { IsOneWord words.now (codes "rewrite") → result.0 ≡ 0 →
+        WritesRewritings (R.remaining input.old) (W.contents device) (W.contents result.1) }
+    ensures fixated { IsOneWord words.now (codes "fixate") → result.0 ≡ 0 →
+        WritesFixated (R.remaining input.old) (W.contents device) (W.contents result.1) }
+    // It is 2 wherever the words are misused, and where it is 2 nothing is written to the output.
+    ensures misuse { ¬ (IsUse words.now) → result.0 ≡ 2 }
+    ensures misused { result.0 ≡ 2 → Keeps (W.contents device) (W.contents result.1) }
 {
+    let mut output = Output::new(device);
     let done = match words {
-        ["rewrite"] => rewrite(alloc, input, output),
-        ["fixate"] => fixate(alloc, input, output),
-        ["show"] => show(alloc, input, output),
+        ["rewrite"] => rewrite(alloc, input, &mut output),
+        ["fixate"] => fixate(alloc, input, &mut output),
+        ["show"] => show(alloc, input, &mut output),
         _ => {
             let _ = writeln!(faults, "usage: podtool rewrite|fixate|show");
-            return MISUSED;
+            return (MISUSED, output.into_inner());
         }
     };
+    let (done, device) = output.closed(done);
     match done {
-        Ok(()) => DONE,
+        Ok(()) => (DONE, device),
         Err(failure) => {
             let _ = writeln!(faults, "{failure}");
-            REFUSED
+            (REFUSED, device)
         }
     }
 }
 
 /// Writes the rewritings of the pods that the input consists of. Its first pods are written from the input itself, as far as
 /// they are their own rewritings.
-fn rewrite<R: Read, W: Write>(alloc: Global, input: &mut R, output: &mut W) -> Result<(), Failure> {
+fn rewrite<R: Read, W: Write + Drop>(
+    alloc: Global,
+    input: &mut R,
+    output: &mut Output<W>,
+) -> Result<(), Failure>
+    ensures done { OnOk result (WritesRewritings (R.remaining input.old) (held W.contents output.old) (held W.contents output.new)) }
+    ensures undone { IfErr result (IsNotRewritten (R.remaining input.old) (held W.contents output.old) (held W.contents output.new)) }
+{
     let bytes = read_whole(alloc, input)?;
-    match rewrite_in_parts(alloc, bytes.as_slice()) {
+    let whole = bytes.as_slice();
+    match rewrite_in_parts(alloc, whole) {
         Ok((first, rewritten)) => write_whole(output, first, rewritten.as_slice()),
-        Err((left, error)) => Err(refused(bytes.len() - left.len(), &error)),
+        Err((left, error)) => Err(refused(whole.len() - left.len(), &error)),
     }
 }
 
 /// Writes the input with each top-level object fixated in place, and the other pods as they came. It is accepted exactly
 /// where it could be rewritten.
-fn fixate<R: Read, W: Write>(alloc: Global, input: &mut R, output: &mut W) -> Result<(), Failure> {
+fn fixate<R: Read, W: Write + Drop>(
+    alloc: Global,
+    input: &mut R,
+    output: &mut Output<W>,
+) -> Result<(), Failure>
+    ensures done { OnOk result (WritesFixated (R.remaining input.old) (held W.contents output.old) (held W.contents output.new)) }
+{
     let mut bytes = read_whole(alloc, input)?;
     if let Err((left, error)) = accept_all(alloc, bytes.as_slice()) {
         return Err(refused(bytes.len() - left.len(), &error));
@@ -109,7 +135,12 @@ fn fixate<R: Read, W: Write>(alloc: Global, input: &mut R, output: &mut W) -> Re
 }
 
 /// Lists the pods that the input consists of, and the pods inside them.
-fn show<R: Read, W: Write>(alloc: Global, input: &mut R, output: &mut W) -> Result<(), Failure> {
+fn show<R: Read, W: Write + Drop>(
+    alloc: Global,
+    input: &mut R,
+    output: &mut Output<W>,
+) -> Result<(), Failure>
+{
     let bytes = read_whole(alloc, input)?;
     if let Some(place) = first_short(bytes.as_slice()) {
         return Err(Failure::Pod {
@@ -139,7 +170,9 @@ fn first_short(bytes: &[u8]) -> Option<usize> {
 }
 
 /// The refusal of the top-level pod at this byte.
-fn refused(place: usize, error: &DeserializeError<&[u8]>) -> Failure {
+fn refused(place: usize, error: &DeserializeError<&[u8]>) -> Failure
+    ensures { IsTold place error.now result }
+{
     match error {
         DeserializeError::OutOfMemory => Failure::OutOfMemory,
         _ => Failure::Pod {
@@ -159,7 +192,10 @@ fn first_of(bytes: &[u8]) -> Option<(Pod<'_>, usize)>
 }
 
 /// All bytes that the reader gives.
-fn read_whole<R: Read>(alloc: Global, input: &mut R) -> Result<Vec<u8>, Failure> {
+fn read_whole<R: Read>(alloc: Global, input: &mut R) -> Result<Vec<u8>, Failure>
+    ensures all { IfOk result (λ bytes. IsAllOf (R.remaining input.old) bytes.items) }
+    ensures cause { IfErr result (λ failure. (failure ≡ Failure.OutOfMemory) ⊎ (failure ≡ Failure.ReadFailed)) }
+{
     let mut bytes = Vec::new(alloc);
     match input.read_to_end(&mut bytes) {
         Ok(_) => Ok(bytes),
@@ -169,9 +205,11 @@ fn read_whole<R: Read>(alloc: Global, input: &mut R) -> Result<Vec<u8>, Failure>
 }
 
 /// Writes all bytes, in two parts.
-fn write_whole<W: Write>(output: &mut W, first: &[u8], rest: &[u8]) -> Result<(), Failure> {
-    let mut output = Output::new(output);
+fn write_whole<W: Write + Drop>(output: &mut Output<W>, first: &[u8], rest: &[u8]) -> Result<(), Failure>
+    ensures taken { OnOk result (Appends (held W.contents output.old) (held W.contents output.new) (first.now ++ rest.now)) }
+    ensures begun { OnErr result (Begins (held W.contents output.old) (held W.contents output.new) (first.now ++ rest.now)) }
+    ensures cause { IfErr result (λ failure. failure ≡ Failure.WriteFailed) }
+{
     output.write(first)?;
-    output.write(rest)?;
-    output.finish()
+    output.write(rest)
 }

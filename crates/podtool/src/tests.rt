@@ -101,7 +101,7 @@ fn found(
     mut source: Source<'_>,
     rooms: Rooms,
 ) -> (Vec<u8>, Vec<u8>, u8) {
-    let mut output = Device {
+    let output = Device {
         taken: Vec::new(alloc),
         limit: rooms.0,
         interrupted: false,
@@ -111,7 +111,7 @@ fn found(
         limit: rooms.1,
         interrupted: false,
     };
-    let status = run(alloc, words, &mut source, &mut output, &mut faults);
+    let (status, output) = run(alloc, words, &mut source, output, &mut faults);
     (output.taken, faults.taken, status)
 }
 

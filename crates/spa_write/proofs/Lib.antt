@@ -9,3 +9,4 @@ pub mod Shorts
 pub mod Stopping
 pub mod OpenPods
 pub mod OpenArrays
+pub mod Completing

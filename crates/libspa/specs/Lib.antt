@@ -25,6 +25,7 @@ pub use Rattle.spa_leaf.specs.Written
 pub use Rattle.spa_write.specs.Success
 pub use Rattle.spa_write.specs.Unfinished
 pub use Rattle.spa_write.specs.Listed
+pub use Rattle.spa_write.specs.Complete
 pub use Rattle.spa_scan.specs.Canonical
 pub use Rattle.spa_scan.specs.Depth
 pub use Rattle.spa_rewrite.specs.Rewriting

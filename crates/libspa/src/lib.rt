@@ -54,9 +54,9 @@ pub mod pod {
         pub use spa_device::IoSink;
         pub use spa_sink::{GenError, PodOutput, PodSink};
         pub use spa_write::{
-            ArrayPodSerializer, MaybeUnder, ObjectPodSerializer, PodSerialize, PodSerializer,
-            SerializeMembers, SerializeProperties, SerializeSuccess, StructPodSerializer, Under,
-            laws, write_sized,
+            ArrayPodSerializer, ExactSerialize, Maybe, ObjectPodSerializer, PodSerialize,
+            PodSerializer, SerializeAs, SerializeMembers, SerializeProperties, SerializeSuccess,
+            StructPodSerializer, laws, write_object, write_sized, write_struct,
         };
     }
 

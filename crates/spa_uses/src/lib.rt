@@ -11,8 +11,8 @@ mod song;
 mod tagged;
 
 pub use control::{Control, with_volume};
-pub use curve::Curve;
-pub use format::AudioFormat;
+pub use curve::{Curve, put_curve};
+pub use format::{AudioFormat, put_format};
 pub use level::{Level, Pair};
 pub use mode::{Mode, Size, put_mode, read_mode, sent};
 pub use screen::{Device, Screen};

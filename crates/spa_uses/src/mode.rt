@@ -11,7 +11,7 @@ use libspa::pod::deserialize::{
     PodDeserializer, StructPodDeserializer, Visit, Visitor,
 };
 use libspa::pod::laws::{encodings_read_back, pods_have_one_value};
-use libspa::pod::serialize::{GenError, PodOutput, PodSerialize, PodSerializer, SerializeSuccess};
+use libspa::pod::serialize::{GenError, PodOutput, PodSerializer, SerializeAs, write_struct};
 use std::alloc::Global;
 
 /// A width and a height.
@@ -21,17 +21,11 @@ pub struct Size {
     pub height: i32,
 }
 
-impl PodSerialize for Size {
-    ghost value = { λ s. struct (member (fixed (kind.int s.width)) (member (fixed (kind.int s.height)) no_trees)) };
+impl SerializeAs for Size {
+    ghost says = { λ s. struct (member (fixed (kind.int s.width)) (member (fixed (kind.int s.height)) no_trees)) };
 
-    fn serialize<O: PodOutput>(
-        &self,
-        serializer: PodSerializer<O>,
-    ) -> Result<SerializeSuccess<O>, GenError> {
-        let mut members = serializer.serialize_struct()?;
-        members.serialize_field(&self.width)?;
-        members.serialize_field(&self.height)?;
-        members.end()
+    fn write_as<O: PodOutput>(&self, out: &mut O) -> Result<(), GenError> {
+        write_struct(out, &(&self.width, (&self.height, ())))
     }
 }
 
@@ -42,26 +36,20 @@ pub struct Mode {
     pub rate: i64,
 }
 
-impl PodSerialize for Mode {
-    ghost value = { λ m. struct (member (⟦<Size as PodSerialize>⟧.value m.size) (member (fixed (kind.long m.rate)) no_trees)) };
+impl SerializeAs for Mode {
+    ghost says = { λ m. struct (member (⟦<Size as SerializeAs>⟧.says m.size) (member (fixed (kind.long m.rate)) no_trees)) };
 
-    fn serialize<O: PodOutput>(
-        &self,
-        serializer: PodSerializer<O>,
-    ) -> Result<SerializeSuccess<O>, GenError> {
-        let mut members = serializer.serialize_struct()?;
-        members.serialize_field(&self.size)?;
-        members.serialize_field(&self.rate)?;
-        members.end()
+    fn write_as<O: PodOutput>(&self, out: &mut O) -> Result<(), GenError> {
+        write_struct(out, &(&self.size, (&self.rate, ())))
     }
 }
 
 /// The encoding of a mode behind what the output holds, and its length.
 pub fn put_mode(out: ArrayVec<u8, 128>, mode: &Mode) -> Result<(ArrayVec<u8, 128>, u64), GenError>
-    ensures encoding { IfOk result (λ done. done.0.items ≡ out.items ++ encoding_of (⟦<Mode as PodSerialize>⟧.value mode.now)) }
-    ensures count { IfOk result (λ done. done.1 ≡ length (encoding_of (⟦<Mode as PodSerialize>⟧.value mode.now))) }
+    ensures encoding { IfOk result (λ done. done.0.items ≡ out.items ++ encoding_of (⟦<Mode as SerializeAs>⟧.says mode.now)) }
+    ensures count { IfOk result (λ done. done.1 ≡ length (encoding_of (⟦<Mode as SerializeAs>⟧.says mode.now))) }
     // It reads back, whatever follows it.
-    ensures back { OnOk result ((r : List ℕ) → Begins (encoding_of (⟦<Mode as PodSerialize>⟧.value mode.now) ++ r) (⟦<Mode as PodSerialize>⟧.value mode.now)) }
+    ensures back { OnOk result ((r : List ℕ) → Begins (encoding_of (⟦<Mode as SerializeAs>⟧.says mode.now) ++ r) (⟦<Mode as SerializeAs>⟧.says mode.now)) }
 {
     encodings_read_back();
     PodSerializer::serialize(out, mode)
@@ -114,7 +102,7 @@ impl<'de> Visitor<'de> for SizeVisitor {
 }
 
 impl<'de> PodDeserialize<'de> for Size {
-    ghost reads = { λ value size. value ≡ ⟦<Size as PodSerialize>⟧.value size };
+    ghost reads = { λ value size. value ≡ ⟦<Size as SerializeAs>⟧.says size };
 
     fn deserialize(
         deserializer: PodDeserializer<'de>,
@@ -134,7 +122,7 @@ impl<'de> Visitor<'de> for ModeVisitor {
 
     ghost visits = { λ _ _ _. ⊥ };
 
-    ghost visits_struct = { λ _ members mode. members ≡ member (⟦<Size as PodSerialize>⟧.value mode.size) (member (fixed (kind.long mode.rate)) no_trees) };
+    ghost visits_struct = { λ _ members mode. members ≡ member (⟦<Size as SerializeAs>⟧.says mode.size) (member (fixed (kind.long mode.rate)) no_trees) };
 
     ghost visits_object = { λ _ _ _ _ _. ⊥ };
 
@@ -170,7 +158,7 @@ impl<'de> Visitor<'de> for ModeVisitor {
 }
 
 impl<'de> PodDeserialize<'de> for Mode {
-    ghost reads = { λ value mode. value ≡ ⟦<Mode as PodSerialize>⟧.value mode };
+    ghost reads = { λ value mode. value ≡ ⟦<Mode as SerializeAs>⟧.says mode };
 
     fn deserialize(
         deserializer: PodDeserializer<'de>,
@@ -182,9 +170,9 @@ impl<'de> PodDeserialize<'de> for Mode {
 /// The mode at the front of the input, and what follows it.
 pub fn read_mode(alloc: Global, input: &[u8]) -> Result<(&[u8], Mode), DeserializeError<&[u8]>>
     // The front is a pod of the mode,
-    ensures mode { IfOk result (λ read. Begins input.now (⟦<Mode as PodSerialize>⟧.value read.1)) }
+    ensures mode { IfOk result (λ read. Begins input.now (⟦<Mode as SerializeAs>⟧.says read.1)) }
     // of nothing else,
-    ensures one { IfOk result (λ read. (v : Tree) → Begins input.now v → v ≡ ⟦<Mode as PodSerialize>⟧.value read.1) }
+    ensures one { IfOk result (λ read. (v : Tree) → Begins input.now v → v ≡ ⟦<Mode as SerializeAs>⟧.says read.1) }
     // and what follows it is the rest.
     ensures rest { IfOk result (λ read. read.0.now ≡ rest_of input.now) }
 {

@@ -10,7 +10,9 @@ use libspa::pod::deserialize::{
     DeserializeError, DeserializeSuccess, Never, ObjectPodDeserializer, PodDeserialize,
     PodDeserializer, StructPodDeserializer, Visit, Visitor,
 };
-use libspa::pod::serialize::{GenError, PodOutput, PodSerialize, PodSerializer, SerializeSuccess};
+use libspa::pod::serialize::{
+    GenError, PodOutput, PodSerialize, PodSerializer, SerializeAs, SerializeSuccess, write_object,
+};
 use libspa::utils::Float32;
 
 /// The type of both objects.
@@ -32,17 +34,17 @@ pub struct Device<'a> {
     pub volume: Float32,
 }
 
-impl PodSerialize for Device<'_> {
-    ghost value = { λ device. object 5 3 (property 1 0 (string device.name.now) (property 2 0 (fixed (kind.float device.volume.0)) no_properties)) };
+impl SerializeAs for Device<'_> {
+    ghost says = { λ device. object 5 3 (property 1 0 (string device.name.now) (property 2 0 (fixed (kind.float device.volume.0)) no_properties)) };
 
-    fn serialize<O: PodOutput>(
-        &self,
-        serializer: PodSerializer<O>,
-    ) -> Result<SerializeSuccess<O>, GenError> {
-        let mut properties = serializer.serialize_object(OBJECT_TYPE, OBJECT_ID)?;
-        properties.serialize_property(FIRST_KEY, &self.name, PropertyFlags::empty())?;
-        properties.serialize_property(SECOND_KEY, &self.volume, PropertyFlags::empty())?;
-        properties.end()
+    fn write_as<O: PodOutput>(&self, out: &mut O) -> Result<(), GenError> {
+        let volume = ((SECOND_KEY, &self.volume), ());
+        write_object(
+            out,
+            OBJECT_TYPE,
+            OBJECT_ID,
+            &((FIRST_KEY, &self.name), volume),
+        )
     }
 }
 
@@ -131,7 +133,7 @@ impl<'de> Visitor<'de> for ScreenVisitor {
 
     ghost visits_struct = { λ _ _ _. ⊥ };
 
-    ghost visits_object = { λ _ _ _ properties screen. (f : ℕ) × (properties ≡ property 1 f (⟦<Mode as PodSerialize>⟧.value screen.mode) no_properties) };
+    ghost visits_object = { λ _ _ _ properties screen. (f : ℕ) × (properties ≡ property 1 f (⟦<Mode as SerializeAs>⟧.says screen.mode) no_properties) };
 
     fn visit(&self, given: Visit<'de, Never>) -> Result<Screen<Mode>, DeserializeError<&'de [u8]>>
         ensures made { IfOk result (λ _. ⊥) }
@@ -160,7 +162,7 @@ impl<'de> Visitor<'de> for ScreenVisitor {
 
 /// An object of any type and id, its property with any flags.
 impl<'de> PodDeserialize<'de> for Screen<Mode> {
-    ghost reads = { λ value screen. (t : ℕ) × (i : ℕ) × (f : ℕ) × (value ≡ object t i (property 1 f (⟦<Mode as PodSerialize>⟧.value screen.mode) no_properties)) };
+    ghost reads = { λ value screen. (t : ℕ) × (i : ℕ) × (f : ℕ) × (value ≡ object t i (property 1 f (⟦<Mode as SerializeAs>⟧.says screen.mode) no_properties)) };
 
     fn deserialize(
         deserializer: PodDeserializer<'de>,

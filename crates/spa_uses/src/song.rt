@@ -7,7 +7,7 @@ use libspa::pod::deserialize::{
     DeserializeError, DeserializeSuccess, Never, ObjectPodDeserializer, PodDeserialize,
     PodDeserializer, StructPodDeserializer, Visit, Visitor,
 };
-use libspa::pod::serialize::{GenError, PodOutput, PodSerialize, PodSerializer, SerializeSuccess};
+use libspa::pod::serialize::{GenError, PodOutput, SerializeAs, write_struct};
 use libspa::utils::Rectangle;
 
 /// A picture's size, written as a struct of one member.
@@ -16,16 +16,11 @@ pub struct Cover {
     pub size: Rectangle,
 }
 
-impl PodSerialize for Cover {
-    ghost value = { λ cover. struct (member (fixed (kind.rectangle cover.size.width cover.size.height)) no_trees) };
+impl SerializeAs for Cover {
+    ghost says = { λ cover. struct (member (fixed (kind.rectangle cover.size.width cover.size.height)) no_trees) };
 
-    fn serialize<O: PodOutput>(
-        &self,
-        serializer: PodSerializer<O>,
-    ) -> Result<SerializeSuccess<O>, GenError> {
-        let mut members = serializer.serialize_struct()?;
-        members.serialize_field(&self.size)?;
-        members.end()
+    fn write_as<O: PodOutput>(&self, out: &mut O) -> Result<(), GenError> {
+        write_struct(out, &(&self.size, ()))
     }
 }
 
@@ -37,18 +32,11 @@ pub struct Song<'a> {
     pub cover: Cover,
 }
 
-impl PodSerialize for Song<'_> {
-    ghost value = { λ song. struct (member (fixed (kind.int song.number)) (member (string song.title.now) (member (⟦<Cover as PodSerialize>⟧.value song.cover) no_trees))) };
+impl SerializeAs for Song<'_> {
+    ghost says = { λ song. struct (member (fixed (kind.int song.number)) (member (string song.title.now) (member (⟦<Cover as SerializeAs>⟧.says song.cover) no_trees))) };
 
-    fn serialize<O: PodOutput>(
-        &self,
-        serializer: PodSerializer<O>,
-    ) -> Result<SerializeSuccess<O>, GenError> {
-        let mut members = serializer.serialize_struct()?;
-        members.serialize_field(&self.number)?;
-        members.serialize_field(&self.title)?;
-        members.serialize_field(&self.cover)?;
-        members.end()
+    fn write_as<O: PodOutput>(&self, out: &mut O) -> Result<(), GenError> {
+        write_struct(out, &(&self.number, (&self.title, (&self.cover, ()))))
     }
 }
 
@@ -96,7 +84,7 @@ impl<'de> Visitor<'de> for CoverVisitor {
 }
 
 impl<'de> PodDeserialize<'de> for Cover {
-    ghost reads = { λ value cover. value ≡ ⟦<Cover as PodSerialize>⟧.value cover };
+    ghost reads = { λ value cover. value ≡ ⟦<Cover as SerializeAs>⟧.says cover };
 
     fn deserialize(
         deserializer: PodDeserializer<'de>,
@@ -116,7 +104,7 @@ impl<'de> Visitor<'de> for SongVisitor {
 
     ghost visits = { λ _ _ _. ⊥ };
 
-    ghost visits_struct = { λ _ members song. members ≡ member (fixed (kind.int song.number)) (member (string song.title.now) (member (⟦<Cover as PodSerialize>⟧.value song.cover) no_trees)) };
+    ghost visits_struct = { λ _ members song. members ≡ member (fixed (kind.int song.number)) (member (string song.title.now) (member (⟦<Cover as SerializeAs>⟧.says song.cover) no_trees)) };
 
     ghost visits_object = { λ _ _ _ _ _. ⊥ };
 
@@ -159,7 +147,7 @@ impl<'de> Visitor<'de> for SongVisitor {
 }
 
 impl<'de> PodDeserialize<'de> for Song<'de> {
-    ghost reads = { λ value song. value ≡ ⟦<Song<'de> as PodSerialize>⟧.value song };
+    ghost reads = { λ value song. value ≡ ⟦<Song<'de> as SerializeAs>⟧.says song };
 
     fn deserialize(
         deserializer: PodDeserializer<'de>,

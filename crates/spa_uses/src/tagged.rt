@@ -9,7 +9,7 @@ use libspa::pod::deserialize::{
     DeserializeError, DeserializeSuccess, Never, ObjectPodDeserializer, PodDeserialize,
     PodDeserializer, StructPodDeserializer, Visit, Visitor,
 };
-use libspa::pod::serialize::{GenError, PodOutput, PodSerialize, PodSerializer, SerializeSuccess};
+use libspa::pod::serialize::{GenError, PodOutput, SerializeAs, write_struct};
 use libspa::utils::Id;
 
 /// A value under an id.
@@ -19,17 +19,11 @@ pub struct Tagged {
     pub value: Value,
 }
 
-impl PodSerialize for Tagged {
-    ghost value = { λ t. struct (member (fixed (kind.id t.id.0)) (member (view t.value) no_trees)) };
+impl SerializeAs for Tagged {
+    ghost says = { λ t. struct (member (fixed (kind.id t.id.0)) (member (view t.value) no_trees)) };
 
-    fn serialize<O: PodOutput>(
-        &self,
-        serializer: PodSerializer<O>,
-    ) -> Result<SerializeSuccess<O>, GenError> {
-        let mut members = serializer.serialize_struct()?;
-        members.serialize_field(&self.id)?;
-        members.serialize_field(&self.value)?;
-        members.end()
+    fn write_as<O: PodOutput>(&self, out: &mut O) -> Result<(), GenError> {
+        write_struct(out, &(&self.id, (&self.value, ())))
     }
 }
 
@@ -80,7 +74,7 @@ impl<'de> Visitor<'de> for TaggedVisitor {
 }
 
 impl<'de> PodDeserialize<'de> for Tagged {
-    ghost reads = { λ value tagged. value ≡ ⟦<Tagged as PodSerialize>⟧.value tagged };
+    ghost reads = { λ value tagged. value ≡ ⟦<Tagged as SerializeAs>⟧.says tagged };
 
     fn deserialize(
         deserializer: PodDeserializer<'de>,

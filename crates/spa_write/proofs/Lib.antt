@@ -6,3 +6,4 @@ pub mod Shorts
 pub mod Stopping
 pub mod OpenPods
 pub mod OpenArrays
+pub mod Completing

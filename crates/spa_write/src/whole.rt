@@ -17,7 +17,7 @@ use spa_utils::Choice;
 
 /// A pod was written to an output that had this length before.
 #[inline(always)]
-fn written_since<O: PodOutput>(start: usize, out: O) -> SerializeSuccess<O>
+pub(crate) fn written_since<O: PodOutput>(start: usize, out: O) -> SerializeSuccess<O>
     requires { start ≤ length (O.content out) }
     ensures output { result.output ≡ out }
     ensures count { result.count ≡ length (O.content out) - start }

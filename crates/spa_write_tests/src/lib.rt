@@ -6,6 +6,8 @@ mod built_in;
 #[cfg(test)]
 mod compare;
 #[cfg(test)]
+mod declared;
+#[cfg(test)]
 mod own_types;
 #[cfg(test)]
 mod reads;

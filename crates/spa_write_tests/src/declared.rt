@@ -1,0 +1,228 @@
+//! Types that are declared by what they are made of: written, read back, cut short, and written where they don't fit.
+use crate::compare::{assert_refused, assert_words, assert_written, put};
+use arrayvec::ArrayVec;
+use libspa::pod::deserialize::{PodDeserialize, PodDeserializer};
+use libspa::pod::serialize::{GenError, PodSerialize};
+use libspa::utils::{Float32, Id};
+use spa_spelling::bytes_spelled;
+use spa_uses::{AudioFormat, Curve, put_curve, put_format};
+use std::alloc::{AllocError, Global};
+use std::process::Abort;
+use std::test::Fail;
+
+/// A curve, in words: `up`, -2, the id 7 and three points.
+const CURVE: &str =
+    "80 14 3 8 28789 0 4 4 4294967294 0 4 3 7 0 20 13 4 6 1138491392 0 1065353216 0";
+
+/// A format with that curve, its properties in the order in which they are written.
+const FORMAT: &str =
+    "208 15 262147 4 65537 0 4 3 259 0 65539 0 4 4 48000 0 65540 0 4 4 2 0 65541 0 16 13 4 3 3 4 65550 0 80 14 3 8 28789 0 4 4 4294967294 0 4 3 7 0 20 13 4 6 1138491392 0 1065353216 0";
+
+/// The same without its channels.
+const WITHOUT_CHANNELS: &str =
+    "184 15 262147 4 65537 0 4 3 259 0 65539 0 4 4 48000 0 65541 0 16 13 4 3 3 4 65550 0 80 14 3 8 28789 0 4 4 4294967294 0 4 3 7 0 20 13 4 6 1138491392 0 1065353216 0";
+
+/// The same as the first in another order, with a property that isn't known among the others and a second rate behind the first.
+const MIXED: &str =
+    "248 15 262147 4 65550 0 80 14 3 8 28789 0 4 4 4294967294 0 4 3 7 0 20 13 4 6 1138491392 0 1065353216 0 65540 0 4 4 2 0 9 0 0 1 65541 0 16 13 4 3 3 4 65539 0 4 4 48000 0 65539 0 4 4 1 0 65537 0 4 3 259 0";
+
+/// The curve of these words.
+fn curve(alloc: Global) -> Result<Curve, AllocError> {
+    Ok(Curve {
+        name: String::from_str(alloc, "up")?,
+        order: -2,
+        channel: Id(7),
+        points: vec![in alloc; Float32(1138491392), Float32(0), Float32(1065353216)]?,
+    })
+}
+
+/// The format of these words, with as many channels.
+fn format(alloc: Global, channels: Option<i32>) -> Result<AudioFormat, AllocError> {
+    Ok(AudioFormat {
+        encoding: Id(259),
+        rate: 48000,
+        channels,
+        positions: vec![in alloc; Id(3), Id(4)]?,
+        curve: curve(alloc)?,
+    })
+}
+
+#[test]
+fn declared_types_are_written(rt: HostRuntime) -> Result<(), Fail> {
+    let alloc = rt.alloc();
+    assert_written(&rt, alloc, &curve(alloc)?, CURVE)?;
+    assert_written(&rt, alloc, &format(alloc, Some(2))?, FORMAT)?;
+    assert_written(&rt, alloc, &format(alloc, None)?, WITHOUT_CHANNELS)
+}
+
+/// What a read answers, written again behind how many bytes follow it; or the refusal's name.
+fn read_again<'de, P: PodDeserialize<'de> + PodSerialize + Drop>(
+    alloc: Global,
+    input: &'de [u8],
+) -> Result<(usize, Vec<u8>), &'static str> {
+    match PodDeserializer::deserialize_from::<P>(alloc, input) {
+        Ok((rest, it)) => match put(Vec::new(alloc), &it) {
+            Ok(written) => Ok((rest.len(), written)),
+            Err(_) => Err("not written"),
+        },
+        Err(e) => Err(e.kind()),
+    }
+}
+
+/// Compares what is read of these words, written again, with the wanted words.
+fn assert_again(
+    rt: &impl Abort,
+    alloc: Global,
+    found: Result<(usize, Vec<u8>), &'static str>,
+    wanted: &str,
+) -> Result<(), Fail> {
+    match found {
+        Ok((0, written)) => assert_words(rt, alloc, written.as_slice(), wanted),
+        Ok((_, written)) => {
+            drop(written);
+            Err(Fail::new("bytes follow"))
+        }
+        Err(kind) => Err(Fail::new(kind)),
+    }
+}
+
+#[test]
+fn declared_types_come_back(rt: HostRuntime) -> Result<(), Fail> {
+    let alloc = rt.alloc();
+    let curve = bytes_spelled(alloc, CURVE)?;
+    let format = bytes_spelled(alloc, FORMAT)?;
+    let without = bytes_spelled(alloc, WITHOUT_CHANNELS)?;
+    assert_again(
+        &rt,
+        alloc,
+        read_again::<Curve>(alloc, curve.as_slice()),
+        CURVE,
+    )?;
+    assert_again(
+        &rt,
+        alloc,
+        read_again::<AudioFormat>(alloc, format.as_slice()),
+        FORMAT,
+    )?;
+    let found = read_again::<AudioFormat>(alloc, without.as_slice());
+    assert_again(&rt, alloc, found, WITHOUT_CHANNELS)
+}
+
+#[test]
+fn properties_stand_in_any_order(rt: HostRuntime) -> Result<(), Fail> {
+    let alloc = rt.alloc();
+    let input = bytes_spelled(alloc, MIXED)?;
+    let found = read_again::<AudioFormat>(alloc, input.as_slice());
+    assert_again(&rt, alloc, found, FORMAT)
+}
+
+/// Compares the refusal of these words.
+fn assert_refusal(
+    rt: &impl Abort,
+    found: Result<(usize, Vec<u8>), &'static str>,
+    wanted: &str,
+    at: usize,
+) {
+    let Err(kind) = found else {
+        assert!(rt; false, "read at {at}");
+        return;
+    };
+    assert_eq!(rt; kind, wanted, "at {at}");
+}
+
+#[test]
+fn cut_pods_are_refused(rt: HostRuntime) -> Result<(), Fail> {
+    let alloc = rt.alloc();
+    let curve = bytes_spelled(alloc, CURVE)?;
+    for len in 0..curve.len() {
+        assert_refusal(&rt, read_again::<Curve>(alloc, &curve[..len]), "Nom", len);
+    }
+    let format = bytes_spelled(alloc, FORMAT)?;
+    for len in 0..format.len() {
+        assert_refusal(
+            &rt,
+            read_again::<AudioFormat>(alloc, &format[..len]),
+            "Nom",
+            len,
+        );
+    }
+    Ok(())
+}
+
+#[test]
+fn other_pods_are_refused(rt: HostRuntime) -> Result<(), Fail> {
+    let alloc = rt.alloc();
+    let rows = [
+        // One member too few, one too many, another type.
+        ("16 14 3 8 28789 0", "PropertyMissing"),
+        (
+            "96 14 3 8 28789 0 4 4 1 0 4 3 7 0 20 13 4 6 1 2 3 0 4 4 1 0",
+            "UnreadMembers",
+        ),
+        ("80 14 3 8 28789 0 4 4 1 0 4 4 7 0 20 13 4 6 1 2 3 0", "Nom"),
+    ];
+    for (index, (words, wanted)) in rows.iter().enumerate() {
+        let input = bytes_spelled(alloc, words)?;
+        assert_refusal(
+            &rt,
+            read_again::<Curve>(alloc, input.as_slice()),
+            wanted,
+            index,
+        );
+    }
+    let rows = [
+        // Another id, another type, a property that has to be there.
+        ("8 15 262147 3", "UnsupportedType"),
+        ("8 15 262146 4", "UnsupportedType"),
+        ("32 15 262147 4 65537 0 4 3 259 0", "PropertyMissing"),
+    ];
+    for (index, (words, wanted)) in rows.iter().enumerate() {
+        let input = bytes_spelled(alloc, words)?;
+        assert_refusal(
+            &rt,
+            read_again::<AudioFormat>(alloc, input.as_slice()),
+            wanted,
+            index,
+        );
+    }
+    Ok(())
+}
+
+/// An output that holds so many zeros.
+fn filled<const N: usize>(len: usize) -> ArrayVec<u8, N> {
+    let mut out = ArrayVec::new();
+    for _ in 0..len {
+        let _ = out.try_push(0);
+    }
+    out
+}
+
+#[test]
+fn declared_types_are_written_where_they_fit(rt: HostRuntime) -> Result<(), Fail> {
+    let alloc = rt.alloc();
+    let (curve, format) = (curve(alloc)?, format(alloc, Some(2))?);
+    for len in 0..=96 {
+        let refusal = put_curve(filled::<96>(len), &curve).err();
+        let wanted = if len <= 8 { None } else { Some(GenError::Full) };
+        assert!(rt; refusal == wanted, "a curve behind {len}");
+    }
+    for len in 0..=224 {
+        let refusal = put_format(filled::<224>(len), &format).err();
+        let wanted = if len <= 8 { None } else { Some(GenError::Full) };
+        assert!(rt; refusal == wanted, "a format behind {len}");
+    }
+    Ok(())
+}
+
+#[test]
+fn a_text_with_nul_is_refused(rt: HostRuntime) -> Result<(), Fail> {
+    let alloc = rt.alloc();
+    let mut other = curve(alloc)?;
+    other.name = String::from_str(alloc, "u\0")?;
+    assert_refused(
+        &rt,
+        put_curve(filled::<96>(0), &other).err(),
+        GenError::NulInText,
+    );
+    Ok(())
+}

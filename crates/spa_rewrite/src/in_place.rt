@@ -12,7 +12,8 @@ use std::alloc::Global;
 /// pods took. The bytes behind them stay as they were.
 ///
 /// The call is refused exactly as `rewrite_all`, and then no byte is changed. A refusal gives how many bytes stand before the refused
-/// pod, and what is wrong with that one, without the place inside it: `accept_all` tells that too.
+/// pod, and what is wrong with that one, without the place inside it: `accept_all` tells that too. Memory is asked for as
+/// `rewrite_in_parts` does: for the rewritings from the first pod on that isn't its own.
 #[tactic(auto, using(crate::proofs::InPlaceLemmas::parts_fit))]
 pub fn rewrite_in_place(
     alloc: Global,

@@ -1,8 +1,8 @@
-use Rattle.std.proofs.Common.{◌≡◌, ◌+◌, ◌-◌, ◌≤◌, ◌++◌, arith, rules, length, sym, ap, ◌∙◌, subst, take}
+use Rattle.std.proofs.Common.{◌≡◌, ◌+◌, ◌-◌, ◌≤◌, ◌++◌, arith, rules, length, refl, sym, ap, ◌∙◌, subst, take}
 use Rattle.std.specs.Prelude.{[], vec_len}
 use Rattle.std.proofs.lemmas.Slice.{take-put_mid}
 use Rattle.spa_rewrite.specs.Rewriting.{AreRewritten}
-use Rattle.spa_rewrite.proofs.InPlaceLemmas.{first_part, parts_fit}
+use Rattle.spa_rewrite.proofs.InPlaceLemmas.{first_part, parts_fit, refused_at}
 use Rattle.spa_rewrite.proofs.in_place.rewrite_in_place.Goals as goal
 
 pub slice_bounds-copy_from_slice-end : goal.slice_bounds-copy_from_slice-end
@@ -31,3 +31,7 @@ returns-clause-rewritten c =
     ∙ ap (λ l. l ++ written) (first_part c.args.bytes.now first others.items c.in-Ok.ensures.parts)
     ∙ ap (λ l. first ++ l) new in
     subst (AreRewritten c.args.bytes.now []) (sym bytes) c.in-Ok.ensures.rewritten
+
+pub returns-in-Err-clause-refused : goal.returns-in-Err-clause-refused
+returns-in-Err-clause-refused c =
+    refused_at _ _ _ _ _ c.in-Err.ensures.refused refl c.without_place.ensures.same c.without_place.ensures.memory

@@ -1,9 +1,10 @@
 #!/usr/bin/env python3
 """rewrites.py OUTDIR: writes the inputs of bench/rewrites.rt.txt, pods that aren't their own rewriting."""
 import os
+import struct
 import sys
 
-from make import ARRAY, INT, NO_FLAGS, OBJECT, STRUCT, pod, words
+from make import ARRAY, INT, NO_FLAGS, OBJECT, STRUCT, examples, pod, words
 
 BOOL, CHOICE = 2, 19
 NONE, RANGE, ENUM = 0, 1, 3
@@ -19,6 +20,24 @@ def objects(count, values):
     return one * count
 
 
+def noisy(pods, keyed=False):
+    """These pods, or properties, with other bytes than zeros as padding, at each depth."""
+    made, at = bytearray(), 0
+    while at < len(pods):
+        if keyed:
+            made += pods[at : at + 8]
+            at += 8
+        size, type_ = struct.unpack_from("<2I", pods, at)
+        body = pods[at + 8 : at + 8 + size]
+        if type_ == STRUCT:
+            body = noisy(body)
+        elif type_ == OBJECT:
+            body = body[:8] + noisy(body[8:], keyed=True)
+        made += words(size, type_) + body + b"\xa5" * (-size % 8)
+        at += 8 + size + -size % 8
+    return bytes(made)
+
+
 INPUTS = {
     # 64,000 truth values that are 2, and 1000 arrays of 64 of them
     "bools": pod(ARRAY, words(4, BOOL) + words(2) * 64_000),
@@ -30,6 +49,12 @@ INPUTS = {
     "one-in-a-thousand": pod(STRUCT, pod(INT, words(7)) * 500 + pod(BOOL, words(2)) + pod(INT, words(7)) * 500) * 100,
     # structs of Bools that are 2: no member is its own rewriting
     "none": pod(STRUCT, pod(BOOL, words(2)) * 1000) * 100,
+    # what travels between real processes, and a struct of Ints, with noise in the padding
+    "noisy-mixed": noisy(examples(10_000)),
+    "noisy-ints": noisy(pod(STRUCT, pod(INT, words(7)) * 100_000)),
+    # the same without noise
+    "mixed": examples(10_000),
+    "ints": pod(STRUCT, pod(INT, words(7)) * 100_000),
     # an Int and such a Bool in turn
     "in-turn": pod(STRUCT, (pod(INT, words(7)) + pod(BOOL, words(2))) * 500) * 100,
 }

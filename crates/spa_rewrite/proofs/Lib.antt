@@ -8,3 +8,4 @@ pub mod Own
 pub mod Runs
 pub mod Bodies
 pub mod Truths
+pub mod InPlaceLemmas

@@ -1,10 +1,10 @@
-//! Rewriting lists of pods, by the three calls that take a list.
+//! Rewriting lists of pods, by the calls that take a list.
 use crate::answers::are_joined;
 use crate::bytes::{assert_holds, assert_number, assert_spelt};
 use crate::tables::lines_of;
 use crate::tables::lists::LISTS;
 use libspa::pod::deserialize::DeserializeError;
-use libspa::pod::{accept_all, rewrite_all, rewrite_in_parts};
+use libspa::pod::{accept_all, rewrite_all, rewrite_in_parts, rewrite_in_place};
 use spa_spelling::bytes_spelled;
 use std::alloc::Global;
 use std::process::Abort;
@@ -40,6 +40,32 @@ fn rewrite_list_in_parts(alloc: Global, input: &[u8]) -> Result<Rewritten, Fail>
     }
 }
 
+/// Compares the rewriting of a list of pods where it lies, behind which nothing else changes, with its rewriting elsewhere.
+fn compare_in_place(
+    rt: &impl Abort,
+    alloc: Global,
+    input: &[u8],
+    wanted: &[u8],
+    rewritten: Rewritten,
+    at: &str,
+) -> Result<(), Fail> {
+    let mut bytes = Vec::from_slice(alloc, input)?;
+    match rewrite_in_place(alloc, bytes.as_mut_slice()) {
+        Ok(len) => {
+            assert_holds(rt, rewritten == Ok(()), at);
+            assert_holds(rt, bytes.get(..len) == Some(wanted), at);
+            assert_holds(rt, bytes.get(len..) == input.get(len..), at);
+        }
+        Err((_, DeserializeError::OutOfMemory)) => return Err(Fail::from("out of memory")),
+        Err((place, error)) => {
+            let left = input.len().saturating_sub(place);
+            assert_holds(rt, rewritten == Err((error.kind(), left)), at);
+            assert_holds(rt, bytes.as_slice() == input, at);
+        }
+    }
+    Ok(())
+}
+
 /// Compares what the two other calls answer to a list with the answer of its rewriting.
 fn compare_calls(
     rt: &impl Abort,
@@ -70,6 +96,8 @@ fn compare_list_at(
     let mut out = bytes_spelled(alloc, "x0102")?;
     let rewritten = rewrite_list(alloc, input, &mut out)?;
     compare_calls(rt, alloc, input, rewritten, row[0])?;
+    let (_, encodings) = out.split_at(2.min(out.len()));
+    compare_in_place(rt, alloc, input, encodings, rewritten, row[0])?;
     compare_output(rt, alloc, out.as_slice(), rewritten, input, row)
 }
 

@@ -1,0 +1,60 @@
+//! Rewriting where the input lies.
+ghost use Rattle.std.specs.Prelude.{◌≡◌, ◌≤◌, [], IfErr, IfOk, OnErr, drop, length, take};
+ghost use Rattle.spa_fixed.specs.declared.fault.DeserializeError.TheVariants as refused;
+ghost use Rattle.spa_rewrite.specs.InPlace.{IsFaultOf, RefusesListAt};
+ghost use Rattle.spa_rewrite.specs.Rewriting.{AreRewritten};
+
+use crate::rewriting::rewrite_in_parts;
+use spa_fixed::{DeserializeError, Fault};
+use std::alloc::Global;
+
+/// Puts the rewritings of all pods that the bytes are at their front, and answers how many bytes these take: never more than the
+/// pods took. The bytes behind them stay as they were.
+///
+/// The call is refused exactly as `rewrite_all`, and then no byte is changed. A refusal gives how many bytes stand before the refused
+/// pod, and what is wrong with that one, without the place inside it: `accept_all` tells that too. Memory is asked for as
+/// `rewrite_in_parts` does: for the rewritings from the first pod on that isn't its own.
+#[tactic(auto, using(crate::proofs::InPlaceLemmas::parts_fit))]
+pub fn rewrite_in_place(
+    alloc: Global,
+    bytes: &mut [u8],
+) -> Result<usize, (usize, DeserializeError<()>)>
+    ensures rewritten { IfOk result (λ len. AreRewritten bytes.old [] (take len bytes.new)) }
+    ensures within { IfOk result (λ len. len ≤ length bytes.old) }
+    ensures behind { IfOk result (λ len. drop len bytes.new ≡ drop len bytes.old) }
+    ensures unchanged { OnErr result (bytes.new ≡ bytes.old) }
+    ensures refused { IfErr result (λ refusal. RefusesListAt bytes.old refusal.0 refusal.1) }
+{
+    let len = bytes.len();
+    let (kept, others) = match rewrite_in_parts(alloc, bytes) {
+        Ok((first, others)) => (first.len(), others),
+        Err((left, error)) => return Err((len - left.len(), without_place(error))),
+    };
+    let end = kept + others.len();
+    bytes[kept..end].copy_from_slice(others.as_slice());
+    Ok(end)
+}
+
+/// The same refusal, without a place.
+fn without_place(error: DeserializeError<&[u8]>) -> DeserializeError<()>
+    ensures same { IsFaultOf result error.entry }
+    ensures memory { error.entry ≡ refused.OutOfMemory → result ≡ refused.OutOfMemory }
+{
+    match error {
+        DeserializeError::Nom(fault) => DeserializeError::Nom(Fault {
+            input: (),
+            kind: fault.kind,
+        }),
+        DeserializeError::UnsupportedType => DeserializeError::UnsupportedType,
+        DeserializeError::InvalidType => DeserializeError::InvalidType,
+        DeserializeError::PropertyMissing => DeserializeError::PropertyMissing,
+        DeserializeError::PropertyWrongKey(key) => DeserializeError::PropertyWrongKey(key),
+        DeserializeError::InvalidChoiceType => DeserializeError::InvalidChoiceType,
+        DeserializeError::MissingChoiceValues => DeserializeError::MissingChoiceValues,
+        DeserializeError::WrongSize => DeserializeError::WrongSize,
+        DeserializeError::UnreadMembers => DeserializeError::UnreadMembers,
+        DeserializeError::NoElementLeft => DeserializeError::NoElementLeft,
+        DeserializeError::FailedReader => DeserializeError::FailedReader,
+        DeserializeError::OutOfMemory => DeserializeError::OutOfMemory,
+    }
+}

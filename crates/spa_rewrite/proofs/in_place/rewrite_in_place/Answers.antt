@@ -1,4 +1,4 @@
-use Rattle.std.proofs.Common.{◌≡◌, ◌+◌, ◌-◌, ◌≤◌, ◌++◌, arith, rules, length, refl, sym, ap, ◌∙◌, subst, take}
+use Rattle.std.proofs.Common.{◌≡◌, ◌+◌, ◌-◌, ◌≤◌, ◌++◌, arith, rules, length, refl, sym, ap, ◌∙◌, subst}
 use Rattle.std.specs.Prelude.{[], vec_len}
 use Rattle.std.proofs.lemmas.Slice.{take-put_mid}
 use Rattle.spa_rewrite.specs.Rewriting.{AreRewritten}

@@ -1,5 +1,8 @@
 //! The program's work, over a reader and two writers.
-ghost use Rattle.std.specs.Prelude.{◌≤◌};
+ghost use Rattle.std.specs.Prelude.{◌≡◌, ◌≤◌, IfOk, OnOk};
+ghost use Rattle.std.specs.Io.KnownBytes.{Appends};
+ghost use Rattle.spa_format.specs.Front.{HasFront, rest_of};
+ghost use Rattle.meet.specs.Answers.{IsAllOf, WritesMeeting};
 
 use libspa::pod::Pod;
 use spa_negotiate::{NegotiateError, Side, negotiate_pods};
@@ -76,7 +79,9 @@ pub fn run<R: Read, W: Write, E: Write>(
     output: &mut W,
     faults: &mut E,
 ) -> u8
-    ensures { result ≤ 1 }
+    ensures status { result ≤ 1 }
+    // It is 0 only where the input is two objects that meet, and one in which they do was written.
+    ensures met { result ≡ 0 → WritesMeeting (R.remaining input.old) (W.contents output.old) (W.contents output.new) }
 {
     match meet(alloc, input, output) {
         Ok(()) => DONE,
@@ -88,11 +93,13 @@ pub fn run<R: Read, W: Write, E: Write>(
 }
 
 /// Writes the object on which the two of the input agree.
-fn meet<R: Read, W: Write>(alloc: Global, input: &mut R, output: &mut W) -> Result<(), Failure> {
+fn meet<R: Read, W: Write>(alloc: Global, input: &mut R, output: &mut W) -> Result<(), Failure>
+    ensures { OnOk result (WritesMeeting (R.remaining input.old) (W.contents output.old) (W.contents output.new)) }
+{
     let bytes = read_whole(alloc, input)?;
-    let (first, others) = split_front(bytes.as_slice());
-    let (second, rest) = split_front(others);
-    if !rest.is_empty() {
+    let first = bytes.as_slice();
+    let second = behind_front(first);
+    if !behind_front(second).is_empty() {
         return Err(Failure::More);
     }
     match negotiate_pods(alloc, first, second) {
@@ -101,16 +108,20 @@ fn meet<R: Read, W: Write>(alloc: Global, input: &mut R, output: &mut W) -> Resu
     }
 }
 
-/// The whole pod at the front, and what follows it; all of the bytes, and nothing, where none is there.
-fn split_front(bytes: &[u8]) -> (&[u8], &[u8]) {
+/// What follows the whole pod at the front; nothing where none is there.
+fn behind_front(bytes: &[u8]) -> &[u8]
+    ensures { HasFront bytes.now → result.now ≡ rest_of bytes.now }
+{
     match Pod::from_bytes(bytes) {
-        Some(pod) => bytes.split_at(pod.extent()),
-        None => (bytes, &[]),
+        Some(pod) => &bytes[pod.extent()..],
+        None => &[],
     }
 }
 
 /// All bytes that the reader gives.
-fn read_whole<R: Read>(alloc: Global, input: &mut R) -> Result<Vec<u8>, Failure> {
+fn read_whole<R: Read>(alloc: Global, input: &mut R) -> Result<Vec<u8>, Failure>
+    ensures { IfOk result (λ bytes. IsAllOf (R.remaining input.old) bytes.items) }
+{
     let mut bytes = Vec::new(alloc);
     match input.read_to_end(&mut bytes) {
         Ok(_) => Ok(bytes),
@@ -122,9 +133,11 @@ fn read_whole<R: Read>(alloc: Global, input: &mut R) -> Result<Vec<u8>, Failure>
 }
 
 /// Writes all bytes.
-fn write_whole<W: Write>(output: &mut W, bytes: &[u8]) -> Result<(), Failure> {
-    match output.write_all(bytes).and_then(|()| output.flush()) {
-        Ok(()) => Ok(()),
-        Err(_) => Err(Failure::WriteFailed),
+fn write_whole<W: Write>(output: &mut W, bytes: &[u8]) -> Result<(), Failure>
+    ensures { OnOk result (Appends (W.contents output.old) (W.contents output.new) bytes.now) }
+{
+    if output.write_all(bytes).is_err() || output.flush().is_err() {
+        return Err(Failure::WriteFailed);
     }
+    Ok(())
 }

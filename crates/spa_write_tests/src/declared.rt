@@ -135,14 +135,14 @@ fn cut_pods_are_refused(rt: HostRuntime) -> Result<(), Fail> {
     let alloc = rt.alloc();
     let curve = bytes_spelled(alloc, CURVE)?;
     for len in 0..curve.len() {
-        assert_refusal(&rt, read_again::<Curve>(alloc, &curve[..len]), "Nom", len);
+        assert_refusal(&rt, read_again::<Curve>(alloc, &curve[..len]), "Short", len);
     }
     let format = bytes_spelled(alloc, FORMAT)?;
     for len in 0..format.len() {
         assert_refusal(
             &rt,
             read_again::<AudioFormat>(alloc, &format[..len]),
-            "Nom",
+            "Short",
             len,
         );
     }
@@ -159,7 +159,7 @@ fn other_pods_are_refused(rt: HostRuntime) -> Result<(), Fail> {
             "96 14 3 8 28789 0 4 4 1 0 4 3 7 0 20 13 4 6 1 2 3 0 4 4 1 0",
             "UnreadMembers",
         ),
-        ("80 14 3 8 28789 0 4 4 1 0 4 4 7 0 20 13 4 6 1 2 3 0", "Nom"),
+        ("80 14 3 8 28789 0 4 4 1 0 4 4 7 0 20 13 4 6 1 2 3 0", "Tag"),
     ];
     for (index, (words, wanted)) in rows.iter().enumerate() {
         let input = bytes_spelled(alloc, words)?;

@@ -48,3 +48,23 @@ IsChanged answer = IsDone answer ⊎ IsInvalid answer
 -- what a write of bytes that are there answers
 abbrev pub IsPut : ℤ → Type 0
 IsPut answer = IsDone answer ⊎ IsNoRoom answer
+
+-- -ENOENT
+abbrev pub IsMissing : ℤ → Type 0
+IsMissing answer = IsFailure 2 answer
+
+-- -EPROTO
+abbrev pub IsOther : ℤ → Type 0
+IsOther answer = IsFailure 71 answer
+
+-- what a search for a property refuses
+abbrev pub IsUnfound : ℤ → Type 0
+IsUnfound answer = IsInvalid answer ⊎ IsMissing answer
+
+-- what a read of a property answers
+abbrev pub IsRead : ℤ → Type 0
+IsRead answer = IsDone answer ⊎ IsOther answer ⊎ IsUnfound answer
+
+-- what a read of a text answers
+abbrev pub IsTextRead : ℤ → Type 0
+IsTextRead answer = IsNoRoom answer ⊎ IsRead answer

@@ -14,3 +14,9 @@ pub(crate) const INVALID: i32 = -22;
 
 /// The output is too short: `-ENOSPC`.
 pub(crate) const NO_ROOM: i32 = -28;
+
+/// The object has no property with the key: `-ENOENT`.
+pub(crate) const MISSING: i32 = -2;
+
+/// The value under the key is of another type: `-EPROTO`.
+pub(crate) const OTHER: i32 = -71;

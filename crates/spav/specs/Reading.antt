@@ -1,5 +1,5 @@
 -- What is read of the front of an input, and of a property of the object there: docs/CAPI.md, "Reading".
-use Rattle.std.specs.Prelude.{◌≡◌, ℕ, ℤ, List, drop, Option, None, Some}
+use Rattle.std.specs.Prelude.{◌≡◌, ℕ, List, drop, Option, None, Some}
 use Rattle.spa_format.specs.Words.{body_of, header_size}
 use Rattle.spa_format.specs.Kind.{Kind, Fixed, content}
 use Rattle.spa_format.specs.Front.{HasFront, front_of}

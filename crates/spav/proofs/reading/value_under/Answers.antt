@@ -1,4 +1,4 @@
-use Rattle.std.proofs.Common.{◌≡◌, ◌∙◌, sym, ap, subst}
+use Rattle.std.proofs.Common.{◌∙◌, sym, ap, subst}
 use Rattle.spa_format.specs.Walk.{first_with_key, properties_of, property_walk}
 use Rattle.spa_view.specs.Tests.{IsObjectPod}
 use Rattle.spa_view.specs.View.{prop_bytes}

@@ -24,9 +24,11 @@ static int utf8(const uint8_t *p, size_t n) {
 		if (c < 0xc2 || c > 0xf4) return 0;
 		if (c < 0xe0) { if (n - i < 2 || (p[i + 1] & 0xc0) != 0x80) return 0; i += 2; }
 		else if (c < 0xf0) { if (n - i < 3 || (p[i + 1] & 0xc0) != 0x80 || (p[i + 2] & 0xc0) != 0x80) return 0;
-			if ((c == 0xe0 && p[i + 1] < 0xa0) || (c == 0xed && p[i + 1] > 0x9f)) return 0; i += 3; }
+			if ((c == 0xe0 && p[i + 1] < 0xa0) || (c == 0xed && p[i + 1] > 0x9f)) return 0;
+			i += 3; }
 		else { if (n - i < 4 || (p[i + 1] & 0xc0) != 0x80 || (p[i + 2] & 0xc0) != 0x80 || (p[i + 3] & 0xc0) != 0x80) return 0;
-			if ((c == 0xf0 && p[i + 1] < 0x90) || (c == 0xf4 && p[i + 1] > 0x8f)) return 0; i += 4; }
+			if ((c == 0xf0 && p[i + 1] < 0x90) || (c == 0xf4 && p[i + 1] > 0x8f)) return 0;
+			i += 4; }
 	}
 	return 1;
 }

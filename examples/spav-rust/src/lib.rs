@@ -225,3 +225,61 @@ impl AsRef<[u8]> for Pods {
         &self.0
     }
 }
+
+#[cfg(test)]
+mod tests {
+    use super::*;
+
+    fn bytes(words: &[u32]) -> Vec<u8> {
+        words.iter().flat_map(|word| word.to_le_bytes()).collect()
+    }
+
+    /// An object: under 1 an Int, under 2 a Range of Ints, under 3 the text "ab".
+    fn object() -> Vec<u8> {
+        bytes(&[
+            104, 15, 5, 3, 1, 0, 4, 4, 9, 0, 2, 0, 28, 19, 1, 0, 4, 4, 5, 2, 10, 0, 3, 0, 3, 8, 0x6261, 0,
+        ])
+    }
+
+    #[test]
+    fn properties_are_read() {
+        let (pod, mut out) = (object(), [0; 3]);
+        assert_eq!(int(&pod, 1), Ok(9));
+        assert_eq!(int(&pod, 2), Err(Error::OtherType));
+        assert_eq!(int(&pod, 4), Err(Error::NoKey));
+        assert_eq!(int(&[], 4), Err(Error::NoObject));
+        assert_eq!(text(&pod, 3, &mut out), Ok(&b"ab"[..]));
+        assert_eq!(text(&pod, 3, &mut out[..2]), Err(Error::NoRoom(3)));
+    }
+
+    #[test]
+    fn a_range_becomes_its_default() {
+        let mut pod = object();
+        assert_eq!(fixate(&mut pod), Ok(()));
+        assert_eq!(is_canonical(&pod), Ok(false));
+        let pods = Pods::new(&pod).unwrap();
+        assert_eq!(pods.as_bytes().len(), pod.len() - 8);
+        assert_eq!(is_canonical(pods.as_bytes()), Ok(true));
+        assert_eq!(fixate(&mut []), Err(Error::NoObject));
+    }
+
+    #[test]
+    fn refusals_say_where() {
+        let mut two = object();
+        two.extend(bytes(&[4, 5, 0, 0]));
+        assert_eq!(check(&two), Err(Error::Refused(112)));
+        assert_eq!(Pods::new(&two), Err(Error::Refused(112)));
+        assert_eq!(rewrite_into(&object(), &mut [0; 111]), Err(Error::NoRoom(112)));
+        assert_eq!(check(&[]), Ok(()));
+    }
+
+    #[test]
+    fn walks_go_inside() {
+        let pods = Pods::new(&object()).unwrap();
+        let pod = pods.walk().next().unwrap();
+        let inside: Vec<_> = pod.inside().map(|it| (it.property, it.type_, it.body.len())).collect();
+        assert_eq!(inside, [(Some((1, 0)), 4, 4), (Some((2, 0)), 19, 28), (Some((3, 0)), 8, 3)]);
+        assert!(nests_within(pod.bytes, 1) && !nests_within(pod.bytes, 0));
+        assert!(pod.inside().next().unwrap().inside().next().is_none());
+    }
+}

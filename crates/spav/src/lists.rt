@@ -1,5 +1,5 @@
 //! Lists of pods, rewritten into the caller's memory and checked.
-ghost use Rattle.std.specs.Prelude.{◌≡◌, ◌≤◌, ◌+◌, ◌++◌, drop, length};
+ghost use Rattle.std.specs.Prelude.{◌≡◌, ◌<◌, ◌++◌, drop, length};
 ghost use Rattle.spa_format.specs.Pod.{AreMembers};
 ghost use Rattle.spa_format.specs.Tree.{Trees};
 ghost use Rattle.spa_scan.specs.Depth.{AreShallow, levels_looked_into};
@@ -8,7 +8,7 @@ ghost use Rattle.spav.specs.Lists.{ListIsRefused, ListIsWritten, ListLacksRoom};
 
 use crate::answers::{DONE, INVALID, NO_MEMORY, NO_ROOM};
 use spa_fixed::DeserializeError;
-use spa_rewrite::{accept_all, rewrite_in_parts};
+use spa_rewrite::{accept_all, rewrite_all};
 use spa_scan::canonical_stretch;
 use std::alloc::Global;
 
@@ -35,10 +35,11 @@ pub extern "C" fn spav_rewrite(
 {
     let (_, others) = canonical_stretch(input);
     if others.is_empty() {
-        return put_parts(input, &[], out, written);
+        return put_front(input, out, written);
     }
-    match rewrite_in_parts(alloc, input) {
-        Ok((first, rewritten)) => put_parts(first, rewritten.as_slice(), out, written),
+    let mut rewritten = Vec::new(alloc);
+    match rewrite_all(alloc, input, &mut rewritten) {
+        Ok(()) => put_front(rewritten.as_slice(), out, written),
         Err((_left, DeserializeError::OutOfMemory)) => NO_MEMORY,
         Err((left, _)) => {
             *at = input.len() - left.len();
@@ -65,27 +66,25 @@ pub extern "C" fn spav_check(alloc: Global, input: &[u8], at: &mut usize) -> i32
     match accept_all(alloc, input) {
         Ok(()) => DONE,
         Err((_left, DeserializeError::OutOfMemory)) => NO_MEMORY,
-        Err((left, _)) => {
-            *at = input.len() - left.len();
+        Err((behind, _)) => {
+            *at = input.len() - behind.len();
             INVALID
         }
     }
 }
 
-/// Puts the bytes of two parts at the front of the output, where they fit, and says how many they are.
-fn put_parts(first: &[u8], second: &[u8], out: &mut [u8], written: &mut usize) -> i32
-    ensures done { IsDone result → out.new ≡ (first.now ++ second.now) ++ drop (length first.now + length second.now) out.old }
-    ensures counted { written.new ≡ length first.now + length second.now }
-    ensures room { IsNoRoom result → ¬ (length first.now + length second.now ≤ length out.old) }
+/// Puts bytes at the front of the output, where they fit, and says how many they are.
+fn put_front(bytes: &[u8], out: &mut [u8], written: &mut usize) -> i32
+    ensures done { IsDone result → out.new ≡ bytes.now ++ drop (length bytes.now) out.old }
+    ensures counted { written.new ≡ length bytes.now }
+    ensures room { IsNoRoom result → length out.old < length bytes.now }
     ensures answers { IsPut result }
     ensures unchanged { ¬ (IsDone result) → out.new ≡ out.old }
 {
-    let end = first.len() + second.len();
-    *written = end;
-    if out.len() < end {
+    *written = bytes.len();
+    if out.len() < bytes.len() {
         return NO_ROOM;
     }
-    out[..first.len()].copy_from_slice(first);
-    out[first.len()..end].copy_from_slice(second);
+    out[..bytes.len()].copy_from_slice(bytes);
     DONE
 }

@@ -1,5 +1,6 @@
-/* Each request for memory is refused in turn: the answer is then -ENOMEM and nothing else, the output is as it was, and all memory is given
- * back. What is its own rewriting asks for none. Linked with --wrap=malloc and --wrap=realloc. */
+/* Each request for memory is refused in turn, alone or with all after it. From it on refused, the answer is -ENOMEM and the output is as it was;
+ * refused alone, the answer may also be that of a call with memory, since what isn't got at once is asked for bit by bit. All memory is
+ * given back. What is its own rewriting asks for none. Linked with --wrap=malloc, --wrap=realloc and --wrap=free. */
 #include <errno.h>
 #include <stdio.h>
 #include <stdlib.h>
@@ -8,13 +9,31 @@
 
 void *__real_malloc(size_t n);
 void *__real_realloc(void *block, size_t n);
-static long asked, refuse_at;
+void __real_free(void *block);
+static long asked, refuse_at, held;
+static bool and_after;
 
-static bool is_refused(void) { return ++asked == refuse_at; }
+static bool is_refused(void) {
+	asked++;
+	return refuse_at && (and_after ? asked >= refuse_at : asked == refuse_at);
+}
 void *__wrap_malloc(size_t n);
-void *__wrap_malloc(size_t n) { return is_refused() ? NULL : __real_malloc(n); }
+void *__wrap_malloc(size_t n) {
+	void *block = is_refused() ? NULL : __real_malloc(n);
+	held += block != NULL;
+	return block;
+}
 void *__wrap_realloc(void *block, size_t n);
-void *__wrap_realloc(void *block, size_t n) { return is_refused() ? NULL : __real_realloc(block, n); }
+void *__wrap_realloc(void *block, size_t n) {
+	void *moved = is_refused() ? NULL : __real_realloc(block, n);
+	held += !block && moved;
+	return moved;
+}
+void __wrap_free(void *block);
+void __wrap_free(void *block) {
+	held -= block != NULL;
+	__real_free(block);
+}
 
 #define SEE(fact) do { if (!(fact)) { fprintf(stderr, "line %d: %s\n", __LINE__, #fact); exit(1); } } while (0)
 
@@ -25,28 +44,35 @@ static const uint32_t noisy[] = {
 };
 
 static void refuse_each(const void *in, size_t n, bool may_ask) {
-	uint8_t out[1024], before[1024];
-	size_t written, at;
+	static uint8_t wanted[1024], out[1024], before[1024];
+	size_t len, written, at;
 	memset(before, 0xee, sizeof before);
+	refuse_at = 0;
+	SEE(spav_rewrite(in, n, wanted, sizeof wanted, &len, &at) == 0 && held == 0);
 	for (refuse_at = 1;; refuse_at++) {
 		asked = 0;
 		memset(out, 0xee, sizeof out);
 		int32_t answer = spav_rewrite(in, n, out, sizeof out, &written, &at);
+		SEE(held == 0);
 		if (asked < refuse_at) {
 			SEE(answer == 0);
 			break;
 		}
-		SEE(answer == -ENOMEM && !memcmp(out, before, sizeof out));
+		if (answer == 0)
+			SEE(!and_after && written == len && !memcmp(out, wanted, len));
+		else
+			SEE(answer == -ENOMEM && !memcmp(out, before, sizeof out));
 	}
 	SEE(may_ask == (refuse_at > 1));
 	for (refuse_at = 1;; refuse_at++) {
 		asked = 0;
 		int32_t answer = spav_check(in, n, &at);
+		SEE(held == 0);
 		if (asked < refuse_at) {
 			SEE(answer == 0);
 			break;
 		}
-		SEE(answer == -ENOMEM);
+		SEE(answer == -ENOMEM || (answer == 0 && !and_after));
 	}
 	SEE(may_ask == (refuse_at > 1));
 }
@@ -68,21 +94,24 @@ static void refuse_deep(void) {
 	for (refuse_at = 1;; refuse_at++) {
 		asked = 0;
 		int32_t answer = spav_is_canonical(deep, LEN);
+		SEE(held == 0);
 		if (asked < refuse_at) {
 			SEE(answer == 1 && refuse_at > 1);
 			break;
 		}
-		SEE(answer == -ENOMEM);
+		SEE(answer == -ENOMEM || (answer == 1 && !and_after));
 	}
 }
 
 int main(void) {
 	static uint8_t own[1024];
 	size_t written, at;
-	refuse_each(noisy, sizeof noisy, true);
-	refuse_at = 0;
 	SEE(spav_rewrite(noisy, sizeof noisy, own, sizeof own, &written, &at) == 0);
-	refuse_each(own, written, false);
-	refuse_deep();
+	for (int i = 0; i < 2; i++) {
+		and_after = i == 1;
+		refuse_each(noisy, sizeof noisy, true);
+		refuse_each(own, written, false);
+		refuse_deep();
+	}
 	return 0;
 }

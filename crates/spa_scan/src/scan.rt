@@ -1,5 +1,5 @@
 //! Pods that are their own rewriting, found by one look that writes nothing and takes no memory.
-ghost use Rattle.std.specs.Prelude.{◌≡◌, ◌+◌, ◌<◌, ◌≤◌, ◌++◌, IfNone, IfSome, List, length, true, ℕ};
+ghost use Rattle.std.specs.Prelude.{◌≡◌, ◌+◌, ◌<◌, ◌≤◌, ◌++◌, IfNone, IfSome, List, [], length, true, ℕ};
 ghost use Rattle.spa_format.specs.Front.{HasFront};
 ghost use Rattle.spa_scan.specs.Canonical.{AreCanonical, AreCanonicalProperties, BeginsCanonical, BeginsCanonicalProperty, IsCanonicalBody, IsSized};
 ghost use Rattle.spa_scan.specs.Depth.{AreShallow, AreShallowProperties, IsShallowBody, depth_of, levels_looked_into};
@@ -43,6 +43,8 @@ pub fn canonical_stretch(input: &[u8]) -> (&[u8], &[u8])
     ensures parts { input.now ≡ result.0.now ++ result.1.now }
     ensures canonical { AreCanonical result.0.now }
     ensures front { 0 < length result.0.now → HasFront input.now }
+    // Nothing follows where the input is such pods that nest no deeper.
+    ensures all { AreShallow levels_looked_into input.now → result.1.now ≡ [] }
 {
     let mut left = input;
     while let Some(rest) = canonical_front(left) {

@@ -1,0 +1,37 @@
+#!/usr/bin/env bash
+# run.sh: instructions of a rewriting by libspav (make -C capi) and by the second implementation in C, counted by callgrind: 1,000 pods of
+# examples/, as they are and with noise in their padding, all in one call; and a call for each of 1,000 Props of about 100 bytes.
+# A count is the difference of two runs that rewrite 2 and 12 times, a tenth of it: the start of the program is in neither.
+set -eu
+here=$(dirname "$(readlink -f "${BASH_SOURCE[0]}")")
+root=$here/../..
+room=$(mktemp -d)
+trap 'rm -rf "$room"' EXIT
+gcc -O2 -g -Wall -I"$root/capi" "$here/calls.c" -c -o "$room/calls.o"
+gcc -O3 -g "$here/one_pass.c" -c -o "$room/one_pass.o"
+gcc "$room/calls.o" "$room/one_pass.o" "${SPAV_LIB:-$root/capi/out}/libspav.a" -o "$room/calls"
+python3 - "$root" "$room" <<'PY'
+import pathlib, struct, sys
+root, room = map(pathlib.Path, sys.argv[1:])
+pods = [it.read_bytes() for it in sorted((root / "examples").glob("*.pod"))]
+(room / "mixed").write_bytes(b"".join(pods[i % len(pods)] for i in range(1000)))
+word = lambda *numbers: struct.pack(f"<{len(numbers)}I", *numbers)
+prop = lambda key: word(key, 0, 4, 4, key, 0)
+small = word(80, 15, 5, 3) + b"".join(prop(key) for key in (1, 2, 3))
+(room / "small").write_bytes(small * 1000)
+PY
+for it in mixed small; do "$room/calls" noise "$room/$it" 1 > "$room/$it-noise"; done
+count() {
+  local few many
+  few=$(valgrind --tool=callgrind --callgrind-out-file=/dev/null "$room/calls" "$1" "$room/$2" 2 2>&1 | sed -n 's/.*Collected : //p')
+  many=$(valgrind --tool=callgrind --callgrind-out-file=/dev/null "$room/calls" "$1" "$room/$2" 12 2>&1 | sed -n 's/.*Collected : //p')
+  echo $(((many - few) / 10))
+}
+echo '| Pods | second implementation | libspav | ratio |'
+echo '|---|---|---|---|'
+for row in mixed: mixed-noise: small:_each small-noise:_each; do
+  file=${row%:*} each=${row#*:}
+  one=$(count "one_pass$each" "$file")
+  ours=$(count "library$each" "$file")
+  echo "| $file$each | $one | $ours | $((ours * 100 / one))% |"
+done

@@ -1,0 +1,115 @@
+/* Compares libspav with the second implementation in C (../capi/one_pass.c), and asserts the laws of rewriting: rewriting twice changes
+ * nothing; is_canonical exactly where rewriting the front changes nothing; check accepts exactly what rewriting accepts; a refusal
+ * changes nothing and says where; an accepted object stays accepted under fixation. Inputs and outputs end at pages that can't be touched.
+ * With afl-clang-fast in persistent mode, else on the files that are named. */
+#include <errno.h>
+#include <stdio.h>
+#include <stdlib.h>
+#include <string.h>
+#include <sys/mman.h>
+#include <unistd.h>
+#include "spav.h"
+
+size_t one_pass(const uint8_t *in, size_t n, uint8_t *out);
+
+enum { MOST = 1 << 16, PAGE = 4096, UNTOUCHED = 0xee };
+
+#define SEE(fact) do { if (!(fact)) { fprintf(stderr, "line %d: %s\n", __LINE__, #fact); abort(); } } while (0)
+
+static uint8_t wanted[MOST], again[MOST];
+
+/* The end of a region behind which no byte can be touched. */
+static uint8_t *end_of_region(void) {
+	uint8_t *start = mmap(NULL, MOST + PAGE, PROT_READ | PROT_WRITE, MAP_PRIVATE | MAP_ANONYMOUS, -1, 0);
+	SEE(start != MAP_FAILED && !mprotect(start + MOST, PAGE, PROT_NONE));
+	return start + MOST;
+}
+
+static bool is_untouched(const uint8_t *bytes, size_t n) {
+	for (size_t i = 0; i < n; i++)
+		if (bytes[i] != UNTOUCHED)
+			return false;
+	return true;
+}
+
+static void try_rewriting(const uint8_t *in, size_t n, uint8_t *out) {
+	size_t len = one_pass(in, n, wanted), written = 0, at = 0, other = 0;
+	memset(out, UNTOUCHED, n);
+	int32_t answer = spav_rewrite(in, n, out, n, &written, &at);
+	if (len == SIZE_MAX) {
+		SEE(answer == -EINVAL && is_untouched(out, n) && at < n && one_pass(in, at, wanted) != SIZE_MAX);
+		SEE(spav_check(in, n, &other) == -EINVAL && other == at);
+		return;
+	}
+	SEE(answer == 0 && written == len && !memcmp(out, wanted, len) && is_untouched(out + len, n - len));
+	SEE(spav_check(in, n, &at) == 0);
+	SEE(spav_rewrite(out, len, again, MOST, &written, &at) == 0 && written == len && !memcmp(again, out, len));
+	if (len > 0)
+		SEE(spav_rewrite(in, n, again, len - 1, &written, &at) == -ENOSPC && written == len);
+}
+
+static void try_front(const uint8_t *in, size_t n, uint8_t *out) {
+	uint32_t type = 0, size = 0;
+	size_t whole = 0, at = 0;
+	bool is_there = spav_front(in, n, &type, &size, &whole);
+	size_t len = is_there ? one_pass(in, whole, wanted) : SIZE_MAX;
+	SEE(spav_is_canonical(in, n) == (is_there && len == whole && !memcmp(wanted, in, len)));
+	memcpy(out, in, n);
+	int32_t answer = spav_fixate(out, n);
+	SEE(answer == (is_there && type == 15 && size >= 8 ? 0 : -EINVAL));
+	if (answer)
+		SEE(!memcmp(out, in, n));
+	else if (len != SIZE_MAX)
+		SEE(spav_check(out, whole, &at) == 0);
+}
+
+/* Walks over all that is inside, and reads what is there. */
+static size_t walk_inside(struct spav_walk walk, unsigned depth) {
+	struct spav_pod pod;
+	size_t count = 0;
+	while (spav_next(&walk, &pod)) {
+		int32_t value;
+		count += 1 + (pod.whole ? pod.bytes[pod.whole - 1] : 0);
+		SEE(spav_int(pod.bytes, pod.whole, 1, &value) != -ENOSPC);
+		if (depth < 50)
+			count += walk_inside(spav_walk_inside(&pod), depth + 1);
+	}
+	return count;
+}
+
+static void try_all(const uint8_t *bytes, size_t n, uint8_t *in_end, uint8_t *out_end) {
+	if (n > MOST)
+		return;
+	uint8_t *in = in_end - n, *out = out_end - n;
+	memcpy(in, bytes, n);
+	try_rewriting(in, n, out);
+	try_front(in, n, out);
+	SEE(walk_inside(spav_walk_pods(in, n), 0) < SIZE_MAX);
+	SEE(!memcmp(in, bytes, n));
+}
+
+#ifdef __AFL_FUZZ_TESTCASE_LEN
+__AFL_FUZZ_INIT();
+#endif
+
+int main(int argc, char **argv) {
+	uint8_t *in = end_of_region(), *out = end_of_region();
+#ifdef __AFL_HAVE_MANUAL_CONTROL
+	(void)argc, (void)argv;
+	__AFL_INIT();
+	const uint8_t *bytes = __AFL_FUZZ_TESTCASE_BUF;
+	while (__AFL_LOOP(10000))
+		try_all(bytes, __AFL_FUZZ_TESTCASE_LEN, in, out);
+#else
+	static uint8_t bytes[MOST];
+	for (int i = 1; i < argc; i++) {
+		FILE *file = fopen(argv[i], "rb");
+		SEE(file);
+		size_t n = fread(bytes, 1, MOST, file);
+		fclose(file);
+		try_all(bytes, n, in, out);
+	}
+	printf("fuzz: %d files agree\n", argc - 1);
+#endif
+	return 0;
+}

@@ -1,0 +1,28 @@
+#!/usr/bin/env bash
+# run.sh SECONDS [FOLDER]: fuzzes libspav (make -C capi) for so long, on one processor at the lowest priority, and prints how many runs were made, how
+# many paths were found, and how many crashes and hangs. What is found stays in FOLDER (bench/out/fuzz), and the next run goes on with it.
+set -eu
+here=$(dirname "$(readlink -f "${BASH_SOURCE[0]}")")
+root=$(readlink -f "$here/../..")
+room=${2:-$root/bench/out/fuzz}
+mkdir -p "$room/in"
+command -v afl-clang-fast > /dev/null || { echo 'run.sh: there is no afl-clang-fast (Debian: afl++)' >&2; exit 2; }
+afl-clang-fast -O2 -g -Wno-everything -I"$root/capi" "$here/fuzz.c" "$root/bench/capi/one_pass.c" "${SPAV_LIB:-$root/capi/out}/libspav.a" -o "$room/fuzz"
+cp "$root"/examples/*.pod "$room/in/"
+python3 - "$root" "$room/in" <<'PY'
+import pathlib, sys
+root, room = map(pathlib.Path, sys.argv[1:])
+for name, lines in (("lists", 3), ("fixations", 3), ("built", 4)):
+    text = (root / f"crates/spa_tests/src/tables/{name}.rt").read_text()
+    rows = text[text.index('r#"') + 3 : text.index('"#;')].split("\n")
+    for i in range(0, len(rows), lines):
+        parts = rows[i + (name == "built")].split()
+        given = b"".join(bytes.fromhex(it[1:]) if it[0] == "x" else int(it).to_bytes(4, "little") for it in parts)
+        if 0 < len(given) <= 400:
+            (room / f"{name}-{i // lines}").write_bytes(given)
+PY
+begin=$room/in
+[ -d "$room/found" ] && begin=-
+AFL_NO_UI=1 AFL_SKIP_CPUFREQ=1 AFL_I_DONT_CARE_ABOUT_MISSING_CRASHES=1 AFL_NO_AFFINITY=1 \
+  nice -n 19 afl-fuzz -i "$begin" -o "$room/found" -V "$1" -- "$room/fuzz" > "$room/log" 2>&1 || { tail -5 "$room/log" >&2; exit 1; }
+grep -E '^(execs_done|execs_per_sec|corpus_count|saved_crashes|saved_hangs|run_time)' "$room/found/default/fuzzer_stats"

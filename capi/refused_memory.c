@@ -1,0 +1,117 @@
+/* Each request for memory is refused in turn, alone or with all after it. From it on refused, the answer is -ENOMEM and the output is as it was;
+ * refused alone, the answer may also be that of a call with memory, since what isn't got at once is asked for bit by bit. All memory is
+ * given back. What is its own rewriting asks for none. Linked with --wrap=malloc, --wrap=realloc and --wrap=free. */
+#include <errno.h>
+#include <stdio.h>
+#include <stdlib.h>
+#include <string.h>
+#include "spav.h"
+
+void *__real_malloc(size_t n);
+void *__real_realloc(void *block, size_t n);
+void __real_free(void *block);
+static long asked, refuse_at, held;
+static bool and_after;
+
+static bool is_refused(void) {
+	asked++;
+	return refuse_at && (and_after ? asked >= refuse_at : asked == refuse_at);
+}
+void *__wrap_malloc(size_t n);
+void *__wrap_malloc(size_t n) {
+	void *block = is_refused() ? NULL : __real_malloc(n);
+	held += block != NULL;
+	return block;
+}
+void *__wrap_realloc(void *block, size_t n);
+void *__wrap_realloc(void *block, size_t n) {
+	void *moved = is_refused() ? NULL : __real_realloc(block, n);
+	held += !block && moved;
+	return moved;
+}
+void __wrap_free(void *block);
+void __wrap_free(void *block) {
+	held -= block != NULL;
+	__real_free(block);
+}
+
+#define SEE(fact) do { if (!(fact)) { fprintf(stderr, "line %d: %s\n", __LINE__, #fact); exit(1); } } while (0)
+
+/* A Bool as 7, and an object with a struct in it that holds such a Bool and a choice with surplus values. */
+static const uint32_t noisy[] = {
+	4, 2, 7, 9,
+	80, 15, 5, 3, 1, 0, 56, 14, 4, 2, 7, 9, 28, 19, 0, 5, 4, 4, 1, 2, 3, 0, 0, 14, 0, 14, 0, 14,
+};
+
+static void refuse_each(const void *in, size_t n, bool may_ask) {
+	static uint8_t wanted[1024], out[1024], before[1024];
+	size_t len, written, at;
+	memset(before, 0xee, sizeof before);
+	refuse_at = 0;
+	SEE(spav_rewrite(in, n, wanted, sizeof wanted, &len, &at) == 0 && held == 0);
+	for (refuse_at = 1;; refuse_at++) {
+		asked = 0;
+		memset(out, 0xee, sizeof out);
+		int32_t answer = spav_rewrite(in, n, out, sizeof out, &written, &at);
+		SEE(held == 0);
+		if (asked < refuse_at) {
+			SEE(answer == 0);
+			break;
+		}
+		if (answer == 0)
+			SEE(!and_after && written == len && !memcmp(out, wanted, len));
+		else
+			SEE(answer == -ENOMEM && !memcmp(out, before, sizeof out));
+	}
+	SEE(may_ask == (refuse_at > 1));
+	for (refuse_at = 1;; refuse_at++) {
+		asked = 0;
+		int32_t answer = spav_check(in, n, &at);
+		SEE(held == 0);
+		if (asked < refuse_at) {
+			SEE(answer == 0);
+			break;
+		}
+		SEE(answer == -ENOMEM || (answer == 0 && !and_after));
+	}
+	SEE(may_ask == (refuse_at > 1));
+}
+
+/* Objects so deep in one another that is_canonical has to ask for memory. */
+static void refuse_deep(void) {
+	enum { LEVELS = 1200, LEN = 24 * LEVELS - 8 };
+	static uint32_t deep[LEN / 4];
+	for (uint32_t i = 0; i < LEVELS; i++) {
+		uint32_t *pod = deep + 6 * i;
+		pod[0] = LEN - 24 * i - 8;
+		pod[1] = 15;
+		pod[2] = 5;
+		pod[3] = 3;
+		if (i + 1 < LEVELS)
+			pod[4] = 1; /* the key */
+	}
+	SEE(spav_nests_within(deep, LEN, LEVELS - 1) == 0 && spav_nests_within(deep, LEN, LEVELS) == 1);
+	for (refuse_at = 1;; refuse_at++) {
+		asked = 0;
+		int32_t answer = spav_is_canonical(deep, LEN);
+		SEE(held == 0);
+		if (asked < refuse_at) {
+			SEE(answer == 1 && refuse_at > 1);
+			break;
+		}
+		SEE(answer == -ENOMEM || (answer == 1 && !and_after));
+	}
+}
+
+int main(void) {
+	static uint8_t own[1024];
+	size_t written, at;
+	SEE(spav_rewrite(noisy, sizeof noisy, own, sizeof own, &written, &at) == 0);
+	for (int i = 0; i < 2; i++) {
+		and_after = i == 1;
+		refuse_each(noisy, sizeof noisy, true);
+		refuse_each(own, written, false);
+		refuse_deep();
+	}
+	return 0;
+}

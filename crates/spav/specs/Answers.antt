@@ -1,0 +1,70 @@
+-- The numbers that the calls answer: docs/CAPI.md, "Answers".
+use Rattle.std.specs.Prelude.{◌≡◌, ◌⊎◌, ℕ, ℤ, pos, neg_ℤ}
+
+-- done, or no
+abbrev pub IsDone : ℤ → Type 0
+IsDone answer = answer ≡ pos 0
+
+-- yes
+abbrev pub IsYes : ℤ → Type 0
+IsYes answer = answer ≡ pos 1
+
+-- the error of this number, negated
+abbrev pub IsFailure : ℕ → ℤ → Type 0
+IsFailure number answer = answer ≡ neg_ℤ (pos number)
+
+-- -ENOMEM
+abbrev pub IsNoMemory : ℤ → Type 0
+IsNoMemory answer = IsFailure 12 answer
+
+-- -EINVAL
+abbrev pub IsInvalid : ℤ → Type 0
+IsInvalid answer = IsFailure 22 answer
+
+-- -ENOSPC
+abbrev pub IsNoRoom : ℤ → Type 0
+IsNoRoom answer = IsFailure 28 answer
+
+-- what a rewriting answers
+abbrev pub IsRewritten : ℤ → Type 0
+IsRewritten answer = IsDone answer ⊎ IsNoMemory answer ⊎ IsInvalid answer ⊎ IsNoRoom answer
+
+-- what a check answers
+abbrev pub IsChecked : ℤ → Type 0
+IsChecked answer = IsDone answer ⊎ IsNoMemory answer ⊎ IsInvalid answer
+
+-- what a question answers that takes no memory
+abbrev pub IsTold : ℤ → Type 0
+IsTold answer = IsDone answer ⊎ IsYes answer
+
+-- what a question answers that may take memory
+abbrev pub IsDecided : ℤ → Type 0
+IsDecided answer = IsTold answer ⊎ IsNoMemory answer
+
+-- what a change in place answers
+abbrev pub IsChanged : ℤ → Type 0
+IsChanged answer = IsDone answer ⊎ IsInvalid answer
+
+-- what a write of bytes that are there answers
+abbrev pub IsPut : ℤ → Type 0
+IsPut answer = IsDone answer ⊎ IsNoRoom answer
+
+-- -ENOENT
+abbrev pub IsMissing : ℤ → Type 0
+IsMissing answer = IsFailure 2 answer
+
+-- -EPROTO
+abbrev pub IsOther : ℤ → Type 0
+IsOther answer = IsFailure 71 answer
+
+-- what a search for a property refuses
+abbrev pub IsUnfound : ℤ → Type 0
+IsUnfound answer = IsInvalid answer ⊎ IsMissing answer
+
+-- what a read of a property answers
+abbrev pub IsRead : ℤ → Type 0
+IsRead answer = IsDone answer ⊎ IsOther answer ⊎ IsUnfound answer
+
+-- what a read of a text answers
+abbrev pub IsTextRead : ℤ → Type 0
+IsTextRead answer = IsNoRoom answer ⊎ IsRead answer

@@ -1,0 +1,50 @@
+-- What is read of the front of an input, and of a property of the object there: docs/CAPI.md, "Reading".
+use Rattle.std.specs.Prelude.{◌≡◌, ℕ, List, drop, Option, None, Some}
+use Rattle.spa_format.specs.Words.{body_of, header_size}
+use Rattle.spa_format.specs.Kind.{Kind, Fixed, content}
+use Rattle.spa_format.specs.Front.{HasFront, front_of}
+use Rattle.spa_format.specs.Walk.{first_with_key, properties_of, property_walk}
+use Rattle.spa_view.specs.Tests.{IsNulEnded, IsObjectPod, IsOfKind, before_nul}
+
+-- the front is there, and is an object's pod by its type and its size
+pub record BeginsObject (input : List ℕ) : Type 0 where
+  pub front : HasFront input
+  pub object : IsObjectPod (front_of input)
+
+-- the first property with this key of the object at the front, with key and flags, or none
+abbrev pub property_under : ℕ → List ℕ → Option (List ℕ)
+property_under key input = first_with_key key (property_walk (properties_of (front_of input)))
+
+-- this is the pod of that property's value
+pub record IsUnder (key : ℕ) (input pod : List ℕ) : Type 0 where
+  pub object : BeginsObject input
+  pub property : List ℕ
+  pub first : property_under key input ≡ Some property
+  pub value : pod ≡ drop header_size property
+
+-- an object is at the front, and no property of it has this key
+pub record HasNoneUnder (key : ℕ) (input : List ℕ) : Type 0 where
+  pub object : BeginsObject input
+  pub none : property_under key input ≡ None
+
+-- the value under this key is a pod for which the fact holds
+pub record HasUnder (key : ℕ) (input : List ℕ) (Holds : List ℕ → Type 0) : Type 0 where
+  pub pod : List ℕ
+  pub under : IsUnder key input pod
+  pub holds : Holds pod
+
+-- the value under this key is of this kind, and says this
+abbrev pub SaysUnder : Kind → ℕ → List ℕ → Fixed → Type 0
+SaysUnder kind key input said = HasUnder key input (λ pod. IsOfKind kind pod × (said ≡ content kind (body_of pod)))
+
+-- the value under this key isn't of this kind
+abbrev pub HasOtherUnder : Kind → ℕ → List ℕ → Type 0
+HasOtherUnder kind key input = HasUnder key input (λ pod. ¬ (IsOfKind kind pod))
+
+-- the value under this key is a string whose body ends in NUL, and this is its text
+abbrev pub HasTextUnder : ℕ → List ℕ → List ℕ → Type 0
+HasTextUnder key input text = HasUnder key input (λ pod. IsNulEnded pod × (text ≡ before_nul (body_of pod)))
+
+-- the value under this key is no such string
+abbrev pub HasNoTextUnder : ℕ → List ℕ → Type 0
+HasNoTextUnder key input = HasUnder key input (λ pod. ¬ (IsNulEnded pod))

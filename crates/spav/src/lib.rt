@@ -1,0 +1,20 @@
+//! The library for C: pods in the caller's memory are checked, rewritten, told apart, read and fixated.
+//!
+//! Each call answers 0 or more where it is done, and else the number of an error, negated.
+#![tactic(auto)]
+
+ghost use Rattle.std.specs.Prelude.{◌≡◌};
+
+mod answers;
+mod fixation;
+mod lists;
+mod questions;
+mod reading;
+
+/// The number of the interface that the header of the same number describes, as in the name of the shared library.
+#[unsafe(no_mangle)]
+pub extern "C" fn spav_abi() -> u32
+    ensures { result ≡ 0 }
+{
+    0
+}

@@ -1,0 +1,90 @@
+//! Lists of pods, rewritten into the caller's memory and checked.
+ghost use Rattle.std.specs.Prelude.{◌≡◌, ◌<◌, ◌++◌, drop, length};
+ghost use Rattle.spa_format.specs.Pod.{AreMembers};
+ghost use Rattle.spa_format.specs.Tree.{Trees};
+ghost use Rattle.spa_scan.specs.Depth.{AreShallow, levels_looked_into};
+ghost use Rattle.spav.specs.Answers.{IsChecked, IsDone, IsInvalid, IsNoMemory, IsNoRoom, IsPut, IsRewritten};
+ghost use Rattle.spav.specs.Lists.{ListIsRefused, ListIsWritten, ListLacksRoom};
+
+use crate::answers::{DONE, INVALID, NO_MEMORY, NO_ROOM};
+use spa_fixed::DeserializeError;
+use spa_rewrite::{accept_all, rewrite_all};
+use spa_scan::canonical_stretch;
+use std::alloc::Global;
+
+/// Writes the rewritings of all pods that the input consists of, one after another, to the front of `out`.
+///
+/// 0: `written` is their length, and what is behind them is as it was. -EINVAL: the input isn't pods one after another; the pod
+/// that begins at the byte `at` is refused. -ENOSPC: it is, and `written`, the length of the rewritings, is more than `out` has.
+/// -ENOMEM: memory was asked for and refused, which isn't asked for where the input is its own rewriting. Where the answer
+/// isn't 0, `out` is unchanged.
+#[unsafe(no_mangle)]
+pub extern "C" fn spav_rewrite(
+    alloc: Global,
+    input: &[u8],
+    out: &mut [u8],
+    written: &mut usize,
+    at: &mut usize,
+) -> i32
+    ensures done { IsDone result → ListIsWritten input.now written.new out.old out.new }
+    ensures refused { IsInvalid result → ListIsRefused input.now at.new }
+    ensures room { IsNoRoom result → ListLacksRoom input.now written.new out.old }
+    ensures memory { IsNoMemory result → ¬ (AreShallow levels_looked_into input.now) }
+    ensures answers { IsRewritten result }
+    ensures unchanged { ¬ (IsDone result) → out.new ≡ out.old }
+{
+    let (_, others) = canonical_stretch(input);
+    if others.is_empty() {
+        return put_front(input, out, written);
+    }
+    let mut rewritten = Vec::new(alloc);
+    match rewrite_all(alloc, input, &mut rewritten) {
+        Ok(()) => put_front(rewritten.as_slice(), out, written),
+        Err((_left, DeserializeError::OutOfMemory)) => NO_MEMORY,
+        Err((left, _)) => {
+            *at = input.len() - left.len();
+            INVALID
+        }
+    }
+}
+
+/// Whether the input is pods one after another.
+///
+/// 0: it is. -EINVAL: it isn't; the pod that begins at the byte `at` is refused. -ENOMEM: memory was asked for and refused, which
+/// isn't asked for where the input is its own rewriting.
+#[unsafe(no_mangle)]
+pub extern "C" fn spav_check(alloc: Global, input: &[u8], at: &mut usize) -> i32
+    ensures done { IsDone result → (values : Trees) × AreMembers values input.now }
+    ensures refused { IsInvalid result → ListIsRefused input.now at.new }
+    ensures memory { IsNoMemory result → ¬ (AreShallow levels_looked_into input.now) }
+    ensures answers { IsChecked result }
+{
+    let (_, others) = canonical_stretch(input);
+    if others.is_empty() {
+        return DONE;
+    }
+    match accept_all(alloc, input) {
+        Ok(()) => DONE,
+        Err((_left, DeserializeError::OutOfMemory)) => NO_MEMORY,
+        Err((behind, _)) => {
+            *at = input.len() - behind.len();
+            INVALID
+        }
+    }
+}
+
+/// Puts bytes at the front of the output, where they fit, and says how many they are.
+fn put_front(bytes: &[u8], out: &mut [u8], written: &mut usize) -> i32
+    ensures done { IsDone result → out.new ≡ bytes.now ++ drop (length bytes.now) out.old }
+    ensures counted { written.new ≡ length bytes.now }
+    ensures room { IsNoRoom result → length out.old < length bytes.now }
+    ensures answers { IsPut result }
+    ensures unchanged { ¬ (IsDone result) → out.new ≡ out.old }
+{
+    *written = bytes.len();
+    if out.len() < bytes.len() {
+        return NO_ROOM;
+    }
+    out[..bytes.len()].copy_from_slice(bytes);
+    DONE
+}

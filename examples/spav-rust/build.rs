@@ -1,0 +1,8 @@
+//! Links the library: from the folder that SPAV_LIB names, else from where libraries are installed.
+fn main() {
+    println!("cargo:rerun-if-env-changed=SPAV_LIB");
+    if let Ok(folder) = std::env::var("SPAV_LIB") {
+        println!("cargo:rustc-link-search=native={folder}");
+    }
+    println!("cargo:rustc-link-lib=spav");
+}

@@ -1,0 +1,44 @@
+//! `spav rewrite`: reads pods from standard input and writes their rewritings. `spav show`: writes a line for each pod and those inside it.
+use spav::{Error, Pod, Pods, Walk};
+use std::io::{self, Read, Write};
+use std::process::ExitCode;
+
+/// A line for each pod: depth, type, size. What is still to come at each level stands in a list.
+fn show(pods: Walk<'_>, to: &mut impl Write) -> io::Result<()> {
+    let mut levels = vec![pods];
+    while let Some(level) = levels.last_mut() {
+        let Some(pod) = level.next() else {
+            levels.pop();
+            continue;
+        };
+        let Pod { type_, body, .. } = pod;
+        writeln!(to, "{} {} {}", levels.len() - 1, type_, body.len())?;
+        levels.push(pod.inside());
+    }
+    Ok(())
+}
+
+fn main() -> ExitCode {
+    assert!(spav::is_fitting(), "another interface is linked");
+    let mut input = Vec::new();
+    if io::stdin().read_to_end(&mut input).is_err() {
+        return ExitCode::from(2);
+    }
+    let shown = std::env::args().nth(1).as_deref() == Some("show");
+    let done = match Pods::new(&input) {
+        _ if shown => show(spav::walk(&input), &mut io::BufWriter::new(io::stdout())),
+        Ok(pods) => io::stdout().write_all(pods.as_bytes()),
+        Err(error @ Error::Refused(_)) => {
+            eprintln!("{}", error);
+            return ExitCode::FAILURE;
+        }
+        Err(error) => {
+            eprintln!("{}", error);
+            return ExitCode::from(2);
+        }
+    };
+    match done {
+        Ok(()) => ExitCode::SUCCESS,
+        Err(_) => ExitCode::from(2),
+    }
+}

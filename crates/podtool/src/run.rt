@@ -139,8 +139,7 @@ fn show<R: Read, W: Write + Drop>(
     alloc: Global,
     input: &mut R,
     output: &mut Output<W>,
-) -> Result<(), Failure>
-{
+) -> Result<(), Failure> {
     let bytes = read_whole(alloc, input)?;
     if let Some(place) = first_short(bytes.as_slice()) {
         return Err(Failure::Pod {
@@ -205,7 +204,11 @@ fn read_whole<R: Read>(alloc: Global, input: &mut R) -> Result<Vec<u8>, Failure>
 }
 
 /// Writes all bytes, in two parts.
-fn write_whole<W: Write + Drop>(output: &mut Output<W>, first: &[u8], rest: &[u8]) -> Result<(), Failure>
+fn write_whole<W: Write + Drop>(
+    output: &mut Output<W>,
+    first: &[u8],
+    rest: &[u8],
+) -> Result<(), Failure>
     ensures taken { OnOk result (Appends (held W.contents output.old) (held W.contents output.new) (first.now ++ rest.now)) }
     ensures begun { OnErr result (Begins (held W.contents output.old) (held W.contents output.new) (first.now ++ rest.now)) }
     ensures cause { IfErr result (λ failure. failure ≡ Failure.WriteFailed) }

@@ -10,7 +10,9 @@ use crate::serializer::{PodSerialize, PodSerializer, SerializeSuccess};
 use crate::sized::write_sized;
 use crate::whole::written_since;
 use spa_fixed::{CanonicalFixedSizedPod, ChoiceElement};
-use spa_leaf::{put_alternatives, put_bitmap, put_bytes, put_elements, put_number, put_pointer, put_text};
+use spa_leaf::{
+    put_alternatives, put_bitmap, put_bytes, put_elements, put_number, put_pointer, put_text,
+};
 use spa_sink::{GenError, PodOutput};
 use spa_utils::Choice;
 use spa_value::Value;

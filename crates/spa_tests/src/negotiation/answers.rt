@@ -1,7 +1,7 @@
 //! What negotiation answers, as plain as the tests compare it: a test needs no clause of the library's.
 use crate::negotiation::objects::{Given, object};
-use spa_negotiate::{NegotiateError, negotiate};
 use libspa::pod::Object;
+use spa_negotiate::{NegotiateError, negotiate};
 use std::alloc::{AllocError, Global};
 use std::process::Abort;
 use std::test::Fail;

@@ -2,9 +2,9 @@
 use crate::negotiation::answers::answer_of;
 use crate::negotiation::objects::{object, property};
 use bitflags::Flags;
-use spa_negotiate::NegotiateError;
-use libspa::utils::{Choice, ChoiceEnum, ChoiceFlags};
 use libspa::pod::{ChoiceValue, Object, Value};
+use libspa::utils::{Choice, ChoiceEnum, ChoiceFlags};
+use spa_negotiate::NegotiateError;
 use std::alloc::{AllocError, Global};
 use std::test::Fail;
 

@@ -1,7 +1,7 @@
 //! Objects from the rows of a table.
 use bitflags::Flags;
-use libspa::utils::{Choice, ChoiceEnum, ChoiceFlags, Float32, Id};
 use libspa::pod::{ChoiceValue, Object, Property, PropertyFlags, Value};
+use libspa::utils::{Choice, ChoiceEnum, ChoiceFlags, Float32, Id};
 use std::alloc::{AllocError, Global};
 
 /// The type of a value, or of a choice's elements.

@@ -1,8 +1,8 @@
 //! Plain values that have no fixed size are admitted by themselves.
 use crate::negotiation::answers::answer_of;
 use crate::negotiation::objects::property;
-use spa_negotiate::NegotiateError;
 use libspa::pod::{Object, Value, ValueArray};
+use spa_negotiate::NegotiateError;
 use std::alloc::{AllocError, Global};
 use std::test::Fail;
 

@@ -1,7 +1,7 @@
 //! Types that are declared by what they are made of: written, read back, cut short, and written where they don't fit.
 use crate::compare::{assert_refused, assert_words, assert_written, put};
 use arrayvec::ArrayVec;
-use libspa::pod::deserialize::{PodDeserialize, PodDeserializer};
+use libspa::pod::deserialize::{DeserializeError, PodDeserialize, PodDeserializer};
 use libspa::pod::serialize::{GenError, PodSerialize};
 use libspa::utils::{Float32, Id};
 use spa_spelling::bytes_spelled;
@@ -55,17 +55,17 @@ fn declared_types_are_written(rt: HostRuntime) -> Result<(), Fail> {
     assert_written(&rt, alloc, &format(alloc, None)?, WITHOUT_CHANNELS)
 }
 
-/// What a read answers, written again behind how many bytes follow it; or the refusal's name.
+/// How many bytes follow what is read, and that written again; or why it isn't read.
 fn read_again<'de, P: PodDeserialize<'de> + PodSerialize + Drop>(
     alloc: Global,
     input: &'de [u8],
-) -> Result<(usize, Vec<u8>), &'static str> {
+) -> Result<(usize, Result<Vec<u8>, GenError>), DeserializeError<&'de [u8]>> {
     match PodDeserializer::deserialize_from::<P>(alloc, input) {
-        Ok((rest, it)) => match put(Vec::new(alloc), &it) {
-            Ok(written) => Ok((rest.len(), written)),
-            Err(_) => Err("not written"),
-        },
-        Err(e) => Err(e.kind()),
+        Ok((rest, it)) => {
+            let written = put(Vec::new(alloc), &it);
+            Ok((rest.len(), written))
+        }
+        Err(e) => Err(e),
     }
 }
 
@@ -73,16 +73,16 @@ fn read_again<'de, P: PodDeserialize<'de> + PodSerialize + Drop>(
 fn assert_again(
     rt: &impl Abort,
     alloc: Global,
-    found: Result<(usize, Vec<u8>), &'static str>,
+    found: Result<(usize, Result<Vec<u8>, GenError>), DeserializeError<&[u8]>>,
     wanted: &str,
 ) -> Result<(), Fail> {
     match found {
-        Ok((0, written)) => assert_words(rt, alloc, written.as_slice(), wanted),
+        Ok((0, Ok(written))) => assert_words(rt, alloc, written.as_slice(), wanted),
         Ok((_, written)) => {
             drop(written);
-            Err(Fail::new("bytes follow"))
+            Err(Fail::new("bytes follow, or it isn't written"))
         }
-        Err(kind) => Err(Fail::new(kind)),
+        Err(e) => Err(Fail::new(e.kind())),
     }
 }
 
@@ -119,15 +119,15 @@ fn properties_stand_in_any_order(rt: HostRuntime) -> Result<(), Fail> {
 /// Compares the refusal of these words.
 fn assert_refusal(
     rt: &impl Abort,
-    found: Result<(usize, Vec<u8>), &'static str>,
+    found: Result<(usize, Result<Vec<u8>, GenError>), DeserializeError<&[u8]>>,
     wanted: &str,
     at: usize,
 ) {
-    let Err(kind) = found else {
+    let Err(e) = found else {
         assert!(rt; false, "read at {at}");
         return;
     };
-    assert_eq!(rt; kind, wanted, "at {at}");
+    assert_eq!(rt; e.kind(), wanted, "at {at}");
 }
 
 #[test]

@@ -58,7 +58,7 @@ pub mod pod {
         pub use spa_write::{
             ArrayPodSerializer, ExactSerialize, Maybe, ObjectPodSerializer, PodSerialize,
             PodSerializer, SerializeAs, SerializeMembers, SerializeProperties, SerializeSuccess,
-            StructPodSerializer, laws, write_object, write_sized, write_struct,
+            StructPodSerializer, laws, write_object, write_sized, write_value, write_struct,
         };
     }
 

@@ -13,6 +13,8 @@ mod counting;
 #[cfg(test)]
 mod equality;
 #[cfg(test)]
+mod depth;
+#[cfg(test)]
 mod hostile_sizes;
 #[cfg(test)]
 mod reading;

@@ -1,11 +1,12 @@
 //! What bytes are written to.
-ghost use Rattle.std.specs.Prelude.{◌≡◌, ℕ, ◌+◌, ◌<◌, ◌≤◌, List, ◌++◌, length, take, drop, OnOk, OnErr, IfErr};
+ghost use Rattle.std.specs.Prelude.{◌≡◌, ℕ, ◌+◌, ◌<◌, ◌≤◌, List, ◌++◌, length, take, drop, OnOk, OnErr, OnSome, IfErr, IfSome};
 ghost use Rattle.spa_sink.specs.declared.gen_error.GenError.{GenError};
 ghost use Rattle.spa_sink.specs.declared.gen_error.GenError.TheVariants.{Full, TooLarge, NulInText, OutOfMemory};
 ghost use Rattle.std.proofs.Common.{ap, arith, append_assoc, length-append};
 
 use crate::gen_error::GenError;
 use arrayvec::ArrayVec;
+use std::alloc::Global;
 
 /// Takes bytes at its end.
 ///
@@ -22,6 +23,22 @@ pub trait PodSink: Drop {
         ensures ok { OnOk result (appends self.old bytes.now self.new) }
         ensures begun { OnErr result ((count : ℕ) × appends self.old (take count bytes.now) self.new) }
         ensures cause { IfErr result (λ e. refuses self.old (length bytes.now) self.new e) };
+
+    /// The allocator that its bytes lie in, where it has one. A writer may put together in memory of this allocator what it appends then:
+    /// so the sink may always refuse for want of memory, and be left as it was. A sink that has none keeps the default.
+    fn own_allocator(&self) -> Option<Global>
+        ensures memory { OnSome result ((n : ℕ) → refuses self.now n self.now OutOfMemory) }
+    {
+        None
+    }
+
+    /// How many bytes more it takes at the most, where it knows that. A writer may answer `Full` for more than these before it
+    /// appends a byte. A sink that doesn't know keeps the default.
+    fn room(&self) -> Option<usize>
+        ensures full { IfSome result (λ room. (n : ℕ) → room < n → refuses self.now n self.now Full) }
+    {
+        None
+    }
 
     ghost appends_more: { (a b c : Self) (xs ys : List ℕ) → appends a xs b → appends b ys c → appends a (xs ++ ys) c };
 
@@ -79,6 +96,11 @@ impl PodSink for Vec<u8> {
             Err(_) => Err(GenError::OutOfMemory),
         }
     }
+
+    #[inline(always)]
+    fn own_allocator(&self) -> Option<Global> {
+        Some(*self.allocator())
+    }
 }
 
 impl PodOutput for Vec<u8> {
@@ -120,6 +142,11 @@ impl<const N: usize> PodSink for ArrayVec<u8, N> {
             Ok(()) => Ok(()),
             Err(_) => Err(GenError::Full),
         }
+    }
+
+    #[inline(always)]
+    fn room(&self) -> Option<usize> {
+        Some(self.remaining_capacity())
     }
 }
 

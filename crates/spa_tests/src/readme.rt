@@ -10,18 +10,19 @@ use crate::readme::rewrite::{all_rewritten, say_the_same};
 use crate::readme::write::{encoded_int, encoded_pair};
 use libspa::utils::Id;
 use spa_spelling::bytes_spelled;
-use std::alloc::Global;
+use std::alloc::{AllocError, Global};
 use std::test::Fail;
 
 mod read {
-    use libspa::pod::Value;
     use libspa::pod::deserialize::{DeserializeError, PodDeserializer};
+    use libspa::pod::{Held, Value};
     use std::alloc::Global;
 
     /// How many properties the object at the front has.
     pub fn count(alloc: Global, bytes: &[u8]) -> Result<usize, DeserializeError<&[u8]>> {
         let (_rest, value) = PodDeserializer::deserialize_any_from(alloc, bytes)?;
-        match &value {
+        let held = Held::from(value);
+        match &*held {
             Value::Object(object) => Ok(object.properties.len()),
             _ => Ok(0),
         }
@@ -149,6 +150,28 @@ fn reads(rt: HostRuntime) -> Result<(), Fail> {
     let bytes = bytes_spelled(rt.alloc(), BUFFERS)?;
     let found = count_at(rt.alloc(), bytes.as_slice())?;
     assert_number(&rt, found, 5, "the properties");
+    Ok(())
+}
+
+/// How many structs stand in one another: more than a stack of 8 MB holds of a function that calls itself for each.
+const LEVELS: u32 = 100_000;
+
+/// So many structs, each but the innermost with one struct in it.
+fn nested_structs(alloc: Global) -> Result<Vec<u8>, AllocError> {
+    let mut bytes = Vec::new(alloc);
+    for outer in 0..LEVELS {
+        let size = 8 * (LEVELS - 1 - outer);
+        bytes.extend_from_slice(&size.to_le_bytes())?;
+        bytes.extend_from_slice(&14u32.to_le_bytes())?;
+    }
+    Ok(bytes)
+}
+
+#[test]
+fn reads_at_any_depth(rt: HostRuntime) -> Result<(), Fail> {
+    let bytes = nested_structs(rt.alloc())?;
+    let found = count_at(rt.alloc(), bytes.as_slice())?;
+    assert_number(&rt, found, 0, "the properties of a struct");
     Ok(())
 }
 

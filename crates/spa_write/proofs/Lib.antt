@@ -7,3 +7,6 @@ pub mod Stopping
 pub mod OpenPods
 pub mod OpenArrays
 pub mod Completing
+pub mod Nesting
+pub mod Counting
+pub mod Made

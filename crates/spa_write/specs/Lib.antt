@@ -3,3 +3,4 @@ pub mod Measured
 pub mod Unfinished
 pub mod Listed
 pub mod Complete
+pub mod Nesting

@@ -1,4 +1,5 @@
 //! Which of a struct's members, or of an object's properties, is the largest, without counting what is in it.
+use crate::count::{is_nested, left_of};
 use spa_value::{Property, Value};
 
 /// How many values are counted in each member at least, once more than one is a struct or an object.
@@ -77,40 +78,4 @@ fn properties_beyond(properties: &[Property], budget: usize) -> (u8, usize) {
         }
     }
     (found, place)
-}
-
-/// Is it a struct or an object?
-fn is_nested(value: &Value) -> bool {
-    matches!(value, Value::Struct(_) | Value::Object(_))
-}
-
-/// How much of this number is left by as many values as the value consists of. None: it consists of more.
-#[cycle(count)]
-fn left_of(value: &Value, number: usize) -> Option<usize> {
-    let left = number.checked_sub(1)?;
-    match value {
-        Value::Struct(members) => left_of_members(members.as_slice(), left),
-        Value::Object(object) => left_of_properties(object.properties.as_slice(), left),
-        _ => Some(left),
-    }
-}
-
-/// The same of values one after another.
-#[cycle(count)]
-fn left_of_members(members: &[Value], number: usize) -> Option<usize> {
-    let mut left = number;
-    for member in members {
-        left = left_of(member, left)?;
-    }
-    Some(left)
-}
-
-/// The same of properties one after another.
-#[cycle(count)]
-fn left_of_properties(properties: &[Property], number: usize) -> Option<usize> {
-    let mut left = number;
-    for property in properties {
-        left = left_of(&property.value, left)?;
-    }
-    Some(left)
 }

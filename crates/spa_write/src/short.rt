@@ -4,6 +4,7 @@ ghost use Rattle.spa_format.specs.Encoding.{encoding_of};
 ghost use Rattle.spa_format.specs.Tree as tree;
 ghost use Rattle.spa_format.specs.Typed.{IsTyped};
 ghost use Rattle.spa_format.specs.Words.{extent};
+ghost use Rattle.spa_format.specs.Writable.{IsWritable};
 ghost use Rattle.spa_value.specs.View.{view};
 ghost use Rattle.spa_write.specs.Measured.{AreShort, IsMeasured};
 
@@ -15,6 +16,7 @@ use spa_value::Value;
 pub(crate) fn short_encoding(value: &Value) -> Option<[u8; LONGEST_POD_LEN]>
     ensures encoding { IfSome result (λ pod. pod ≡ encoding_of (view value.now)) }
     ensures typed { OnSome result (IsTyped (view value.now)) }
+    ensures writable { OnSome result (IsWritable (view value.now)) }
 {
     match value {
         Value::Bool(value) => Some(short_pod(value)),
@@ -36,6 +38,7 @@ fn short_pod<T: CanonicalFixedSizedPod>(value: &T) -> [u8; LONGEST_POD_LEN]
     requires { extent T.SIZE ≡ LONGEST_POD_LEN }
     ensures encoding { result ≡ encoding_of (tree.fixed (T.fixed value.now)) }
     ensures typed { IsTyped (tree.fixed (T.fixed value.now)) }
+    ensures writable { IsWritable (tree.fixed (T.fixed value.now)) }
 {
     pod_bytes(value)
 }

@@ -1,6 +1,7 @@
 //! Values with their members, written front to back: each size is computed before it is written.
-ghost use Rattle.std.specs.Prelude.{◌≡◌, ◌+◌, ◌<◌, ◌++◌, ℕ, IfErr, IfOk, IfSome, OnErr, OnOk, Some, drop, length, take};
+ghost use Rattle.std.specs.Prelude.{◌≡◌, ◌+◌, ◌<◌, ◌++◌, ◌⊎◌, ℕ, IfErr, IfOk, IfSome, OnErr, OnOk, Some, drop, length, take};
 ghost use Rattle.spa_sink.specs.Writing.{Begun, RefusesPiece};
+ghost use Rattle.spa_sink.specs.declared.gen_error.GenError.TheVariants.{OutOfMemory};
 ghost use Rattle.spa_format.specs.Encoding.{encoding_of, member_encodings, property_encodings};
 ghost use Rattle.spa_format.specs.Tree as tree;
 ghost use Rattle.spa_format.specs.Writable.{HasNul, IsTooLarge, IsWritable};
@@ -10,7 +11,9 @@ ghost use Rattle.spa_write.specs.Measured.{ArePropertiesPut, ArePut, PropertiesA
 ghost use Rattle.spa_leaf.specs.Written.{IsLeaf, IsPut, Stops};
 ghost use Rattle.spa_format.specs.Words.{header_size, size_limit, word_bytes};
 
+use crate::count::{is_beyond, is_nested};
 use crate::largest::{largest_member, largest_property};
+use crate::nested::write_by_loop;
 use crate::short::short_encoding;
 use crate::size::{encoded_len, members_len, properties_len};
 use bitflags::Flags;
@@ -19,11 +22,51 @@ use spa_leaf::{put_clean_text, put_leaf};
 use spa_sink::{GenError, PodSink, put_two};
 use spa_utils::SpaTypes;
 use spa_value::{Property, Value};
+use std::alloc::Global;
 
 /// Appends the encoding of a value to any sink, front to back, and answers its length. A text with NUL and a size of
 /// 4294967296 or more are refused before a byte is appended. Where the sink refuses it, the sink has taken a beginning of
-/// the encoding. It takes no memory of its own.
+/// the encoding.
+///
+/// Where the sink names an allocator, the encoding of a struct or of an object is put together in memory of that one by a
+/// loop, and appended at once. Into any other sink it is written by functions that call themselves for each level of
+/// nesting, and takes no memory. Where such a sink knows how much room it has, no call is nested deeper than an eighth of it:
+/// a value that consists of more values than that is refused as `Full` before anything else is looked at.
 pub fn write_sized<S: PodSink>(sink: &mut S, value: &Value) -> Result<u64, GenError>
+    ensures put { OnOk result (IsPut S.appends sink.old (view value.now) sink.new) }
+    ensures count { IfOk result (λ n. n ≡ length (encoding_of (view value.now))) }
+    ensures begun { OnErr result (Begun S.appends sink.old (encoding_of (view value.now)) sink.new) }
+    ensures refused { IfErr result (RefusesPiece (HasNul (view value.now)) (IsTooLarge (view value.now)) (S.refuses sink.old (length (encoding_of (view value.now))) sink.new) sink.old sink.new) }
+{
+    if !is_nested(value) {
+        return write_measured(sink, value);
+    }
+    if let Some(alloc) = sink.own_allocator() {
+        return write_value(alloc, sink, value);
+    }
+    if is_beyond(sink.room(), value) {
+        return Err(GenError::Full);
+    }
+    write_measured(sink, value)
+}
+
+/// Appends the encoding of a value to any sink, at once, and answers its length. It is put together by a loop, in memory of
+/// this allocator: so a value may be nested as deep as it likes, whatever the sink is. A text with NUL, a size of 4294967296
+/// or more, and want of that memory are refused before a byte is appended. Where the sink refuses it, the sink has taken a
+/// beginning of the encoding.
+pub fn write_value<S: PodSink>(alloc: Global, sink: &mut S, value: &Value) -> Result<u64, GenError>
+    ensures put { OnOk result (IsPut S.appends sink.old (view value.now) sink.new) }
+    ensures count { IfOk result (λ n. n ≡ length (encoding_of (view value.now))) }
+    ensures begun { OnErr result (Begun S.appends sink.old (encoding_of (view value.now)) sink.new) }
+    ensures refused { IfErr result (RefusesPiece (HasNul (view value.now)) (IsTooLarge (view value.now)) (λ e. (e ≡ OutOfMemory) × (sink.new ≡ sink.old) ⊎ S.refuses sink.old (length (encoding_of (view value.now))) sink.new e) sink.old sink.new) }
+{
+    let made = write_by_loop(alloc, value)?;
+    sink.append(made.as_slice())?;
+    Ok(made.len() as u64)
+}
+
+/// Appends the encoding of a value, whose sizes are computed before they are written.
+fn write_measured<S: PodSink>(sink: &mut S, value: &Value) -> Result<u64, GenError>
     ensures put { OnOk result (IsPut S.appends sink.old (view value.now) sink.new) }
     ensures count { IfOk result (λ n. n ≡ length (encoding_of (view value.now))) }
     ensures begun { OnErr result (Begun S.appends sink.old (encoding_of (view value.now)) sink.new) }

@@ -1,0 +1,172 @@
+//! Structs and objects that stand deep in one another, through each call that writes, compares, copies or shows them.
+use crate::compare::assert_holds;
+use crate::counting::{nested, nested_objects, read};
+use arrayvec::ArrayVec;
+use spa_builder::Builder;
+use spa_device::IoSink;
+use spa_sink::GenError;
+use spa_utils::{Errno, Frame};
+use spa_value::{Held, Value, same};
+use spa_view::Pod;
+use spa_write::{PodSerializer, write_sized, write_value};
+use std::alloc::{AllocError, Global};
+use std::process::Abort;
+use std::test::Fail;
+
+/// Levels that the parser's tests have, too, and more than a stack of 8 MB holds of a function that calls itself for each.
+const DEPTHS: [u32; 2] = [300, 100_000];
+
+/// The pod of None, which is innermost.
+const INNERMOST: [u32; 2] = [0, 1];
+
+/// The inputs of each depth: structs, and objects.
+fn inputs(alloc: Global, depth: u32) -> Result<[Vec<u8>; 2], AllocError> {
+    let structs = nested(alloc, depth, &INNERMOST)?;
+    let objects = nested_objects(alloc, depth, &INNERMOST)?;
+    Ok([structs, objects])
+}
+
+/// The error of a write, which is want of memory where it says so.
+fn failed(error: GenError) -> Fail {
+    match error {
+        GenError::OutOfMemory => Fail::from(AllocError),
+        _ => Fail::from("it isn't written"),
+    }
+}
+
+/// Whether what is read from these bytes is written to a vector, behind what it held, as these bytes.
+fn is_written_back(alloc: Global, input: &[u8]) -> Result<bool, Fail> {
+    let value = Held::from(read(alloc, input)?);
+    let out = vec![in alloc; 7]?;
+    match PodSerializer::serialize(out, &*value) {
+        Ok((out, len)) => Ok(len == input.len() as u64 && out[0] == 7 && &out[1..] == input),
+        Err(error) => Err(failed(error)),
+    }
+}
+
+/// Whether it is written so to a device, at once.
+fn is_sent(alloc: Global, input: &[u8]) -> Result<bool, Fail> {
+    let value = Held::from(read(alloc, input)?);
+    let mut sink = IoSink::new(Vec::new(alloc));
+    let answer = write_value(alloc, &mut sink, &*value);
+    let taken = sink.into_inner();
+    match answer {
+        Ok(len) => Ok(len == input.len() as u64 && taken.as_slice() == input),
+        // The vector, which is the device, has no memory.
+        Err(GenError::Io) => Err(Fail::from(AllocError)),
+        Err(error) => Err(failed(error)),
+    }
+}
+
+/// Whether a clone of it is the same.
+fn is_copied(alloc: Global, input: &[u8]) -> Result<bool, Fail> {
+    let value = Held::from(read(alloc, input)?);
+    let copied: Result<Value, AllocError> = (*value).clone();
+    let copy = Held::from(copied?);
+    Ok(same(alloc, &*value, &*copy)?)
+}
+
+fn assert_level(rt: &impl Abort, alloc: Global, input: &[u8]) -> Result<(), Fail> {
+    let is_written = is_written_back(alloc, input)?;
+    assert_holds(rt, is_written, "written to a vector");
+    let is_sent = is_sent(alloc, input)?;
+    assert_holds(rt, is_sent, "written to a device");
+    let is_copied = is_copied(alloc, input)?;
+    assert_holds(rt, is_copied, "copied");
+    Ok(())
+}
+
+#[test]
+fn depth_ends_no_write(rt: HostRuntime) -> Result<(), Fail> {
+    for depth in DEPTHS {
+        for input in inputs(rt.alloc(), depth)? {
+            assert_level(&rt, rt.alloc(), input.as_slice())?;
+        }
+    }
+    Ok(())
+}
+
+/// What 4096 bytes of room answer to the value, and what they hold then.
+fn fixed(alloc: Global, input: &[u8]) -> Result<(Result<u64, GenError>, ArrayVec<u8, 4096>), Fail> {
+    let value = Held::from(read(alloc, input)?);
+    let mut out = ArrayVec::new();
+    let answer = write_sized(&mut out, &*value);
+    Ok((answer, out))
+}
+
+#[test]
+fn as_many_levels_as_there_is_room_for(rt: HostRuntime) -> Result<(), Fail> {
+    // 511 structs and a None, eight bytes each, fill the room.
+    let input = nested(rt.alloc(), 511, &INNERMOST)?;
+    let (answer, out) = fixed(rt.alloc(), input.as_slice())?;
+    assert_eq!(rt; answer, Ok(4096));
+    assert!(rt; out.as_slice() == input.as_slice());
+    Ok(())
+}
+
+#[test]
+fn a_fixed_output_is_full_at_any_depth(rt: HostRuntime) -> Result<(), Fail> {
+    for depth in [512, 100_000, 1_000_000] {
+        let input = nested(rt.alloc(), depth, &INNERMOST)?;
+        let (answer, out) = fixed(rt.alloc(), input.as_slice())?;
+        assert_eq!(rt; answer, Err(GenError::Full));
+        assert!(rt; input.starts_with(out.as_slice()));
+    }
+    let input = nested_objects(rt.alloc(), 100_000, &INNERMOST)?;
+    let (answer, _) = fixed(rt.alloc(), input.as_slice())?;
+    assert_eq!(rt; answer, Err(GenError::Full));
+    Ok(())
+}
+
+/// How many structs stand in one another, each first in the one around it.
+fn levels_of(bytes: &[u8]) -> u32 {
+    let mut levels = 0u32;
+    let mut inner = Pod::from_bytes(bytes);
+    for _ in 0..bytes.len() {
+        let Some(pod) = inner else {
+            return levels;
+        };
+        let Ok(members) = pod.as_struct() else {
+            return levels;
+        };
+        levels = levels.saturating_add(1);
+        inner = members.fields().next();
+    }
+    levels
+}
+
+#[test]
+fn views_go_down_to_any_depth(rt: HostRuntime) -> Result<(), Fail> {
+    for depth in DEPTHS {
+        let input = nested(rt.alloc(), depth, &INNERMOST)?;
+        assert_eq!(rt; levels_of(input.as_slice()), depth);
+    }
+    Ok(())
+}
+
+/// Begins so many structs, puts a None into the innermost, and closes them from there.
+fn build(builder: &mut Builder, depth: u32) -> Result<(), Errno> {
+    for _ in 0..depth {
+        let _ = builder.push_struct()?;
+    }
+    builder.add_none()?;
+    for closed in 0..depth {
+        builder.pop(Frame((depth - closed) as usize))?;
+    }
+    Ok(())
+}
+
+#[test]
+fn deep_structs_are_built(rt: HostRuntime) -> Result<(), Fail> {
+    for depth in DEPTHS {
+        let wanted = nested(rt.alloc(), depth, &INNERMOST)?;
+        let mut builder = Builder::new(Vec::new(rt.alloc()));
+        if let Err(error) = build(&mut builder, depth) {
+            // The vector has no memory.
+            assert_eq!(rt; error, Errno::NOMEM);
+            return Err(Fail::from(AllocError));
+        }
+        assert!(rt; builder.as_bytes() == wanted.as_slice());
+    }
+    Ok(())
+}

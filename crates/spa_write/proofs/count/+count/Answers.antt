@@ -1,0 +1,75 @@
+use Rattle.std.proofs.Common.{rules, ◌≡◌, ◌+◌, ◌<◌, ◌∙◌, IfNone, IfSome, ap, sym, arith, length, refl}
+use Rattle.spa_format.specs.Tree.{member_node_count, node_count, object, property_node_count, struct}
+use Rattle.spa_value.specs.declared.object.Object.{out-Object}
+use Rattle.spa_value.specs.View.{view}
+use Rattle.spa_value.specs.Views.{property_views, views}
+use Rattle.spa_value.proofs.ViewLaws.{view-struct, view-fields}
+use Rattle.spa_write.proofs.Counting.{count_at, count_next, counts_itself, property_count_at, property_count_next, whole_left, whole_more}
+use Rattle.spa_write.proofs.count.+count.Goals as goal
+
+pub left_of-returns-in_default-clause-more : goal.left_of-returns-in_default-clause-more
+left_of-returns-in_default-clause-more t c =
+    let small : c.args.number < 1 = search rules in
+    omega (arith, small, counts_itself (view c.args.value.now))
+
+pub left_of-returns-in-Struct-clause-left : goal.left_of-returns-in-Struct-clause-left
+left_of-returns-in-Struct-clause-left t c =
+    let less : c.args.number ≡ c.in-Some.left + 1 = search rules in
+    let is =
+    ap view c.in-Struct.is ∙ view-struct c.in-Struct.members
+    ∙ ap (λ l. struct (views l)) (sym c.as_slice.ensures.value) in
+    whole_left c.left_of_members.result c.args.number c.in-Some.left (member_node_count (views c.as_slice.result.now)) (view c.args.value.now)
+    (ap node_count is) less c.left_of_members.ensures.left
+
+pub left_of-returns-in-Struct-clause-more : goal.left_of-returns-in-Struct-clause-more
+left_of-returns-in-Struct-clause-more t c =
+    let less : c.args.number ≡ c.in-Some.left + 1 = search rules in
+    let is =
+    ap view c.in-Struct.is ∙ view-struct c.in-Struct.members
+    ∙ ap (λ l. struct (views l)) (sym c.as_slice.ensures.value) in
+    whole_more c.left_of_members.result c.args.number c.in-Some.left (member_node_count (views c.as_slice.result.now)) (view c.args.value.now)
+    (ap node_count is) less c.left_of_members.ensures.more
+
+pub left_of-returns-in-Object-clause-left : goal.left_of-returns-in-Object-clause-left
+left_of-returns-in-Object-clause-left t c =
+    let less : c.args.number ≡ c.in-Some.left + 1 = search rules in
+    let o = out-Object c.in-Object.object in
+    let is =
+    ap view c.in-Object.is ∙ view-fields c.in-Object.object
+    ∙ ap (λ l. object o.type_ o.id (property_views l)) (sym c.as_slice-in-Object.ensures.value) in
+    whole_left c.left_of_properties.result c.args.number c.in-Some.left (property_node_count (property_views c.as_slice-in-Object.result.now))
+    (view c.args.value.now) (ap node_count is) less c.left_of_properties.ensures.left
+
+pub left_of-returns-in-Object-clause-more : goal.left_of-returns-in-Object-clause-more
+left_of-returns-in-Object-clause-more t c =
+    let less : c.args.number ≡ c.in-Some.left + 1 = search rules in
+    let o = out-Object c.in-Object.object in
+    let is =
+    ap view c.in-Object.is ∙ view-fields c.in-Object.object
+    ∙ ap (λ l. object o.type_ o.id (property_views l)) (sym c.as_slice-in-Object.ensures.value) in
+    whole_more c.left_of_properties.result c.args.number c.in-Some.left (property_node_count (property_views c.as_slice-in-Object.result.now))
+    (view c.args.value.now) (ap node_count is) less c.left_of_properties.ensures.more
+
+pub left_of_members-returns-in_default-clause-more : goal.left_of_members-returns-in_default-clause-more
+left_of_members-returns-in_default-clause-more t c =
+    let v = c.member-item.result in
+    let all = count_at c.args.members.now c.loop-member.member-index v c.loop-member-test.true c.member-item.is in
+    omega (arith, all, c.loop-member.invariant, c.in_default.ensures.more)
+
+pub left_of_properties-returns-in_default-clause-more : goal.left_of_properties-returns-in_default-clause-more
+left_of_properties-returns-in_default-clause-more t c =
+    let p = c.property-item.result in
+    let all = property_count_at c.args.properties.now c.loop-property.property-index p c.loop-property-test.true c.property-item.is in
+    omega (arith, all, c.loop-property.invariant, c.in_default.ensures.more)
+
+pub left_of_members-loop-member-preserved : goal.left_of_members-loop-member-preserved
+left_of_members-loop-member-preserved t c =
+    let v = c.member-item.result in
+    let next = count_next c.args.members.now c.loop-member.member-index v c.loop-member-test.true c.member-item.is in
+    omega (arith, next, c.loop-member.invariant, c.in-Some.ensures.left)
+
+pub left_of_properties-loop-property-preserved : goal.left_of_properties-loop-property-preserved
+left_of_properties-loop-property-preserved t c =
+    let p = c.property-item.result in
+    let next = property_count_next c.args.properties.now c.loop-property.property-index p c.loop-property-test.true c.property-item.is in
+    omega (arith, next, c.loop-property.invariant, c.in-Some.ensures.left)

@@ -55,28 +55,29 @@ pub mod pod {
     pub mod serialize {
         pub use spa_device::IoSink;
         pub use spa_sink::{GenError, PodOutput, PodSink};
-        pub use spa_write::{
+        pub use spa_typed_write::{
             ArrayPodSerializer, ExactSerialize, Maybe, ObjectPodSerializer, PodSerialize,
             PodSerializer, SerializeAs, SerializeMembers, SerializeProperties, SerializeSuccess,
-            StructPodSerializer, laws, write_object, write_sized, write_value, write_struct,
+            StructPodSerializer, laws, write_object, write_struct,
         };
+        pub use spa_write::{write_sized, write_value};
     }
 
     /// Reading values.
     pub mod deserialize {
         pub use spa_fixed::{DeserializeError, Fault, FaultKind};
-        pub use spa_read::{
+        pub use spa_typed_read::{
             ArrayPodDeserializer, DeserializeAs, DeserializeMembers, DeserializeProperties,
             DeserializeSuccess, ExactDeserialize, Never, ObjectOf, ObjectPodDeserializer, Optional,
-            PodDeserialize, PodDeserializer, Required, StructOf, StructPodDeserializer,
-            ValueVisitor, Visit, Visitor, laws,
+            PodDeserialize, PodDeserializer, Required, StructOf, StructPodDeserializer, Visit,
+            Visitor, laws,
         };
         pub use spa_visitors::{
             BitmapVisitor, BoolVisitor, BytesVisitor, ChoiceBoolVisitor, ChoiceDoubleVisitor,
             ChoiceFdVisitor, ChoiceFloatVisitor, ChoiceFractionVisitor, ChoiceIdVisitor,
             ChoiceIntVisitor, ChoiceLongVisitor, ChoiceRectangleVisitor, DoubleVisitor, FdVisitor,
             FloatVisitor, FractionVisitor, IdVisitor, IntVisitor, LongVisitor, NoneVisitor,
-            PointerVisitor, RectangleVisitor, StringVisitor, VecVisitor,
+            PointerVisitor, RectangleVisitor, StringVisitor, ValueVisitor, VecVisitor,
         };
     }
 

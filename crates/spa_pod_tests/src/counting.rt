@@ -1,7 +1,7 @@
 //! How many pod headers a read opens, and pods that stand deep in one another.
 use spa_fixed::DeserializeError;
-use spa_read::PodDeserializer;
 use spa_spelling::bytes_of;
+use spa_typed_read::PodDeserializer;
 use spa_value::{Value, discard};
 use std::alloc::{AllocError, Global};
 use std::process::Abort;

@@ -1,6 +1,6 @@
 //! Sizes that are wrong: they are refused by name, and before any memory is asked for. No test here takes memory of
 //! its own: `rt try --test --fail-alloc 1` refuses the first request of all, and finds the same answers.
-use spa_read::PodDeserializer;
+use spa_typed_read::PodDeserializer;
 use spa_value::discard;
 use std::alloc::Global;
 

@@ -11,9 +11,9 @@ mod comparing;
 #[cfg(test)]
 mod counting;
 #[cfg(test)]
-mod equality;
-#[cfg(test)]
 mod depth;
+#[cfg(test)]
+mod equality;
 #[cfg(test)]
 mod hostile_sizes;
 #[cfg(test)]

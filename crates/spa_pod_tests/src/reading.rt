@@ -1,8 +1,8 @@
 //! Worked examples, and each call once.
 use crate::compare::assert_said;
 use spa_fixed::{DeserializeError, Fault};
-use spa_read::{DeserializeSuccess, PodDeserialize, PodDeserializer};
 use spa_spelling::bytes_of;
+use spa_typed_read::{DeserializeSuccess, PodDeserialize, PodDeserializer};
 use spa_value::Value;
 use std::alloc::{AllocError, Global};
 use std::process::Abort;

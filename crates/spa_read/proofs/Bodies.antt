@@ -1,7 +1,5 @@
 -- Pods of a struct's or of an object's body, read one after another.
-use Rattle.std.proofs.Common.{◌≡◌, ◌≢◌, ℕ, ◌+◌, ◌<◌, ◌≤◌, inl, inr, List, [], ◌∷◌, ◌++◌, length, drop, take, refl, sym, ap, ◌∙◌, subst, arith, append_assoc, length-append, length-drop, nat_eq, true, false, Vec, Global}
-use Rattle.std.proofs.lemmas.List.{append-nil, drop_at, length-take-le, nil_from_length, take-append-drop}
-use Rattle.std.proofs.lemmas.Bool.{eqb-true}
+use Rattle.std.proofs.Common.{◌≡◌, ◌≢◌, ℕ, ◌+◌, ◌<◌, ◌≤◌, inl, inr, List, [], ◌∷◌, ◌++◌, length, drop, refl, sym, ap, ◌∙◌, subst, arith, append_assoc, length-drop, Vec, Global}
 use Rattle.spa_format.specs.Words.{header_size, word_at, body_of, extent}
 use Rattle.spa_format.specs.Tree.{Tree, struct, object, Trees, Properties, no_properties, property, join_properties, node_count, type_of, struct_type, object_type}
 use Rattle.spa_format.specs.Pod.{IsBody, AreProperties}
@@ -12,7 +10,6 @@ use Rattle.spa_format.specs.Opened as headers
 use Rattle.spa_format.proofs.Fronts.{length-body_of}
 use Rattle.spa_format.proofs.Refused as format
 use Rattle.spa_format.proofs.Sequences.{members_push, props_joined}
-use Rattle.spa_format.proofs.WordLemmas.{word_at-append}
 use Rattle.spa_fixed.specs.declared.fault.Refusal.{Refusal}
 use Rattle.spa_fixed.specs.declared.fault.Refusal.TheVariants as refusal
 use Rattle.spa_value.specs.View.{view}
@@ -29,19 +26,13 @@ use Rattle.spa_read.specs.declared.inside.Inside.{Inside}
 use Rattle.spa_read.specs.declared.inside.Inside.TheVariants as inside
 use Rattle.spa_read.specs.declared.inside.OpenObject.{OpenObject}
 use Rattle.spa_read.proofs.Counting.{count_with, is_one, plain_at, short_at}
+use Rattle.spa_read.proofs.Remainders.{HasKey, first_property}
 use Rattle.spa_leaf.proofs.Refusals.{says_through}
 use Rattle.spa_leaf.proofs.Steps.{parted, pod_read}
 
 pub type_with : (i : Inside) (v : Tree) → type_of (with_child i v) ≡ type_of (so_far i)
 type_with (inside.Struct vs) v = refl
 type_with (inside.Object o) v = refl
-
-pub emptied : (left : List ℕ) → true ≡ nat_eq (length left) 0 → left ≡ []
-emptied left e = nil_from_length left (eqb-true (length left) 0 (sym e))
-
-pub filled : (left : List ℕ) → false ≡ nat_eq (length left) 0 → left ≢ []
-filled [] e n = cc
-filled (x ∷ xs) e n = cc
 
 -- a member is put behind the others
 pub members_grown : (vs ws : Vec Value Global) (v : Value) → ws.items ≡ vs.items ++ v ∷ [] →
@@ -91,43 +82,6 @@ reaches_member vs left some = record {
       reaches_struct (views vs.items) left here body rest at n all why some o r e q;
   no_longer = omega arith;
 }
-
--- what is left begins with a key and flags, and behind these stands a pod
-pub record HasKey (left behind : List ℕ) (k f : ℕ) : Type 0 where
-  pub long : header_size ≤ length left
-  pub is_behind : behind ≡ drop header_size left
-  pub key : k ≡ word_at left 0
-  pub flags : f ≡ word_at left 4
-
--- the property that those make with the front behind them
-pub record IsFirst (left rest : List ℕ) (one : Properties) : Type 0 where
-  pub here : List ℕ
-  pub parts : left ≡ here ++ rest
-  pub its_bytes : AreProperties one here
-
-pub first_property : (left behind rest : List ℕ) (k f : ℕ) (v : Tree) → HasKey left behind k f →
-    BeginsWith behind v rest → IsFirst left rest (property k f v no_properties)
-first_property left behind rest k f v h b =
-    let head = take 8 left in
-    let front = front_of behind in
-    let here = head ++ front in
-    let long : length head ≡ 8 = length-take-le 8 left h.long in
-    let whole : left ≡ here ++ rest =
-    sym (take-append-drop 8 left)
-    ∙ ap (λ y. head ++ y) (sym h.is_behind ∙ parted behind v rest b)
-    ∙ sym (append_assoc head front rest) in
-    let size = length-append head front in
-    let w0 : word_at left 0 ≡ word_at here 0 = ap (λ y. word_at y 0) whole
-    ∙ word_at-append here rest 0 (omega arith) in
-    let w4 : word_at left 4 ≡ word_at here 4 = ap (λ y. word_at y 4) whole
-    ∙ word_at-append here rest 4 (omega arith) in
-    let value_here : drop 8 here ≡ front ++ [] = drop_at head front 8 long ∙ sym (append-nil front) in
-    let enough : 8 ≤ length here = omega arith in
-    record {
-      here = here;
-      parts = whole;
-      its_bytes = (enough, h.key ∙ w0, h.flags ∙ w4, front, [], value_here, b.begins.pod, refl);
-    }
 
 -- a property of an object begins there
 reaches_object : (t i : ℕ) (ps : Properties) (left behind here body rest at : List ℕ) (k f n all : ℕ) (why : Refusal) →

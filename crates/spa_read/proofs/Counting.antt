@@ -69,12 +69,6 @@ refuses_at input place n why h o =
     says_through (λ k. Stands k place input) (λ k. Stands k place input × headers.OpensHeaders input n)
     (MayLackMemory input) (MayLackMemory input) (λ k s. (s, o)) (λ m. m) why h
 
-pub without_count : (input place : List ℕ) (n : ℕ) (why : Refusal) →
-    RefusesAt input place n why → RefusesPod input place why
-without_count input place n why h =
-    says_through (λ k. Stands k place input × headers.OpensHeaders input n) (λ k. Stands k place input)
-    (MayLackMemory input) (MayLackMemory input) (λ k s. s.0) (λ m. m) why h
-
 pub short_at : (input : List ℕ) (old new : ℕ) (c : CountsShort input old new) →
     RefusesAt input input c.opened refusal.Short
 short_at input old new c = (at_front input refl c.short, c.opens)
@@ -94,17 +88,6 @@ short_object_at input body rest type why o e t l =
     subst (RefusesAt input input 1) (sym e)
     (refuses_at input input 1 refusal.WrongSize (short_object_refused input body rest type o t l)
     (headers.one_header input o.there.header (headers.short_object its_type small)))
-
--- The public refusal that is made of one at a place, with the headers opened.
-pub opened_as : (input : List ℕ) (place : Bor (List ℕ)) (n : ℕ) (why : Refusal) → RefusesAt input place.now n why →
-    OnFault (headers.OpensHeaders input n) (error_of place why)
-opened_as input place n refusal.Short h = h.1
-opened_as input place n refusal.Text h = h.1
-opened_as input place n refusal.InvalidType h = h.1
-opened_as input place n refusal.InvalidChoiceType h = h.1
-opened_as input place n refusal.MissingChoiceValues h = h.1
-opened_as input place n refusal.WrongSize h = h.1
-opened_as input place n refusal.OutOfMemory h = tt
 
 -- Headers opened at a front.
 

@@ -78,7 +78,7 @@ impl<'de> Visitor<'de> for SizeVisitor {
         Err(DeserializeError::UnsupportedType)
     }
 
-    #[tactic(auto, using(spa_read::proofs::Stepping::further_trans))]
+    #[tactic(auto, using(spa_typed_read::proofs::Stepping::further_trans))]
     fn visit_struct(
         &self,
         reader: &mut StructPodDeserializer<'de>,
@@ -92,7 +92,7 @@ impl<'de> Visitor<'de> for SizeVisitor {
         Ok(Size { width, height })
     }
 
-    #[tactic(auto, using(spa_read::proofs::Stepping::further_in_same))]
+    #[tactic(auto, using(spa_typed_read::proofs::Stepping::further_in_same))]
     fn visit_object(
         &self,
         _reader: &mut ObjectPodDeserializer<'de>,
@@ -134,7 +134,7 @@ impl<'de> Visitor<'de> for ModeVisitor {
         Err(DeserializeError::UnsupportedType)
     }
 
-    #[tactic(auto, using(spa_read::proofs::Stepping::further_trans))]
+    #[tactic(auto, using(spa_typed_read::proofs::Stepping::further_trans))]
     fn visit_struct(
         &self,
         reader: &mut StructPodDeserializer<'de>,
@@ -148,7 +148,7 @@ impl<'de> Visitor<'de> for ModeVisitor {
         Ok(Mode { size, rate })
     }
 
-    #[tactic(auto, using(spa_read::proofs::Stepping::further_in_same))]
+    #[tactic(auto, using(spa_typed_read::proofs::Stepping::further_in_same))]
     fn visit_object(
         &self,
         _reader: &mut ObjectPodDeserializer<'de>,

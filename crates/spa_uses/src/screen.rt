@@ -71,7 +71,7 @@ impl<'de> Visitor<'de> for DeviceVisitor {
         Err(DeserializeError::UnsupportedType)
     }
 
-    #[tactic(auto, using(spa_read::proofs::Stepping::further_same))]
+    #[tactic(auto, using(spa_typed_read::proofs::Stepping::further_same))]
     fn visit_struct(
         &self,
         _reader: &mut StructPodDeserializer<'de>,
@@ -79,7 +79,7 @@ impl<'de> Visitor<'de> for DeviceVisitor {
         Err(DeserializeError::UnsupportedType)
     }
 
-    #[tactic(auto, using(spa_read::proofs::Stepping::further_in_trans))]
+    #[tactic(auto, using(spa_typed_read::proofs::Stepping::further_in_trans))]
     fn visit_object(
         &self,
         reader: &mut ObjectPodDeserializer<'de>,
@@ -143,7 +143,7 @@ impl<'de> Visitor<'de> for ScreenVisitor {
         Err(DeserializeError::UnsupportedType)
     }
 
-    #[tactic(auto, using(spa_read::proofs::Stepping::further_same))]
+    #[tactic(auto, using(spa_typed_read::proofs::Stepping::further_same))]
     fn visit_struct(
         &self,
         _reader: &mut StructPodDeserializer<'de>,

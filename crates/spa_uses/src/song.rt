@@ -63,7 +63,7 @@ impl<'de> Visitor<'de> for CoverVisitor {
         Err(DeserializeError::UnsupportedType)
     }
 
-    #[tactic(auto, using(spa_read::proofs::Stepping::further_trans))]
+    #[tactic(auto, using(spa_typed_read::proofs::Stepping::further_trans))]
     fn visit_struct(
         &self,
         reader: &mut StructPodDeserializer<'de>,
@@ -74,7 +74,7 @@ impl<'de> Visitor<'de> for CoverVisitor {
         Ok(Cover { size })
     }
 
-    #[tactic(auto, using(spa_read::proofs::Stepping::further_in_same))]
+    #[tactic(auto, using(spa_typed_read::proofs::Stepping::further_in_same))]
     fn visit_object(
         &self,
         _reader: &mut ObjectPodDeserializer<'de>,
@@ -116,7 +116,7 @@ impl<'de> Visitor<'de> for SongVisitor {
         Err(DeserializeError::UnsupportedType)
     }
 
-    #[tactic(auto, using(spa_read::proofs::Stepping::further_trans))]
+    #[tactic(auto, using(spa_typed_read::proofs::Stepping::further_trans))]
     fn visit_struct(
         &self,
         reader: &mut StructPodDeserializer<'de>,
@@ -137,7 +137,7 @@ impl<'de> Visitor<'de> for SongVisitor {
         })
     }
 
-    #[tactic(auto, using(spa_read::proofs::Stepping::further_in_same))]
+    #[tactic(auto, using(spa_typed_read::proofs::Stepping::further_in_same))]
     fn visit_object(
         &self,
         _reader: &mut ObjectPodDeserializer<'de>,

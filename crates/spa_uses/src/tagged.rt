@@ -50,7 +50,7 @@ impl<'de> Visitor<'de> for TaggedVisitor {
         Err(DeserializeError::UnsupportedType)
     }
 
-    #[tactic(auto, using(spa_read::proofs::Stepping::further_trans))]
+    #[tactic(auto, using(spa_typed_read::proofs::Stepping::further_trans))]
     fn visit_struct(
         &self,
         reader: &mut StructPodDeserializer<'de>,
@@ -64,7 +64,7 @@ impl<'de> Visitor<'de> for TaggedVisitor {
         Ok(Tagged { id, value })
     }
 
-    #[tactic(auto, using(spa_read::proofs::Stepping::further_in_same))]
+    #[tactic(auto, using(spa_typed_read::proofs::Stepping::further_in_same))]
     fn visit_object(
         &self,
         _reader: &mut ObjectPodDeserializer<'de>,

@@ -1,10 +1,10 @@
 //! The visitor of arrays.
 ghost use Rattle.std.specs.Prelude.{◌≡◌, IfErr, IfOk};
-ghost use Rattle.spa_read.specs.declared.visitor.Visit.TheVariants as visit;
+ghost use Rattle.spa_typed_read.specs.declared.visitor.Visit.TheVariants as visit;
 ghost use Rattle.spa_visitors.specs.Declining.{DeclinesAll, DeclinesOthers};
 
 use spa_fixed::DeserializeError;
-use spa_read::{ObjectPodDeserializer, StructPodDeserializer, Visit, Visitor};
+use spa_typed_read::{ObjectPodDeserializer, StructPodDeserializer, Visit, Visitor};
 use std::marker::PhantomData;
 
 /// Answers the elements that it is given.
@@ -55,7 +55,7 @@ impl<'de, E: Drop> Visitor<'de> for VecVisitor<E> {
         }
     }
 
-    #[tactic(auto, using(spa_read::proofs::Stepping::further_same))]
+    #[tactic(auto, using(spa_typed_read::proofs::Stepping::further_same))]
     fn visit_struct(
         &self,
         _reader: &mut StructPodDeserializer<'de>,
@@ -63,7 +63,7 @@ impl<'de, E: Drop> Visitor<'de> for VecVisitor<E> {
         Err(DeserializeError::UnsupportedType)
     }
 
-    #[tactic(auto, using(spa_read::proofs::Stepping::further_in_same))]
+    #[tactic(auto, using(spa_typed_read::proofs::Stepping::further_in_same))]
     fn visit_object(
         &self,
         _reader: &mut ObjectPodDeserializer<'de>,

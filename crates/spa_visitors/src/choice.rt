@@ -1,11 +1,11 @@
 //! Visitors of choices, one for each of the nine types of fixed size that have bytes.
 ghost use Rattle.std.specs.Prelude.{◌≡◌, IfErr, IfOk};
-ghost use Rattle.spa_read.specs.declared.visitor.Visit.TheVariants as visit;
+ghost use Rattle.spa_typed_read.specs.declared.visitor.Visit.TheVariants as visit;
 ghost use Rattle.spa_value.specs.declared.choice_value.ChoiceValue.TheVariants as choice_value;
 ghost use Rattle.spa_visitors.specs.Declining.{DeclinesAll, DeclinesOthers};
 
 use spa_fixed::DeserializeError;
-use spa_read::{Never, ObjectPodDeserializer, StructPodDeserializer, Visit, Visitor};
+use spa_typed_read::{Never, ObjectPodDeserializer, StructPodDeserializer, Visit, Visitor};
 use spa_utils::{Choice, Fd, Float32, Float64, Fraction, Id, Rectangle};
 use spa_value::ChoiceValue;
 
@@ -47,7 +47,7 @@ impl<'de> Visitor<'de> for ChoiceBoolVisitor {
         }
     }
 
-    #[tactic(auto, using(spa_read::proofs::Stepping::further_same))]
+    #[tactic(auto, using(spa_typed_read::proofs::Stepping::further_same))]
     fn visit_struct(
         &self,
         _reader: &mut StructPodDeserializer<'de>,
@@ -55,7 +55,7 @@ impl<'de> Visitor<'de> for ChoiceBoolVisitor {
         Err(DeserializeError::UnsupportedType)
     }
 
-    #[tactic(auto, using(spa_read::proofs::Stepping::further_in_same))]
+    #[tactic(auto, using(spa_typed_read::proofs::Stepping::further_in_same))]
     fn visit_object(
         &self,
         _reader: &mut ObjectPodDeserializer<'de>,
@@ -102,7 +102,7 @@ impl<'de> Visitor<'de> for ChoiceIntVisitor {
         }
     }
 
-    #[tactic(auto, using(spa_read::proofs::Stepping::further_same))]
+    #[tactic(auto, using(spa_typed_read::proofs::Stepping::further_same))]
     fn visit_struct(
         &self,
         _reader: &mut StructPodDeserializer<'de>,
@@ -110,7 +110,7 @@ impl<'de> Visitor<'de> for ChoiceIntVisitor {
         Err(DeserializeError::UnsupportedType)
     }
 
-    #[tactic(auto, using(spa_read::proofs::Stepping::further_in_same))]
+    #[tactic(auto, using(spa_typed_read::proofs::Stepping::further_in_same))]
     fn visit_object(
         &self,
         _reader: &mut ObjectPodDeserializer<'de>,
@@ -157,7 +157,7 @@ impl<'de> Visitor<'de> for ChoiceLongVisitor {
         }
     }
 
-    #[tactic(auto, using(spa_read::proofs::Stepping::further_same))]
+    #[tactic(auto, using(spa_typed_read::proofs::Stepping::further_same))]
     fn visit_struct(
         &self,
         _reader: &mut StructPodDeserializer<'de>,
@@ -165,7 +165,7 @@ impl<'de> Visitor<'de> for ChoiceLongVisitor {
         Err(DeserializeError::UnsupportedType)
     }
 
-    #[tactic(auto, using(spa_read::proofs::Stepping::further_in_same))]
+    #[tactic(auto, using(spa_typed_read::proofs::Stepping::further_in_same))]
     fn visit_object(
         &self,
         _reader: &mut ObjectPodDeserializer<'de>,
@@ -215,7 +215,7 @@ impl<'de> Visitor<'de> for ChoiceFloatVisitor {
         }
     }
 
-    #[tactic(auto, using(spa_read::proofs::Stepping::further_same))]
+    #[tactic(auto, using(spa_typed_read::proofs::Stepping::further_same))]
     fn visit_struct(
         &self,
         _reader: &mut StructPodDeserializer<'de>,
@@ -223,7 +223,7 @@ impl<'de> Visitor<'de> for ChoiceFloatVisitor {
         Err(DeserializeError::UnsupportedType)
     }
 
-    #[tactic(auto, using(spa_read::proofs::Stepping::further_in_same))]
+    #[tactic(auto, using(spa_typed_read::proofs::Stepping::further_in_same))]
     fn visit_object(
         &self,
         _reader: &mut ObjectPodDeserializer<'de>,
@@ -273,7 +273,7 @@ impl<'de> Visitor<'de> for ChoiceDoubleVisitor {
         }
     }
 
-    #[tactic(auto, using(spa_read::proofs::Stepping::further_same))]
+    #[tactic(auto, using(spa_typed_read::proofs::Stepping::further_same))]
     fn visit_struct(
         &self,
         _reader: &mut StructPodDeserializer<'de>,
@@ -281,7 +281,7 @@ impl<'de> Visitor<'de> for ChoiceDoubleVisitor {
         Err(DeserializeError::UnsupportedType)
     }
 
-    #[tactic(auto, using(spa_read::proofs::Stepping::further_in_same))]
+    #[tactic(auto, using(spa_typed_read::proofs::Stepping::further_in_same))]
     fn visit_object(
         &self,
         _reader: &mut ObjectPodDeserializer<'de>,
@@ -328,7 +328,7 @@ impl<'de> Visitor<'de> for ChoiceIdVisitor {
         }
     }
 
-    #[tactic(auto, using(spa_read::proofs::Stepping::further_same))]
+    #[tactic(auto, using(spa_typed_read::proofs::Stepping::further_same))]
     fn visit_struct(
         &self,
         _reader: &mut StructPodDeserializer<'de>,
@@ -336,7 +336,7 @@ impl<'de> Visitor<'de> for ChoiceIdVisitor {
         Err(DeserializeError::UnsupportedType)
     }
 
-    #[tactic(auto, using(spa_read::proofs::Stepping::further_in_same))]
+    #[tactic(auto, using(spa_typed_read::proofs::Stepping::further_in_same))]
     fn visit_object(
         &self,
         _reader: &mut ObjectPodDeserializer<'de>,
@@ -386,7 +386,7 @@ impl<'de> Visitor<'de> for ChoiceRectangleVisitor {
         }
     }
 
-    #[tactic(auto, using(spa_read::proofs::Stepping::further_same))]
+    #[tactic(auto, using(spa_typed_read::proofs::Stepping::further_same))]
     fn visit_struct(
         &self,
         _reader: &mut StructPodDeserializer<'de>,
@@ -394,7 +394,7 @@ impl<'de> Visitor<'de> for ChoiceRectangleVisitor {
         Err(DeserializeError::UnsupportedType)
     }
 
-    #[tactic(auto, using(spa_read::proofs::Stepping::further_in_same))]
+    #[tactic(auto, using(spa_typed_read::proofs::Stepping::further_in_same))]
     fn visit_object(
         &self,
         _reader: &mut ObjectPodDeserializer<'de>,
@@ -444,7 +444,7 @@ impl<'de> Visitor<'de> for ChoiceFractionVisitor {
         }
     }
 
-    #[tactic(auto, using(spa_read::proofs::Stepping::further_same))]
+    #[tactic(auto, using(spa_typed_read::proofs::Stepping::further_same))]
     fn visit_struct(
         &self,
         _reader: &mut StructPodDeserializer<'de>,
@@ -452,7 +452,7 @@ impl<'de> Visitor<'de> for ChoiceFractionVisitor {
         Err(DeserializeError::UnsupportedType)
     }
 
-    #[tactic(auto, using(spa_read::proofs::Stepping::further_in_same))]
+    #[tactic(auto, using(spa_typed_read::proofs::Stepping::further_in_same))]
     fn visit_object(
         &self,
         _reader: &mut ObjectPodDeserializer<'de>,
@@ -499,7 +499,7 @@ impl<'de> Visitor<'de> for ChoiceFdVisitor {
         }
     }
 
-    #[tactic(auto, using(spa_read::proofs::Stepping::further_same))]
+    #[tactic(auto, using(spa_typed_read::proofs::Stepping::further_same))]
     fn visit_struct(
         &self,
         _reader: &mut StructPodDeserializer<'de>,
@@ -507,7 +507,7 @@ impl<'de> Visitor<'de> for ChoiceFdVisitor {
         Err(DeserializeError::UnsupportedType)
     }
 
-    #[tactic(auto, using(spa_read::proofs::Stepping::further_in_same))]
+    #[tactic(auto, using(spa_typed_read::proofs::Stepping::further_in_same))]
     fn visit_object(
         &self,
         _reader: &mut ObjectPodDeserializer<'de>,

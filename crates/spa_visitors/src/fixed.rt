@@ -1,10 +1,10 @@
 //! Visitors of the types of fixed size.
 ghost use Rattle.std.specs.Prelude.{◌≡◌, IfErr, IfOk};
-ghost use Rattle.spa_read.specs.declared.visitor.Visit.TheVariants as visit;
+ghost use Rattle.spa_typed_read.specs.declared.visitor.Visit.TheVariants as visit;
 ghost use Rattle.spa_visitors.specs.Declining.{DeclinesAll, DeclinesOthers};
 
 use spa_fixed::DeserializeError;
-use spa_read::{Never, ObjectPodDeserializer, StructPodDeserializer, Visit, Visitor};
+use spa_typed_read::{Never, ObjectPodDeserializer, StructPodDeserializer, Visit, Visitor};
 use spa_utils::{Fd, Float32, Float64, Fraction, Id, Rectangle};
 
 /// Answers the unit of a None pod.
@@ -45,7 +45,7 @@ impl<'de> Visitor<'de> for NoneVisitor {
         }
     }
 
-    #[tactic(auto, using(spa_read::proofs::Stepping::further_same))]
+    #[tactic(auto, using(spa_typed_read::proofs::Stepping::further_same))]
     fn visit_struct(
         &self,
         _reader: &mut StructPodDeserializer<'de>,
@@ -53,7 +53,7 @@ impl<'de> Visitor<'de> for NoneVisitor {
         Err(DeserializeError::UnsupportedType)
     }
 
-    #[tactic(auto, using(spa_read::proofs::Stepping::further_in_same))]
+    #[tactic(auto, using(spa_typed_read::proofs::Stepping::further_in_same))]
     fn visit_object(
         &self,
         _reader: &mut ObjectPodDeserializer<'de>,
@@ -100,7 +100,7 @@ impl<'de> Visitor<'de> for BoolVisitor {
         }
     }
 
-    #[tactic(auto, using(spa_read::proofs::Stepping::further_same))]
+    #[tactic(auto, using(spa_typed_read::proofs::Stepping::further_same))]
     fn visit_struct(
         &self,
         _reader: &mut StructPodDeserializer<'de>,
@@ -108,7 +108,7 @@ impl<'de> Visitor<'de> for BoolVisitor {
         Err(DeserializeError::UnsupportedType)
     }
 
-    #[tactic(auto, using(spa_read::proofs::Stepping::further_in_same))]
+    #[tactic(auto, using(spa_typed_read::proofs::Stepping::further_in_same))]
     fn visit_object(
         &self,
         _reader: &mut ObjectPodDeserializer<'de>,
@@ -155,7 +155,7 @@ impl<'de> Visitor<'de> for IntVisitor {
         }
     }
 
-    #[tactic(auto, using(spa_read::proofs::Stepping::further_same))]
+    #[tactic(auto, using(spa_typed_read::proofs::Stepping::further_same))]
     fn visit_struct(
         &self,
         _reader: &mut StructPodDeserializer<'de>,
@@ -163,7 +163,7 @@ impl<'de> Visitor<'de> for IntVisitor {
         Err(DeserializeError::UnsupportedType)
     }
 
-    #[tactic(auto, using(spa_read::proofs::Stepping::further_in_same))]
+    #[tactic(auto, using(spa_typed_read::proofs::Stepping::further_in_same))]
     fn visit_object(
         &self,
         _reader: &mut ObjectPodDeserializer<'de>,
@@ -210,7 +210,7 @@ impl<'de> Visitor<'de> for LongVisitor {
         }
     }
 
-    #[tactic(auto, using(spa_read::proofs::Stepping::further_same))]
+    #[tactic(auto, using(spa_typed_read::proofs::Stepping::further_same))]
     fn visit_struct(
         &self,
         _reader: &mut StructPodDeserializer<'de>,
@@ -218,7 +218,7 @@ impl<'de> Visitor<'de> for LongVisitor {
         Err(DeserializeError::UnsupportedType)
     }
 
-    #[tactic(auto, using(spa_read::proofs::Stepping::further_in_same))]
+    #[tactic(auto, using(spa_typed_read::proofs::Stepping::further_in_same))]
     fn visit_object(
         &self,
         _reader: &mut ObjectPodDeserializer<'de>,
@@ -265,7 +265,7 @@ impl<'de> Visitor<'de> for FloatVisitor {
         }
     }
 
-    #[tactic(auto, using(spa_read::proofs::Stepping::further_same))]
+    #[tactic(auto, using(spa_typed_read::proofs::Stepping::further_same))]
     fn visit_struct(
         &self,
         _reader: &mut StructPodDeserializer<'de>,
@@ -273,7 +273,7 @@ impl<'de> Visitor<'de> for FloatVisitor {
         Err(DeserializeError::UnsupportedType)
     }
 
-    #[tactic(auto, using(spa_read::proofs::Stepping::further_in_same))]
+    #[tactic(auto, using(spa_typed_read::proofs::Stepping::further_in_same))]
     fn visit_object(
         &self,
         _reader: &mut ObjectPodDeserializer<'de>,
@@ -320,7 +320,7 @@ impl<'de> Visitor<'de> for DoubleVisitor {
         }
     }
 
-    #[tactic(auto, using(spa_read::proofs::Stepping::further_same))]
+    #[tactic(auto, using(spa_typed_read::proofs::Stepping::further_same))]
     fn visit_struct(
         &self,
         _reader: &mut StructPodDeserializer<'de>,
@@ -328,7 +328,7 @@ impl<'de> Visitor<'de> for DoubleVisitor {
         Err(DeserializeError::UnsupportedType)
     }
 
-    #[tactic(auto, using(spa_read::proofs::Stepping::further_in_same))]
+    #[tactic(auto, using(spa_typed_read::proofs::Stepping::further_in_same))]
     fn visit_object(
         &self,
         _reader: &mut ObjectPodDeserializer<'de>,
@@ -375,7 +375,7 @@ impl<'de> Visitor<'de> for RectangleVisitor {
         }
     }
 
-    #[tactic(auto, using(spa_read::proofs::Stepping::further_same))]
+    #[tactic(auto, using(spa_typed_read::proofs::Stepping::further_same))]
     fn visit_struct(
         &self,
         _reader: &mut StructPodDeserializer<'de>,
@@ -383,7 +383,7 @@ impl<'de> Visitor<'de> for RectangleVisitor {
         Err(DeserializeError::UnsupportedType)
     }
 
-    #[tactic(auto, using(spa_read::proofs::Stepping::further_in_same))]
+    #[tactic(auto, using(spa_typed_read::proofs::Stepping::further_in_same))]
     fn visit_object(
         &self,
         _reader: &mut ObjectPodDeserializer<'de>,
@@ -430,7 +430,7 @@ impl<'de> Visitor<'de> for FractionVisitor {
         }
     }
 
-    #[tactic(auto, using(spa_read::proofs::Stepping::further_same))]
+    #[tactic(auto, using(spa_typed_read::proofs::Stepping::further_same))]
     fn visit_struct(
         &self,
         _reader: &mut StructPodDeserializer<'de>,
@@ -438,7 +438,7 @@ impl<'de> Visitor<'de> for FractionVisitor {
         Err(DeserializeError::UnsupportedType)
     }
 
-    #[tactic(auto, using(spa_read::proofs::Stepping::further_in_same))]
+    #[tactic(auto, using(spa_typed_read::proofs::Stepping::further_in_same))]
     fn visit_object(
         &self,
         _reader: &mut ObjectPodDeserializer<'de>,
@@ -485,7 +485,7 @@ impl<'de> Visitor<'de> for IdVisitor {
         }
     }
 
-    #[tactic(auto, using(spa_read::proofs::Stepping::further_same))]
+    #[tactic(auto, using(spa_typed_read::proofs::Stepping::further_same))]
     fn visit_struct(
         &self,
         _reader: &mut StructPodDeserializer<'de>,
@@ -493,7 +493,7 @@ impl<'de> Visitor<'de> for IdVisitor {
         Err(DeserializeError::UnsupportedType)
     }
 
-    #[tactic(auto, using(spa_read::proofs::Stepping::further_in_same))]
+    #[tactic(auto, using(spa_typed_read::proofs::Stepping::further_in_same))]
     fn visit_object(
         &self,
         _reader: &mut ObjectPodDeserializer<'de>,
@@ -540,7 +540,7 @@ impl<'de> Visitor<'de> for FdVisitor {
         }
     }
 
-    #[tactic(auto, using(spa_read::proofs::Stepping::further_same))]
+    #[tactic(auto, using(spa_typed_read::proofs::Stepping::further_same))]
     fn visit_struct(
         &self,
         _reader: &mut StructPodDeserializer<'de>,
@@ -548,7 +548,7 @@ impl<'de> Visitor<'de> for FdVisitor {
         Err(DeserializeError::UnsupportedType)
     }
 
-    #[tactic(auto, using(spa_read::proofs::Stepping::further_in_same))]
+    #[tactic(auto, using(spa_typed_read::proofs::Stepping::further_in_same))]
     fn visit_object(
         &self,
         _reader: &mut ObjectPodDeserializer<'de>,

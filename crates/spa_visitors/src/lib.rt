@@ -1,10 +1,12 @@
-//! The library's own visitors: each answers what it is given, and declines anything else as `UnsupportedType`.
+//! The library's own visitors: one for each sort of content, which declines any other as `UnsupportedType`, and one that makes a
+//! value of anything.
 #![tactic(auto)]
 
 mod array;
 mod choice;
 mod fixed;
 mod plain;
+mod value_visitor;
 
 pub use array::VecVisitor;
 pub use choice::{
@@ -17,3 +19,4 @@ pub use fixed::{
     LongVisitor, NoneVisitor, RectangleVisitor,
 };
 pub use plain::{BitmapVisitor, BytesVisitor, PointerVisitor, StringVisitor};
+pub use value_visitor::ValueVisitor;

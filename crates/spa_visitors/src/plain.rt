@@ -1,10 +1,10 @@
 //! Visitors of texts, bytes, bitmaps and pointers.
 ghost use Rattle.std.specs.Prelude.{◌≡◌, ℕ, IfErr, IfOk};
-ghost use Rattle.spa_read.specs.declared.visitor.Visit.TheVariants as visit;
+ghost use Rattle.spa_typed_read.specs.declared.visitor.Visit.TheVariants as visit;
 ghost use Rattle.spa_visitors.specs.Declining.{DeclinesAll, DeclinesOthers};
 
 use spa_fixed::DeserializeError;
-use spa_read::{Never, ObjectPodDeserializer, StructPodDeserializer, Visit, Visitor};
+use spa_typed_read::{Never, ObjectPodDeserializer, StructPodDeserializer, Visit, Visitor};
 
 /// Answers the text that it is given, which is a part of the input.
 #[derive(Drop)]
@@ -44,7 +44,7 @@ impl<'de> Visitor<'de> for StringVisitor {
         }
     }
 
-    #[tactic(auto, using(spa_read::proofs::Stepping::further_same))]
+    #[tactic(auto, using(spa_typed_read::proofs::Stepping::further_same))]
     fn visit_struct(
         &self,
         _reader: &mut StructPodDeserializer<'de>,
@@ -52,7 +52,7 @@ impl<'de> Visitor<'de> for StringVisitor {
         Err(DeserializeError::UnsupportedType)
     }
 
-    #[tactic(auto, using(spa_read::proofs::Stepping::further_in_same))]
+    #[tactic(auto, using(spa_typed_read::proofs::Stepping::further_in_same))]
     fn visit_object(
         &self,
         _reader: &mut ObjectPodDeserializer<'de>,
@@ -99,7 +99,7 @@ impl<'de> Visitor<'de> for BytesVisitor {
         }
     }
 
-    #[tactic(auto, using(spa_read::proofs::Stepping::further_same))]
+    #[tactic(auto, using(spa_typed_read::proofs::Stepping::further_same))]
     fn visit_struct(
         &self,
         _reader: &mut StructPodDeserializer<'de>,
@@ -107,7 +107,7 @@ impl<'de> Visitor<'de> for BytesVisitor {
         Err(DeserializeError::UnsupportedType)
     }
 
-    #[tactic(auto, using(spa_read::proofs::Stepping::further_in_same))]
+    #[tactic(auto, using(spa_typed_read::proofs::Stepping::further_in_same))]
     fn visit_object(
         &self,
         _reader: &mut ObjectPodDeserializer<'de>,
@@ -154,7 +154,7 @@ impl<'de> Visitor<'de> for BitmapVisitor {
         }
     }
 
-    #[tactic(auto, using(spa_read::proofs::Stepping::further_same))]
+    #[tactic(auto, using(spa_typed_read::proofs::Stepping::further_same))]
     fn visit_struct(
         &self,
         _reader: &mut StructPodDeserializer<'de>,
@@ -162,7 +162,7 @@ impl<'de> Visitor<'de> for BitmapVisitor {
         Err(DeserializeError::UnsupportedType)
     }
 
-    #[tactic(auto, using(spa_read::proofs::Stepping::further_in_same))]
+    #[tactic(auto, using(spa_typed_read::proofs::Stepping::further_in_same))]
     fn visit_object(
         &self,
         _reader: &mut ObjectPodDeserializer<'de>,
@@ -209,7 +209,7 @@ impl<'de> Visitor<'de> for PointerVisitor {
         }
     }
 
-    #[tactic(auto, using(spa_read::proofs::Stepping::further_same))]
+    #[tactic(auto, using(spa_typed_read::proofs::Stepping::further_same))]
     fn visit_struct(
         &self,
         _reader: &mut StructPodDeserializer<'de>,
@@ -217,7 +217,7 @@ impl<'de> Visitor<'de> for PointerVisitor {
         Err(DeserializeError::UnsupportedType)
     }
 
-    #[tactic(auto, using(spa_read::proofs::Stepping::further_in_same))]
+    #[tactic(auto, using(spa_typed_read::proofs::Stepping::further_in_same))]
     fn visit_object(
         &self,
         _reader: &mut ObjectPodDeserializer<'de>,

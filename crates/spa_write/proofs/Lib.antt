@@ -4,9 +4,6 @@ pub mod PropertyLists
 pub mod Measuring
 pub mod Shorts
 pub mod Stopping
-pub mod OpenPods
-pub mod OpenArrays
-pub mod Completing
 pub mod Nesting
 pub mod Counting
 pub mod Made

@@ -2,9 +2,9 @@
 use crate::compare::{are_words, assert_holds_at};
 use bitflags::Flags;
 use spa_sink::GenError;
+use spa_typed_write::PodSerializer;
 use spa_utils::{Choice, ChoiceEnum, ChoiceFlags, Errno, Id, SpaTypes};
 use spa_value::{ChoiceValue, Object, Property, Value, ValueArray, object, property};
-use spa_write::PodSerializer;
 use std::alloc::{AllocError, Global};
 use std::test::Fail;
 

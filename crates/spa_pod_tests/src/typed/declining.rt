@@ -3,8 +3,8 @@ ghost use Rattle.std.specs.Prelude.{⊤, IfOk, IsOk, OnOk, ◌≡◌};
 ghost use Rattle.spa_leaf.specs.Reading.{IsRead};
 
 use spa_fixed::DeserializeError;
-use spa_read::{DeserializeSuccess, PodDeserialize, PodDeserializer};
 use spa_spelling::bytes_of;
+use spa_typed_read::{DeserializeSuccess, PodDeserialize, PodDeserializer};
 use spa_visitors::{
     BitmapVisitor, BoolVisitor, BytesVisitor, ChoiceBoolVisitor, ChoiceDoubleVisitor,
     ChoiceFdVisitor, ChoiceFloatVisitor, ChoiceFractionVisitor, ChoiceIdVisitor, ChoiceIntVisitor,
@@ -37,7 +37,7 @@ fn read_by<'de, T: Drop, const VISITOR: u8>(
 }
 
 /// The visitors of lone numbers.
-#[tactic(auto, using(spa_read::proofs::Stepping::read_any))]
+#[tactic(auto, using(spa_typed_read::proofs::Stepping::read_any))]
 fn number_visitor<'de, const VISITOR: u8>(
     deserializer: PodDeserializer<'de>,
 ) -> Result<(ReadBy<VISITOR>, DeserializeSuccess<'de>), DeserializeError<&'de [u8]>>
@@ -55,7 +55,7 @@ fn number_visitor<'de, const VISITOR: u8>(
 }
 
 /// Those of pairs of numbers, texts and bytes.
-#[tactic(auto, using(spa_read::proofs::Stepping::read_any))]
+#[tactic(auto, using(spa_typed_read::proofs::Stepping::read_any))]
 fn other_visitor<'de, const VISITOR: u8>(
     deserializer: PodDeserializer<'de>,
 ) -> Result<(ReadBy<VISITOR>, DeserializeSuccess<'de>), DeserializeError<&'de [u8]>>
@@ -73,7 +73,7 @@ fn other_visitor<'de, const VISITOR: u8>(
 }
 
 /// Those of bitmaps, pointers and arrays, and some of choices.
-#[tactic(auto, using(spa_read::proofs::Stepping::read_any))]
+#[tactic(auto, using(spa_typed_read::proofs::Stepping::read_any))]
 fn content_visitor<'de, const VISITOR: u8>(
     deserializer: PodDeserializer<'de>,
 ) -> Result<(ReadBy<VISITOR>, DeserializeSuccess<'de>), DeserializeError<&'de [u8]>>
@@ -91,7 +91,7 @@ fn content_visitor<'de, const VISITOR: u8>(
 }
 
 /// The others of choices.
-#[tactic(auto, using(spa_read::proofs::Stepping::read_any))]
+#[tactic(auto, using(spa_typed_read::proofs::Stepping::read_any))]
 fn choice_visitor<'de, const VISITOR: u8>(
     deserializer: PodDeserializer<'de>,
 ) -> Result<(ReadBy<VISITOR>, DeserializeSuccess<'de>), DeserializeError<&'de [u8]>>
@@ -109,7 +109,7 @@ fn choice_visitor<'de, const VISITOR: u8>(
 }
 
 /// Some of each sort, which are lent an object.
-#[tactic(auto, using(spa_read::proofs::Stepping::read_any))]
+#[tactic(auto, using(spa_typed_read::proofs::Stepping::read_any))]
 fn object_visitor<'de, const VISITOR: u8>(
     deserializer: PodDeserializer<'de>,
 ) -> Result<(ReadBy<VISITOR>, DeserializeSuccess<'de>), DeserializeError<&'de [u8]>>

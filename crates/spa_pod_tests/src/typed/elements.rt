@@ -1,10 +1,10 @@
 //! Arrays, element by element.
 ghost use Rattle.std.specs.Prelude.{⊤, IfOk};
-ghost use Rattle.spa_read.specs.Members.{IsMadeOf, TakesElements};
+ghost use Rattle.spa_typed_read.specs.Members.{IsMadeOf, TakesElements};
 
 use crate::typed::answers::refused;
 use spa_fixed::{CanonicalFixedSizedPod, DeserializeError, FixedSizedPod};
-use spa_read::{ArrayPodDeserializer, DeserializeSuccess, PodDeserialize, PodDeserializer};
+use spa_typed_read::{ArrayPodDeserializer, DeserializeSuccess, PodDeserialize, PodDeserializer};
 use std::alloc::{AllocError, Global};
 
 /// A loudness, which is a number.

@@ -6,7 +6,7 @@ ghost use Rattle.spa_format.specs.Tree.{fixed, no_properties, object, property, 
 use crate::typed::answers::refused;
 use crate::typed::telling::declined;
 use spa_fixed::DeserializeError;
-use spa_read::{
+use spa_typed_read::{
     DeserializeSuccess, Never, ObjectPodDeserializer, PodDeserialize, PodDeserializer,
     StructPodDeserializer, Visit, Visitor,
 };
@@ -47,7 +47,7 @@ impl<'de> Visitor<'de> for DeviceVisitor {
         Err(declined(given))
     }
 
-    #[tactic(auto, using(spa_read::proofs::Stepping::further_same))]
+    #[tactic(auto, using(spa_typed_read::proofs::Stepping::further_same))]
     fn visit_struct(
         &self,
         _reader: &mut StructPodDeserializer<'de>,
@@ -55,7 +55,7 @@ impl<'de> Visitor<'de> for DeviceVisitor {
         Err(DeserializeError::UnsupportedType)
     }
 
-    #[tactic(auto, using(spa_read::proofs::Stepping::further_in_trans))]
+    #[tactic(auto, using(spa_typed_read::proofs::Stepping::further_in_trans))]
     fn visit_object(
         &self,
         reader: &mut ObjectPodDeserializer<'de>,
@@ -115,7 +115,7 @@ impl<'de> Visitor<'de> for AskingVisitor {
         Ok(())
     }
 
-    #[tactic(auto, using(spa_read::proofs::Stepping::further_same))]
+    #[tactic(auto, using(spa_typed_read::proofs::Stepping::further_same))]
     fn visit_struct(
         &self,
         _reader: &mut StructPodDeserializer<'de>,
@@ -123,7 +123,7 @@ impl<'de> Visitor<'de> for AskingVisitor {
         Err(DeserializeError::UnsupportedType)
     }
 
-    #[tactic(auto, using(spa_read::proofs::Stepping::further_in_trans, spa_read::proofs::Stepping::all_left_in))]
+    #[tactic(auto, using(spa_typed_read::proofs::Stepping::further_in_trans, spa_typed_read::proofs::Stepping::all_left_in))]
     fn visit_object(
         &self,
         reader: &mut ObjectPodDeserializer<'de>,

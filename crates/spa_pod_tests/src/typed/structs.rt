@@ -6,7 +6,7 @@ ghost use Rattle.spa_format.specs.Tree.{fixed, member, no_trees, string, struct}
 use crate::typed::answers::refused;
 use crate::typed::telling::declined;
 use spa_fixed::DeserializeError;
-use spa_read::{
+use spa_typed_read::{
     DeserializeSuccess, Never, ObjectPodDeserializer, PodDeserialize, PodDeserializer,
     StructPodDeserializer, Visit, Visitor,
 };
@@ -40,7 +40,7 @@ impl<'de> Visitor<'de> for FrameVisitor {
         Err(declined(given))
     }
 
-    #[tactic(auto, using(spa_read::proofs::Stepping::further_trans))]
+    #[tactic(auto, using(spa_typed_read::proofs::Stepping::further_trans))]
     fn visit_struct(
         &self,
         reader: &mut StructPodDeserializer<'de>,
@@ -51,7 +51,7 @@ impl<'de> Visitor<'de> for FrameVisitor {
         Ok(Frame { size })
     }
 
-    #[tactic(auto, using(spa_read::proofs::Stepping::further_in_same))]
+    #[tactic(auto, using(spa_typed_read::proofs::Stepping::further_in_same))]
     fn visit_object(
         &self,
         _reader: &mut ObjectPodDeserializer<'de>,
@@ -99,7 +99,7 @@ impl<'de> Visitor<'de> for ScreenVisitor {
         Err(declined(given))
     }
 
-    #[tactic(auto, using(spa_read::proofs::Stepping::further_trans))]
+    #[tactic(auto, using(spa_typed_read::proofs::Stepping::further_trans))]
     fn visit_struct(
         &self,
         reader: &mut StructPodDeserializer<'de>,
@@ -120,7 +120,7 @@ impl<'de> Visitor<'de> for ScreenVisitor {
         })
     }
 
-    #[tactic(auto, using(spa_read::proofs::Stepping::further_in_same))]
+    #[tactic(auto, using(spa_typed_read::proofs::Stepping::further_in_same))]
     fn visit_object(
         &self,
         _reader: &mut ObjectPodDeserializer<'de>,
@@ -183,7 +183,7 @@ impl<'de> Visitor<'de> for IdleVisitor {
         Ok(())
     }
 
-    #[tactic(auto, using(spa_read::proofs::Stepping::further_same, spa_read::proofs::Stepping::all_left))]
+    #[tactic(auto, using(spa_typed_read::proofs::Stepping::further_same, spa_typed_read::proofs::Stepping::all_left))]
     fn visit_struct(
         &self,
         _reader: &mut StructPodDeserializer<'de>,
@@ -191,7 +191,7 @@ impl<'de> Visitor<'de> for IdleVisitor {
         Ok(())
     }
 
-    #[tactic(auto, using(spa_read::proofs::Stepping::further_in_same, spa_read::proofs::Stepping::all_left_in))]
+    #[tactic(auto, using(spa_typed_read::proofs::Stepping::further_in_same, spa_typed_read::proofs::Stepping::all_left_in))]
     fn visit_object(
         &self,
         _reader: &mut ObjectPodDeserializer<'de>,
@@ -219,7 +219,7 @@ impl<'de> Visitor<'de> for StubbornVisitor {
         Ok(())
     }
 
-    #[tactic(auto, using(spa_read::proofs::Stepping::further_trans, spa_read::proofs::Stepping::all_left))]
+    #[tactic(auto, using(spa_typed_read::proofs::Stepping::further_trans, spa_typed_read::proofs::Stepping::all_left))]
     fn visit_struct(
         &self,
         reader: &mut StructPodDeserializer<'de>,
@@ -232,7 +232,7 @@ impl<'de> Visitor<'de> for StubbornVisitor {
         Err(DeserializeError::UnsupportedType)
     }
 
-    #[tactic(auto, using(spa_read::proofs::Stepping::further_in_same))]
+    #[tactic(auto, using(spa_typed_read::proofs::Stepping::further_in_same))]
     fn visit_object(
         &self,
         _reader: &mut ObjectPodDeserializer<'de>,

@@ -2,7 +2,7 @@
 ghost use Rattle.std.specs.Prelude.{⊤, IfErr, IfOk};
 
 use spa_fixed::DeserializeError;
-use spa_read::{Never, ObjectPodDeserializer, StructPodDeserializer, Visit, Visitor};
+use spa_typed_read::{Never, ObjectPodDeserializer, StructPodDeserializer, Visit, Visitor};
 
 /// Lets go of what is handed over, and declines it.
 pub(crate) fn declined<'de>(_given: Visit<'de, Never>) -> DeserializeError<&'de [u8]> {
@@ -31,7 +31,7 @@ impl<'de> Visitor<'de> for TellingVisitor {
         Err(declined(given))
     }
 
-    #[tactic(auto, using(spa_read::proofs::Stepping::further_trans, spa_read::proofs::Stepping::all_left))]
+    #[tactic(auto, using(spa_typed_read::proofs::Stepping::further_trans, spa_typed_read::proofs::Stepping::all_left))]
     fn visit_struct(
         &self,
         reader: &mut StructPodDeserializer<'de>,
@@ -42,7 +42,7 @@ impl<'de> Visitor<'de> for TellingVisitor {
         Ok(text)
     }
 
-    #[tactic(auto, using(spa_read::proofs::Stepping::further_in_trans, spa_read::proofs::Stepping::all_left_in))]
+    #[tactic(auto, using(spa_typed_read::proofs::Stepping::further_in_trans, spa_typed_read::proofs::Stepping::all_left_in))]
     fn visit_object(
         &self,
         reader: &mut ObjectPodDeserializer<'de>,

@@ -6,14 +6,14 @@ use crate::compare::assert_said;
 use crate::typed::answers::refused;
 use crate::typed::telling::TellingVisitor;
 use spa_fixed::DeserializeError;
-use spa_read::{DeserializeSuccess, PodDeserialize, PodDeserializer, ValueVisitor};
 use spa_spelling::bytes_of;
+use spa_typed_read::{DeserializeSuccess, PodDeserialize, PodDeserializer};
 use spa_visitors::{
     BitmapVisitor, BoolVisitor, BytesVisitor, ChoiceBoolVisitor, ChoiceDoubleVisitor,
     ChoiceFdVisitor, ChoiceFloatVisitor, ChoiceFractionVisitor, ChoiceIdVisitor, ChoiceIntVisitor,
     ChoiceLongVisitor, ChoiceRectangleVisitor, DoubleVisitor, FdVisitor, FloatVisitor,
     FractionVisitor, IdVisitor, IntVisitor, LongVisitor, NoneVisitor, PointerVisitor,
-    RectangleVisitor, StringVisitor, VecVisitor,
+    RectangleVisitor, StringVisitor, ValueVisitor, VecVisitor,
 };
 use std::alloc::{AllocError, Global};
 use std::fmt::Debug;
@@ -40,7 +40,7 @@ fn told<'de, T: Debug + Drop, const CALL: u8>(
 }
 
 /// The calls for lone numbers but floats.
-#[tactic(auto, using(spa_read::proofs::Stepping::visited_any, spa_read::proofs::Stepping::read_any))]
+#[tactic(auto, using(spa_typed_read::proofs::Stepping::visited_any, spa_typed_read::proofs::Stepping::read_any))]
 fn number_call<'de, const CALL: u8>(
     alloc: Global,
     deserializer: PodDeserializer<'de>,
@@ -58,7 +58,7 @@ fn number_call<'de, const CALL: u8>(
 }
 
 /// The calls for floats, pairs of numbers and file descriptors.
-#[tactic(auto, using(spa_read::proofs::Stepping::visited_any, spa_read::proofs::Stepping::read_any))]
+#[tactic(auto, using(spa_typed_read::proofs::Stepping::visited_any, spa_typed_read::proofs::Stepping::read_any))]
 fn pair_call<'de, const CALL: u8>(
     alloc: Global,
     deserializer: PodDeserializer<'de>,
@@ -76,7 +76,7 @@ fn pair_call<'de, const CALL: u8>(
 }
 
 /// The calls for bodies without members.
-#[tactic(auto, using(spa_read::proofs::Stepping::visited_any, spa_read::proofs::Stepping::read_any))]
+#[tactic(auto, using(spa_typed_read::proofs::Stepping::visited_any, spa_typed_read::proofs::Stepping::read_any))]
 fn plain_call<'de, const CALL: u8>(
     alloc: Global,
     deserializer: PodDeserializer<'de>,
@@ -98,7 +98,7 @@ fn plain_call<'de, const CALL: u8>(
 }
 
 /// The calls with the visitor that makes values, with a visitor of something else, and with one that tells what is read.
-#[tactic(auto, using(spa_read::proofs::Stepping::visited_any, spa_read::proofs::Stepping::read_any))]
+#[tactic(auto, using(spa_typed_read::proofs::Stepping::visited_any, spa_typed_read::proofs::Stepping::read_any))]
 fn value_call<'de, const CALL: u8>(
     alloc: Global,
     deserializer: PodDeserializer<'de>,
@@ -126,7 +126,7 @@ fn value_call<'de, const CALL: u8>(
 }
 
 /// The calls with visitors of choices: 40 and the type of the values.
-#[tactic(auto, using(spa_read::proofs::Stepping::visited_any, spa_read::proofs::Stepping::read_any))]
+#[tactic(auto, using(spa_typed_read::proofs::Stepping::visited_any, spa_typed_read::proofs::Stepping::read_any))]
 fn choice_call<'de, const CALL: u8>(
     alloc: Global,
     deserializer: PodDeserializer<'de>,
@@ -144,7 +144,7 @@ fn choice_call<'de, const CALL: u8>(
 }
 
 /// The same for pairs of numbers and file descriptors.
-#[tactic(auto, using(spa_read::proofs::Stepping::visited_any, spa_read::proofs::Stepping::read_any))]
+#[tactic(auto, using(spa_typed_read::proofs::Stepping::visited_any, spa_typed_read::proofs::Stepping::read_any))]
 fn paired_call<'de, const CALL: u8>(
     alloc: Global,
     deserializer: PodDeserializer<'de>,

@@ -1,4 +1,5 @@
-use Rattle.spa_read.proofs.Bodies.{filled, key_short_behind, one_read, plain_behind, short_behind}
+use Rattle.spa_read.proofs.Remainders.{filled}
+use Rattle.spa_read.proofs.Bodies.{key_short_behind, one_read, plain_behind, short_behind}
 use Rattle.spa_read.proofs.inside.read_plain_pods.Goals as goal
 
 pub returns-in_default-clause-refused : goal.returns-in_default-clause-refused

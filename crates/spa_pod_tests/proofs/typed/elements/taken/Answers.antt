@@ -1,6 +1,6 @@
 use Rattle.std.proofs.Common.{◌≡◌, [], ◌∷◌, ◌++◌, rules, subst, sym}
-use Rattle.spa_read.specs.Members.{TakesElements}
-use Rattle.spa_read.proofs.Elements.{took_element}
+use Rattle.spa_typed_read.specs.Members.{TakesElements}
+use Rattle.spa_typed_read.proofs.Elements.{took_element}
 use Rattle.spa_pod_tests.proofs.typed.elements.taken.Goals as goal
 
 pub loop-preserved : goal.loop-preserved

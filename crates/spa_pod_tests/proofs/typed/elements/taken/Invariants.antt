@@ -1,4 +1,4 @@
-use Rattle.spa_read.specs.Members.{TakesElements}
+use Rattle.spa_typed_read.specs.Members.{TakesElements}
 use Rattle.spa_pod_tests.proofs.typed.elements.taken.Given as goal
 
 abbrev pub invariant-loop : goal.invariant-loop

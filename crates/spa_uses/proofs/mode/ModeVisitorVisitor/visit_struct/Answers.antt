@@ -1,5 +1,5 @@
 use Rattle.std.proofs.Common.{rules, ◌∙◌}
-use Rattle.spa_read.proofs.Stepping.{all_as, all_member, all_none}
+use Rattle.spa_typed_read.proofs.Stepping.{all_as, all_member, all_none}
 use Rattle.spa_uses.proofs.mode.ModeVisitorVisitor.visit_struct.Goals as goal
 
 pub returns-clause-made : goal.returns-clause-made

@@ -1,4 +1,4 @@
-use Rattle.spa_read.proofs.Stepping.{all_as_in, all_none_in, all_under, further_in_trans}
+use Rattle.spa_typed_read.proofs.Stepping.{all_as_in, all_none_in, all_under, further_in_trans}
 use Rattle.spa_uses.proofs.screen.DeviceVisitorVisitor.visit_object.Goals as goal
 
 pub returns-in_err-volume-clause-same : goal.returns-in_err-volume-clause-same

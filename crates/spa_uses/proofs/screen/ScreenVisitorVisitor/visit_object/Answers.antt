@@ -1,4 +1,4 @@
-use Rattle.spa_read.proofs.Stepping.{all_as_in, all_none_in, all_under}
+use Rattle.spa_typed_read.proofs.Stepping.{all_as_in, all_none_in, all_under}
 use Rattle.spa_uses.proofs.screen.ScreenVisitorVisitor.visit_object.Goals as goal
 
 pub returns-clause-made : goal.returns-clause-made

@@ -1,5 +1,5 @@
 use Rattle.std.proofs.Common.{rules, ◌∙◌}
-use Rattle.spa_read.proofs.Stepping.{all_as, all_member, all_none, further_trans}
+use Rattle.spa_typed_read.proofs.Stepping.{all_as, all_member, all_none, further_trans}
 use Rattle.spa_uses.proofs.song.SongVisitorVisitor.visit_struct.Goals as goal
 
 pub returns-in_err-cover-clause-same : goal.returns-in_err-cover-clause-same

@@ -1,7 +1,7 @@
 use Rattle.std.proofs.Common.{subst, sym}
-use Rattle.spa_read.specs.Members.{IsMadeOf}
+use Rattle.spa_typed_read.specs.Members.{IsMadeOf}
 use Rattle.spa_leaf.specs.Reading.{IsRead}
-use Rattle.spa_read.proofs.Elements.{all_elements}
+use Rattle.spa_typed_read.proofs.Elements.{all_elements}
 use Rattle.spa_pod_tests.proofs.typed.elements.ListPodDeserialize.deserialize.Goals as goal
 
 pub returns-clause-read : goal.returns-clause-read

@@ -1,4 +1,4 @@
-use Rattle.spa_read.proofs.Stepping.{all_left_in, further_in_trans}
+use Rattle.spa_typed_read.proofs.Stepping.{all_left_in, further_in_trans}
 use Rattle.spa_pod_tests.proofs.typed.objects.AskingVisitorVisitor.visit_object.Goals as goal
 
 pub returns-then-is_missing-clause-made : goal.returns-then-is_missing-clause-made

@@ -1,4 +1,4 @@
-use Rattle.spa_read.proofs.Stepping.{all_as_in, all_none_in, all_under, further_in_trans}
+use Rattle.spa_typed_read.proofs.Stepping.{all_as_in, all_none_in, all_under, further_in_trans}
 use Rattle.spa_pod_tests.proofs.typed.objects.DeviceVisitorVisitor.visit_object.Goals as goal
 
 pub returns-clause-made : goal.returns-clause-made

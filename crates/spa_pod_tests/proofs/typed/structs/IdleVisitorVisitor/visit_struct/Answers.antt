@@ -1,4 +1,4 @@
-use Rattle.spa_read.proofs.Stepping.{all_left, further_same}
+use Rattle.spa_typed_read.proofs.Stepping.{all_left, further_same}
 use Rattle.spa_pod_tests.proofs.typed.structs.IdleVisitorVisitor.visit_struct.Goals as goal
 
 pub returns-clause-made : goal.returns-clause-made

@@ -1,4 +1,4 @@
-use Rattle.spa_read.proofs.Stepping.{all_left, further_trans}
+use Rattle.spa_typed_read.proofs.Stepping.{all_left, further_trans}
 use Rattle.spa_pod_tests.proofs.typed.structs.StubbornVisitorVisitor.visit_struct.Goals as goal
 
 pub returns-then-refused_as-2-clause-made : goal.returns-then-refused_as-2-clause-made

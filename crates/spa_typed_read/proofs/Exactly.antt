@@ -1,0 +1,175 @@
+-- Structs that are read member by member, and what is refused of them.
+use Rattle.std.proofs.Common.{◌≡◌, ◌≢◌, ℕ, List, [], length, drop, refl, sym, ap, ◌∙◌, subst, arith, length-append}
+use Rattle.std.specs.Borrow.{Bor}
+use Rattle.spa_format.specs.Words.{body_of, header_size, word_at}
+use Rattle.spa_format.specs.Tree.{Tree, Trees, Properties, member, no_trees, object_type, struct_type, type_of}
+use Rattle.spa_format.specs.Pod.{AreMembers, AreProperties, IsBody, IsPod}
+use Rattle.spa_format.specs.Front.{HasFront, Begins, rest_of}
+use Rattle.spa_format.proofs.Refused as format
+use Rattle.spa_fixed.specs.declared.fault.FaultKind.{FaultKind}
+use Rattle.spa_fixed.specs.declared.fault.FaultKind.TheVariants as fault_kind
+use Rattle.spa_fixed.specs.declared.fault.DeserializeError.{DeserializeError}
+use Rattle.spa_fixed.specs.declared.fault.DeserializeError.TheVariants as error
+use Rattle.spa_format.proofs.Fronts.{front_of_whole}
+use Rattle.spa_typed_read.specs.Asking.{LacksBytes, LacksFront, LacksObject, of_type}
+use Rattle.spa_typed_read.specs.Exactly.{AreUnread, IsUnread, ReadsFirst, ReadsStruct, RefusesExactly}
+use Rattle.spa_typed_read.specs.ExactlyLaws.{asked_exactly, fault_to}
+use Rattle.spa_typed_read.specs.Lookup.{ReadsObject}
+use Rattle.spa_typed_read.specs.Members.{ObjectReader, OpensObject, OpensStruct, Reader}
+use Rattle.spa_leaf.specs.Reading.{IsShortAt, OnFault, OnMemory}
+use Rattle.spa_typed_read.proofs.Asking.{front_refused}
+
+-- where nothing is left, there is no member
+no_member : (b : List ℕ) (v : Tree) (vs : Trees) → b ≡ [] → ¬ (AreMembers (member v vs) b)
+no_member b v vs e m =
+    let parts = ap length m.2 ∙ length-append m.0 m.1 in
+    let none = ap length e in
+    let whole = m.3.whole in
+    absurd (omega (arith, parts, none, whole))
+
+pub none_unread : {A R : Type 0} (reads : Tree → A → Type 0) (others : Trees → R → Type 0) (b : List ℕ) → b ≡ [] →
+    AreUnread (λ vs (x : A × R). ReadsFirst reads others vs x.0 x.1) b
+none_unread reads others b e vs x m r = no_member b r.first r.behind e (subst (λ ws. AreMembers ws b) r.is m)
+
+-- where something is left, there is one
+pub some_unread : (b : List ℕ) → b ≢ [] → AreUnread (λ vs (x : Unit {0}). vs ≡ no_trees) b
+some_unread b n vs x m e = n (subst (λ ws. AreMembers ws b) e m)
+
+-- the first one isn't read
+pub first_unread : {A R : Type 0} (reads : Tree → A → Type 0) (others : Trees → R → Type 0) (b : List ℕ) → IsUnread reads b →
+    AreUnread (λ vs (x : A × R). ReadsFirst reads others vs x.0 x.1) b
+first_unread reads others b u vs x m r =
+    let k = subst (λ ws. AreMembers ws b) r.is m in
+    let a = front_of_whole b k.0 k.1 _ _ k.2 k.3 in
+    u r.first x.0 (record { there = a.0; pod = subst (λ l. IsPod l r.first) a.1 k.3 }) r.first_is
+
+-- those behind it aren't
+pub behind_unread : {A R : Type 0} (reads : Tree → A → Type 0) (others : Trees → R → Type 0) (b c : List ℕ) → c ≡ rest_of b →
+    AreUnread others c → AreUnread (λ vs (x : A × R). ReadsFirst reads others vs x.0 x.1) b
+behind_unread reads others b c e u vs x m r =
+    let k = subst (λ ws. AreMembers ws b) r.is m in
+    let a = front_of_whole b k.0 k.1 _ _ k.2 k.3 in
+    u r.behind x.1 (subst (AreMembers r.behind) (a.2 ∙ sym e) k.4) r.behind_are
+
+-- Structs.
+
+memory_there : (A : Type 0) (e : DeserializeError (Bor (List ℕ))) → A → OnMemory A e
+memory_there A (error.Nom f) h = tt
+memory_there A error.UnsupportedType h = tt
+memory_there A error.InvalidType h = tt
+memory_there A error.PropertyMissing h = tt
+memory_there A (error.PropertyWrongKey k) h = tt
+memory_there A error.InvalidChoiceType h = tt
+memory_there A error.MissingChoiceValues h = tt
+memory_there A error.WrongSize h = tt
+memory_there A error.UnreadMembers h = tt
+memory_there A error.NoElementLeft h = tt
+memory_there A error.FailedReader h = tt
+memory_there A error.OutOfMemory h = h
+
+-- the front is no struct
+pub struct_unopened : {X : Type 0} (reads : Trees → X → Type 0) (b : List ℕ) (e : DeserializeError (Bor (List ℕ))) →
+    LacksFront struct_type b e → RefusesExactly (λ v (x : X). ReadsStruct reads v x) b e
+struct_unopened reads b e h =
+    asked_exactly (of_type struct_type) ⊥ _ (λ v x r. ap type_of r.is) b e (front_refused (of_type struct_type) ⊥ b e h)
+
+-- its members aren't read
+pub struct_unread : {X : Type 0} (reads : Trees → X → Type 0) (b : List ℕ) (e : DeserializeError (Bor (List ℕ))) (r : Reader) →
+    OpensStruct b r → OnFault (AreUnread reads r.left) e → RefusesExactly (λ v (x : X). ReadsStruct reads v x) b e
+struct_unread {X = X} reads b e r o h = record {
+  unread =
+      fault_to (AreUnread reads r.left) (IsUnread (λ v (x : X). ReadsStruct reads v x) b) e
+      (λ n v x g s.
+      let body = subst (λ w. IsBody w (body_of b)) s.is (format.begun b v g).1 in
+      n s.members x (subst (AreMembers s.members) (sym o.opens.its_body) body) s.are) h;
+  short_first = λ n. absurd (n o.opens.there);
+  memory = memory_there (HasFront b) e o.opens.there;
+}
+
+-- Objects.
+
+lacks_type : (b : List ℕ) (k : FaultKind) → LacksBytes object_type b k → (v : Tree) → Begins b v → type_of v ≢ object_type
+lacks_type b fault_kind.Short s v g t = s g.there
+lacks_type b fault_kind.Tag s v g t = s.1 ((format.begun b v g).0 ∙ t)
+lacks_type b fault_kind.Text s v g t = s
+
+lacks_object : {X : Type 0} (type id : ℕ) (reads : Properties → X → Type 0) (b : List ℕ) (e : DeserializeError (Bor (List ℕ))) →
+    LacksObject b e → OnFault (IsUnread (λ v (x : X). ReadsObject type id reads v x) b) e
+lacks_object type id reads b (error.Nom f) h = λ v x g s. lacks_type b f.kind h.1 v g (ap type_of s.is)
+lacks_object type id reads b error.WrongSize h = λ v x g s.
+    let body = subst (λ w. IsBody w (body_of b)) s.is (format.begun b v g).1 in
+    let long = body.0 in
+    let short = h.2 in
+    absurd (omega (arith, long, short))
+lacks_object type id reads b error.UnsupportedType h = absurd h
+lacks_object type id reads b error.InvalidType h = absurd h
+lacks_object type id reads b error.PropertyMissing h = absurd h
+lacks_object type id reads b (error.PropertyWrongKey k) h = absurd h
+lacks_object type id reads b error.InvalidChoiceType h = absurd h
+lacks_object type id reads b error.MissingChoiceValues h = absurd h
+lacks_object type id reads b error.UnreadMembers h = absurd h
+lacks_object type id reads b error.NoElementLeft h = absurd h
+lacks_object type id reads b error.FailedReader h = absurd h
+lacks_object type id reads b error.OutOfMemory h = absurd h
+
+bytes_short : (b : List ℕ) (k : FaultKind) → LacksBytes object_type b k → ¬ (HasFront b) → k ≡ fault_kind.Short
+bytes_short b fault_kind.Short s n = refl
+bytes_short b fault_kind.Tag s n = absurd (n s.0)
+bytes_short b fault_kind.Text s n = absurd s
+
+lacks_short : (b : List ℕ) (e : DeserializeError (Bor (List ℕ))) → LacksObject b e → ¬ (HasFront b) → IsShortAt b e
+lacks_short b (error.Nom f) h n = (bytes_short b f.kind h.1 n, h.0)
+lacks_short b error.WrongSize h n = absurd (n h.0)
+lacks_short b error.UnsupportedType h n = absurd h
+lacks_short b error.InvalidType h n = absurd h
+lacks_short b error.PropertyMissing h n = absurd h
+lacks_short b (error.PropertyWrongKey k) h n = absurd h
+lacks_short b error.InvalidChoiceType h n = absurd h
+lacks_short b error.MissingChoiceValues h n = absurd h
+lacks_short b error.UnreadMembers h n = absurd h
+lacks_short b error.NoElementLeft h n = absurd h
+lacks_short b error.FailedReader h n = absurd h
+lacks_short b error.OutOfMemory h n = absurd h
+
+lacks_memory : (b : List ℕ) (e : DeserializeError (Bor (List ℕ))) → LacksObject b e → OnMemory (HasFront b) e
+lacks_memory b (error.Nom f) h = tt
+lacks_memory b error.UnsupportedType h = tt
+lacks_memory b error.InvalidType h = tt
+lacks_memory b error.PropertyMissing h = tt
+lacks_memory b (error.PropertyWrongKey k) h = tt
+lacks_memory b error.InvalidChoiceType h = tt
+lacks_memory b error.MissingChoiceValues h = tt
+lacks_memory b error.WrongSize h = tt
+lacks_memory b error.UnreadMembers h = tt
+lacks_memory b error.NoElementLeft h = tt
+lacks_memory b error.FailedReader h = tt
+lacks_memory b error.OutOfMemory h = absurd h
+
+-- the front is no object, or lacks its type or its id
+pub object_unopened : {X : Type 0} (type id : ℕ) (reads : Properties → X → Type 0) (b : List ℕ) (e : DeserializeError (Bor (List ℕ))) →
+    LacksObject b e → RefusesExactly (λ v (x : X). ReadsObject type id reads v x) b e
+object_unopened type id reads b e h = record {
+  unread = lacks_object type id reads b e h;
+  short_first = lacks_short b e h;
+  memory = lacks_memory b e h;
+}
+
+-- its type, its id or its properties aren't those that are read
+pub object_unread : {X : Type 0} (type id : ℕ) (reads : Properties → X → Type 0) (b : List ℕ) (e : DeserializeError (Bor (List ℕ)))
+    (r : ObjectReader) → OpensObject b r →
+    OnFault ((ps : Properties) (x : X) → type ≡ r.type → id ≡ r.id → AreProperties ps r.reader.left → ¬ (reads ps x)) e →
+    RefusesExactly (λ v (x : X). ReadsObject type id reads v x) b e
+object_unread {X = X} type id reads b e r o h = record {
+  unread =
+      fault_to ((ps : Properties) (x : X) → type ≡ r.type → id ≡ r.id → AreProperties ps r.reader.left → ¬ (reads ps x))
+      (IsUnread (λ v (x : X). ReadsObject type id reads v x) b) e
+      (λ n v x g s.
+      let whole = subst (λ w. IsBody w (body_of b)) s.is (format.begun b v g).1 in
+      let same = o.opens.its_body in
+      n s.properties x
+      (whole.1 ∙ ap (λ l. word_at l 0) (sym same) ∙ sym o.its_type)
+      (whole.2 ∙ ap (λ l. word_at l 4) (sym same) ∙ sym o.its_id)
+      (subst (AreProperties s.properties) (ap (drop header_size) (sym same) ∙ sym o.left) whole.3) s.are) h;
+  short_first = λ n. absurd (n o.opens.there);
+  memory = memory_there (HasFront b) e o.opens.there;
+}

@@ -1,0 +1,321 @@
+-- How the calls of a reader of members or properties add up: what the author of a visitor cites.
+use Rattle.std.proofs.Common.{◌≡◌, ℕ, ◌<◌, true, false, List, [], ◌++◌, length, drop, refl, sym, subst, ◌∙◌, ap, arith, append_assoc, length-drop}
+use Rattle.std.specs.Prelude.{⊤}
+use Rattle.std.proofs.lemmas.List.{append-nil}
+use Rattle.spa_format.specs.Words.{word_at, header_size, extent}
+use Rattle.spa_format.specs.Tree.{Tree, Trees, no_trees, member, join_members, Properties, no_properties, property, join_properties}
+use Rattle.spa_format.specs.Pod.{AreMembers, AreProperties, IsPod}
+use Rattle.spa_format.specs.Front.{front_of}
+use Rattle.spa_format.proofs.Sequences.{members_joined, members_push, props_joined}
+use Rattle.spa_leaf.specs.Reading.{BeginsWith, IsRead}
+use Rattle.spa_typed_read.specs.Members.{AllMembers, AllProperties, AtEnd, Further, FurtherIn, ObjectReader, Reader, TakesField, TakesProperty}
+use Rattle.spa_typed_read.specs.declared.visitor.Visit.{Visit}
+use Rattle.spa_typed_read.specs.Visiting.{IsVisited}
+use Rattle.spa_read.proofs.Remainders.{HasKey, first_property}
+use Rattle.spa_leaf.proofs.Steps.{parted}
+
+-- what was read begins the input, and the rest follows
+begun_with : (input rest : List ℕ) (P : Tree → Type 0) → (r : IsRead input rest P) → BeginsWith input r.value rest
+begun_with input rest P r = record { begins = r.begins; follows = r.follows }
+
+-- and is shorter
+rest_shorter : (input rest : List ℕ) (P : Tree → Type 0) → IsRead input rest P → length rest < length input
+rest_shorter input rest P r =
+    let size = word_at input 0 in
+    let there = r.begins.there.whole in
+    let behind = ap length r.follows ∙ length-drop (extent size) input in
+    omega arith
+
+-- Members of a struct.
+
+pub further_same : (r : Reader) → Further r r
+further_same r = record {
+  ahead = λ good. record { members = no_trees; seen = []; good = good; left = refl; are = refl; after = refl };
+}
+
+pub further_failed : (a b : Reader) → b.failed ≡ true → Further a b
+further_failed a b failed = record { ahead = λ good. absurd (cc (failed, good)) }
+
+pub further_field : (a b : Reader) (P : Tree → Type 0) → TakesField a b P → Further a b
+further_field a b P f =
+    let front = front_of a.left in
+    let whole = parted a.left f.field.value b.left (begun_with a.left b.left P f.field) in
+    record {
+      ahead = λ good. record {
+        members = member f.field.value no_trees;
+        seen = front;
+        good = f.was_good;
+        left = whole;
+        are = (front, [], sym (append-nil front), f.field.begins.pod, refl);
+        after = f.after;
+      };
+    }
+
+pub further_trans : (a b c : Reader) → Further a b → Further b c → Further a c
+further_trans a b c f g = record {
+  ahead = λ good.
+      let h = g.ahead good in
+      let k = f.ahead h.good in
+      record {
+        members = join_members k.members h.members;
+        seen = k.seen ++ h.seen;
+        good = k.good;
+        left = rw (k.left, h.left) (simp append_assoc);
+        are = members_joined k.members h.members k.seen h.seen k.are h.are;
+        after = h.after ∙ k.after;
+      };
+}
+
+-- no member is left
+pub all_none : (r : Reader) → AtEnd r → AllMembers r (λ vs. vs ≡ no_trees)
+all_none r e = record { members = no_trees; are = e.none_left; holds = refl }
+
+-- a member and the members behind it, for which these facts hold
+pub record Behind (P : Tree → Type 0) (Q : Trees → Type 0) (vs : Trees) : Type 0 where
+  pub first : Tree
+  pub others : Trees
+  pub is : vs ≡ member first others
+  pub first_is : P first
+  pub others_are : Q others
+
+pub all_field : (a b : Reader) (P : Tree → Type 0) (Q : Trees → Type 0) → TakesField a b P → AllMembers b Q →
+    AllMembers a (Behind P Q)
+all_field a b P Q f more =
+    let whole = parted a.left f.field.value b.left (begun_with a.left b.left P f.field) in
+    record {
+      members = member f.field.value more.members;
+      are = (front_of a.left, b.left, whole, f.field.begins.pod, more.are);
+      holds = record { first = f.field.value; others = more.members; is = refl; first_is = f.field.holds; others_are = more.holds };
+    }
+
+pub all_as : (a : Reader) (P Q : Trees → Type 0) → ((vs : Trees) → P vs → Q vs) → AllMembers a P → AllMembers a Q
+all_as a P Q to m = record { members = m.members; are = m.are; holds = to m.members m.holds }
+
+-- a member of this value, and these members behind it
+pub all_member : (a b : Reader) (v : Tree) (ws : Trees) → TakesField a b (λ w. w ≡ v) → AllMembers b (λ vs. vs ≡ ws) →
+    AllMembers a (λ vs. vs ≡ member v ws)
+all_member a b v ws f more =
+    let all = all_field a b (λ w. w ≡ v) (λ vs. vs ≡ ws) f more in
+    record {
+      members = all.members;
+      are = all.are;
+      holds = all.holds.is ∙ ap (λ w. member w all.holds.others) all.holds.first_is ∙ ap (member v) all.holds.others_are;
+    }
+
+-- all that was left, where the reader has come to its end
+pub all_left : (a b : Reader) → Further a b → AtEnd b → AllMembers a (λ _. ⊤)
+all_left a b f e =
+    let h = f.ahead e.good in
+    let whole : a.left ≡ h.seen = h.left ∙ ap (λ l. h.seen ++ l) e.none_left ∙ append-nil h.seen in
+    record { members = h.members; are = subst (AreMembers h.members) (sym whole) h.are; holds = tt }
+
+-- a member is shorter than what was left
+pub field_shorter : (a b : Reader) (P : Tree → Type 0) → TakesField a b P → length b.left < length a.left
+field_shorter a b P f = rest_shorter a.left b.left P f.field
+
+-- a reader's calls took these members, and it hasn't failed
+pub record AheadBy (lent now : Reader) (vs : Trees) : Type 0 where
+  pub seen : List ℕ
+  pub good : lent.failed ≡ false
+  pub left : lent.left ≡ seen ++ now.left
+  pub are : AreMembers vs seen
+  pub after : now.after ≡ lent.after
+
+-- or it has
+pub record Took (lent now : Reader) (vs : Trees) : Type 0 where
+  pub ahead : now.failed ≡ false → AheadBy lent now vs
+
+pub took_none : (r : Reader) → Took r r no_trees
+took_none r = record {
+  ahead = λ good. record { seen = []; good = good; left = refl; are = refl; after = refl };
+}
+
+pub took_further : (a b : Reader) (vs : Trees) → Took a b vs → Further a b
+took_further a b vs t = record {
+  ahead = λ good.
+      let h = t.ahead good in
+      record { members = vs; seen = h.seen; good = h.good; left = h.left; are = h.are; after = h.after };
+}
+
+pub took_field : (a b c : Reader) (vs : Trees) (v : Tree) → Took a b vs → TakesField b c (λ w. v ≡ w) →
+    Took a c (join_members vs (member v no_trees))
+took_field a b c vs v t f = record {
+  ahead = λ good.
+      let h = t.ahead f.was_good in
+      let front = front_of b.left in
+      let whole = parted b.left f.field.value c.left (begun_with b.left c.left (λ w. v ≡ w) f.field) in
+      record {
+        seen = h.seen ++ front;
+        good = h.good;
+        left = h.left ∙ ap (λ l. h.seen ++ l) whole ∙ sym (append_assoc h.seen front c.left);
+        are = members_push vs v h.seen front h.are (subst (IsPod front) (sym f.field.holds) f.field.begins.pod);
+        after = f.after ∙ h.after;
+      };
+}
+
+pub took_all : (a b : Reader) (vs : Trees) → Took a b vs → AtEnd b → AllMembers a (λ ws. ws ≡ vs)
+took_all a b vs t e =
+    let h = t.ahead e.good in
+    let whole : a.left ≡ h.seen = h.left ∙ ap (λ l. h.seen ++ l) e.none_left ∙ append-nil h.seen in
+    record { members = vs; are = subst (AreMembers vs) (sym whole) h.are; holds = refl }
+
+-- Properties of an object.
+
+pub further_in_same : (r : ObjectReader) → FurtherIn r r
+further_in_same r = record {
+  ahead = λ good. record { properties = no_properties; seen = []; good = good; left = refl; are = refl; after = refl };
+}
+
+pub further_in_failed : (a b : ObjectReader) → b.reader.failed ≡ true → FurtherIn a b
+further_in_failed a b failed = record { ahead = λ good. absurd (cc (failed, good)) }
+
+pub further_property : (a b : ObjectReader) (key flags : ℕ) (P : Tree → Type 0) → TakesProperty a b key flags P → FurtherIn a b
+further_property a b key flags P t =
+    let behind = drop header_size a.reader.left in
+    let h : HasKey a.reader.left behind key flags = record { long = t.header; is_behind = refl; key = t.its_key; flags = t.its_flags } in
+    let one = first_property a.reader.left behind b.reader.left key flags t.value.value h (begun_with behind b.reader.left P t.value) in
+    record {
+      ahead = λ good. record {
+        properties = property key flags t.value.value no_properties;
+        seen = one.here;
+        good = t.was_good;
+        left = one.parts;
+        are = one.its_bytes;
+        after = t.after;
+      };
+    }
+
+pub further_in_trans : (a b c : ObjectReader) → FurtherIn a b → FurtherIn b c → FurtherIn a c
+further_in_trans a b c f g = record {
+  ahead = λ good.
+      let h = g.ahead good in
+      let k = f.ahead h.good in
+      record {
+        properties = join_properties k.properties h.properties;
+        seen = k.seen ++ h.seen;
+        good = k.good;
+        left = rw (k.left, h.left) (simp append_assoc);
+        are = props_joined k.properties h.properties k.seen h.seen k.are h.are;
+        after = h.after ∙ k.after;
+      };
+}
+
+-- no property is left
+pub all_none_in : (r : ObjectReader) → AtEnd r.reader → AllProperties r (λ ps. ps ≡ no_properties)
+all_none_in r e = record { properties = no_properties; are = e.none_left; holds = refl }
+
+-- a property under this key, with these flags, and the properties behind it, for which these facts hold
+pub record BehindIn (key flags : ℕ) (P : Tree → Type 0) (Q : Properties → Type 0) (ps : Properties) : Type 0 where
+  pub first : Tree
+  pub others : Properties
+  pub is : ps ≡ property key flags first others
+  pub first_is : P first
+  pub others_are : Q others
+
+pub all_property : (a b : ObjectReader) (key flags : ℕ) (P : Tree → Type 0) (Q : Properties → Type 0) →
+    TakesProperty a b key flags P → AllProperties b Q → AllProperties a (BehindIn key flags P Q)
+all_property a b key flags P Q t more =
+    let behind = drop header_size a.reader.left in
+    let whole = parted behind t.value.value b.reader.left (begun_with behind b.reader.left P t.value) in
+    record {
+      properties = property key flags t.value.value more.properties;
+      are = (t.header, t.its_key, t.its_flags, front_of behind, b.reader.left, whole, t.value.begins.pod, more.are);
+      holds = record { first = t.value.value; others = more.properties; is = refl; first_is = t.value.holds; others_are = more.holds };
+    }
+
+pub all_as_in : (a : ObjectReader) (P Q : Properties → Type 0) → ((ps : Properties) → P ps → Q ps) → AllProperties a P → AllProperties a Q
+all_as_in a P Q to m = record { properties = m.properties; are = m.are; holds = to m.properties m.holds }
+
+-- a property of this value, and these properties behind it
+pub all_under : (a b : ObjectReader) (key flags : ℕ) (v : Tree) (qs : Properties) → TakesProperty a b key flags (λ w. w ≡ v) →
+    AllProperties b (λ ps. ps ≡ qs) → AllProperties a (λ ps. ps ≡ property key flags v qs)
+all_under a b key flags v qs t more =
+    let all = all_property a b key flags (λ w. w ≡ v) (λ ps. ps ≡ qs) t more in
+    record {
+      properties = all.properties;
+      are = all.are;
+      holds = all.holds.is ∙ ap (λ w. property key flags w all.holds.others) all.holds.first_is
+          ∙ ap (property key flags v) all.holds.others_are;
+    }
+
+-- all that was left, where the reader has come to its end
+pub all_left_in : (a b : ObjectReader) → FurtherIn a b → AtEnd b.reader → AllProperties a (λ _. ⊤)
+all_left_in a b f e =
+    let h = f.ahead e.good in
+    let whole : a.reader.left ≡ h.seen = h.left ∙ ap (λ l. h.seen ++ l) e.none_left ∙ append-nil h.seen in
+    record { properties = h.properties; are = subst (AreProperties h.properties) (sym whole) h.are; holds = tt }
+
+-- a property is shorter than what was left
+pub property_shorter : (a b : ObjectReader) (key flags : ℕ) (P : Tree → Type 0) → TakesProperty a b key flags P →
+    length b.reader.left < length a.reader.left
+property_shorter a b key flags P t =
+    let behind = rest_shorter (drop header_size a.reader.left) b.reader.left P t.value in
+    let cut = length-drop 8 a.reader.left in
+    omega arith
+
+-- an object's reader's calls took these properties, and it hasn't failed
+pub record AheadInBy (lent now : ObjectReader) (ps : Properties) : Type 0 where
+  pub seen : List ℕ
+  pub good : lent.reader.failed ≡ false
+  pub left : lent.reader.left ≡ seen ++ now.reader.left
+  pub are : AreProperties ps seen
+  pub after : now.reader.after ≡ lent.reader.after
+
+-- or it has
+pub record TookIn (lent now : ObjectReader) (ps : Properties) : Type 0 where
+  pub ahead : now.reader.failed ≡ false → AheadInBy lent now ps
+  pub same_type : now.type ≡ lent.type
+  pub same_id : now.id ≡ lent.id
+
+pub took_none_in : (r : ObjectReader) → TookIn r r no_properties
+took_none_in r = record {
+  ahead = λ good. record { seen = []; good = good; left = refl; are = refl; after = refl };
+  same_type = refl;
+  same_id = refl;
+}
+
+pub took_further_in : (a b : ObjectReader) (ps : Properties) → TookIn a b ps → FurtherIn a b
+took_further_in a b ps t = record {
+  ahead = λ good.
+      let h = t.ahead good in
+      record { properties = ps; seen = h.seen; good = h.good; left = h.left; are = h.are; after = h.after };
+}
+
+pub took_property : (a b c : ObjectReader) (ps : Properties) (key flags : ℕ) (v : Tree) → TookIn a b ps →
+    TakesProperty b c key flags (λ w. v ≡ w) → c.type ≡ b.type → c.id ≡ b.id →
+    TookIn a c (join_properties ps (property key flags v no_properties))
+took_property a b c ps key flags v t f x y = record {
+  ahead = λ good.
+      let h = t.ahead f.was_good in
+      let behind = drop header_size b.reader.left in
+      let k : HasKey b.reader.left behind key flags = record { long = f.header; is_behind = refl; key = f.its_key; flags = f.its_flags } in
+      let one = first_property b.reader.left behind c.reader.left key flags f.value.value k (begun_with behind c.reader.left (λ w. v ≡ w) f.value) in
+      let its_bytes = subst (λ w. AreProperties (property key flags w no_properties) one.here) (sym f.value.holds) one.its_bytes in
+      record {
+        seen = h.seen ++ one.here;
+        good = h.good;
+        left = h.left ∙ ap (λ l. h.seen ++ l) one.parts ∙ sym (append_assoc h.seen one.here c.reader.left);
+        are = props_joined ps (property key flags v no_properties) h.seen one.here h.are its_bytes;
+        after = f.after ∙ h.after;
+      };
+  same_type = x ∙ t.same_type;
+  same_id = y ∙ t.same_id;
+}
+
+pub took_all_in : (a b : ObjectReader) (ps : Properties) → TookIn a b ps → AtEnd b.reader → AllProperties a (λ qs. qs ≡ ps)
+took_all_in a b ps t e =
+    let h = t.ahead e.good in
+    let whole : a.reader.left ≡ h.seen = h.left ∙ ap (λ l. h.seen ++ l) e.none_left ∙ append-nil h.seen in
+    record { properties = ps; are = subst (AreProperties ps) (sym whole) h.are; holds = refl }
+
+-- Whatever is read.
+
+-- some value is read
+pub read_any : (input rest : List ℕ) (P : Tree → Type 0) → IsRead input rest P → IsRead input rest (λ _. ⊤)
+read_any input rest P r = record { value = r.value; begins = r.begins; follows = r.follows; holds = tt }
+
+-- some value was visited
+pub visited_any : {E X : Type 0} (t : ℕ) (visits : Visit E → X → Type 0) (input rest : List ℕ) (x : X) →
+    IsVisited t visits input rest x → IsRead input rest (λ _. ⊤)
+visited_any t visits input rest x r =
+    record { value = r.handed.value; begins = r.handed.begins; follows = r.follows; holds = tt }

@@ -1,0 +1,85 @@
+-- The laws of types whose reads are refused exactly, for the built-in ones.
+use Rattle.std.specs.Prelude.{◌≡◌, ℕ, List}
+use Rattle.std.specs.Borrow.{Bor}
+use Rattle.spa_format.specs.Tree.{Tree}
+use Rattle.spa_format.specs.Front.{HasFront, IsRefused}
+use Rattle.spa_format.specs.Words.{word_at}
+use Rattle.spa_fixed.specs.declared.fault.DeserializeError.{DeserializeError}
+use Rattle.spa_fixed.specs.declared.fault.DeserializeError.TheVariants as error
+use Rattle.spa_format.specs.Kind.{Kind, Fixed}
+use Rattle.spa_utils.specs.declared.choice.ChoiceEnum.{ChoiceEnum}
+use Rattle.spa_utils.specs.declared.choice.ChoiceEnum.TheVariants as E
+use Rattle.spa_utils.specs.declared.choice.Choice.{Choice}
+use Rattle.spa_fixed.specs.Choices.{choice_enum_tree, choice_tree}
+use Rattle.spa_typed_read.specs.Asking.{Asked, choice_of, IsAsked, RefusesAsked, asked_type}
+use Rattle.spa_typed_read.specs.Exactly.{IsUnread, RefusesExactly}
+use Rattle.spa_leaf.specs.Reading.{MayLackMemory, OnFault, OnMemory, RefusesInput}
+
+-- what a refusal says is weakened
+pub fault_to : {I : Type 0} (A B : Type 0) (e : DeserializeError I) → (A → B) → OnFault A e → OnFault B e
+fault_to A B (error.Nom f) to h = to h
+fault_to A B error.UnsupportedType to h = to h
+fault_to A B error.InvalidType to h = to h
+fault_to A B error.PropertyMissing to h = to h
+fault_to A B (error.PropertyWrongKey k) to h = to h
+fault_to A B error.InvalidChoiceType to h = to h
+fault_to A B error.MissingChoiceValues to h = to h
+fault_to A B error.WrongSize to h = to h
+fault_to A B error.UnreadMembers to h = to h
+fault_to A B error.NoElementLeft to h = to h
+fault_to A B error.FailedReader to h = to h
+fault_to A B error.OutOfMemory to h = h
+
+pub memory_to : {I : Type 0} (A B : Type 0) (e : DeserializeError I) → (A → B) → OnMemory A e → OnMemory B e
+memory_to A B (error.Nom f) to h = h
+memory_to A B error.UnsupportedType to h = h
+memory_to A B error.InvalidType to h = h
+memory_to A B error.PropertyMissing to h = h
+memory_to A B (error.PropertyWrongKey k) to h = h
+memory_to A B error.InvalidChoiceType to h = h
+memory_to A B error.MissingChoiceValues to h = h
+memory_to A B error.WrongSize to h = h
+memory_to A B error.UnreadMembers to h = h
+memory_to A B error.NoElementLeft to h = h
+memory_to A B error.FailedReader to h = h
+memory_to A B error.OutOfMemory to h = to h
+
+-- a type whose values are those that are asked for
+pub asked_exactly : {X : Type 0} (a : Asked) (m : Type 0) (reads : Tree → X → Type 0) →
+    ((v : Tree) (x : X) → reads v x → IsAsked a v) → (b : List ℕ) (e : DeserializeError (Bor (List ℕ))) →
+    RefusesAsked a m b e → RefusesExactly reads b e
+asked_exactly {X = X} a m reads asked b e r = record {
+  unread = fault_to _ (IsUnread reads b) e (λ n v x g h. n v g (asked v x h)) r.refused;
+  short_first = r.short_first;
+  memory = memory_to (m × HasFront b × (word_at b 4 ≡ asked_type a)) (HasFront b) e (λ k. k.1) r.memory;
+}
+
+-- a type that any value is read as
+pub any_exactly : {X : Type 0} (reads : Tree → X → Type 0) (b : List ℕ) (e : DeserializeError (Bor (List ℕ))) →
+    RefusesInput b e → RefusesExactly reads b e
+any_exactly reads b e r = record {
+  unread = fault_to (IsRefused b) (IsUnread reads b) e (λ n v x g h. n v g) r.refused;
+  short_first = r.short_first;
+  memory = memory_to (MayLackMemory b) (HasFront b) e (λ k. k.0) r.memory;
+}
+
+-- a type that is read as another one is, and made of that
+pub made_exactly : {C X : Type 0} (reads : Tree → C → Type 0) (content : X → C) (b : List ℕ)
+    (e : DeserializeError (Bor (List ℕ))) → RefusesExactly reads b e → RefusesExactly (λ v (x : X). reads v (content x)) b e
+made_exactly {X = X} reads content b e r = record {
+  unread = fault_to (IsUnread reads b) (IsUnread (λ v (x : X). reads v (content x)) b) e (λ n v x g. n v (content x) g) r.unread;
+  short_first = r.short_first;
+  memory = r.memory;
+}
+
+-- any choice over a kind is one
+pub choice_asked : {T : Type 0} (k : Kind) (f : T → Fixed) (v : Tree) (c : Choice T) → v ≡ choice_tree k f c → IsAsked (choice_of k) v
+choice_asked k f v c h = of_values k f v c.0.0 c.1 h
+  where
+    of_values : {T : Type 0} (k : Kind) (f : T → Fixed) (v : Tree) (n : ℕ) (e : ChoiceEnum T) → v ≡ choice_enum_tree k f n e →
+        IsAsked (choice_of k) v
+    of_values k f v n (E.None x) h = (_, _, _, _, h)
+    of_values k f v n (E.Range x a b) h = (_, _, _, _, h)
+    of_values k f v n (E.Step x a b s) h = (_, _, _, _, h)
+    of_values k f v n (E.Enum x xs) h = (_, _, _, _, h)
+    of_values k f v n (E.Flags x xs) h = (_, _, _, _, h)

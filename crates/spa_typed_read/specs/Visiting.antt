@@ -1,0 +1,82 @@
+-- What a visitor is handed, and what is made of it.
+use Rattle.std.specs.Prelude.{◌≡◌, ◌≢◌, ℕ, List, [], map, true, ⊤, Vec}
+use Rattle.std.specs.Borrow.{Bor}
+use Rattle.std.specs.Global.{Global}
+use Rattle.spa_format.specs.Kind.{Kind, Fixed, none, bool, id, int, long, float, double, rectangle, fraction, fd}
+use Rattle.spa_format.specs.Tree.{Tree, fixed, string, bytes, bitmap, array, pointer, type_of, choice_type, struct_type}
+use Rattle.spa_format.specs.Pod.{IsBody}
+use Rattle.spa_format.specs.Front.{Begins, rest_of}
+use Rattle.spa_fixed.specs.declared.fault.DeserializeError.{DeserializeError}
+use Rattle.spa_fixed.specs.declared.fault.DeserializeError.TheVariants as error
+use Rattle.spa_value.specs.View.{choice_view}
+use Rattle.spa_typed_read.specs.Asking.{LacksFront, LacksObject, array_of, of_type, RefusesAsked}
+use Rattle.spa_typed_read.specs.Members.{Ahead, AheadIn, Further, FurtherIn, ObjectReader, OpensObject, OpensStruct, Reader}
+use Rattle.spa_typed_read.specs.declared.visitor.Visit.{Visit}
+use Rattle.spa_typed_read.specs.declared.visitor.Visit.TheVariants as visit
+
+-- What is handed over says this value. The elements of an array say none by themselves: their read says it.
+abbrev pub SaysValue : {E : Type 0} → Visit E → Tree → Type 0
+SaysValue visit.None v = v ≡ fixed none
+SaysValue (visit.Bool x) v = v ≡ fixed (bool x)
+SaysValue (visit.Int x) v = v ≡ fixed (int x)
+SaysValue (visit.Long x) v = v ≡ fixed (long x)
+SaysValue (visit.Float x) v = v ≡ fixed (float x.0)
+SaysValue (visit.Double x) v = v ≡ fixed (double x.0)
+SaysValue (visit.String s) v = v ≡ string s.now
+SaysValue (visit.Bytes b) v = v ≡ bytes b.now
+SaysValue (visit.Bitmap b) v = v ≡ bitmap b.now
+SaysValue (visit.Rectangle x) v = v ≡ fixed (rectangle x.width x.height)
+SaysValue (visit.Fraction x) v = v ≡ fixed (fraction x.num x.denom)
+SaysValue (visit.Id x) v = v ≡ fixed (id x.0)
+SaysValue (visit.Fd x) v = v ≡ fixed (fd x.0)
+SaysValue (visit.Array xs) v = ⊥
+SaysValue (visit.Choice c) v = v ≡ choice_view c
+SaysValue (visit.Pointer t a) v = v ≡ pointer t a
+
+-- a body of this type says a value, which this that is handed over says too
+pub record SaysBody {E : Type 0} (type : ℕ) (body : List ℕ) (given : Visit E) : Type 0 where
+  pub value : Tree
+  pub its_type : type_of value ≡ type
+  pub read : IsBody value body
+  pub says : SaysValue given value
+
+-- the input begins with a pod of a value of this type, which this that is handed over says
+pub record IsHanded {E : Type 0} (type : ℕ) (input : List ℕ) (given : Visit E) : Type 0 where
+  pub value : Tree
+  pub begins : Begins input value
+  pub its_type : type_of value ≡ type
+  pub says : SaysValue given value
+
+-- Of the pod at the front, of this type, the visitor was handed something that says its value, and this is what it made
+-- of it; and this follows the pod.
+pub record IsVisited {E X : Type 0} (type : ℕ) (visits : Visit E → X → Type 0) (input rest : List ℕ) (x : X) : Type 0 where
+  pub given : Visit E
+  pub handed : IsHanded type input given
+  pub follows : rest ≡ rest_of input
+  pub made : visits given x
+
+-- The read is refused by itself, for memory only where it is that of a choice; or the visitor, which was handed what
+-- says the value at the front, declined it.
+pub data RefusesVisit {E : Type 0} (type : ℕ) (declines : Visit E → DeserializeError (Bor (List ℕ)) → Type 0) (input : List ℕ) (e : DeserializeError (Bor (List ℕ))) : Type 0 where
+  unread : RefusesAsked (of_type type) (type ≡ choice_type) input e → RefusesVisit type declines input e
+  declined : (given : Visit E) → IsHanded type input given → declines given e → RefusesVisit type declines input e
+
+-- the same of an array over this kind, whose elements the visitor was handed
+pub data RefusesArrayVisit {E : Type 0} (k : Kind) (fixed : E → Fixed) (declines : Visit E → DeserializeError (Bor (List ℕ)) → Type 0) (input : List ℕ) (e : DeserializeError (Bor (List ℕ))) : Type 0 where
+  no_array : RefusesAsked (array_of k) ⊤ input e → RefusesArrayVisit k fixed declines input e
+  declined_array : (xs : Vec E Global) → Begins input (array k (map fixed xs.items)) → declines (visit.Array xs) e → RefusesArrayVisit k fixed declines input e
+
+-- The struct at the front isn't opened. Or its reader was lent to the visitor, which declined it; or which answered, and left the
+-- reader failed, or members unread.
+pub data RefusesStruct (declines : Reader → Reader → DeserializeError (Bor (List ℕ)) → Type 0) (leaves : Reader → Reader → Type 0) (input : List ℕ) (e : DeserializeError (Bor (List ℕ))) : Type 0 where
+  no_struct : LacksFront struct_type input e → RefusesStruct declines leaves input e
+  declined_struct : (lent now : Reader) → OpensStruct input lent → Further lent now → declines lent now e → RefusesStruct declines leaves input e
+  failed_struct : (lent now : Reader) → OpensStruct input lent → leaves lent now → now.failed ≡ true → e ≡ error.FailedReader → RefusesStruct declines leaves input e
+  unread_struct : (lent now : Reader) → OpensStruct input lent → Ahead lent now → leaves lent now → now.left ≢ [] → e ≡ error.UnreadMembers → RefusesStruct declines leaves input e
+
+-- the same of the object at the front
+pub data RefusesObject (declines : ObjectReader → ObjectReader → DeserializeError (Bor (List ℕ)) → Type 0) (leaves : ObjectReader → ObjectReader → Type 0) (input : List ℕ) (e : DeserializeError (Bor (List ℕ))) : Type 0 where
+  no_object : LacksObject input e → RefusesObject declines leaves input e
+  declined_object : (lent now : ObjectReader) → OpensObject input lent → FurtherIn lent now → declines lent now e → RefusesObject declines leaves input e
+  failed_object : (lent now : ObjectReader) → OpensObject input lent → leaves lent now → now.reader.failed ≡ true → e ≡ error.FailedReader → RefusesObject declines leaves input e
+  unread_object : (lent now : ObjectReader) → OpensObject input lent → AheadIn lent now → leaves lent now → now.reader.left ≢ [] → e ≡ error.UnreadMembers → RefusesObject declines leaves input e

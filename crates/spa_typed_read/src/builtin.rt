@@ -1,0 +1,472 @@
+//! The built-in types that are read from a pod: what each reads, and how it refuses an input.
+ghost use Rattle.std.specs.Prelude.{⊤, ◌≡◌, map, string_bytes};
+ghost use Rattle.spa_fixed.specs.Choices.{choice_tree};
+ghost use Rattle.spa_format.specs.Kind as k;
+ghost use Rattle.spa_format.specs.Kind.{type_number};
+ghost use Rattle.spa_format.specs.Tree.{array, bitmap, bitmap_type, bytes, bytes_type, fixed, pointer, pointer_type, string, string_type};
+ghost use Rattle.spa_typed_read.specs.Asking.{RefusesAsked, array_of, choice_of, of_type};
+
+use crate::deserializer::{DeserializeSuccess, PodDeserialize, PodDeserializer};
+use spa_fixed::DeserializeError;
+use spa_utils::{Choice, Fd, Float32, Float64, Fraction, Id, Rectangle};
+use spa_value::Bitmap;
+
+/// The text of a string, which is a part of the input. It asks for no memory.
+impl<'de> PodDeserialize<'de> for &'de str {
+    ghost reads = { λ value s. value ≡ string s.now };
+
+    ghost refuses = { RefusesAsked (of_type string_type) ⊥ };
+
+    fn deserialize(
+        deserializer: PodDeserializer<'de>,
+    ) -> Result<(&'de str, DeserializeSuccess<'de>), DeserializeError<&'de [u8]>> {
+        deserializer.text_pod()
+    }
+}
+
+/// The text of a string.
+impl<'de> PodDeserialize<'de> for String {
+    ghost reads = { λ value s. value ≡ string (string_bytes s) };
+
+    ghost refuses = { RefusesAsked (of_type string_type) ⊤ };
+
+    fn deserialize(
+        deserializer: PodDeserializer<'de>,
+    ) -> Result<(String, DeserializeSuccess<'de>), DeserializeError<&'de [u8]>> {
+        let alloc = deserializer.alloc;
+        let (text, success) = deserializer.text_pod()?;
+        Ok((String::from_str(alloc, text)?, success))
+    }
+}
+
+/// Bytes, which are a part of the input. It asks for no memory.
+impl<'de> PodDeserialize<'de> for &'de [u8] {
+    ghost reads = { λ value b. value ≡ bytes b.now };
+
+    ghost refuses = { RefusesAsked (of_type bytes_type) ⊥ };
+
+    fn deserialize(
+        deserializer: PodDeserializer<'de>,
+    ) -> Result<(&'de [u8], DeserializeSuccess<'de>), DeserializeError<&'de [u8]>> {
+        deserializer.bytes_pod()
+    }
+}
+
+/// Bytes.
+impl<'de> PodDeserialize<'de> for Vec<u8> {
+    ghost reads = { λ value b. value ≡ bytes b.items };
+
+    ghost refuses = { RefusesAsked (of_type bytes_type) ⊤ };
+
+    fn deserialize(
+        deserializer: PodDeserializer<'de>,
+    ) -> Result<(Vec<u8>, DeserializeSuccess<'de>), DeserializeError<&'de [u8]>> {
+        let alloc = deserializer.alloc;
+        let (bytes, success) = deserializer.bytes_pod()?;
+        Ok((Vec::from_slice(alloc, bytes)?, success))
+    }
+}
+
+/// The bytes of a bitmap, which are a part of the input. It asks for no memory.
+impl<'de> PodDeserialize<'de> for Bitmap<'de> {
+    ghost reads = { λ value b. value ≡ bitmap b.0.now };
+
+    ghost refuses = { RefusesAsked (of_type bitmap_type) ⊥ };
+
+    fn deserialize(
+        deserializer: PodDeserializer<'de>,
+    ) -> Result<(Bitmap<'de>, DeserializeSuccess<'de>), DeserializeError<&'de [u8]>> {
+        let (bytes, success) = deserializer.bitmap_pod()?;
+        Ok((Bitmap(bytes), success))
+    }
+}
+
+/// A pointer's type number and address. It asks for no memory.
+impl<'de> PodDeserialize<'de> for (u32, u64) {
+    ghost reads = { λ value p. value ≡ pointer p.0 p.1 };
+
+    ghost refuses = { RefusesAsked (of_type pointer_type) ⊥ };
+
+    fn deserialize(
+        deserializer: PodDeserializer<'de>,
+    ) -> Result<((u32, u64), DeserializeSuccess<'de>), DeserializeError<&'de [u8]>> {
+        deserializer.pointer_pod()
+    }
+}
+
+/// No value. It asks for no memory.
+impl<'de> PodDeserialize<'de> for () {
+    ghost reads = { λ value _. value ≡ fixed (k.none) };
+
+    ghost refuses = { RefusesAsked (of_type (type_number k.none_kind)) ⊥ };
+
+    fn deserialize(
+        deserializer: PodDeserializer<'de>,
+    ) -> Result<((), DeserializeSuccess<'de>), DeserializeError<&'de [u8]>> {
+        deserializer.fixed_pod::<()>()
+    }
+}
+
+/// A truth value. It asks for no memory.
+impl<'de> PodDeserialize<'de> for bool {
+    ghost reads = { λ value x. value ≡ fixed (k.bool x) };
+
+    ghost refuses = { RefusesAsked (of_type (type_number k.bool_kind)) ⊥ };
+
+    fn deserialize(
+        deserializer: PodDeserializer<'de>,
+    ) -> Result<(bool, DeserializeSuccess<'de>), DeserializeError<&'de [u8]>> {
+        deserializer.fixed_pod::<bool>()
+    }
+}
+
+/// An id. It asks for no memory.
+impl<'de> PodDeserialize<'de> for Id {
+    ghost reads = { λ value x. value ≡ fixed (k.id x.0) };
+
+    ghost refuses = { RefusesAsked (of_type (type_number k.id_kind)) ⊥ };
+
+    fn deserialize(
+        deserializer: PodDeserializer<'de>,
+    ) -> Result<(Id, DeserializeSuccess<'de>), DeserializeError<&'de [u8]>> {
+        deserializer.fixed_pod::<Id>()
+    }
+}
+
+/// A signed number of 32 bits. It asks for no memory.
+impl<'de> PodDeserialize<'de> for i32 {
+    ghost reads = { λ value x. value ≡ fixed (k.int x) };
+
+    ghost refuses = { RefusesAsked (of_type (type_number k.int_kind)) ⊥ };
+
+    fn deserialize(
+        deserializer: PodDeserializer<'de>,
+    ) -> Result<(i32, DeserializeSuccess<'de>), DeserializeError<&'de [u8]>> {
+        deserializer.fixed_pod::<i32>()
+    }
+}
+
+/// A signed number of 64 bits. It asks for no memory.
+impl<'de> PodDeserialize<'de> for i64 {
+    ghost reads = { λ value x. value ≡ fixed (k.long x) };
+
+    ghost refuses = { RefusesAsked (of_type (type_number k.long_kind)) ⊥ };
+
+    fn deserialize(
+        deserializer: PodDeserializer<'de>,
+    ) -> Result<(i64, DeserializeSuccess<'de>), DeserializeError<&'de [u8]>> {
+        deserializer.fixed_pod::<i64>()
+    }
+}
+
+/// A float of 32 bits, by its bits. It asks for no memory.
+impl<'de> PodDeserialize<'de> for Float32 {
+    ghost reads = { λ value x. value ≡ fixed (k.float x.0) };
+
+    ghost refuses = { RefusesAsked (of_type (type_number k.float_kind)) ⊥ };
+
+    fn deserialize(
+        deserializer: PodDeserializer<'de>,
+    ) -> Result<(Float32, DeserializeSuccess<'de>), DeserializeError<&'de [u8]>> {
+        deserializer.fixed_pod::<Float32>()
+    }
+}
+
+/// A float of 64 bits, by its bits. It asks for no memory.
+impl<'de> PodDeserialize<'de> for Float64 {
+    ghost reads = { λ value x. value ≡ fixed (k.double x.0) };
+
+    ghost refuses = { RefusesAsked (of_type (type_number k.double_kind)) ⊥ };
+
+    fn deserialize(
+        deserializer: PodDeserializer<'de>,
+    ) -> Result<(Float64, DeserializeSuccess<'de>), DeserializeError<&'de [u8]>> {
+        deserializer.fixed_pod::<Float64>()
+    }
+}
+
+/// A width and a height. It asks for no memory.
+impl<'de> PodDeserialize<'de> for Rectangle {
+    ghost reads = { λ value x. value ≡ fixed (k.rectangle x.width x.height) };
+
+    ghost refuses = { RefusesAsked (of_type (type_number k.rectangle_kind)) ⊥ };
+
+    fn deserialize(
+        deserializer: PodDeserializer<'de>,
+    ) -> Result<(Rectangle, DeserializeSuccess<'de>), DeserializeError<&'de [u8]>> {
+        deserializer.fixed_pod::<Rectangle>()
+    }
+}
+
+/// A numerator and a denominator. It asks for no memory.
+impl<'de> PodDeserialize<'de> for Fraction {
+    ghost reads = { λ value x. value ≡ fixed (k.fraction x.num x.denom) };
+
+    ghost refuses = { RefusesAsked (of_type (type_number k.fraction_kind)) ⊥ };
+
+    fn deserialize(
+        deserializer: PodDeserializer<'de>,
+    ) -> Result<(Fraction, DeserializeSuccess<'de>), DeserializeError<&'de [u8]>> {
+        deserializer.fixed_pod::<Fraction>()
+    }
+}
+
+/// A file descriptor's index. It asks for no memory.
+impl<'de> PodDeserialize<'de> for Fd {
+    ghost reads = { λ value x. value ≡ fixed (k.fd x.0) };
+
+    ghost refuses = { RefusesAsked (of_type (type_number k.fd_kind)) ⊥ };
+
+    fn deserialize(
+        deserializer: PodDeserializer<'de>,
+    ) -> Result<(Fd, DeserializeSuccess<'de>), DeserializeError<&'de [u8]>> {
+        deserializer.fixed_pod::<Fd>()
+    }
+}
+
+/// The elements of an array over `()`, which has none.
+impl<'de> PodDeserialize<'de> for Vec<()> {
+    ghost reads = { λ value xs. value ≡ array k.none_kind (map (λ _. k.none) xs.items) };
+
+    ghost refuses = { RefusesAsked (array_of k.none_kind) ⊤ };
+
+    fn deserialize(
+        deserializer: PodDeserializer<'de>,
+    ) -> Result<(Vec<()>, DeserializeSuccess<'de>), DeserializeError<&'de [u8]>> {
+        deserializer.array_pod::<()>()
+    }
+}
+
+/// The elements of an array over `bool`.
+impl<'de> PodDeserialize<'de> for Vec<bool> {
+    ghost reads = { λ value xs. value ≡ array k.bool_kind (map (λ x. k.bool x) xs.items) };
+
+    ghost refuses = { RefusesAsked (array_of k.bool_kind) ⊤ };
+
+    fn deserialize(
+        deserializer: PodDeserializer<'de>,
+    ) -> Result<(Vec<bool>, DeserializeSuccess<'de>), DeserializeError<&'de [u8]>> {
+        deserializer.array_pod::<bool>()
+    }
+}
+
+/// The elements of an array over `Id`.
+impl<'de> PodDeserialize<'de> for Vec<Id> {
+    ghost reads = { λ value xs. value ≡ array k.id_kind (map (λ x. k.id x.0) xs.items) };
+
+    ghost refuses = { RefusesAsked (array_of k.id_kind) ⊤ };
+
+    fn deserialize(
+        deserializer: PodDeserializer<'de>,
+    ) -> Result<(Vec<Id>, DeserializeSuccess<'de>), DeserializeError<&'de [u8]>> {
+        deserializer.array_pod::<Id>()
+    }
+}
+
+/// The elements of an array over `i32`.
+impl<'de> PodDeserialize<'de> for Vec<i32> {
+    ghost reads = { λ value xs. value ≡ array k.int_kind (map (λ x. k.int x) xs.items) };
+
+    ghost refuses = { RefusesAsked (array_of k.int_kind) ⊤ };
+
+    fn deserialize(
+        deserializer: PodDeserializer<'de>,
+    ) -> Result<(Vec<i32>, DeserializeSuccess<'de>), DeserializeError<&'de [u8]>> {
+        deserializer.array_pod::<i32>()
+    }
+}
+
+/// The elements of an array over `i64`.
+impl<'de> PodDeserialize<'de> for Vec<i64> {
+    ghost reads = { λ value xs. value ≡ array k.long_kind (map (λ x. k.long x) xs.items) };
+
+    ghost refuses = { RefusesAsked (array_of k.long_kind) ⊤ };
+
+    fn deserialize(
+        deserializer: PodDeserializer<'de>,
+    ) -> Result<(Vec<i64>, DeserializeSuccess<'de>), DeserializeError<&'de [u8]>> {
+        deserializer.array_pod::<i64>()
+    }
+}
+
+/// The elements of an array over `Float32`.
+impl<'de> PodDeserialize<'de> for Vec<Float32> {
+    ghost reads = { λ value xs. value ≡ array k.float_kind (map (λ x. k.float x.0) xs.items) };
+
+    ghost refuses = { RefusesAsked (array_of k.float_kind) ⊤ };
+
+    fn deserialize(
+        deserializer: PodDeserializer<'de>,
+    ) -> Result<(Vec<Float32>, DeserializeSuccess<'de>), DeserializeError<&'de [u8]>> {
+        deserializer.array_pod::<Float32>()
+    }
+}
+
+/// The elements of an array over `Float64`.
+impl<'de> PodDeserialize<'de> for Vec<Float64> {
+    ghost reads = { λ value xs. value ≡ array k.double_kind (map (λ x. k.double x.0) xs.items) };
+
+    ghost refuses = { RefusesAsked (array_of k.double_kind) ⊤ };
+
+    fn deserialize(
+        deserializer: PodDeserializer<'de>,
+    ) -> Result<(Vec<Float64>, DeserializeSuccess<'de>), DeserializeError<&'de [u8]>> {
+        deserializer.array_pod::<Float64>()
+    }
+}
+
+/// The elements of an array over `Rectangle`.
+impl<'de> PodDeserialize<'de> for Vec<Rectangle> {
+    ghost reads = { λ value xs. value ≡ array k.rectangle_kind (map (λ x. k.rectangle x.width x.height) xs.items) };
+
+    ghost refuses = { RefusesAsked (array_of k.rectangle_kind) ⊤ };
+
+    fn deserialize(
+        deserializer: PodDeserializer<'de>,
+    ) -> Result<(Vec<Rectangle>, DeserializeSuccess<'de>), DeserializeError<&'de [u8]>> {
+        deserializer.array_pod::<Rectangle>()
+    }
+}
+
+/// The elements of an array over `Fraction`.
+impl<'de> PodDeserialize<'de> for Vec<Fraction> {
+    ghost reads = { λ value xs. value ≡ array k.fraction_kind (map (λ x. k.fraction x.num x.denom) xs.items) };
+
+    ghost refuses = { RefusesAsked (array_of k.fraction_kind) ⊤ };
+
+    fn deserialize(
+        deserializer: PodDeserializer<'de>,
+    ) -> Result<(Vec<Fraction>, DeserializeSuccess<'de>), DeserializeError<&'de [u8]>> {
+        deserializer.array_pod::<Fraction>()
+    }
+}
+
+/// The elements of an array over `Fd`.
+impl<'de> PodDeserialize<'de> for Vec<Fd> {
+    ghost reads = { λ value xs. value ≡ array k.fd_kind (map (λ x. k.fd x.0) xs.items) };
+
+    ghost refuses = { RefusesAsked (array_of k.fd_kind) ⊤ };
+
+    fn deserialize(
+        deserializer: PodDeserializer<'de>,
+    ) -> Result<(Vec<Fd>, DeserializeSuccess<'de>), DeserializeError<&'de [u8]>> {
+        deserializer.array_pod::<Fd>()
+    }
+}
+
+/// A choice over `bool`. One over another of the nine types is refused as `UnsupportedType`.
+impl<'de> PodDeserialize<'de> for Choice<bool> {
+    ghost reads = { λ value it. value ≡ choice_tree k.bool_kind (λ x. k.bool x) it };
+
+    ghost refuses = { RefusesAsked (choice_of k.bool_kind) ⊤ };
+
+    fn deserialize(
+        deserializer: PodDeserializer<'de>,
+    ) -> Result<(Choice<bool>, DeserializeSuccess<'de>), DeserializeError<&'de [u8]>> {
+        deserializer.choice_pod::<bool>()
+    }
+}
+
+/// A choice over `Id`. One over another of the nine types is refused as `UnsupportedType`.
+impl<'de> PodDeserialize<'de> for Choice<Id> {
+    ghost reads = { λ value it. value ≡ choice_tree k.id_kind (λ x. k.id x.0) it };
+
+    ghost refuses = { RefusesAsked (choice_of k.id_kind) ⊤ };
+
+    fn deserialize(
+        deserializer: PodDeserializer<'de>,
+    ) -> Result<(Choice<Id>, DeserializeSuccess<'de>), DeserializeError<&'de [u8]>> {
+        deserializer.choice_pod::<Id>()
+    }
+}
+
+/// A choice over `i32`. One over another of the nine types is refused as `UnsupportedType`.
+impl<'de> PodDeserialize<'de> for Choice<i32> {
+    ghost reads = { λ value it. value ≡ choice_tree k.int_kind (λ x. k.int x) it };
+
+    ghost refuses = { RefusesAsked (choice_of k.int_kind) ⊤ };
+
+    fn deserialize(
+        deserializer: PodDeserializer<'de>,
+    ) -> Result<(Choice<i32>, DeserializeSuccess<'de>), DeserializeError<&'de [u8]>> {
+        deserializer.choice_pod::<i32>()
+    }
+}
+
+/// A choice over `i64`. One over another of the nine types is refused as `UnsupportedType`.
+impl<'de> PodDeserialize<'de> for Choice<i64> {
+    ghost reads = { λ value it. value ≡ choice_tree k.long_kind (λ x. k.long x) it };
+
+    ghost refuses = { RefusesAsked (choice_of k.long_kind) ⊤ };
+
+    fn deserialize(
+        deserializer: PodDeserializer<'de>,
+    ) -> Result<(Choice<i64>, DeserializeSuccess<'de>), DeserializeError<&'de [u8]>> {
+        deserializer.choice_pod::<i64>()
+    }
+}
+
+/// A choice over `Float32`. One over another of the nine types is refused as `UnsupportedType`.
+impl<'de> PodDeserialize<'de> for Choice<Float32> {
+    ghost reads = { λ value it. value ≡ choice_tree k.float_kind (λ x. k.float x.0) it };
+
+    ghost refuses = { RefusesAsked (choice_of k.float_kind) ⊤ };
+
+    fn deserialize(
+        deserializer: PodDeserializer<'de>,
+    ) -> Result<(Choice<Float32>, DeserializeSuccess<'de>), DeserializeError<&'de [u8]>> {
+        deserializer.choice_pod::<Float32>()
+    }
+}
+
+/// A choice over `Float64`. One over another of the nine types is refused as `UnsupportedType`.
+impl<'de> PodDeserialize<'de> for Choice<Float64> {
+    ghost reads = { λ value it. value ≡ choice_tree k.double_kind (λ x. k.double x.0) it };
+
+    ghost refuses = { RefusesAsked (choice_of k.double_kind) ⊤ };
+
+    fn deserialize(
+        deserializer: PodDeserializer<'de>,
+    ) -> Result<(Choice<Float64>, DeserializeSuccess<'de>), DeserializeError<&'de [u8]>> {
+        deserializer.choice_pod::<Float64>()
+    }
+}
+
+/// A choice over `Rectangle`. One over another of the nine types is refused as `UnsupportedType`.
+impl<'de> PodDeserialize<'de> for Choice<Rectangle> {
+    ghost reads = { λ value it. value ≡ choice_tree k.rectangle_kind (λ x. k.rectangle x.width x.height) it };
+
+    ghost refuses = { RefusesAsked (choice_of k.rectangle_kind) ⊤ };
+
+    fn deserialize(
+        deserializer: PodDeserializer<'de>,
+    ) -> Result<(Choice<Rectangle>, DeserializeSuccess<'de>), DeserializeError<&'de [u8]>> {
+        deserializer.choice_pod::<Rectangle>()
+    }
+}
+
+/// A choice over `Fraction`. One over another of the nine types is refused as `UnsupportedType`.
+impl<'de> PodDeserialize<'de> for Choice<Fraction> {
+    ghost reads = { λ value it. value ≡ choice_tree k.fraction_kind (λ x. k.fraction x.num x.denom) it };
+
+    ghost refuses = { RefusesAsked (choice_of k.fraction_kind) ⊤ };
+
+    fn deserialize(
+        deserializer: PodDeserializer<'de>,
+    ) -> Result<(Choice<Fraction>, DeserializeSuccess<'de>), DeserializeError<&'de [u8]>> {
+        deserializer.choice_pod::<Fraction>()
+    }
+}
+
+/// A choice over `Fd`. One over another of the nine types is refused as `UnsupportedType`.
+impl<'de> PodDeserialize<'de> for Choice<Fd> {
+    ghost reads = { λ value it. value ≡ choice_tree k.fd_kind (λ x. k.fd x.0) it };
+
+    ghost refuses = { RefusesAsked (choice_of k.fd_kind) ⊤ };
+
+    fn deserialize(
+        deserializer: PodDeserializer<'de>,
+    ) -> Result<(Choice<Fd>, DeserializeSuccess<'de>), DeserializeError<&'de [u8]>> {
+        deserializer.choice_pod::<Fd>()
+    }
+}

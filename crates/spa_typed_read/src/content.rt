@@ -1,0 +1,137 @@
+//! Types that are made of what is read: of a struct's members, and of anything else.
+ghost use Rattle.std.specs.Prelude.{◌≡◌, ◌≢◌, ℕ, List, false, IfErr, IfOk};
+ghost use Rattle.std.specs.Borrow.{Bor};
+ghost use Rattle.spa_fixed.specs.declared.fault.DeserializeError.{DeserializeError};
+ghost use Rattle.spa_format.specs.Tree.{Tree, Trees, no_trees};
+ghost use Rattle.spa_typed_read.specs.Exactly.{AreUnread, ReadsFirst, ReadsStruct, RefusesExactly};
+ghost use Rattle.spa_typed_read.specs.ExactlyLaws.{made_exactly};
+ghost use Rattle.spa_typed_read.specs.Members.{AllMembers, AtEnd, Further};
+ghost use Rattle.spa_leaf.specs.Reading.{OnFault};
+
+use crate::deserializer::{DeserializeSuccess, PodDeserialize, PodDeserializer};
+use crate::exact::ExactDeserialize;
+use crate::members::StructPodDeserializer;
+use spa_fixed::DeserializeError;
+
+/// A type of a program's own: it is read as another one is, its content, and made of that. So it is read exactly where the
+/// front is a pod of such a content, unless memory runs out.
+///
+/// The content of a struct is `StructOf` its members, that of an object `ObjectOf` its properties.
+pub trait DeserializeAs: Sized + Drop {
+    /// What it is read as.
+    type Content: Drop;
+
+    /// What it is made of.
+    ghost content: { Self → Self.Content };
+
+    /// Makes it.
+    fn of_content(given: Self::Content) -> Self
+        ensures { content result ≡ given };
+}
+
+impl<'de, T> PodDeserialize<'de> for T
+where
+    T: DeserializeAs,
+    T::Content: PodDeserialize<'de>,
+{
+    ghost reads = { λ value it. T.Content.reads value (T.content it) };
+
+    ghost refuses = { λ input e. T.Content.refuses input e };
+
+    fn deserialize(
+        deserializer: PodDeserializer<'de>,
+    ) -> Result<(T, DeserializeSuccess<'de>), DeserializeError<&'de [u8]>> {
+        match T::Content::deserialize(deserializer) {
+            Ok((content, success)) => Ok((T::of_content(content), success)),
+            Err(e) => Err(e),
+        }
+    }
+}
+
+impl<'de, T> ExactDeserialize<'de> for T
+where
+    T: DeserializeAs,
+    T::Content: ExactDeserialize<'de>,
+{
+    ghost exactly = { λ b e r. made_exactly T.Content.reads T.content b e (T.Content.exactly b e r) };
+}
+
+/// The members of a struct, the first one and those behind it, up to `()`: `(A, (B, (C, ())))` are three.
+pub trait DeserializeMembers<'de>: Sized + Drop {
+    /// Which results these members may be read as.
+    ghost reads_members: { Trees → Self → Type 0 };
+
+    /// Reads all that is left.
+    ///
+    /// Refusals: `PropertyMissing` where a member isn't there, `UnreadMembers` where there is one more, else that of the
+    /// member's type.
+    fn read_members(
+        reader: &mut StructPodDeserializer<'de>,
+    ) -> Result<Self, DeserializeError<&'de [u8]>>
+        ensures same { Further reader.old reader.new }
+        ensures end { IfOk result (λ _. AtEnd reader.new) }
+        ensures read { IfOk result (λ x. AllMembers reader.old (λ members. reads_members members x)) }
+        // Any refusal but one for lack of memory says that these bytes are no such members.
+        ensures refused { reader.old.failed ≡ false → IfErr result (λ e. OnFault (AreUnread reads_members reader.old.left) e) };
+}
+
+impl<'de> DeserializeMembers<'de> for () {
+    ghost reads_members = { λ members _. members ≡ no_trees };
+
+    fn read_members(
+        reader: &mut StructPodDeserializer<'de>,
+    ) -> Result<(), DeserializeError<&'de [u8]>> {
+        reader.ended()
+    }
+}
+
+impl<'de, A: ExactDeserialize<'de>, R: DeserializeMembers<'de>> DeserializeMembers<'de> for (A, R) {
+    ghost reads_members = { λ members x. ReadsFirst A.reads R.reads_members members x.0 x.1 };
+
+    fn read_members(
+        reader: &mut StructPodDeserializer<'de>,
+    ) -> Result<(A, R), DeserializeError<&'de [u8]>> {
+        let first = match reader.deserialize_field::<A>() {
+            Ok(Some(first)) => first,
+            Ok(None) => return Err(DeserializeError::PropertyMissing),
+            Err(e) => return Err(e),
+        };
+        match R::read_members(reader) {
+            Ok(behind) => Ok((first, behind)),
+            Err(e) => Err(e),
+        }
+    }
+}
+
+/// A struct of these members: `StructOf<(i32, (Rectangle, ()))>` is one of an Int and a Rectangle.
+#[derive(Drop)]
+pub struct StructOf<M>(pub M);
+
+/// A struct of these members and no others. Refusals: those of `DeserializeMembers`, and `Nom` with `Short` or `Tag` where
+/// the front isn't there or is no struct.
+impl<'de, M: DeserializeMembers<'de>> PodDeserialize<'de> for StructOf<M> {
+    ghost reads = { λ value it. ReadsStruct M.reads_members value it.0 };
+
+    ghost refuses = { λ input e. RefusesExactly (λ value (members : M). ReadsStruct M.reads_members value members) input e };
+
+    fn deserialize(
+        deserializer: PodDeserializer<'de>,
+    ) -> Result<(StructOf<M>, DeserializeSuccess<'de>), DeserializeError<&'de [u8]>> {
+        let mut reader = match StructPodDeserializer::open(deserializer) {
+            Ok(reader) => reader,
+            Err(e) => return Err(e),
+        };
+        let members = match M::read_members(&mut reader) {
+            Ok(members) => members,
+            Err(e) => return Err(e),
+        };
+        match reader.end() {
+            Ok(success) => Ok((StructOf(members), success)),
+            Err(e) => Err(e),
+        }
+    }
+}
+
+impl<'de, M: DeserializeMembers<'de>> ExactDeserialize<'de> for StructOf<M> {
+    ghost exactly = { λ b e r. made_exactly (λ value (members : M). ReadsStruct M.reads_members value members) (λ it. it.0) b e r };
+}

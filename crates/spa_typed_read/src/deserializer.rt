@@ -1,0 +1,205 @@
+//! What reads one pod from the front of an input.
+ghost use Rattle.std.specs.Prelude.{⊤, ◌≡◌, ℕ, ◌*◌, ◌<◌, ◌≤◌, List, IfErr, IfOk, IsErrAnd, length};
+ghost use Rattle.std.specs.Borrow.{Bor};
+ghost use Rattle.spa_fixed.specs.declared.fault.DeserializeError.{DeserializeError};
+ghost use Rattle.spa_format.specs.Faults.{Stands};
+ghost use Rattle.spa_format.specs.Front.{Begins, HasFront, IsRefused, rest_of};
+ghost use Rattle.spa_format.specs.Opened.{OpensHeaders};
+ghost use Rattle.spa_format.specs.Tree.{Tree, node_count};
+ghost use Rattle.spa_format.specs.Words.{header_size};
+ghost use Rattle.spa_leaf.specs.Reading.{IsRead, IsShortAt, MayLackMemory, Names, OnFault, OnMemory, RefusesInput};
+ghost use Rattle.spa_value.specs.View.{view};
+
+use spa_fixed::DeserializeError;
+use spa_leaf::error_at;
+use spa_read::read_value;
+use spa_value::Value;
+use std::alloc::Global;
+use std::marker::Model;
+
+/// A type that is read from a pod.
+pub trait PodDeserialize<'de>: Sized + Drop {
+    /// Which results a value may be read as.
+    ghost reads: { Tree → Self → Type 0 };
+
+    /// How an input may be refused. A type that promises nothing of its refusals keeps the default.
+    ghost refuses: { List ℕ → DeserializeError (Bor (List ℕ)) → Type 0 } = { λ _ _. ⊤ };
+
+    /// Reads the pod at the front of the deserializer's input.
+    fn deserialize(
+        deserializer: PodDeserializer<'de>,
+    ) -> Result<(Self, DeserializeSuccess<'de>), DeserializeError<&'de [u8]>>
+        ensures read { IfOk result (λ read. IsRead deserializer.entry read.1 (λ value. reads value read.0)) }
+        ensures refused { IfErr result (λ e. refuses deserializer.entry e) };
+}
+
+/// Any value, whose tree is the pod's one value. A refusal says what that of `deserialize_any_from` says.
+impl<'de> PodDeserialize<'de> for Value {
+    ghost reads = { λ value it. view it ≡ value };
+
+    ghost refuses = { RefusesInput };
+
+    fn deserialize(
+        deserializer: PodDeserializer<'de>,
+    ) -> Result<(Value, DeserializeSuccess<'de>), DeserializeError<&'de [u8]>> {
+        deserializer.deserialize_any()
+    }
+}
+
+/// Reads one pod from the front of an input. In contracts it is the bytes that are left.
+#[derive(Drop)]
+pub struct PodDeserializer<'de> {
+    pub(crate) input: &'de [u8],
+    pub(crate) alloc: Global,
+}
+
+impl<'de> Model for PodDeserializer<'de> {
+    ghost use Rattle.std.specs.Prelude.{ℕ, List};
+
+    ghost Value = { List ℕ };
+
+    ghost view = { λ it. it.input.now };
+}
+
+/// A pod was read. In contracts it is the bytes that follow it.
+#[derive(Drop)]
+pub struct DeserializeSuccess<'de>(PodDeserializer<'de>);
+
+impl<'de> Model for DeserializeSuccess<'de> {
+    ghost use Rattle.std.specs.Prelude.{ℕ, List};
+
+    ghost Value = { List ℕ };
+
+    ghost view = { λ it. it.0 };
+}
+
+impl<'de> DeserializeSuccess<'de> {
+    /// A pod was read, and this follows it.
+    pub(crate) fn before(alloc: Global, rest: &'de [u8]) -> DeserializeSuccess<'de>
+        ensures { result ≡ rest.now }
+    {
+        DeserializeSuccess(PodDeserializer { input: rest, alloc })
+    }
+
+    /// What follows the pod.
+    pub(crate) fn rest(self) -> &'de [u8]
+        ensures { result.now ≡ self.entry }
+    {
+        self.0.input
+    }
+}
+
+impl<'de> PodDeserializer<'de> {
+    /// Reads the pod at the front of the input as a value of this type, and answers what follows it.
+    pub fn deserialize_from<P: PodDeserialize<'de>>(
+        alloc: Global,
+        input: &'de [u8],
+    ) -> Result<(&'de [u8], P), DeserializeError<&'de [u8]>>
+        ensures read { IfOk result (λ read. IsRead input.now read.0.now (λ value. P.reads value read.1)) }
+        ensures refused { IfErr result (λ e. P.refuses input.now e) }
+    {
+        let (value, success) = P::deserialize(PodDeserializer { input, alloc })?;
+        Ok((success.0.input, value))
+    }
+
+    /// Reads the pod at the front of the input, whatever it is, and answers what follows it.
+    ///
+    /// Unless memory runs out, this succeeds exactly where the front that the first size word names is there and is a
+    /// pod. Refusals: `Nom` with `Short` or `Text`, `InvalidType`, `InvalidChoiceType`, `MissingChoiceValues`,
+    /// `WrongSize`, each where that fault stands in the input, and `OutOfMemory`.
+    pub fn deserialize_any_from(
+        alloc: Global,
+        input: &'de [u8],
+    ) -> Result<(&'de [u8], Value), DeserializeError<&'de [u8]>>
+        // The front is a pod of the value,
+        ensures value { IfOk result (λ read. Begins input.now (view read.1)) }
+        // of no other,
+        ensures one { IfOk result (λ read. (w : Tree) → Begins input.now w → w ≡ view read.1) }
+        // and what follows it is the rest.
+        ensures rest { IfOk result (λ read. read.0.now ≡ rest_of input.now) }
+        // Any refusal but one for lack of memory says that the front isn't there or is a pod of no value,
+        ensures refused { IfErr result (OnFault (IsRefused input.now)) }
+        // and names a fault that stands.
+        ensures named { IfErr result (Names (λ fault place. Stands fault place input.now)) }
+        // Where the front isn't there, the input is short, whatever else it declares.
+        ensures short_first { ¬ (HasFront input.now) → IsErrAnd result (IsShortAt input.now) }
+        // A refusal for lack of memory comes only where the front is there and its type takes memory.
+        ensures memory { IfErr result (OnMemory (MayLackMemory input.now)) }
+    {
+        let mut opened = 0;
+        match read_value(alloc, input, &mut opened) {
+            Ok(read) => Ok(read),
+            Err(refused) => Err(error_at(refused.place, refused.why)),
+        }
+    }
+
+    /// Reads as `deserialize_any_from` does, and counts the pod headers that are opened on the way.
+    ///
+    /// A pod header is opened where 8 bytes are read as a pod's size and type: that of the pod at the front, and at any depth
+    /// those of a struct's members and of the values of an object's properties. Child headers of arrays and choices aren't
+    /// counted, nor are an object's type and id, or a property's key and flags.
+    ///
+    /// Where the pod is read, the number is that of the pods in it. Where it is refused for another cause than lack of memory,
+    /// the number is that of the pods read up to the refused one, of those around it, and one more for itself where 8 bytes of
+    /// it are there. An input of fewer than 8 bytes has 0; any other has 1 at least, and at most one for each 8 bytes.
+    ///
+    /// The refusals are those of `deserialize_any_from`, each of the first pod that can't be read:
+    ///
+    /// - `Nom` with `Short`: fewer bytes are there than a header, than its size word says with the padding, or than a
+    ///   property's key and flags. The place is what is left from the pod on, or from the key on.
+    /// - `Nom` with `Text`: a string's body is empty, doesn't end in NUL, holds another NUL, or isn't UTF-8 before the last one.
+    ///   The place is what is left from the pod on.
+    /// - `InvalidType`: the type number of a pod, of an array's elements or of a choice's values is none that is read.
+    /// - `InvalidChoiceType`: a choice's shape word is above 4.
+    /// - `MissingChoiceValues`: a choice has fewer values than its shape needs.
+    /// - `WrongSize`: a body isn't as long as its type's bodies are, or isn't made of whole elements.
+    /// - `OutOfMemory`: a growth was refused.
+    pub fn deserialize_any_counted(
+        alloc: Global,
+        input: &'de [u8],
+    ) -> (Result<(&'de [u8], Value), DeserializeError<&'de [u8]>>, u64)
+        // Its answer is that of `deserialize_any_from`.
+        ensures value { IfOk result.0 (λ read. Begins input.now (view read.1)) }
+        ensures one { IfOk result.0 (λ read. (w : Tree) → Begins input.now w → w ≡ view read.1) }
+        ensures rest { IfOk result.0 (λ read. read.0.now ≡ rest_of input.now) }
+        ensures refused { IfErr result.0 (RefusesInput input.now) }
+        // Where it accepts, these are the pods of the value,
+        ensures counted { IfOk result.0 (λ read. result.1 ≡ node_count (view read.1)) }
+        // and where it refuses for another cause than memory, those up to the fault.
+        ensures opened { IfErr result.0 (OnFault (OpensHeaders input.now result.1)) }
+        // At most one is opened for each 8 bytes, and one at least where 8 are there.
+        ensures few { 8 * result.1 ≤ length input.now }
+        ensures some { header_size ≤ length input.now → 0 < result.1 }
+    {
+        let mut opened = 0;
+        match read_value(alloc, input, &mut opened) {
+            Ok(read) => (Ok(read), opened),
+            Err(refused) => (Err(error_at(refused.place, refused.why)), opened),
+        }
+    }
+
+    /// Reads the pod at the front of what is left, whatever it is. Refusals are those of `deserialize_any_from`.
+    pub fn deserialize_any(
+        self,
+    ) -> Result<(Value, DeserializeSuccess<'de>), DeserializeError<&'de [u8]>>
+        ensures value { IfOk result (λ read. Begins self.entry (view read.0)) }
+        ensures one { IfOk result (λ read. (w : Tree) → Begins self.entry w → w ≡ view read.0) }
+        ensures rest { IfOk result (λ read. read.1 ≡ rest_of self.entry) }
+        ensures refused { IfErr result (RefusesInput self.entry) }
+    {
+        let (rest, value) = PodDeserializer::deserialize_any_from(self.alloc, self.input)?;
+        Ok((value, self.after(rest)))
+    }
+
+    /// The allocator that it was given.
+    pub fn allocator(&self) -> Global {
+        self.alloc
+    }
+
+    /// A pod was read, and this follows it.
+    pub(crate) fn after(self, rest: &'de [u8]) -> DeserializeSuccess<'de>
+        ensures { result ≡ rest.now }
+    {
+        DeserializeSuccess::before(self.alloc, rest)
+    }
+}

@@ -1,0 +1,168 @@
+//! Types whose reads are refused only where the input begins with no value that is read as one of them.
+ghost use Rattle.std.specs.Prelude.{⊤, ◌≡◌, ℕ, List, map};
+ghost use Rattle.std.specs.Borrow.{Bor};
+ghost use Rattle.std.proofs.Common.{ap, ◌∙◌};
+ghost use Rattle.spa_fixed.specs.declared.fault.DeserializeError.{DeserializeError};
+ghost use Rattle.spa_format.specs.Kind as k;
+ghost use Rattle.spa_format.specs.Kind.{type_number};
+ghost use Rattle.spa_format.specs.Tree.{bitmap_type, bytes_type, pointer_type, string_type, type_of};
+ghost use Rattle.spa_typed_read.specs.Asking.{array_of, choice_of, of_type};
+ghost use Rattle.spa_typed_read.specs.Exactly.{RefusesExactly};
+ghost use Rattle.spa_typed_read.specs.ExactlyLaws.{any_exactly, asked_exactly, choice_asked};
+
+use crate::deserializer::PodDeserialize;
+use spa_utils::{Choice, Fd, Float32, Float64, Fraction, Id, Rectangle};
+use spa_value::{Bitmap, Value};
+
+/// A type whose read, unless memory runs out, succeeds exactly where the front is a pod of a value that is read as one of it.
+///
+/// A type that another one is made of has to be one. What `DeserializeAs` makes is one.
+pub trait ExactDeserialize<'de>: PodDeserialize<'de> {
+    /// Any refusal but one for lack of memory says that no such value is there; where the front isn't there, it is `Nom` with
+    /// `Short`.
+    ghost exactly: { (b : List ℕ) (e : DeserializeError (Bor (List ℕ))) → Self.refuses b e → RefusesExactly Self.reads b e };
+}
+
+impl<'de> ExactDeserialize<'de> for Value {
+    ghost exactly = { λ b e r. any_exactly _ b e r };
+}
+
+impl<'de> ExactDeserialize<'de> for &'de str {
+    ghost exactly = { λ b e r. asked_exactly (of_type string_type) ⊥ _ (λ v x h. ap type_of h) b e r };
+}
+
+impl<'de> ExactDeserialize<'de> for String {
+    ghost exactly = { λ b e r. asked_exactly (of_type string_type) ⊤ _ (λ v x h. ap type_of h) b e r };
+}
+
+impl<'de> ExactDeserialize<'de> for &'de [u8] {
+    ghost exactly = { λ b e r. asked_exactly (of_type bytes_type) ⊥ _ (λ v x h. ap type_of h) b e r };
+}
+
+impl<'de> ExactDeserialize<'de> for Vec<u8> {
+    ghost exactly = { λ b e r. asked_exactly (of_type bytes_type) ⊤ _ (λ v x h. ap type_of h) b e r };
+}
+
+impl<'de> ExactDeserialize<'de> for Bitmap<'de> {
+    ghost exactly = { λ b e r. asked_exactly (of_type bitmap_type) ⊥ _ (λ v x h. ap type_of h) b e r };
+}
+
+impl<'de> ExactDeserialize<'de> for (u32, u64) {
+    ghost exactly = { λ b e r. asked_exactly (of_type pointer_type) ⊥ _ (λ v x h. ap type_of h) b e r };
+}
+
+impl<'de> ExactDeserialize<'de> for () {
+    ghost exactly = { λ b e r. asked_exactly (of_type (type_number k.none_kind)) ⊥ _ (λ v x h. ap type_of h) b e r };
+}
+
+impl<'de> ExactDeserialize<'de> for bool {
+    ghost exactly = { λ b e r. asked_exactly (of_type (type_number k.bool_kind)) ⊥ _ (λ v x h. ap type_of h) b e r };
+}
+
+impl<'de> ExactDeserialize<'de> for Id {
+    ghost exactly = { λ b e r. asked_exactly (of_type (type_number k.id_kind)) ⊥ _ (λ v x h. ap type_of h) b e r };
+}
+
+impl<'de> ExactDeserialize<'de> for i32 {
+    ghost exactly = { λ b e r. asked_exactly (of_type (type_number k.int_kind)) ⊥ _ (λ v x h. ap type_of h) b e r };
+}
+
+impl<'de> ExactDeserialize<'de> for i64 {
+    ghost exactly = { λ b e r. asked_exactly (of_type (type_number k.long_kind)) ⊥ _ (λ v x h. ap type_of h) b e r };
+}
+
+impl<'de> ExactDeserialize<'de> for Float32 {
+    ghost exactly = { λ b e r. asked_exactly (of_type (type_number k.float_kind)) ⊥ _ (λ v x h. ap type_of h) b e r };
+}
+
+impl<'de> ExactDeserialize<'de> for Float64 {
+    ghost exactly = { λ b e r. asked_exactly (of_type (type_number k.double_kind)) ⊥ _ (λ v x h. ap type_of h) b e r };
+}
+
+impl<'de> ExactDeserialize<'de> for Rectangle {
+    ghost exactly = { λ b e r. asked_exactly (of_type (type_number k.rectangle_kind)) ⊥ _ (λ v x h. ap type_of h) b e r };
+}
+
+impl<'de> ExactDeserialize<'de> for Fraction {
+    ghost exactly = { λ b e r. asked_exactly (of_type (type_number k.fraction_kind)) ⊥ _ (λ v x h. ap type_of h) b e r };
+}
+
+impl<'de> ExactDeserialize<'de> for Fd {
+    ghost exactly = { λ b e r. asked_exactly (of_type (type_number k.fd_kind)) ⊥ _ (λ v x h. ap type_of h) b e r };
+}
+
+impl<'de> ExactDeserialize<'de> for Vec<()> {
+    ghost exactly = { λ b e r. asked_exactly (array_of k.none_kind) ⊤ _ (λ v x h. (_, h)) b e r };
+}
+
+impl<'de> ExactDeserialize<'de> for Vec<bool> {
+    ghost exactly = { λ b e r. asked_exactly (array_of k.bool_kind) ⊤ _ (λ v x h. (_, h)) b e r };
+}
+
+impl<'de> ExactDeserialize<'de> for Vec<Id> {
+    ghost exactly = { λ b e r. asked_exactly (array_of k.id_kind) ⊤ _ (λ v x h. (_, h)) b e r };
+}
+
+impl<'de> ExactDeserialize<'de> for Vec<i32> {
+    ghost exactly = { λ b e r. asked_exactly (array_of k.int_kind) ⊤ _ (λ v x h. (_, h)) b e r };
+}
+
+impl<'de> ExactDeserialize<'de> for Vec<i64> {
+    ghost exactly = { λ b e r. asked_exactly (array_of k.long_kind) ⊤ _ (λ v x h. (_, h)) b e r };
+}
+
+impl<'de> ExactDeserialize<'de> for Vec<Float32> {
+    ghost exactly = { λ b e r. asked_exactly (array_of k.float_kind) ⊤ _ (λ v x h. (_, h)) b e r };
+}
+
+impl<'de> ExactDeserialize<'de> for Vec<Float64> {
+    ghost exactly = { λ b e r. asked_exactly (array_of k.double_kind) ⊤ _ (λ v x h. (_, h)) b e r };
+}
+
+impl<'de> ExactDeserialize<'de> for Vec<Rectangle> {
+    ghost exactly = { λ b e r. asked_exactly (array_of k.rectangle_kind) ⊤ _ (λ v x h. (_, h)) b e r };
+}
+
+impl<'de> ExactDeserialize<'de> for Vec<Fraction> {
+    ghost exactly = { λ b e r. asked_exactly (array_of k.fraction_kind) ⊤ _ (λ v x h. (_, h)) b e r };
+}
+
+impl<'de> ExactDeserialize<'de> for Vec<Fd> {
+    ghost exactly = { λ b e r. asked_exactly (array_of k.fd_kind) ⊤ _ (λ v x h. (_, h)) b e r };
+}
+
+impl<'de> ExactDeserialize<'de> for Choice<bool> {
+    ghost exactly = { λ b e r. asked_exactly (choice_of k.bool_kind) ⊤ _ (λ v x h. choice_asked _ _ v x h) b e r };
+}
+
+impl<'de> ExactDeserialize<'de> for Choice<Id> {
+    ghost exactly = { λ b e r. asked_exactly (choice_of k.id_kind) ⊤ _ (λ v x h. choice_asked _ _ v x h) b e r };
+}
+
+impl<'de> ExactDeserialize<'de> for Choice<i32> {
+    ghost exactly = { λ b e r. asked_exactly (choice_of k.int_kind) ⊤ _ (λ v x h. choice_asked _ _ v x h) b e r };
+}
+
+impl<'de> ExactDeserialize<'de> for Choice<i64> {
+    ghost exactly = { λ b e r. asked_exactly (choice_of k.long_kind) ⊤ _ (λ v x h. choice_asked _ _ v x h) b e r };
+}
+
+impl<'de> ExactDeserialize<'de> for Choice<Float32> {
+    ghost exactly = { λ b e r. asked_exactly (choice_of k.float_kind) ⊤ _ (λ v x h. choice_asked _ _ v x h) b e r };
+}
+
+impl<'de> ExactDeserialize<'de> for Choice<Float64> {
+    ghost exactly = { λ b e r. asked_exactly (choice_of k.double_kind) ⊤ _ (λ v x h. choice_asked _ _ v x h) b e r };
+}
+
+impl<'de> ExactDeserialize<'de> for Choice<Rectangle> {
+    ghost exactly = { λ b e r. asked_exactly (choice_of k.rectangle_kind) ⊤ _ (λ v x h. choice_asked _ _ v x h) b e r };
+}
+
+impl<'de> ExactDeserialize<'de> for Choice<Fraction> {
+    ghost exactly = { λ b e r. asked_exactly (choice_of k.fraction_kind) ⊤ _ (λ v x h. choice_asked _ _ v x h) b e r };
+}
+
+impl<'de> ExactDeserialize<'de> for Choice<Fd> {
+    ghost exactly = { λ b e r. asked_exactly (choice_of k.fd_kind) ⊤ _ (λ v x h. choice_asked _ _ v x h) b e r };
+}

@@ -1,0 +1,137 @@
+//! Objects whose properties are found by their keys, in any order.
+ghost use Rattle.std.specs.Prelude.{◌≡◌, ℕ, List, MatchOption, false, ⊤, IfErr, IfOk};
+ghost use Rattle.std.specs.Borrow.{Bor};
+ghost use Rattle.spa_fixed.specs.declared.fault.DeserializeError.{DeserializeError};
+ghost use Rattle.spa_format.specs.Pod.{AreProperties};
+ghost use Rattle.spa_format.specs.Tree.{Properties, Tree};
+ghost use Rattle.spa_typed_read.specs.Exactly.{RefusesExactly};
+ghost use Rattle.spa_typed_read.specs.ExactlyLaws.{made_exactly};
+ghost use Rattle.spa_typed_read.specs.Lookup.{HasFirst, LacksProperty, NoneRead, ReadsObject};
+ghost use Rattle.spa_leaf.specs.Reading.{OnFault};
+
+use crate::deserializer::{DeserializeSuccess, PodDeserialize, PodDeserializer};
+use crate::exact::ExactDeserialize;
+use crate::properties::ObjectPodDeserializer;
+use spa_fixed::DeserializeError;
+
+/// A property that has to be there, with the value of the first one under its key.
+#[derive(Drop)]
+pub struct Required<const KEY: u32, P>(pub P);
+
+/// A property that may be there, with the value of the first one under its key.
+#[derive(Drop)]
+pub struct Optional<const KEY: u32, P>(pub Option<P>);
+
+/// The properties of an object, one and those after it, up to `()`. They stand in the object in any order, and others among
+/// them.
+pub trait DeserializeProperties<'de>: Sized + Drop {
+    /// Which results these properties may be read as.
+    ghost reads_properties: { Properties → Self → Type 0 };
+
+    /// Finds them among the properties that are left.
+    ///
+    /// Refusals: `PropertyMissing` where one that has to be there isn't, else those of `find_property`.
+    fn find_properties(
+        reader: &ObjectPodDeserializer<'de>,
+    ) -> Result<Self, DeserializeError<&'de [u8]>>
+        ensures found { reader.now.reader.failed ≡ false → IfOk result (λ x. (ps : Properties) → AreProperties ps reader.now.reader.left → reads_properties ps x) }
+        // Any refusal but one for lack of memory says that these bytes are no such properties.
+        ensures refused { reader.now.reader.failed ≡ false → IfErr result (λ e. OnFault (NoneRead reads_properties reader.now.reader.left) e) };
+}
+
+impl<'de> DeserializeProperties<'de> for () {
+    ghost reads_properties = { λ _ _. ⊤ };
+
+    fn find_properties(
+        _reader: &ObjectPodDeserializer<'de>,
+    ) -> Result<(), DeserializeError<&'de [u8]>> {
+        Ok(())
+    }
+}
+
+impl<
+    'de,
+    const KEY: u32,
+    A: ExactDeserialize<'de>,
+    R: DeserializeProperties<'de>,
+> DeserializeProperties<'de> for (Required<KEY, A>, R) {
+    ghost reads_properties = { λ properties x. HasFirst KEY (λ value. A.reads value x.0.0) properties × R.reads_properties properties x.1 };
+
+    fn find_properties(
+        reader: &ObjectPodDeserializer<'de>,
+    ) -> Result<(Required<KEY, A>, R), DeserializeError<&'de [u8]>> {
+        let first = match reader.find_property::<A>(KEY) {
+            Ok(Some(first)) => first,
+            Ok(None) => return Err(DeserializeError::PropertyMissing),
+            Err(e) => return Err(e),
+        };
+        match R::find_properties(reader) {
+            Ok(others) => Ok((Required(first), others)),
+            Err(e) => Err(e),
+        }
+    }
+}
+
+impl<
+    'de,
+    const KEY: u32,
+    A: ExactDeserialize<'de>,
+    R: DeserializeProperties<'de>,
+> DeserializeProperties<'de> for (Optional<KEY, A>, R) {
+    ghost reads_properties = { λ properties x. MatchOption x.0.0 (LacksProperty KEY properties) (λ a. HasFirst KEY (λ value. A.reads value a) properties) × R.reads_properties properties x.1 };
+
+    fn find_properties(
+        reader: &ObjectPodDeserializer<'de>,
+    ) -> Result<(Optional<KEY, A>, R), DeserializeError<&'de [u8]>> {
+        let first = match reader.find_property::<A>(KEY) {
+            Ok(first) => first,
+            Err(e) => return Err(e),
+        };
+        match R::find_properties(reader) {
+            Ok(others) => Ok((Optional(first), others)),
+            Err(e) => Err(e),
+        }
+    }
+}
+
+/// An object of this type and id, with these properties.
+#[derive(Drop)]
+pub struct ObjectOf<const TYPE: u32, const ID: u32, P>(pub P);
+
+/// An object of this type and id, with these properties in any order, and others among them. Refusals: `Nom` with `Short` or
+/// `Tag` where the front isn't there or is no object; `WrongSize` where it lacks its type or id, `UnsupportedType` where one of
+/// them is another; else those of `DeserializeProperties` and of `skip_properties`.
+impl<'de, const TYPE: u32, const ID: u32, P: DeserializeProperties<'de>> PodDeserialize<'de>
+    for ObjectOf<TYPE, ID, P> {
+    ghost reads = { λ value it. ReadsObject TYPE ID P.reads_properties value it.0 };
+
+    ghost refuses = { λ input e. RefusesExactly (λ value (properties : P). ReadsObject TYPE ID P.reads_properties value properties) input e };
+
+    fn deserialize(
+        deserializer: PodDeserializer<'de>,
+    ) -> Result<(ObjectOf<TYPE, ID, P>, DeserializeSuccess<'de>), DeserializeError<&'de [u8]>> {
+        let mut reader = match ObjectPodDeserializer::open(deserializer) {
+            Ok(reader) => reader,
+            Err(e) => return Err(e),
+        };
+        if reader.type_() != TYPE || reader.id() != ID {
+            return Err(DeserializeError::UnsupportedType);
+        }
+        let properties = match P::find_properties(&reader) {
+            Ok(properties) => properties,
+            Err(e) => return Err(e),
+        };
+        if let Err(e) = reader.skip_properties() {
+            return Err(e);
+        }
+        match reader.end() {
+            Ok(success) => Ok((ObjectOf(properties), success)),
+            Err(e) => Err(e),
+        }
+    }
+}
+
+impl<'de, const TYPE: u32, const ID: u32, P: DeserializeProperties<'de>> ExactDeserialize<'de>
+    for ObjectOf<TYPE, ID, P> {
+    ghost exactly = { λ b e r. made_exactly (λ value (properties : P). ReadsObject TYPE ID P.reads_properties value properties) (λ it. it.0) b e r };
+}

@@ -1,0 +1,241 @@
+//! The properties of an object, read one by one.
+ghost use Rattle.std.specs.Prelude.{◌≡◌, ◌≢◌, ℕ, ◌<◌, ◌≤◌, ◌⊎◌, [], drop, false, length, true, IfErr, IfOk, IsErrAnd, IsOk, MatchOption, OnErr, OnOk};
+ghost use Rattle.spa_fixed.specs.declared.fault.DeserializeError.TheVariants as error;
+ghost use Rattle.spa_format.specs.Words.{header_size};
+ghost use Rattle.spa_typed_read.specs.Asking.{LacksObject};
+ghost use Rattle.spa_typed_read.specs.Lookup.{AreNoProperties, FindsFirst, RefusesFirst};
+ghost use Rattle.spa_typed_read.specs.Members.{AtEnd, FurtherIn, OpensObject, RefusesEnd, RefusesKey, TakesProperty};
+ghost use Rattle.spa_leaf.specs.Reading.{IsShortAt, OnFault};
+
+use crate::deserializer::{DeserializeSuccess, PodDeserialize, PodDeserializer};
+use crate::typed::open_as;
+use bitflags::Flags;
+use spa_bytes::{HEADER_LEN, SECOND_WORD, open, u32_at};
+use spa_fixed::{DeserializeError, Fault, FaultKind};
+use spa_utils::SpaTypes;
+use spa_value::{PropertyFlags, Value, discard};
+use std::alloc::Global;
+use std::marker::Model;
+
+/// The input is short, at this place.
+fn short_at(place: &[u8]) -> DeserializeError<&[u8]>
+    ensures { IsShortAt place.now result }
+{
+    DeserializeError::Nom(Fault {
+        input: place,
+        kind: FaultKind::Short,
+    })
+}
+
+/// Reads an object's properties one by one. Once a property was refused, every call answers `FailedReader`.
+///
+/// In contracts it is the object's type and id, what is left of its body, what follows the object, and whether it has
+/// failed.
+#[derive(Drop)]
+pub struct ObjectPodDeserializer<'de> {
+    type_: u32,
+    id: u32,
+    left: &'de [u8],
+    after: &'de [u8],
+    failed: bool,
+    alloc: Global,
+}
+
+impl<'de> Model for ObjectPodDeserializer<'de> {
+    ghost use Rattle.spa_typed_read.specs.Members.{ObjectReader};
+
+    ghost Value = { ObjectReader };
+
+    ghost view = { λ it. record { type = it.type_; id = it.id; reader = record { left = it.left.now; after = it.after.now; failed = it.failed } } };
+}
+
+impl<'de> ObjectPodDeserializer<'de> {
+    /// The reader of the object at the front of the input.
+    pub(crate) fn open(
+        deserializer: PodDeserializer<'de>,
+    ) -> Result<ObjectPodDeserializer<'de>, DeserializeError<&'de [u8]>>
+        ensures opens { IfOk result (OpensObject deserializer.entry) }
+        ensures refused { IfErr result (LacksObject deserializer.entry) }
+    {
+        let front = open_as(deserializer.input, SpaTypes::Object.0)?;
+        if front.body.len() < HEADER_LEN {
+            return Err(DeserializeError::WrongSize);
+        }
+        let (_, left) = front.body.split_at(HEADER_LEN);
+        Ok(ObjectPodDeserializer {
+            type_: u32_at(front.body, 0),
+            id: u32_at(front.body, SECOND_WORD),
+            left,
+            after: front.rest,
+            failed: false,
+            alloc: deserializer.alloc,
+        })
+    }
+
+    /// The object's type.
+    pub fn type_(&self) -> u32
+        ensures { result ≡ self.now.type }
+    {
+        self.type_
+    }
+
+    /// The object's id.
+    pub fn id(&self) -> u32
+        ensures { result ≡ self.now.id }
+    {
+        self.id
+    }
+
+    /// Reads the next property's value as one of this type, with its key and flags; at the end there is none.
+    ///
+    /// A refusal is `Nom` with `Short`, at the key, where fewer bytes are left than a key and flags; that of the type, of what
+    /// is left of the object's body behind key and flags; or `FailedReader` where a property was refused before. After it the
+    /// reader has failed.
+    pub fn deserialize_property<P: PodDeserialize<'de>>(
+        &mut self,
+    ) -> Result<Option<(P, u32, PropertyFlags)>, DeserializeError<&'de [u8]>>
+        ensures property { IfOk result (λ read. MatchOption read ((self.new ≡ self.old) × AtEnd self.old.reader) (λ x. TakesProperty self.old self.new x.1 x.2.0 (λ value. P.reads value x.0))) }
+        ensures same { FurtherIn self.old self.new }
+        ensures object { (self.new.type ≡ self.old.type) × (self.new.id ≡ self.old.id) }
+        ensures failed { OnErr result (self.new.reader.failed ≡ true) }
+        // A reader that has failed stays so,
+        ensures stays { self.old.reader.failed ≡ true → IsErrAnd result (λ e. e ≡ error.FailedReader) }
+        // another one is refused where a key is short, and else only as the value's type refuses what is left behind it.
+        ensures ends { AtEnd self.old.reader → IsOk result }
+        ensures short { self.old.reader.failed ≡ false → self.old.reader.left ≢ [] → length self.old.reader.left < header_size → IsErrAnd result (IsShortAt self.old.reader.left) }
+        ensures refused { self.old.reader.failed ≡ false → header_size ≤ length self.old.reader.left → IfErr result (λ e. P.refuses (drop header_size self.old.reader.left) e) }
+    {
+        if self.failed {
+            return Err(DeserializeError::FailedReader);
+        }
+        if self.left.is_empty() {
+            return Ok(None);
+        }
+        self.failed = true;
+        if self.left.len() < HEADER_LEN {
+            return Err(short_at(self.left));
+        }
+        let (_, input) = self.left.split_at(HEADER_LEN);
+        let key = u32_at(self.left, 0);
+        let flags = PropertyFlags::from_bits_retain(u32_at(self.left, SECOND_WORD));
+        let (value, success) = P::deserialize(PodDeserializer {
+            input,
+            alloc: self.alloc,
+        })?;
+        self.left = success.rest();
+        self.failed = false;
+        Ok(Some((value, key, flags)))
+    }
+
+    /// Reads the next property, which has to have this key, and answers its value and its flags.
+    ///
+    /// Refusals: `PropertyMissing` at the end, and `PropertyWrongKey` with the next property's key where that is another one;
+    /// the reader then stands behind that property. These two don't make the reader fail. Any other one is that of
+    /// `deserialize_property`.
+    pub fn deserialize_property_key<P: PodDeserialize<'de>>(
+        &mut self,
+        key: u32,
+    ) -> Result<(P, PropertyFlags), DeserializeError<&'de [u8]>>
+        ensures property { IfOk result (λ read. TakesProperty self.old self.new key read.1.0 (λ value. P.reads value read.0)) }
+        ensures same { FurtherIn self.old self.new }
+        ensures stays { self.old.reader.failed ≡ true → (self.new.reader.failed ≡ true) × IsErrAnd result (λ e. e ≡ error.FailedReader) }
+        ensures missing { AtEnd self.old.reader → (self.new ≡ self.old) × IsErrAnd result (λ e. e ≡ error.PropertyMissing) }
+        // A refusal makes the reader fail, or is for the end, or for another key.
+        ensures refused { IfErr result (RefusesKey (λ found flags. (x : P) × TakesProperty self.old self.new found flags (λ value. P.reads value x)) key self.old self.new) }
+        ensures short { self.old.reader.failed ≡ false → self.old.reader.left ≢ [] → length self.old.reader.left < header_size → IsErrAnd result (IsShortAt self.old.reader.left) }
+        ensures value { self.old.reader.failed ≡ false → header_size ≤ length self.old.reader.left → IfErr result (λ e. self.new.reader.failed ≡ true → P.refuses (drop header_size self.old.reader.left) e) }
+    {
+        match self.deserialize_property::<P>() {
+            Ok(Some((value, found, flags))) => {
+                if found != key {
+                    return Err(DeserializeError::PropertyWrongKey(found));
+                }
+                Ok((value, flags))
+            }
+            Ok(None) => Err(DeserializeError::PropertyMissing),
+            Err(e) => Err(e),
+        }
+    }
+
+    /// Looks for the first property under this key among those that are left, and reads its value as one of this type; where none
+    /// is under the key there is none. The reader stays where it is, so that properties are found in any order. It looks at 16
+    /// bytes of each property before that one, and at nothing behind it.
+    ///
+    /// Refusals: `FailedReader` where a property was refused before; `Nom` with `Short` where a property isn't there as its size
+    /// says; else that of the type.
+    pub fn find_property<P: PodDeserialize<'de>>(
+        &self,
+        key: u32,
+    ) -> Result<Option<P>, DeserializeError<&'de [u8]>>
+        // Where properties are left, it is the first of them under the key, or there is none.
+        ensures found { self.now.reader.failed ≡ false → IfOk result (FindsFirst P.reads key self.now.reader.left) }
+        ensures stays { self.now.reader.failed ≡ true → IsErrAnd result (λ e. e ≡ error.FailedReader) }
+        // It is refused where no properties are left, or as the type refuses the first one's value.
+        ensures refused { self.now.reader.failed ≡ false → IfErr result (RefusesFirst P.refuses key self.now.reader.left) }
+    {
+        if self.failed {
+            return Err(DeserializeError::FailedReader);
+        }
+        let mut left = self.left;
+        while !left.is_empty() {
+            if left.len() < HEADER_LEN {
+                return Err(short_at(left));
+            }
+            let (_, behind) = left.split_at(HEADER_LEN);
+            if u32_at(left, 0) == key {
+                return match P::deserialize(PodDeserializer {
+                    input: behind,
+                    alloc: self.alloc,
+                }) {
+                    Ok((value, _)) => Ok(Some(value)),
+                    Err(e) => Err(e),
+                };
+            }
+            let Some(front) = open(behind) else {
+                return Err(short_at(behind));
+            };
+            left = front.rest;
+        }
+        Ok(None)
+    }
+
+    /// Reads all properties that are left, whatever they are, and lets them go. Refusals are those of `deserialize_property`
+    /// into a `Value`.
+    pub fn skip_properties(&mut self) -> Result<(), DeserializeError<&'de [u8]>>
+        ensures same { FurtherIn self.old self.new }
+        ensures end { OnOk result (AtEnd self.new.reader) }
+        // Any refusal but one for lack of memory says that no properties were left.
+        ensures refused { self.old.reader.failed ≡ false → IfErr result (OnFault (AreNoProperties self.old.reader.left)) }
+    {
+        loop {
+            match self.deserialize_property::<Value>() {
+                Ok(Some((value, _, _))) => discard(value),
+                Ok(None) => return Ok(()),
+                Err(e) => return Err(e),
+            }
+        }
+    }
+
+    /// Ends the object, all of whose properties have to be read. Refusals: `FailedReader` where a property was refused, else
+    /// `UnreadMembers` where one is left.
+    pub fn end(self) -> Result<DeserializeSuccess<'de>, DeserializeError<&'de [u8]>>
+        ensures ok { IfOk result (λ success. (success ≡ self.entry.reader.after) × AtEnd self.entry.reader) }
+        ensures done { AtEnd self.entry.reader → IsOk result }
+        ensures failed { self.entry.reader.failed ≡ true → IsErrAnd result (λ e. e ≡ error.FailedReader) }
+        ensures unread { self.entry.reader.failed ≡ false → self.entry.reader.left ≢ [] → IsErrAnd result (λ e. e ≡ error.UnreadMembers) }
+        ensures refused { IfErr result (RefusesEnd self.entry.reader) }
+    {
+        if self.failed {
+            return Err(DeserializeError::FailedReader);
+        }
+        if !self.left.is_empty() {
+            return Err(DeserializeError::UnreadMembers);
+        }
+        Ok(DeserializeSuccess::before(self.alloc, self.after))
+    }
+
+    /// The allocator that it was given.
+    pub fn allocator(&self) -> Global {
+        self.alloc
+    }
+}

@@ -1,0 +1,118 @@
+//! Visitors: what is made of the pod that a typed read finds.
+ghost use Rattle.std.specs.Prelude.{⊤, ℕ, IfErr, IfOk, List, OnOk};
+ghost use Rattle.std.specs.Borrow.{Bor};
+ghost use Rattle.spa_fixed.specs.declared.fault.DeserializeError.{DeserializeError};
+ghost use Rattle.spa_format.specs.Tree.{Properties, Trees};
+ghost use Rattle.spa_typed_read.specs.Members.{AllMembers, AllProperties, AtEnd, Further, FurtherIn, ObjectReader, Reader};
+ghost use Rattle.spa_typed_read.specs.declared.visitor.Visit.{Visit};
+
+use crate::members::StructPodDeserializer;
+use crate::properties::ObjectPodDeserializer;
+use spa_fixed::DeserializeError;
+use spa_utils::{Fd, Float32, Float64, Fraction, Id, Rectangle};
+use spa_value::ChoiceValue;
+
+/// What a visitor is handed: the content of any pod but a struct or an object.
+#[derive(Drop)]
+pub enum Visit<'de, E> {
+    /// No value.
+    None,
+    /// A truth value.
+    Bool(bool),
+    /// A signed number of 32 bits.
+    Int(i32),
+    /// A signed number of 64 bits.
+    Long(i64),
+    /// A float of 32 bits, by its bits.
+    Float(Float32),
+    /// A float of 64 bits, by its bits.
+    Double(Float64),
+    /// A text, which is a part of the input.
+    String(&'de str),
+    /// Bytes, which are a part of the input.
+    Bytes(&'de [u8]),
+    /// The bytes of a bitmap, which are a part of the input.
+    Bitmap(&'de [u8]),
+    /// A width and a height.
+    Rectangle(Rectangle),
+    /// A numerator and a denominator.
+    Fraction(Fraction),
+    /// An id.
+    Id(Id),
+    /// A file descriptor's index.
+    Fd(Fd),
+    /// The elements of an array.
+    Array(Vec<E>),
+    /// A choice over one of the nine types of fixed size that have bytes.
+    Choice(ChoiceValue),
+    /// A type number and an address.
+    Pointer(u32, u64),
+}
+
+/// The element of the visitors that take no array: it has no value.
+#[derive(Drop)]
+pub enum Never {}
+
+/// Makes a value of the pod that a typed read finds. Each call may decline what it is handed, with any error:
+/// `UnsupportedType` is the usual one.
+pub trait Visitor<'de>: Sized + Drop {
+    /// What it makes.
+    type Value: Drop;
+
+    /// The elements of the arrays that it takes; `Never` where it takes none.
+    type ArrayElem;
+
+    /// What it may make of what it is handed.
+    ghost visits: { Self → Visit Self.ArrayElem → Self.Value → Type 0 };
+
+    /// What it may make of a struct with these members.
+    ghost visits_struct: { Self → Trees → Self.Value → Type 0 };
+
+    /// What it may make of an object of this type and id, with these properties.
+    ghost visits_object: { Self → ℕ → ℕ → Properties → Self.Value → Type 0 };
+
+    /// What it may decline, and how. A visitor that promises nothing of that keeps the default.
+    ghost declines: { Self → Visit Self.ArrayElem → DeserializeError (Bor (List ℕ)) → Type 0 } = { λ _ _ _. ⊤ };
+
+    /// What it may decline of a struct, and how: by the reader as it was lent and as it is left.
+    ghost declines_struct: { Self → Reader → Reader → DeserializeError (Bor (List ℕ)) → Type 0 } = { λ _ _ _ _. ⊤ };
+
+    /// How it may leave the reader of a struct where it answers: by the reader as it was lent and as it is left.
+    ghost leaves_struct: { Self → Reader → Reader → Type 0 } = { λ _ _ _. ⊤ };
+
+    /// What it may decline of an object, and how.
+    ghost declines_object: { Self → ObjectReader → ObjectReader → DeserializeError (Bor (List ℕ)) → Type 0 } = { λ _ _ _ _. ⊤ };
+
+    /// How it may leave the reader of an object where it answers.
+    ghost leaves_object: { Self → ObjectReader → ObjectReader → Type 0 } = { λ _ _ _. ⊤ };
+
+    /// Takes the content of a pod that is no struct and no object.
+    fn visit(
+        &self,
+        given: Visit<'de, Self::ArrayElem>,
+    ) -> Result<Self::Value, DeserializeError<&'de [u8]>>
+        ensures made { IfOk result (λ x. visits self.now given.entry x) }
+        ensures declined { IfErr result (λ e. declines self.now given.entry e) };
+
+    /// Reads a struct's members, up to the last one where it succeeds: what it makes is owed only where they are all
+    /// read, and elsewhere the read is refused.
+    fn visit_struct(
+        &self,
+        reader: &mut StructPodDeserializer<'de>,
+    ) -> Result<Self::Value, DeserializeError<&'de [u8]>>
+        ensures same { Further reader.old reader.new }
+        ensures declined { IfErr result (λ e. declines_struct self.now reader.old reader.new e) }
+        ensures left { OnOk result (leaves_struct self.now reader.old reader.new) }
+        ensures made { IfOk result (λ x. AtEnd reader.new → AllMembers reader.old (λ members. visits_struct self.now members x)) };
+
+    /// Reads an object's properties, up to the last one where it succeeds: what it makes is owed only where they are all
+    /// read, and elsewhere the read is refused.
+    fn visit_object(
+        &self,
+        reader: &mut ObjectPodDeserializer<'de>,
+    ) -> Result<Self::Value, DeserializeError<&'de [u8]>>
+        ensures same { FurtherIn reader.old reader.new }
+        ensures declined { IfErr result (λ e. declines_object self.now reader.old reader.new e) }
+        ensures left { OnOk result (leaves_object self.now reader.old reader.new) }
+        ensures made { IfOk result (λ x. AtEnd reader.new.reader → AllProperties reader.old (λ properties. visits_object self.now reader.old.type reader.old.id properties x)) };
+}

@@ -1,0 +1,3 @@
+pub mod OpenPods
+pub mod OpenArrays
+pub mod Completing

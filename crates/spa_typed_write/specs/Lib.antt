@@ -1,0 +1,4 @@
+pub mod Success
+pub mod Unfinished
+pub mod Listed
+pub mod Complete

@@ -1,0 +1,75 @@
+//! What writing a value comes to over each output. The functions only call the writer: their contracts are the laws.
+ghost use Rattle.std.specs.Prelude.{◌≡◌, ◌+◌, ◌<◌, ◌≤◌, ◌++◌, IfErr, IfOk, IsOk, length};
+ghost use Rattle.spa_sink.specs.Writing.{RefusedFor};
+ghost use Rattle.spa_sink.specs.declared.gen_error.GenError.{GenError};
+ghost use Rattle.spa_sink.specs.declared.gen_error.GenError.TheVariants.{Full, OutOfMemory};
+ghost use Rattle.spa_format.specs.Encoding.{encoding_of};
+ghost use Rattle.spa_format.specs.Writable.{HasNul, IsTooLarge, IsWritable};
+ghost use Rattle.spa_value.specs.View.{view};
+ghost use Rattle.spa_typed_write.specs.Complete.{RefusesAtLimit};
+
+use crate::exact::SerializeAs;
+use crate::serializer::{PodSerialize, PodSerializer};
+use arrayvec::ArrayVec;
+use spa_sink::GenError;
+use spa_value::Value;
+
+/// Over an output of fixed size each value that can be written is written where its encoding fits, and no other value is ever
+/// written. It is refused as `NulInText` only where a text in it holds NUL, as `TooLarge` only where a size word is 4294967296
+/// or more, as `Full` only where its encoding doesn't fit, and never otherwise.
+pub fn values_are_written_where_they_fit<const N: usize>(
+    out: ArrayVec<u8, N>,
+    value: &Value,
+) -> Result<(ArrayVec<u8, N>, u64), GenError>
+    ensures encoding { IfOk result (λ done. done.0.items ≡ out.entry.items ++ encoding_of (view value.now)) }
+    ensures count { IfOk result (λ done. done.1 ≡ length (encoding_of (view value.now))) }
+    ensures writable { IsOk result → IsWritable (view value.now) }
+    ensures room { IsWritable (view value.now) → length out.entry.items + length (encoding_of (view value.now)) ≤ N → IsOk result }
+    ensures cause { IfErr result (RefusedFor (HasNul (view value.now)) (IsTooLarge (view value.now)) (λ e. (e ≡ Full) × (N < length out.entry.items + length (encoding_of (view value.now))))) }
+{
+    PodSerializer::serialize(out, value)
+}
+
+/// Over an output in memory a value that can be written is refused only for lack of memory, and one that can't be written is
+/// never written.
+pub fn values_are_written_into_memory(
+    out: Vec<u8>,
+    value: &Value,
+) -> Result<(Vec<u8>, u64), GenError>
+    ensures encoding { IfOk result (λ done. done.0.items ≡ out.items ++ encoding_of (view value.now)) }
+    ensures count { IfOk result (λ done. done.1 ≡ length (encoding_of (view value.now))) }
+    ensures writable { IsOk result → IsWritable (view value.now) }
+    ensures memory { IsWritable (view value.now) → IfErr result (λ e. e ≡ OutOfMemory) }
+    ensures cause { IfErr result (RefusedFor (HasNul (view value.now)) (IsTooLarge (view value.now)) (λ e. e ≡ OutOfMemory)) }
+{
+    PodSerializer::<Vec<u8>>::serialize(out, value)
+}
+
+/// What isn't refused for its own sake is written over an output of fixed size exactly where its encoding fits, and refused as
+/// `Full` else.
+pub fn pods_are_written_where_they_fit<P: PodSerialize, const N: usize>(
+    out: ArrayVec<u8, N>,
+    pod: &P,
+) -> Result<(ArrayVec<u8, N>, u64), GenError>
+    ensures encoding { IfOk result (λ done. done.0.items ≡ out.entry.items ++ encoding_of (P.value pod.now)) }
+    ensures room { ((e : GenError) → ¬ (P.refuses pod.now e)) → length out.entry.items + length (encoding_of (P.value pod.now)) ≤ N → IsOk result }
+    ensures full { ((e : GenError) → ¬ (P.refuses pod.now e)) → IfErr result (λ e. (e ≡ Full) × (N < length out.entry.items + length (encoding_of (P.value pod.now)))) }
+{
+    PodSerializer::serialize(out, pod)
+}
+
+/// A type of a program's own that says how it is written (`SerializeAs`) is written over an output of fixed size exactly where its
+/// value can be written and its encoding fits. It is refused as `NulInText` only where a text in it holds NUL, as `TooLarge` only
+/// where a size word is 4294967296 or more, as `Full` only where its encoding doesn't fit, and never otherwise.
+pub fn declared_pods_are_written_where_they_fit<P: SerializeAs, const N: usize>(
+    out: ArrayVec<u8, N>,
+    pod: &P,
+) -> Result<(ArrayVec<u8, N>, u64), GenError>
+    ensures encoding { IfOk result (λ done. done.0.items ≡ out.entry.items ++ encoding_of (P.says pod.now)) }
+    ensures count { IfOk result (λ done. done.1 ≡ length (encoding_of (P.says pod.now))) }
+    ensures writable { IsOk result → IsWritable (P.says pod.now) }
+    ensures room { IsWritable (P.says pod.now) → length out.entry.items + length (encoding_of (P.says pod.now)) ≤ N → IsOk result }
+    ensures cause { IfErr result (RefusesAtLimit (length out.entry.items) N (P.says pod.now)) }
+{
+    PodSerializer::serialize(out, pod)
+}

@@ -1,0 +1,22 @@
+//! Typed writers: a type of one's own is written as a pod, at once or member by member.
+#![tactic(auto)]
+
+mod arrays;
+mod borrowed;
+mod choices;
+mod elements;
+mod exact;
+mod fixed_types;
+pub mod laws;
+mod listed;
+mod members;
+mod open_pod;
+mod owned;
+mod serializer;
+mod whole;
+
+pub use elements::ArrayPodSerializer;
+pub use exact::{ExactSerialize, SerializeAs};
+pub use listed::{Maybe, SerializeMembers, SerializeProperties, write_object, write_struct};
+pub use members::{ObjectPodSerializer, StructPodSerializer};
+pub use serializer::{PodSerialize, PodSerializer, SerializeSuccess};

@@ -1,0 +1,127 @@
+//! Pods that are written at once.
+ghost use Rattle.std.specs.Prelude.{◌≡◌, ◌-◌, ◌≤◌, ◌++◌, ◌⊎◌, IfErr, IfOk, OnOk, length};
+ghost use Rattle.spa_fixed.specs.Choices.{choice_tree};
+ghost use Rattle.spa_sink.specs.Writing.{MayRefuse, RefusedFor};
+ghost use Rattle.spa_format.specs.Encoding.{encoding_of};
+ghost use Rattle.spa_format.specs.Tree as tree;
+ghost use Rattle.spa_format.specs.Typed.{IsTyped};
+ghost use Rattle.spa_format.specs.Writable.{HasNul, IsTooLarge, IsWritable};
+
+use crate::serializer::{PodSerializer, SerializeSuccess};
+use spa_fixed::{CanonicalFixedSizedPod, ChoiceElement, FixedSizedPod};
+use spa_leaf::{put_alternatives, put_bitmap, put_bytes, put_number, put_pointer, put_text};
+use spa_sink::{GenError, PodOutput};
+use spa_utils::Choice;
+
+/// A pod was written to an output that had this length before.
+#[inline(always)]
+pub(crate) fn written_since<O: PodOutput>(start: usize, out: O) -> SerializeSuccess<O>
+    requires { start ≤ length (O.content out) }
+    ensures output { result.output ≡ out }
+    ensures count { result.count ≡ length (O.content out) - start }
+{
+    let len = (out.len() - start) as u64;
+    SerializeSuccess { out, len }
+}
+
+impl<O: PodOutput> PodSerializer<O> {
+    /// Writes a value of a type of fixed size, as the value that stands for it. It is refused only where the output refuses
+    /// its encoding.
+    #[inline(always)]
+    pub fn serialized_fixed_sized_pod<P: FixedSizedPod>(
+        self,
+        pod: &P,
+    ) -> Result<SerializeSuccess<O>, GenError>
+        ensures encoding { IfOk result (λ s. O.content s.output ≡ O.content self ++ encoding_of (tree.fixed (P.CanonicalType.fixed (P.to_canonical pod.now)))) }
+        ensures count { IfOk result (λ s. s.count ≡ length (encoding_of (tree.fixed (P.CanonicalType.fixed (P.to_canonical pod.now))))) }
+        ensures typed { OnOk result (IsTyped (tree.fixed (P.CanonicalType.fixed (P.to_canonical pod.now)))) }
+        ensures writable { OnOk result (IsWritable (tree.fixed (P.CanonicalType.fixed (P.to_canonical pod.now)))) }
+        ensures cause { IfErr result (MayRefuse O.refuses self (length (encoding_of (tree.fixed (P.CanonicalType.fixed (P.to_canonical pod.now)))))) }
+    {
+        let PodSerializer { mut out } = self;
+        let start = out.len();
+        put_number(&mut out, &pod.as_canonical_type())?;
+        Ok(written_since(start, out))
+    }
+
+    /// Writes a text. It is refused as `NulInText` where it holds NUL, as `TooLarge` where it has 4294967295 bytes or more,
+    /// and else where the output refuses its encoding.
+    pub fn serialize_string(self, text: &str) -> Result<SerializeSuccess<O>, GenError>
+        ensures encoding { IfOk result (λ s. O.content s.output ≡ O.content self ++ encoding_of (tree.string text.now)) }
+        ensures count { IfOk result (λ s. s.count ≡ length (encoding_of (tree.string text.now))) }
+        ensures typed { OnOk result (IsTyped (tree.string text.now)) }
+        ensures writable { OnOk result (IsWritable (tree.string text.now)) }
+        ensures cause { IfErr result (λ e. RefusedFor (HasNul (tree.string text.now)) (IsTooLarge (tree.string text.now)) (λ _. ⊥) e ⊎ MayRefuse O.refuses self (length (encoding_of (tree.string text.now))) e) }
+    {
+        let PodSerializer { mut out } = self;
+        let start = out.len();
+        put_text(&mut out, text)?;
+        Ok(written_since(start, out))
+    }
+
+    /// Writes bytes. They are refused as `TooLarge` where they are 4294967296 or more, and else where the output refuses
+    /// their encoding.
+    pub fn serialize_bytes(self, bytes: &[u8]) -> Result<SerializeSuccess<O>, GenError>
+        ensures encoding { IfOk result (λ s. O.content s.output ≡ O.content self ++ encoding_of (tree.bytes bytes.now)) }
+        ensures count { IfOk result (λ s. s.count ≡ length (encoding_of (tree.bytes bytes.now))) }
+        ensures typed { OnOk result (IsTyped (tree.bytes bytes.now)) }
+        ensures writable { OnOk result (IsWritable (tree.bytes bytes.now)) }
+        ensures cause { IfErr result (λ e. RefusedFor (HasNul (tree.bytes bytes.now)) (IsTooLarge (tree.bytes bytes.now)) (λ _. ⊥) e ⊎ MayRefuse O.refuses self (length (encoding_of (tree.bytes bytes.now))) e) }
+    {
+        let PodSerializer { mut out } = self;
+        let start = out.len();
+        put_bytes(&mut out, bytes)?;
+        Ok(written_since(start, out))
+    }
+
+    /// Writes a bitmap of these bytes. It is refused as `TooLarge` where they are 4294967296 or more, and else where the
+    /// output refuses its encoding.
+    pub fn serialize_bitmap(self, bytes: &[u8]) -> Result<SerializeSuccess<O>, GenError>
+        ensures encoding { IfOk result (λ s. O.content s.output ≡ O.content self ++ encoding_of (tree.bitmap bytes.now)) }
+        ensures count { IfOk result (λ s. s.count ≡ length (encoding_of (tree.bitmap bytes.now))) }
+        ensures typed { OnOk result (IsTyped (tree.bitmap bytes.now)) }
+        ensures writable { OnOk result (IsWritable (tree.bitmap bytes.now)) }
+        ensures cause { IfErr result (λ e. RefusedFor (HasNul (tree.bitmap bytes.now)) (IsTooLarge (tree.bitmap bytes.now)) (λ _. ⊥) e ⊎ MayRefuse O.refuses self (length (encoding_of (tree.bitmap bytes.now))) e) }
+    {
+        let PodSerializer { mut out } = self;
+        let start = out.len();
+        put_bitmap(&mut out, bytes)?;
+        Ok(written_since(start, out))
+    }
+
+    /// Writes a choice. It is refused as `TooLarge` where its body is 4294967296 bytes or more, which is 16 and the size of a
+    /// value for each of them, and else where the output refuses its encoding.
+    pub fn serialize_choice<T: ChoiceElement>(
+        self,
+        choice: &Choice<T>,
+    ) -> Result<SerializeSuccess<O>, GenError>
+        ensures encoding { IfOk result (λ s. O.content s.output ≡ O.content self ++ encoding_of (choice_tree T.kind T.fixed choice.now)) }
+        ensures count { IfOk result (λ s. s.count ≡ length (encoding_of (choice_tree T.kind T.fixed choice.now))) }
+        ensures typed { OnOk result (IsTyped (choice_tree T.kind T.fixed choice.now)) }
+        ensures writable { OnOk result (IsWritable (choice_tree T.kind T.fixed choice.now)) }
+        ensures cause { IfErr result (λ e. RefusedFor (HasNul (choice_tree T.kind T.fixed choice.now)) (IsTooLarge (choice_tree T.kind T.fixed choice.now)) (λ _. ⊥) e ⊎ MayRefuse O.refuses self (length (encoding_of (choice_tree T.kind T.fixed choice.now))) e) }
+    {
+        let PodSerializer { mut out } = self;
+        let start = out.len();
+        put_alternatives(&mut out, choice)?;
+        Ok(written_since(start, out))
+    }
+
+    /// Writes a pointer: a type number and an address. It is refused only where the output refuses its encoding.
+    pub fn serialize_pointer(
+        self,
+        type_: u32,
+        address: u64,
+    ) -> Result<SerializeSuccess<O>, GenError>
+        ensures encoding { IfOk result (λ s. O.content s.output ≡ O.content self ++ encoding_of (tree.pointer type_ address)) }
+        ensures count { IfOk result (λ s. s.count ≡ length (encoding_of (tree.pointer type_ address))) }
+        ensures typed { OnOk result (IsTyped (tree.pointer type_ address)) }
+        ensures writable { OnOk result (IsWritable (tree.pointer type_ address)) }
+        ensures cause { IfErr result (MayRefuse O.refuses self (length (encoding_of (tree.pointer type_ address)))) }
+    {
+        let PodSerializer { mut out } = self;
+        let start = out.len();
+        put_pointer(&mut out, type_, address)?;
+        Ok(written_since(start, out))
+    }
+}

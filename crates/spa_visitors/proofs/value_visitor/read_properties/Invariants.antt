@@ -1,0 +1,10 @@
+use Rattle.std.proofs.Common.{length}
+use Rattle.spa_value.specs.Views.{property_views}
+use Rattle.spa_typed_read.proofs.Stepping.{TookIn}
+use Rattle.spa_visitors.proofs.value_visitor.read_properties.Given as goal
+
+abbrev pub invariant-loop-value : goal.invariant-loop-value
+invariant-loop-value l = TookIn l.fn.reader l.reader (property_views l.properties.items)
+
+abbrev pub decreases-loop-value : goal.decreases-loop-value
+decreases-loop-value l = length l.reader.reader.left

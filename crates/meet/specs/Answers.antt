@@ -1,4 +1,4 @@
--- What a run writes: README.md.
+-- What a run writes: docs/PROVED.md, "The programs".
 use Rattle.std.specs.Prelude.{◌≡◌, ℕ, List, [], Option, IfSome}
 use Rattle.std.specs.Io.KnownBytes.{Appends}
 use Rattle.spa_format.specs.Front.{rest_of}

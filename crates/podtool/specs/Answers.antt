@@ -1,4 +1,4 @@
--- What a run writes, and what it says of that: README.md, "Its contract".
+-- What a run writes, and what it says of that: docs/PROVED.md, "The programs".
 use Rattle.std.specs.Prelude.{◌≡◌, ◌+◌, ◌⊎◌, ℕ, codes, List, [], ◌∷◌, ◌++◌, Option, IfSome, length}
 use Rattle.std.specs.Borrow.{Bor}
 use Rattle.std.specs.Io.KnownBytes.{Appends, Keeps}

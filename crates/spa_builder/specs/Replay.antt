@@ -1,4 +1,4 @@
--- Whole runs: the answers to a list of calls, and what the calls that were accepted spell: README.md, "The rules".
+-- Whole runs: the answers to a list of calls, and what the calls that were accepted spell: docs/FORMAT.md, "Making pods call by call".
 use Rattle.std.specs.Prelude.{◌≡◌, ℕ, List, [], ◌∷◌, map, Result, Ok, Err, Option, Some, None}
 use Rattle.spa_format.specs.Kind.{none, bool, id, int, long, float, double, rectangle, fraction, fd}
 use Rattle.spa_format.specs.Tree.{fixed, string, bytes, pointer}

@@ -1,4 +1,4 @@
--- What a builder has come to: the values that are closed, and the trees that are still open: README.md, "The rules".
+-- What a builder has come to: the values that are closed, and the trees that are still open: docs/FORMAT.md, "Making pods call by call".
 use Rattle.std.specs.Prelude.{ℕ, List, []}
 use Rattle.spa_format.specs.Kind.{Fixed}
 use Rattle.spa_format.specs.Tree.{Shape, Tree, Trees, no_trees, member, Properties, no_properties, property, join_members, join_properties}

@@ -1,4 +1,4 @@
--- One call of a builder, on trees: the next state, or which refusal: README.md, "The rules".
+-- One call of a builder, on trees: the next state, or which refusal: docs/FORMAT.md, "Making pods call by call".
 use Rattle.std.specs.Prelude.{ℕ, ◌+◌, List, [], ◌∷◌, ◌++◌, length, Bool, true, false, cond, ◌&&◌, not, nat_eq, nat_lt, Option, Some, None}
 use Rattle.std.specs.List.{list_any}
 use Rattle.spa_format.specs.Words.{extent, header_size, size_limit}

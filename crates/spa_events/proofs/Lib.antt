@@ -1,0 +1,4 @@
+pub mod Open
+pub mod Places
+pub mod Steps
+pub mod Around

@@ -1,0 +1,112 @@
+-- Where the pods inside a pod lie.
+use Rattle.std.proofs.Common.{◌≡◌, ◌≢◌, ℕ, ◌+◌, ◌-◌, ◌<◌, ◌≤◌, inl, inr, List, [], ◌∷◌, length, take, drop, refl, sym, ap, ◌∙◌, arith, length-drop, length-take}
+use Rattle.std.specs.Prelude.{Bool, true, false, if◌then◌else◌, cond, nat_eq, nat_le}
+use Rattle.std.proofs.lemmas.Bool.Decides.{leb_tells}
+use Rattle.std.proofs.lemmas.Bool.{eqb-true}
+use Rattle.std.proofs.lemmas.List.{drop-drop, drop-take, take-take}
+use Rattle.spa_format.specs.Words.{word_at, body_of, extent}
+use Rattle.spa_format.specs.Walk.{extent_behind, properties_of, property_walk, walk, walk_behind}
+use Rattle.spa_format.proofs.WalkLemmas.{walk_behind-end}
+use Rattle.spa_format.proofs.WordLemmas.{word_at-drop, word_at-take}
+use Rattle.spa_events.specs.Events.{bytes_before, is_object, is_struct, pods_inside, told}
+use Rattle.spa_events.specs.Levels.{bytes_held}
+use Rattle.spa_events.specs.declared.event.Event.{Event}
+
+-- the words of a pod that stands behind k bytes
+pub word_behind : (k : ℕ) (b : List ℕ) → extent_behind k b ≤ length b → word_at (drop k (take (extent_behind k b) b)) 4 ≡ word_at b (k + 4)
+word_behind k b h = word_at-drop k 4 (take (extent_behind k b) b) ∙ word_at-take (extent_behind k b) (k + 4) b (omega arith)
+
+pub size_behind : (k : ℕ) (b : List ℕ) → extent_behind k b ≤ length b → word_at (drop k (take (extent_behind k b) b)) 0 ≡ word_at b k
+size_behind k b h =
+    let e : k + 0 ≡ k = omega arith in
+    word_at-drop k 0 (take (extent_behind k b) b) ∙ word_at-take (extent_behind k b) (k + 0) b (omega arith) ∙ ap (word_at b) e
+
+-- what is told of a pod is told from the words behind k bytes
+pub told-behind : (depth parent at k : ℕ) (b : List ℕ) → (type size : ℕ) → type ≡ word_at b (k + 4) → size ≡ word_at b k →
+    record { type_ = type; size = size; depth = depth; at = at; parent = parent } ≡ told depth parent at (drop k b)
+told-behind depth parent at k b type size et es =
+    let e : k + 0 ≡ k = omega arith in
+    let t = et ∙ sym (word_at-drop k 4 b) in
+    let s = es ∙ ap (word_at b) (sym e) ∙ sym (word_at-drop k 0 b) in
+    let make : ℕ → ℕ → Event = λ x y. record { type_ = x; size = y; depth = depth; at = at; parent = parent } in
+    ap (λ x. make x size) t ∙ ap (λ y. make (word_at (drop k b) 4) y) s
+
+-- the front of a part of an input
+pub drop_part : (n : ℕ) (from to : ℕ) (input : List ℕ) → from + n ≤ to →
+    drop n (take (to - from) (drop from input)) ≡ take (to - (from + n)) (drop (from + n) input)
+drop_part n from to input h =
+    let e : to - from ≡ n + (to - (from + n)) = omega arith in
+    ap (λ m. drop n (take m (drop from input))) e
+    ∙ drop-take n (to - (from + n)) (drop from input)
+    ∙ ap (take (to - (from + n))) (drop-drop n from input)
+
+-- the body of a pod that stands behind k bytes of a part of an input, taken from the input
+pub body_placed : (k from to : ℕ) (input : List ℕ) (s : ℕ) → let b = take (to - from) (drop from input) in
+    extent_behind k b ≤ length b → s ≡ word_at (drop k (take (extent_behind k b) b)) 0 → from ≤ to →
+    body_of (drop k (take (extent_behind k b) b)) ≡ take s (drop (from + k + 8) input)
+body_placed k from to input s h es o =
+    let b = take (to - from) (drop from input) in
+    let n = extent_behind k b in
+    let z = size_behind k b h in
+    let m = n - (k + 8) in
+    let r = to - (from + (k + 8)) in
+    let l = length-take (to - from) (drop from input) in
+    let en : n ≡ (k + 8) + m = omega arith in
+    let ea : from + (k + 8) ≡ from + k + 8 = omega arith in
+    ap (λ x. take x (drop 8 (drop k (take n b)))) (sym es)
+    ∙ ap (take s) (drop-drop 8 k (take n b) ∙ ap (λ x. drop (k + 8) (take x b)) en ∙ drop-take (k + 8) m b
+      ∙ ap (take m) (drop_part (k + 8) from to input (omega arith)))
+    ∙ take-take s m (take r (drop (from + (k + 8)) input)) (omega arith)
+    ∙ take-take s r (drop (from + (k + 8)) input) (omega arith)
+    ∙ ap (λ x. take s (drop x input)) ea
+
+-- what is inside a body that is taken from an input
+inside_placed : (x y : Bool) (s a : ℕ) (body input : List ℕ) → (x ≡ true → y ≡ false) → (y ≡ true → 8 ≤ s) → body ≡ take s (drop a input) →
+    (if x then walk body else (if y then property_walk (drop 8 body) else []))
+    ≡ walk_behind (if y then 8 else 0)
+      (take ((a + (if x then s else (if y then s else 0))) - (a + (if y then 8 else 0))) (drop (a + (if y then 8 else 0)) input))
+inside_placed true true s a body input one room e = absurd (let f = one refl in cc)
+inside_placed true false s a body input one room e =
+    let d : s ≡ (a + s) - (a + 0) = omega arith in
+    let z : a ≡ a + 0 = omega arith in
+    ap walk (e ∙ ap (λ n. take n (drop a input)) d ∙ ap (λ n. take ((a + s) - (a + 0)) (drop n input)) z)
+inside_placed false true s a body input one room e =
+    let h = room refl in
+    let t : s ≡ 8 + (s - 8) = omega arith in
+    let d : s - 8 ≡ (a + s) - (a + 8) = omega arith in
+    ap property_walk
+      (ap (drop 8) (e ∙ ap (λ n. take n (drop a input)) t) ∙ drop-take 8 (s - 8) (drop a input)
+      ∙ ap (take (s - 8)) (drop-drop 8 a input) ∙ ap (λ n. take n (drop (a + 8) input)) d)
+inside_placed false false s a body input one room e =
+    let d : 0 ≡ (a + 0) - (a + 0) = omega arith in
+    sym (ap (λ n. walk_behind 0 (take n (drop (a + 0) input))) (sym d) ∙ walk_behind-end 0 [] (omega arith))
+
+-- no pod is a struct and an object, and an object has room for its type and id
+pub not_both : (t s : ℕ) → is_struct t ≡ true → is_object t s ≡ false
+not_both t s h =
+    let e : t ≡ 14 = eqb-true t 14 h in
+    ap (λ x. cond (nat_eq x 15) (nat_le 8 s) false) e
+
+no_object : (x : Bool) → cond x false false ≡ true → ⊥
+no_object true h = cc
+no_object false h = cc
+
+pub object_room : (t s : ℕ) → is_object t s ≡ true → 8 ≤ s
+object_room t s h =
+    elim (leb_tells 8 s) [
+      | inl p ↦ p.1
+      | inr p ↦ absurd (let f = ap (λ x. cond (nat_eq t 15) x false) p.0 in no_object (nat_eq t 15) (sym f ∙ h))
+    ]
+
+-- the pods inside one that stands behind k bytes of a part of an input
+pub pods_placed : (k from to : ℕ) (input : List ℕ) (t s : ℕ) → let b = take (to - from) (drop from input) in
+    extent_behind k b ≤ length b → from ≤ to →
+    t ≡ word_at (drop k (take (extent_behind k b) b)) 4 → s ≡ word_at (drop k (take (extent_behind k b) b)) 0 →
+    pods_inside (drop k (take (extent_behind k b) b))
+    ≡ walk_behind (bytes_before t s) (take ((from + k + 8 + bytes_held t s) - (from + k + 8 + bytes_before t s)) (drop (from + k + 8 + bytes_before t s) input))
+pods_placed k from to input t s h o et es =
+    let b = take (to - from) (drop from input) in
+    let pod = drop k (take (extent_behind k b) b) in
+    ap (λ x. if is_struct x then walk (body_of pod) else (if is_object x (word_at pod 0) then property_walk (properties_of pod) else [])) (sym et)
+    ∙ ap (λ x. if is_struct t then walk (body_of pod) else (if is_object t x then property_walk (properties_of pod) else [])) (sym es)
+    ∙ inside_placed (is_struct t) (is_object t s) s (from + k + 8) (body_of pod) input (not_both t s) (object_room t s) (body_placed k from to input s h es o)

@@ -1,0 +1,88 @@
+//! Pods one after another that are still to come: those of the input, or those inside a struct or an object.
+ghost use Rattle.std.specs.Prelude.{◌≡◌, ◌+◌, ◌<◌, ◌≤◌, ◌^◌, IfNone, IfSome, length};
+ghost use Rattle.spa_format.specs.Words.{extent};
+ghost use Rattle.spa_events.specs.Levels.{CanLeave, HasNext, HasNoNext, level_around, level_inside};
+
+use crate::event::{Event, NO_PARENT};
+use spa_bytes::{HEADER_LEN, SECOND_WORD, extent_of, u32_at};
+use spa_utils::SpaTypes;
+
+/// Pods one after another that are still to come.
+#[derive(Clone, Copy)]
+pub(crate) struct Level {
+    /// The byte of the input at which they begin, and the one at which they end.
+    pub(crate) at: usize,
+    pub(crate) end: usize,
+    /// How many bytes stand before each: a property's key and flags, or none.
+    pub(crate) before: usize,
+    /// How many structs and objects they stand in.
+    pub(crate) depth: usize,
+    /// Where the innermost of these is told of, or `NO_PARENT`.
+    pub(crate) parent: usize,
+}
+
+/// What is told of the first of them, where it is there.
+pub(crate) fn next_event(input: &[u8], level: Level) -> Option<Event>
+    requires order { level.at ≤ level.end }
+    requires within { level.end ≤ length input.now }
+    requires before { level.before ≤ 8 }
+    ensures next { IfSome result (HasNext input.now level) }
+    ensures none { IfNone result (HasNoNext input.now level) }
+{
+    let left = &input[level.at..level.end];
+    if left.len() < level.before + HEADER_LEN {
+        return None;
+    }
+    let size = u32_at(left, level.before);
+    if left.len() < level.before + extent_of(size) {
+        return None;
+    }
+    Some(Event {
+        type_: u32_at(left, level.before + SECOND_WORD),
+        size,
+        depth: level.depth,
+        at: level.at + level.before,
+        parent: level.parent,
+    })
+}
+
+/// The pods inside one that is told of at this place of the list: the members of a struct, the properties of an object, or none.
+pub(crate) fn inside(event: Event, index: usize) -> Level
+    requires whole { event.at + extent event.size < 2 ^ 64 }
+    requires deep { event.depth + 1 < 2 ^ 64 }
+    ensures { result ≡ level_inside index event }
+{
+    let first = event.at + HEADER_LEN;
+    let (before, size) = match SpaTypes(event.type_) {
+        SpaTypes::Struct => (0, event.size as usize),
+        SpaTypes::Object if event.size as usize >= HEADER_LEN => (HEADER_LEN, event.size as usize),
+        _ => (0, 0),
+    };
+    Level {
+        at: first + before,
+        end: first + size,
+        before,
+        depth: event.depth + 1,
+        parent: index,
+    }
+}
+
+/// The pods that follow the one that is told of at this place of the list.
+pub(crate) fn outside(len: usize, events: &[Event], parent: usize) -> Level
+    requires { CanLeave len events.now parent }
+    ensures { result ≡ level_around len events.now parent }
+{
+    let event = events[parent];
+    let at = event.at + extent_of(event.size);
+    if event.parent == NO_PARENT {
+        return Level {
+            at,
+            end: len,
+            before: 0,
+            depth: 0,
+            parent: NO_PARENT,
+        };
+    }
+    let around = inside(events[event.parent], event.parent);
+    Level { at, ..around }
+}

@@ -1,17 +1,16 @@
 -- The levels around the one that is open, as events are written and levels end.
-use Rattle.std.proofs.Common.{◌≡◌, ◌≢◌, ℕ, ◌+◌, ◌-◌, ◌<◌, ◌≤◌, List, [], ◌∷◌, ◌++◌, length, take, drop, refl, sym, ap, subst, ◌∙◌, arith, length-append, length-take, length-set, append_assoc, append-nil}
-use Rattle.std.specs.Prelude.{Bool, true, false, if◌then◌else◌, nat_eq, slice_set}
+use Rattle.std.proofs.Common.{◌≡◌, ◌≢◌, ◌⊎◌, inl, inr, ℕ, ◌+◌, ◌<◌, ◌≤◌, List, [], ◌∷◌, ◌++◌, length, take, drop, refl, sym, ap, subst, ◌∙◌, arith, length-append, length-take, length-set, append_assoc, append-nil}
+use Rattle.std.specs.Prelude.{Bool, true, false, if◌then◌else◌, slice_set}
 use Rattle.std.proofs.lemmas.Bool.{eq-eqb, ne_eqb}
 use Rattle.std.proofs.lemmas.List.{drop-drop, drop-set-lt, get_or-set_other, get_or-set_same, get_or-take, take-append-drop, take_more_set}
 use Rattle.std.proofs.Math.Seq.{take-append_seam, take-length}
-use Rattle.spa_format.specs.Words.{extent}
-use Rattle.spa_events.specs.Events.{IsFilled, IsListed, bytes_before, events_of, is_object, is_struct, no_parent}
-use Rattle.spa_events.specs.Levels.{CanLeave, HasNext, HasNoNext, behind, bytes_held, event_at, level_around, level_from, level_inside, level_of_input, no_event}
+use Rattle.spa_events.specs.Events.{IsFilled, IsListed, events_of, is_object, is_struct, no_parent}
+use Rattle.spa_events.specs.Levels.{CanLeave, HasNext, HasNoNext, behind, event_at, holds_pods, level_around, level_behind, level_following, level_from, level_inside, level_of_input, no_event}
 use Rattle.spa_events.specs.declared.event.Event.{Event}
 use Rattle.spa_events.specs.declared.level.Level.{Level}
 use Rattle.spa_events.proofs.Open.{AreAround, Fits, IsOpen, Stands, rest_events}
 use Rattle.spa_events.proofs.Places.{not_both, object_room}
-use Rattle.spa_events.proofs.Steps.{level_behind, next_at, next_depth, next_parent, next_whole, rest_end, rest_first, rest_step}
+use Rattle.spa_events.proofs.Steps.{next_at, next_depth, next_parent, next_whole, none_inside, rest_end, rest_first, rest_step}
 
 -- the first events of two lists are the same
 pub record SameBelow (count : ℕ) (old new : List Event) : Type 0 where
@@ -91,9 +90,9 @@ stands_first input events = record {
 }
 
 -- an event is written, and the level inside its pod is open
-pub stands_next : (input : List ℕ) (old events : List Event) (count : ℕ) (l : Level) (e : Event) → Stands input old events count l → HasNext input l e →
-    count < length events → length old ≡ length events → Stands input old (slice_set events count e) (count + 1) (level_inside count e)
-stands_next input old events count l e s h lt eq =
+stands_next : (input : List ℕ) (old events : List Event) (count : ℕ) (l : Level) (e : Event) → Stands input old events count l → HasNext input l e →
+    count < length events → Stands input old (slice_set events count e) (count + 1) (level_inside count e)
+stands_next input old events count l e s h lt =
     let new = slice_set events count e in
     let f = fits input events count l s.around s.are in
     let below : SameBelow count events new = record { at = λ i il. get_or-set_other events count i e no_event (omega arith) } in
@@ -121,10 +120,54 @@ stands_next input old events count l e s h lt eq =
         around_moved input events new count (count + 1) l s.around (behind e) below (omega arith) (behind_fits input l e f h) s.are,
       );
       same =
-        s.same ∙ ap (λ z. take count events ++ z) (rest_step input count l s.around e f h)
-        ∙ sym (append_assoc (take count events) (e ∷ []) (rest_events input (count + 1) (level_inside count e ∷ level_behind l e ∷ s.around)))
-        ∙ ap (λ z. z ++ rest_events input (count + 1) (level_inside count e ∷ level_behind l e ∷ s.around)) (sym (take_more_set events count e lt));
+          s.same ∙ ap (λ z. take count events ++ z) (rest_step input count l s.around e f h)
+          ∙ sym (append_assoc (take count events) (e ∷ []) (rest_events input (count + 1) (level_inside count e ∷ level_behind l e ∷ s.around)))
+          ∙ ap (λ z. z ++ rest_events input (count + 1) (level_inside count e ∷ level_behind l e ∷ s.around)) (sym (take_more_set events count e lt));
     }
+
+-- the same where nothing is inside it
+stands_behind : (input : List ℕ) (old events : List Event) (count : ℕ) (l : Level) (e : Event) → Stands input old events count l → HasNext input l e →
+    count < length events → holds_pods e.type_ e.size ≡ false → Stands input old (slice_set events count e) (count + 1) (level_behind l e)
+stands_behind input old events count l e s h lt none =
+    let new = slice_set events count e in
+    let f = fits input events count l s.around s.are in
+    let below : SameBelow count events new = record { at = λ i il. get_or-set_other events count i e no_event (omega arith) } in
+    record {
+      room = let n = length-set events count e in omega arith;
+      kept = drop-set-lt (count + 1) events count e (omega arith) ∙ dropped events old count s.kept;
+      around = s.around;
+      are = around_moved input events new count (count + 1) l s.around (behind e) below (omega arith) (behind_fits input l e f h) s.are;
+      same =
+          s.same ∙ ap (λ z. take count events ++ z) (rest_step input count l s.around e f h)
+          ∙ ap (λ z. take count events ++ (e ∷ z)) (rest_end input (count + 1) (level_inside count e) (level_behind l e ∷ s.around) (none_inside input count e none))
+          ∙ sym (append_assoc (take count events) (e ∷ []) (rest_events input (count + 1) (level_behind l e ∷ s.around)))
+          ∙ ap (λ z. z ++ rest_events input (count + 1) (level_behind l e ∷ s.around)) (sym (take_more_set events count e lt));
+    }
+
+or_not : (x : Bool) → (x ≡ true) ⊎ (x ≡ false)
+or_not true = inl refl
+or_not false = inr refl
+
+-- an event is written, and what is inside its pod or behind it is open
+pub stands_following : (input : List ℕ) (old events : List Event) (count : ℕ) (l : Level) (e : Event) → Stands input old events count l → HasNext input l e →
+    count < length events → Stands input old (slice_set events count e) (count + 1) (level_following count l e)
+stands_following input old events count l e s h lt =
+    elim (or_not (holds_pods e.type_ e.size)) [
+      | inl t ↦ subst (λ x. Stands input old (slice_set events count e) (count + 1) (if x then level_inside count e else level_behind l e)) (sym t)
+          (stands_next input old events count l e s h lt)
+      | inr t ↦ subst (λ x. Stands input old (slice_set events count e) (count + 1) (if x then level_inside count e else level_behind l e)) (sym t)
+          (stands_behind input old events count l e s h lt t)
+    ]
+
+depth_choice : (x : Bool) (a b : Level) (n : ℕ) → a.depth ≤ n → b.depth ≤ n → (if x then a else b).depth ≤ n
+depth_choice true a b n p q = p
+depth_choice false a b n p q = q
+
+-- and no more than one level more
+pub depth_following : (input : List ℕ) (count : ℕ) (l : Level) (e : Event) → HasNext input l e → (level_following count l e).depth ≤ l.depth + 1
+depth_following input count l e h =
+    let d = next_depth input l e h in
+    depth_choice (holds_pods e.type_ e.size) (level_inside count e) (level_behind l e) (l.depth + 1) (omega arith) (omega arith)
 
 -- what the level goes back to is the first of those around it
 gone_back : (input : List ℕ) (events first : List Event) (count : ℕ) (l m : Level) (ms : List Level) → count ≤ no_parent → SameBelow count events first →
@@ -134,7 +177,7 @@ gone_back input events first count l m [] le same o a =
     let p : (event_at first l.parent).parent ≡ no_parent = ap (λ (x : Event). x.parent) e ∙ sym o.parent ∙ ap (λ (x : Level). x.parent) a.1 in
     let t = eq-eqb (event_at first l.parent).parent no_parent p in
     ap (λ x. if x then level_of_input (length input) (behind (event_at first l.parent))
-        else level_from (behind (event_at first l.parent)) (event_at first l.parent).parent (event_at first (event_at first l.parent).parent)) t
+    else level_from (behind (event_at first l.parent)) (event_at first l.parent).parent (event_at first (event_at first l.parent).parent)) t
     ∙ ap (level_of_input (length input)) (ap (λ (x : Event). behind x) e ∙ sym o.after)
     ∙ sym a.1
 gone_back input events first count l m (n ∷ ms) le same o a =
@@ -144,7 +187,7 @@ gone_back input events first count l m (n ∷ ms) le same o a =
     let p : (event_at first l.parent).parent ≡ no_parent → ⊥ = λ z. let r : m.parent ≡ no_parent = sym q ∙ z in omega arith in
     let t = ne_eqb (event_at first l.parent).parent no_parent p in
     ap (λ x. if x then level_of_input (length input) (behind (event_at first l.parent))
-        else level_from (behind (event_at first l.parent)) (event_at first l.parent).parent (event_at first (event_at first l.parent).parent)) t
+    else level_from (behind (event_at first l.parent)) (event_at first l.parent).parent (event_at first (event_at first l.parent).parent)) t
     ∙ ap (λ x. level_from x (event_at first l.parent).parent (event_at first (event_at first l.parent).parent)) (ap (λ (x : Event). behind x) e ∙ sym o.after)
     ∙ ap (λ x. level_from m.at x (event_at first x)) q
     ∙ ap (level_from m.at m.parent) (same.at m.parent there)
@@ -201,13 +244,13 @@ pub stands_back : (input : List ℕ) (old events : List Event) (count : ℕ) (l 
 stands_back input old events count l le s none ne =
     let h = has_outer input events count l s.around ne s.are in
     subst (Stands input old events count) (sym (gone_back input events (take count events) count l h.outer h.more le (first_same events count) h.open_ h.rest))
-      (record {
-        room = s.room;
-        kept = s.kept;
-        around = h.more;
-        are = h.rest;
-        same = s.same ∙ ap (λ z. take count events ++ rest_events input count (l ∷ z)) h.all ∙ ap (λ z. take count events ++ z) (rest_end input count l (h.outer ∷ h.more) none);
-      })
+    (record {
+      room = s.room;
+      kept = s.kept;
+      around = h.more;
+      are = h.rest;
+      same = s.same ∙ ap (λ z. take count events ++ rest_events input count (l ∷ z)) h.all ∙ ap (λ z. take count events ++ z) (rest_end input count l (h.outer ∷ h.more) none);
+    })
 
 pub depth_back : (input : List ℕ) (old events : List Event) (count : ℕ) (l : Level) → count ≤ no_parent → Stands input old events count l →
     l.parent ≢ no_parent → (level_around (length input) (take count events) l.parent).depth + 1 ≡ l.depth
@@ -223,7 +266,7 @@ pub all_listed : (input : List ℕ) (old events : List Event) (count : ℕ) (l :
 all_listed input old events count l le s none e =
     let n = no_outer input events count l s.around le e s.are in
     let all : events_of input ≡ take count events =
-      s.same ∙ ap (λ z. take count events ++ rest_events input count (l ∷ z)) n ∙ ap (λ z. take count events ++ z) (rest_end input count l [] none) ∙ append-nil (take count events) in
+    s.same ∙ ap (λ z. take count events ++ rest_events input count (l ∷ z)) n ∙ ap (λ z. take count events ++ z) (rest_end input count l [] none) ∙ append-nil (take count events) in
     let lt = length-take count events in
     let room = s.room in
     let le = ap length all in
@@ -239,7 +282,7 @@ all_filled input old events count l e s h eq =
     let f = fits input events count l s.around s.are in
     let rest = e ∷ rest_events input (count + 1) (level_inside count e ∷ level_behind l e ∷ s.around) in
     let all : events_of input ≡ events ++ rest =
-      s.same ∙ ap (λ z. take count events ++ z) (rest_step input count l s.around e f h) ∙ ap (λ n. take n events ++ rest) eq ∙ ap (λ z. z ++ rest) (take-length events) in
+    s.same ∙ ap (λ z. take count events ++ z) (rest_step input count l s.around e f h) ∙ ap (λ n. take n events ++ rest) eq ∙ ap (λ z. z ++ rest) (take-length events) in
     let la = ap length all in
     let lb = length-append events rest in
     record {

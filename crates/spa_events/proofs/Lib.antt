@@ -2,3 +2,4 @@ pub mod Open
 pub mod Places
 pub mod Steps
 pub mod Around
+pub mod Few

@@ -1,8 +1,8 @@
 -- The pods that are still to come while a list is written: those of the level that is open, and of each around it.
-use Rattle.std.proofs.Common.{◌≡◌, ◌≢◌, ℕ, ◌+◌, ◌-◌, ◌<◌, ◌≤◌, List, [], ◌∷◌, ◌++◌, length, take, drop}
+use Rattle.std.proofs.Common.{◌≡◌, ℕ, ◌+◌, ◌-◌, ◌<◌, ◌≤◌, List, [], ◌∷◌, ◌++◌, length, take, drop}
 use Rattle.spa_format.specs.Walk.{walk_behind}
-use Rattle.spa_events.specs.Events.{events_along, events_of, events_within, no_parent}
-use Rattle.spa_events.specs.Levels.{behind, bytes_left, event_at, level_from, level_inside, level_of_input}
+use Rattle.spa_events.specs.Events.{events_along, events_of, events_within}
+use Rattle.spa_events.specs.Levels.{behind, bytes_left, event_at, level_from, level_of_input}
 use Rattle.spa_events.specs.declared.event.Event.{Event}
 use Rattle.spa_events.specs.declared.level.Level.{Level}
 

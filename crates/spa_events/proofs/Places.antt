@@ -1,10 +1,10 @@
 -- Where the pods inside a pod lie.
-use Rattle.std.proofs.Common.{◌≡◌, ◌≢◌, ℕ, ◌+◌, ◌-◌, ◌<◌, ◌≤◌, inl, inr, List, [], ◌∷◌, length, take, drop, refl, sym, ap, ◌∙◌, arith, length-drop, length-take}
+use Rattle.std.proofs.Common.{◌≡◌, ℕ, ◌+◌, ◌-◌, ◌≤◌, inl, inr, List, [], length, take, drop, refl, sym, ap, ◌∙◌, arith, length-take}
 use Rattle.std.specs.Prelude.{Bool, true, false, if◌then◌else◌, cond, nat_eq, nat_le}
 use Rattle.std.proofs.lemmas.Bool.Decides.{leb_tells}
 use Rattle.std.proofs.lemmas.Bool.{eqb-true}
 use Rattle.std.proofs.lemmas.List.{drop-drop, drop-take, take-take}
-use Rattle.spa_format.specs.Words.{word_at, body_of, extent}
+use Rattle.spa_format.specs.Words.{word_at, body_of}
 use Rattle.spa_format.specs.Walk.{extent_behind, properties_of, property_walk, walk, walk_behind}
 use Rattle.spa_format.proofs.WalkLemmas.{walk_behind-end}
 use Rattle.spa_format.proofs.WordLemmas.{word_at-drop, word_at-take}
@@ -55,7 +55,7 @@ body_placed k from to input s h es o =
     let ea : from + (k + 8) ≡ from + k + 8 = omega arith in
     ap (λ x. take x (drop 8 (drop k (take n b)))) (sym es)
     ∙ ap (take s) (drop-drop 8 k (take n b) ∙ ap (λ x. drop (k + 8) (take x b)) en ∙ drop-take (k + 8) m b
-      ∙ ap (take m) (drop_part (k + 8) from to input (omega arith)))
+    ∙ ap (take m) (drop_part (k + 8) from to input (omega arith)))
     ∙ take-take s m (take r (drop (from + (k + 8)) input)) (omega arith)
     ∙ take-take s r (drop (from + (k + 8)) input) (omega arith)
     ∙ ap (λ x. take s (drop x input)) ea
@@ -64,7 +64,7 @@ body_placed k from to input s h es o =
 inside_placed : (x y : Bool) (s a : ℕ) (body input : List ℕ) → (x ≡ true → y ≡ false) → (y ≡ true → 8 ≤ s) → body ≡ take s (drop a input) →
     (if x then walk body else (if y then property_walk (drop 8 body) else []))
     ≡ walk_behind (if y then 8 else 0)
-      (take ((a + (if x then s else (if y then s else 0))) - (a + (if y then 8 else 0))) (drop (a + (if y then 8 else 0)) input))
+    (take ((a + (if x then s else (if y then s else 0))) - (a + (if y then 8 else 0))) (drop (a + (if y then 8 else 0)) input))
 inside_placed true true s a body input one room e = absurd (let f = one refl in cc)
 inside_placed true false s a body input one room e =
     let d : s ≡ (a + s) - (a + 0) = omega arith in
@@ -75,8 +75,8 @@ inside_placed false true s a body input one room e =
     let t : s ≡ 8 + (s - 8) = omega arith in
     let d : s - 8 ≡ (a + s) - (a + 8) = omega arith in
     ap property_walk
-      (ap (drop 8) (e ∙ ap (λ n. take n (drop a input)) t) ∙ drop-take 8 (s - 8) (drop a input)
-      ∙ ap (take (s - 8)) (drop-drop 8 a input) ∙ ap (λ n. take n (drop (a + 8) input)) d)
+    (ap (drop 8) (e ∙ ap (λ n. take n (drop a input)) t) ∙ drop-take 8 (s - 8) (drop a input)
+    ∙ ap (take (s - 8)) (drop-drop 8 a input) ∙ ap (λ n. take n (drop (a + 8) input)) d)
 inside_placed false false s a body input one room e =
     let d : 0 ≡ (a + 0) - (a + 0) = omega arith in
     sym (ap (λ n. walk_behind 0 (take n (drop (a + 0) input))) (sym d) ∙ walk_behind-end 0 [] (omega arith))

@@ -1,27 +1,28 @@
 -- What is still to be told, before and behind a step.
-use Rattle.std.proofs.Common.{◌≡◌, ℕ, suc, ◌+◌, ◌-◌, ◌<◌, ◌≤◌, List, [], ◌∷◌, ◌++◌, length, take, drop, refl, sym, ap, ◌∙◌, arith, length-append, length-drop, length-take, append_assoc, append-nil}
+use Rattle.std.proofs.Common.{◌≡◌, ℕ, suc, ◌+◌, ◌-◌, ◌<◌, ◌≤◌, List, [], ◌∷◌, ◌++◌, length, take, drop, refl, sym, ap, subst, ◌∙◌, arith, length-append, length-take, append_assoc, append-nil}
+use Rattle.std.specs.Prelude.{Bool, true, false, cond, if◌then◌else◌}
 use Rattle.std.proofs.Math.Seq.{take-length}
 use Rattle.spa_format.specs.Words.{word_at, extent}
 use Rattle.spa_format.specs.Walk.{extent_behind, walk_behind}
 use Rattle.spa_format.proofs.WalkLemmas.{walk_behind-end, walk_behind-there}
 use Rattle.spa_format.proofs.WordLemmas.{word_at-drop}
-use Rattle.spa_events.specs.Events.{bytes_before, events_along, events_of, events_within, no_parent, pods_inside, told}
-use Rattle.spa_events.specs.Levels.{HasNext, HasNoNext, behind, bytes_held, bytes_left, level_inside, level_of_input}
+use Rattle.spa_events.specs.Events.{bytes_before, events_along, events_of, events_within, is_object, is_struct, no_parent, pods_inside, told}
+use Rattle.spa_events.specs.Levels.{HasNext, HasNoNext, behind, bytes_held, bytes_left, holds_pods, level_behind, level_inside, level_of_input}
 use Rattle.spa_events.specs.declared.event.Event.{Event}
 use Rattle.spa_events.specs.declared.level.Level.{Level}
 use Rattle.spa_events.proofs.Open.{Fits, level_events, rest_events}
 use Rattle.spa_events.proofs.Places.{drop_part, pods_placed, size_behind, word_behind}
 
--- the level once its first pod is told of, with all inside it
-abbrev pub level_behind : Level → Event → Level
-level_behind l e = record { at = behind e; end = l.end; before = l.before; depth = l.depth; parent = l.parent }
+pub events_within-none : (depth parent index at : ℕ) (pod : List ℕ) → events_within 0 depth parent index at pod ≡ []
+unfolding events_within
+events_within-none depth parent index at pod = refl
 
 -- what is told of a pod is its event, and what is inside it
-events_within-there : (n depth parent index at : ℕ) (pod : List ℕ) →
+pub events_within-there : (n depth parent index at : ℕ) (pod : List ℕ) →
     events_within (suc n) depth parent index at pod
     ≡ told depth parent at pod
-      ∷ events_along (bytes_before (word_at pod 4) (word_at pod 0)) (events_within n (depth + 1) index) (index + 1)
-        (at + 8 + bytes_before (word_at pod 4) (word_at pod 0)) (pods_inside pod)
+    ∷ events_along (bytes_before (word_at pod 4) (word_at pod 0)) (events_within n (depth + 1) index) (index + 1)
+    (at + 8 + bytes_before (word_at pod 4) (word_at pod 0)) (pods_inside pod)
 unfolding events_within
 events_within-there n depth parent index at pod = refl
 
@@ -64,7 +65,7 @@ next_whole input l e f h =
 -- the event of the first pod, and what is told of what is inside it
 first_told : (input : List ℕ) (index : ℕ) (l : Level) (e : Event) → Fits input l → HasNext input l e →
     events_within (length input - l.depth) l.depth l.parent index (l.at + l.before)
-      (drop l.before (take (extent_behind l.before (bytes_left input l)) (bytes_left input l)))
+    (drop l.before (take (extent_behind l.before (bytes_left input l)) (bytes_left input l)))
     ≡ e ∷ level_events input (index + 1) (level_inside index e)
 first_told input index l e f h =
     let b = bytes_left input l in
@@ -81,23 +82,23 @@ first_told input index l e f h =
     let tell = events_within m (l.depth + 1) index in
     let along : ℕ → ℕ → ℕ → List (List ℕ) → List Event = λ n x y ps. events_along n (events_within (length input - (x + 1)) (x + 1) index) (index + 1) y ps in
     let ee : told l.depth l.parent (l.at + k) pod ≡ e =
-      sym (h.told_of ∙ ap (λ t. let z : Event = record { type_ = t; size = word_at (drop k b) 0; depth = l.depth; at = l.at + k; parent = l.parent } in z) (sym (ap (λ (x : Event). x.type_) h.told_of) ∙ et)
-        ∙ ap (λ s. let z : Event = record { type_ = word_at pod 4; size = s; depth = l.depth; at = l.at + k; parent = l.parent } in z) (sym (ap (λ (x : Event). x.size) h.told_of) ∙ es)) in
+    sym (h.told_of ∙ ap (λ t. let z : Event = record { type_ = t; size = word_at (drop k b) 0; depth = l.depth; at = l.at + k; parent = l.parent } in z) (sym (ap (λ (x : Event). x.type_) h.told_of) ∙ et)
+    ∙ ap (λ s. let z : Event = record { type_ = word_at pod 4; size = s; depth = l.depth; at = l.at + k; parent = l.parent } in z) (sym (ap (λ (x : Event). x.size) h.told_of) ∙ es)) in
     ap (λ n. events_within n l.depth l.parent index (l.at + k) pod) en
     ∙ events_within-there m l.depth l.parent index (l.at + k) pod
     ∙ ap (λ z. z ∷ along (bytes_before (word_at pod 4) (word_at pod 0)) l.depth (l.at + k + 8 + bytes_before (word_at pod 4) (word_at pod 0)) (pods_inside pod)) ee
     ∙ ap (λ z. e ∷ z)
-      (ap (λ t. along (bytes_before t (word_at pod 0)) l.depth (l.at + k + 8 + bytes_before t (word_at pod 0)) (pods_inside pod)) (sym et)
-      ∙ ap (λ s. along (bytes_before e.type_ s) l.depth (l.at + k + 8 + bytes_before e.type_ s) (pods_inside pod)) (sym es)
-      ∙ ap (along (bytes_before e.type_ e.size) l.depth (l.at + k + 8 + bytes_before e.type_ e.size)) (pods_placed k l.at l.end input e.type_ e.size h.whole f.order et es)
-      ∙ ap (λ x. along (bytes_before e.type_ e.size) l.depth (x + 8 + bytes_before e.type_ e.size) (walk_behind (bytes_before e.type_ e.size) (take ((x + 8 + bytes_held e.type_ e.size) - (x + 8 + bytes_before e.type_ e.size)) (drop (x + 8 + bytes_before e.type_ e.size) input)))) (sym a)
-      ∙ ap (λ x. along (bytes_before e.type_ e.size) x (e.at + 8 + bytes_before e.type_ e.size) (walk_behind (bytes_before e.type_ e.size) (take ((e.at + 8 + bytes_held e.type_ e.size) - (e.at + 8 + bytes_before e.type_ e.size)) (drop (e.at + 8 + bytes_before e.type_ e.size) input)))) (sym (next_depth input l e h)))
+    (ap (λ t. along (bytes_before t (word_at pod 0)) l.depth (l.at + k + 8 + bytes_before t (word_at pod 0)) (pods_inside pod)) (sym et)
+    ∙ ap (λ s. along (bytes_before e.type_ s) l.depth (l.at + k + 8 + bytes_before e.type_ s) (pods_inside pod)) (sym es)
+    ∙ ap (along (bytes_before e.type_ e.size) l.depth (l.at + k + 8 + bytes_before e.type_ e.size)) (pods_placed k l.at l.end input e.type_ e.size h.whole f.order et es)
+    ∙ ap (λ x. along (bytes_before e.type_ e.size) l.depth (x + 8 + bytes_before e.type_ e.size) (walk_behind (bytes_before e.type_ e.size) (take ((x + 8 + bytes_held e.type_ e.size) - (x + 8 + bytes_before e.type_ e.size)) (drop (x + 8 + bytes_before e.type_ e.size) input)))) (sym a)
+    ∙ ap (λ x. along (bytes_before e.type_ e.size) x (e.at + 8 + bytes_before e.type_ e.size) (walk_behind (bytes_before e.type_ e.size) (take ((e.at + 8 + bytes_held e.type_ e.size) - (e.at + 8 + bytes_before e.type_ e.size)) (drop (e.at + 8 + bytes_before e.type_ e.size) input)))) (sym (next_depth input l e h)))
 
 -- a level's first event comes first, then what is inside its pod, and then what follows
 pub level_step : (input : List ℕ) (index : ℕ) (l : Level) (e : Event) → Fits input l → HasNext input l e →
     level_events input index l
     ≡ (e ∷ level_events input (index + 1) (level_inside index e))
-      ++ level_events input (index + length (e ∷ level_events input (index + 1) (level_inside index e))) (level_behind l e)
+    ++ level_events input (index + length (e ∷ level_events input (index + 1) (level_inside index e))) (level_behind l e)
 level_step input index l e f h =
     let b = bytes_left input l in
     let k = l.before in
@@ -114,7 +115,7 @@ level_step input index l e f h =
     ∙ ap (λ y. tell index (l.at + k) (drop k (take n b)) ++ events_along k tell (index + length (tell index (l.at + k) (drop k (take n b)))) y (walk_behind k (drop n b))) ea
     ∙ ap (λ z. z ++ events_along k tell (index + length z) (behind e) (walk_behind k (drop n b))) (first_told input index l e f h)
     ∙ ap (λ z. (e ∷ level_events input (index + 1) (level_inside index e)) ++ events_along k tell (index + length (e ∷ level_events input (index + 1) (level_inside index e))) (behind e) (walk_behind k z))
-      (drop_part n l.at l.end input (omega arith) ∙ ap (λ y. take (l.end - y) (drop y input)) er)
+    (drop_part n l.at l.end input (omega arith) ∙ ap (λ y. take (l.end - y) (drop y input)) er)
 
 -- nothing is told of a level that none is left of
 pub level_end : (input : List ℕ) (index : ℕ) (l : Level) → HasNoNext input l → level_events input index l ≡ []
@@ -140,6 +141,19 @@ pub rest_end : (input : List ℕ) (index : ℕ) (l : Level) (ls : List Level) �
 rest_end input index l ls h =
     let z : index + 0 ≡ index = omega arith in
     ap (λ x. x ++ rest_events input (index + length x) ls) (level_end input index l h) ∙ ap (λ i. rest_events input i ls) z
+
+-- nothing is inside a pod that holds none
+inside_none : (x y : Bool) (s a : ℕ) (input : List ℕ) → cond x true y ≡ false →
+    let n : ℕ = if y then 8 else 0 in let b = take ((a + (if x then s else (if y then s else 0))) - (a + n)) (drop (a + n) input) in
+    length b < extent_behind n b
+inside_none true y s a input h = absurd (let f = h in cc)
+inside_none false true s a input h = absurd (let f = h in cc)
+inside_none false false s a input h =
+    let d : (a + 0) - (a + 0) ≡ 0 = omega arith in
+    subst (λ n. let b = take n (drop (a + 0) input) in length b < extent_behind 0 b) (sym d) (omega arith)
+
+pub none_inside : (input : List ℕ) (index : ℕ) (e : Event) → holds_pods e.type_ e.size ≡ false → HasNoNext input (level_inside index e)
+none_inside input index e h = inside_none (is_struct e.type_) (is_object e.type_ e.size) e.size (e.at + 8) input h
 
 -- all that is told of an input is to be told of its own level
 pub rest_first : (input : List ℕ) → events_of input ≡ rest_events input 0 (level_of_input (length input) 0 ∷ [])

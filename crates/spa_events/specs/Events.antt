@@ -51,7 +51,7 @@ events_within zero depth parent index at pod = []
 events_within (suc n) depth parent index at pod =
     told depth parent at pod
     ∷ events_along (bytes_before (word_at pod 4) (word_at pod 0)) (events_within n (depth + 1) index) (index + 1)
-      (at + header_size + bytes_before (word_at pod 4) (word_at pod 0)) (pods_inside pod)
+    (at + header_size + bytes_before (word_at pod 4) (word_at pod 0)) (pods_inside pod)
 
 -- What is told of an input: of the pods that stand one after another in it, and of all inside them. There are no more levels than bytes.
 unfoldable pub events_of : List ℕ → List Event

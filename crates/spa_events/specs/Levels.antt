@@ -1,5 +1,5 @@
 -- Pods one after another that are still to come, and those inside and around them.
-use Rattle.std.specs.Prelude.{◌≡◌, ◌≢◌, ℕ, ◌+◌, ◌-◌, ◌<◌, ◌≤◌, List, length, take, drop, if◌then◌else◌, cond, nat_eq, slice_index_or}
+use Rattle.std.specs.Prelude.{Bool, true, ◌≡◌, ◌≢◌, ℕ, ◌+◌, ◌-◌, ◌<◌, ◌≤◌, List, length, take, drop, if◌then◌else◌, cond, nat_eq, slice_index_or}
 use Rattle.spa_format.specs.Words.{extent, header_size}
 use Rattle.spa_format.specs.Walk.{extent_behind}
 use Rattle.spa_events.specs.Events.{bytes_before, is_object, is_struct, no_parent, told}
@@ -33,6 +33,10 @@ level_inside index event = record {
   parent = index;
 }
 
+-- whether pods lie inside a pod of this type and size
+abbrev pub holds_pods : ℕ → ℕ → Bool
+holds_pods type size = cond (is_struct type) true (is_object type size)
+
 -- an event of no pod
 abbrev pub no_event : Event
 no_event = record { type_ = 0; size = 0; depth = 0; at = 0; parent = 0 }
@@ -57,6 +61,21 @@ level_from at index event = record {
 -- the byte behind a pod
 abbrev pub behind : Event → ℕ
 behind event = event.at + extent event.size
+
+-- the pods behind the first one of a level
+abbrev pub level_behind : Level → Event → Level
+level_behind level event = record {
+  at = behind event;
+  end = level.end;
+  before = level.before;
+  depth = level.depth;
+  parent = level.parent;
+}
+
+-- the pods to go on with once the first one of a level is told of at this place: those inside it, or where it holds none those behind it
+abbrev pub level_following : ℕ → Level → Event → Level
+level_following index level event =
+    if holds_pods event.type_ event.size then level_inside index event else level_behind level event
 
 -- the pods that follow the one that is told of at this place of the list, in what that one stands in
 abbrev pub level_around : ℕ → List Event → ℕ → Level

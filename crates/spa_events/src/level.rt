@@ -1,7 +1,7 @@
 //! Pods one after another that are still to come: those of the input, or those inside a struct or an object.
 ghost use Rattle.std.specs.Prelude.{◌≡◌, ◌+◌, ◌<◌, ◌≤◌, ◌^◌, IfNone, IfSome, length};
 ghost use Rattle.spa_format.specs.Words.{extent};
-ghost use Rattle.spa_events.specs.Levels.{CanLeave, HasNext, HasNoNext, level_around, level_inside};
+ghost use Rattle.spa_events.specs.Levels.{CanLeave, HasNext, HasNoNext, holds_pods, level_around, level_following, level_inside};
 
 use crate::event::{Event, NO_PARENT};
 use spa_bytes::{HEADER_LEN, SECOND_WORD, extent_of, u32_at};
@@ -47,7 +47,7 @@ pub(crate) fn next_event(input: &[u8], level: Level) -> Option<Event>
 }
 
 /// The pods inside one that is told of at this place of the list: the members of a struct, the properties of an object, or none.
-pub(crate) fn inside(event: Event, index: usize) -> Level
+fn inside(event: Event, index: usize) -> Level
     requires whole { event.at + extent event.size < 2 ^ 64 }
     requires deep { event.depth + 1 < 2 ^ 64 }
     ensures { result ≡ level_inside index event }
@@ -64,6 +64,32 @@ pub(crate) fn inside(event: Event, index: usize) -> Level
         before,
         depth: event.depth + 1,
         parent: index,
+    }
+}
+
+/// Whether pods lie inside: it is a struct, or an object whose size has room for its type and id.
+fn holds_pods(event: Event) -> bool
+    ensures { result ≡ holds_pods event.type_ event.size }
+{
+    match SpaTypes(event.type_) {
+        SpaTypes::Struct => true,
+        SpaTypes::Object => event.size as usize >= HEADER_LEN,
+        _ => false,
+    }
+}
+
+/// The pods to go on with once the first of these is told of at this place of the list: those inside it, or else those that follow it.
+pub(crate) fn following(level: Level, event: Event, index: usize) -> Level
+    requires whole { event.at + extent event.size < 2 ^ 64 }
+    requires deep { event.depth + 1 < 2 ^ 64 }
+    ensures { result ≡ level_following index level event }
+{
+    if holds_pods(event) {
+        return inside(event, index);
+    }
+    Level {
+        at: event.at + extent_of(event.size),
+        ..level
     }
 }
 

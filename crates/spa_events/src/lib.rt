@@ -2,8 +2,12 @@
 #![tactic(auto)]
 
 mod event;
+pub mod laws;
 mod level;
 mod listing;
 
 pub use event::{Event, NO_PARENT};
 pub use listing::list_events;
+
+#[cfg(test)]
+mod tests;

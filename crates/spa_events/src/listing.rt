@@ -3,7 +3,7 @@ ghost use Rattle.std.specs.Prelude.{IfNone, IfSome};
 ghost use Rattle.spa_events.specs.Events.{IsFilled, IsListed};
 
 use crate::event::{Event, NO_PARENT};
-use crate::level::{Level, inside, next_event, outside};
+use crate::level::{Level, following, next_event, outside};
 
 /// Writes what is told of each pod that the input consists of, and of each inside it, to the front of `out`, and says how many
 /// they are: a pod comes before those inside it, and these before what follows it.
@@ -28,7 +28,7 @@ pub fn list_events(input: &[u8], out: &mut [Event]) -> Option<usize>
                     return None;
                 }
                 out[count] = event;
-                level = inside(event, count);
+                level = following(level, event, count);
                 count += 1;
             }
             None => {

@@ -6,6 +6,7 @@
 ghost use Rattle.std.specs.Prelude.{◌≡◌};
 
 mod answers;
+mod events;
 mod fixation;
 mod lists;
 mod questions;

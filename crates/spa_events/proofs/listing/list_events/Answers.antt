@@ -1,8 +1,9 @@
-use Rattle.std.proofs.Common.{◌≤◌, ℕ, Fits, w64, ap, arith, subst, sym}
-use Rattle.spa_events.proofs.Around.{all_filled, all_listed, can_leave, depth_back, fits, stands_back, stands_first, stands_next}
+use Rattle.std.proofs.Common.{◌≤◌, ℕ, Fits, w64, ap, arith, length-set, subst, sym}
+use Rattle.spa_events.proofs.Around.{all_filled, all_listed, can_leave, depth_back, depth_following, fits, stands_back, stands_first, stands_following}
 use Rattle.spa_events.proofs.Steps.{next_at, next_depth, next_whole}
 use Rattle.spa_events.proofs.Open.{Stands}
 use Rattle.spa_events.specs.Events.{no_parent}
+use Rattle.spa_events.specs.declared.event.Event.{Event}
 use Rattle.spa_events.specs.declared.level.Level.{Level}
 use Rattle.spa_events.proofs.listing.list_events.Goals as goal
 
@@ -24,8 +25,8 @@ next_event-requires-clause-before c = let s = c.loop-event.invariant in (fits _ 
 pub returns-then-count-out-clause-filled : goal.returns-then-count-out-clause-filled
 returns-then-count-out-clause-filled c = all_filled _ _ _ _ _ _ c.loop-event.invariant c.in-Some.ensures.next c.if-count-out.true
 
-pub inside-level-requires-clause-deep : goal.inside-level-requires-clause-deep
-inside-level-requires-clause-deep c =
+pub following-level-requires-clause-deep : goal.following-level-requires-clause-deep
+following-level-requires-clause-deep c =
     let s = c.loop-event.invariant in
     let f = fits _ _ _ _ s.around s.are in
     let w = next_whole _ _ _ f c.in-Some.ensures.next in
@@ -39,8 +40,16 @@ pub loop-event-preserved-in-Some : goal.loop-event-preserved-in-Some
 loop-event-preserved-in-Some c =
     let room = c.loop-event.invariant.room in
     let ne = c.if-count-out.false in
-    subst (Stands _ _ _ _) (sym c.inside-level.ensures)
-      (stands_next _ _ _ _ _ _ c.loop-event.invariant c.in-Some.ensures.next (omega arith) (sym c.loop-event.auto.out))
+    subst (Stands _ _ _ _) (sym c.following-level.ensures)
+    (stands_following _ _ _ _ _ _ c.loop-event.invariant c.in-Some.ensures.next (omega arith))
+
+pub loop-event-smaller-in-Some : goal.loop-event-smaller-in-Some
+loop-event-smaller-in-Some c =
+    let room = c.loop-event.invariant.room in
+    let ne = c.if-count-out.false in
+    let more = depth_following c.args.input.now c.loop-event.count c.loop-event.level c.in-Some.event c.in-Some.ensures.next in
+    let same = ap (λ (x : Level). x.depth) c.following-level.ensures in
+    omega (arith, length-set {A = Event})
 
 pub returns-then-level-clause-listed : goal.returns-then-level-clause-listed
 returns-then-level-clause-listed c =
@@ -58,4 +67,4 @@ loop-event-smaller c =
 pub loop-event-preserved : goal.loop-event-preserved
 loop-event-preserved c =
     subst (Stands _ _ _ _) (sym c.outside-level.ensures)
-      (stands_back _ _ _ _ _ (small _ c.loop-event.auto.count-fits) c.loop-event.invariant c.in-None.ensures.none c.if-level.false)
+    (stands_back _ _ _ _ _ (small _ c.loop-event.auto.count-fits) c.loop-event.invariant c.in-None.ensures.none c.if-level.false)

@@ -1,0 +1,36 @@
+//! What lies inside the caller's bytes, told into the caller's memory.
+ghost use Rattle.std.specs.Prelude.{◌≡◌, ◌≤◌, ◌/◌, length};
+ghost use Rattle.spa_events.specs.Events.{IsFilled, IsListed, events_of};
+ghost use Rattle.spa_format.specs.Words.{header_size};
+ghost use Rattle.spav.specs.Answers.{IsDone, IsNoRoom, IsPut};
+
+use crate::answers::{DONE, NO_ROOM};
+use spa_bytes::HEADER_LEN;
+use spa_events::laws::events_are_few;
+use spa_events::{Event, list_events};
+
+/// Writes what is told of each pod that the input consists of, and of each inside it, to the front of `out`: a pod comes before
+/// those inside it, and these before what follows it.
+///
+/// 0: `count` is how many they are, and what is behind them is as it was. -ENOSPC: `out` has room for fewer; it is full of the first
+/// of them, and `count`, an eighth of the input's length, is room enough.
+#[unsafe(no_mangle)]
+pub extern "C" fn spav_events(input: &[u8], out: &mut [Event], count: &mut usize) -> i32
+    ensures listed { IsDone result → IsListed input.now count.new out.old out.new }
+    ensures filled { IsNoRoom result → IsFilled input.now out.new }
+    ensures room { IsNoRoom result → count.new ≡ length input.now / header_size }
+    ensures enough { IsNoRoom result → length (events_of input.now) ≤ count.new }
+    ensures answers { IsPut result }
+{
+    match list_events(input, out) {
+        Some(listed) => {
+            *count = listed;
+            DONE
+        }
+        None => {
+            events_are_few();
+            *count = input.len() / HEADER_LEN;
+            NO_ROOM
+        }
+    }
+}

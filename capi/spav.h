@@ -1,4 +1,4 @@
-/* spav: pods of PipeWire, rewritten, checked, told apart, read and fixated by proved code. docs/CAPI.md says what each call promises.
+/* spav: pods of PipeWire, rewritten, checked, told apart, read, listed and fixated by proved code. docs/CAPI.md says what each call promises.
  *
  * What a caller keeps to. A region is `n` bytes that may be read, or written where it isn't const, and n is at most PTRDIFF_MAX. NULL
  * is taken where its length is 0. A region that is written overlaps no other argument; a const one may be read by others meanwhile.
@@ -78,6 +78,26 @@ int32_t spav_double(const void *in, size_t n, uint32_t key, uint64_t *bits);
  * long it is without that. -ENOSPC: `cap` isn't more than *len. -EPROTO also says that the string's body doesn't end in NUL. */
 int32_t spav_string(const void *in, size_t n, uint32_t key, char *out, size_t cap, size_t *len);
 
+/* The parent of a pod that stands in no other. */
+#define SPAV_NO_PARENT SIZE_MAX
+
+/* What is told of a pod that lies inside bytes. */
+struct spav_event {
+	uint32_t type; /* its type */
+	uint32_t size; /* the size of its body, which begins 8 bytes behind its header */
+	size_t depth;  /* how many structs and objects it stands in */
+	size_t at;     /* the byte at which its header begins */
+	size_t parent; /* where in the list the innermost of these is told of, or SPAV_NO_PARENT */
+};
+
+/* Writes what is told of each pod that stands in `in`, one after another, and of each inside it, to the front of `out`: a pod, then all
+ * inside it in order, then what follows it. Inside are the members of a struct and the properties of an object, as walks find them: a walk
+ * ends at the first pod that isn't whole, and the bytes may be anything. An eighth of n is room enough.
+ *   0        *count is how many events they are; behind them `out` is as it was
+ *   -ENOSPC  there are more than `room`: `out` is full of the first of them, and *count, an eighth of n, is room enough
+ * It takes no memory, and doesn't call itself. */
+int32_t spav_events(const void *in, size_t n, struct spav_event *out, size_t room, size_t *count);
+
 /* In the library no pointer may be NULL: from here on each name stands for a function that sees to it. */
 static inline const void *spav_some(const void *bytes) { return bytes ? bytes : ""; }
 
@@ -128,6 +148,10 @@ static inline int32_t spav_string_some(const void *in, size_t n, uint32_t key, c
 	char none;
 	return spav_string(spav_some(in), n, key, out ? out : &none, cap, len);
 }
+static inline int32_t spav_events_some(const void *in, size_t n, struct spav_event *out, size_t room, size_t *count) {
+	struct spav_event none;
+	return spav_events(spav_some(in), n, out ? out : &none, room, count);
+}
 #define spav_rewrite spav_rewrite_some
 #define spav_check spav_check_some
 #define spav_is_canonical spav_is_canonical_some
@@ -144,6 +168,7 @@ static inline int32_t spav_string_some(const void *in, size_t n, uint32_t key, c
 #define spav_float spav_float_some
 #define spav_double spav_double_some
 #define spav_string spav_string_some
+#define spav_events spav_events_some
 
 /* Pods one after another, or properties, that are still to come: an iterator without memory. It stops for good at the first that isn't
  * whole. The bytes stay the caller's. */

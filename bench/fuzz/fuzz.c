@@ -1,6 +1,7 @@
 /* Compares libspav with the second implementation in C (../capi/one_pass.c), and asserts the laws of rewriting: rewriting twice changes
  * nothing; is_canonical exactly where rewriting the front changes nothing; check accepts exactly what rewriting accepts; a refusal
- * changes nothing and says where; an accepted object stays accepted under fixation. Inputs and outputs end at pages that can't be touched.
+ * changes nothing and says where; an accepted object stays accepted under fixation; the events
+ * are those of a walk that calls itself. Inputs and outputs end at pages that can't be touched.
  * With afl-clang-fast in persistent mode, else on the files that are named. */
 #include <errno.h>
 #include <stdio.h>
@@ -63,18 +64,30 @@ static void try_front(const uint8_t *in, size_t n, uint8_t *out) {
 		SEE(spav_check(out, whole, &at) == 0);
 }
 
-/* Walks over all that is inside, and reads what is there. */
-static size_t walk_inside(struct spav_walk walk, unsigned depth) {
+/* Walks over all that is inside by calls of itself, reads what is there, and compares it with the events. */
+static size_t walk_inside(struct spav_walk walk, const uint8_t *in, const struct spav_event *events, size_t count, size_t depth, size_t parent) {
 	struct spav_pod pod;
-	size_t count = 0;
 	while (spav_next(&walk, &pod)) {
 		int32_t value;
-		count += 1 + (pod.whole ? pod.bytes[pod.whole - 1] : 0);
+		const struct spav_event *event = &events[count];
+		SEE(event->type == pod.type && event->size == pod.size && event->depth == depth && event->at == (size_t)(pod.bytes - in) && event->parent == parent);
 		SEE(spav_int(pod.bytes, pod.whole, 1, &value) != -ENOSPC);
-		if (depth < 50)
-			count += walk_inside(spav_walk_inside(&pod), depth + 1);
+		count = walk_inside(spav_walk_inside(&pod), in, events, count + 1, depth + 1, count);
 	}
 	return count;
+}
+
+static void try_events(const uint8_t *in, size_t n) {
+	static struct spav_event events[MOST / 8 + 1], fewer[MOST / 8 + 1];
+	size_t count = 0, enough = 0;
+	events[n / 8].type = fewer[n / 8].type = UNTOUCHED;
+	SEE(spav_events(in, n, events, n / 8, &count) == 0 && count <= n / 8);
+	SEE(walk_inside(spav_walk_pods(in, n), in, events, 0, 0, SPAV_NO_PARENT) == count);
+	if (count > 0) {
+		fewer[count - 1].type = UNTOUCHED;
+		SEE(spav_events(in, n, fewer, count - 1, &enough) == -ENOSPC && enough == n / 8);
+		SEE(!memcmp(fewer, events, (count - 1) * sizeof *events) && fewer[count - 1].type == UNTOUCHED);
+	}
 }
 
 static void try_all(const uint8_t *bytes, size_t n, uint8_t *in_end, uint8_t *out_end) {
@@ -84,7 +97,7 @@ static void try_all(const uint8_t *bytes, size_t n, uint8_t *in_end, uint8_t *ou
 	memcpy(in, bytes, n);
 	try_rewriting(in, n, out);
 	try_front(in, n, out);
-	SEE(walk_inside(spav_walk_pods(in, n), 0) < SIZE_MAX);
+	try_events(in, n);
 	SEE(!memcmp(in, bytes, n));
 }
 

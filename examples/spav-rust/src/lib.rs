@@ -11,6 +11,7 @@ mod raw {
         pub fn spav_fixate(pod: *mut u8, n: usize) -> i32;
         pub fn spav_front(input: *const u8, n: usize, type_: *mut u32, size: *mut u32, whole: *mut usize) -> i32;
         pub fn spav_int(input: *const u8, n: usize, key: u32, value: *mut i32) -> i32;
+        pub fn spav_events(input: *const u8, n: usize, out: *mut super::Event, room: usize, count: *mut usize) -> i32;
         pub fn spav_string(input: *const u8, n: usize, key: u32, out: *mut u8, cap: usize, len: *mut usize) -> i32;
     }
 }
@@ -169,6 +170,60 @@ impl<'a> Pod<'a> {
     }
 }
 
+/// The parent of a pod that stands in no other.
+pub const NO_PARENT: usize = usize::MAX;
+
+/// What is told of a pod that lies inside bytes.
+#[repr(C)]
+#[derive(Clone, Copy, PartialEq, Eq, Debug, Default)]
+pub struct Event {
+    /// The number of its type.
+    pub type_: u32,
+    /// The size of its body.
+    pub size: u32,
+    /// How many structs and objects it stands in.
+    pub depth: usize,
+    /// The byte at which its header begins.
+    pub at: usize,
+    /// Where in the list the innermost of these is told of, or NO_PARENT.
+    pub parent: usize,
+}
+
+/// Writes what is told of each pod of the input, and of each inside it, to the front of `out`, and gives it. An eighth of the input's
+/// length is room enough.
+pub fn events_into<'a>(input: &[u8], out: &'a mut [Event]) -> Result<&'a mut [Event], Error> {
+    let mut count = 0;
+    match unsafe { raw::spav_events(input.as_ptr(), input.len(), out.as_mut_ptr(), out.len(), &mut count) } {
+        0 => Ok(&mut out[..count]),
+        _ => Err(Error::NoRoom(count)),
+    }
+}
+
+/// All that lies inside an input: each pod, then those inside it, then what follows it.
+#[derive(Clone, Debug)]
+pub struct Events<'a> {
+    input: &'a [u8],
+    told: std::vec::IntoIter<Event>,
+}
+
+/// The events of an input, each with the pod's body.
+pub fn events(input: &[u8]) -> Events<'_> {
+    let mut told = vec![Event::default(); input.len() / TWO_WORDS];
+    let count = events_into(input, &mut told).map_or(0, |told| told.len());
+    told.truncate(count);
+    Events { input, told: told.into_iter() }
+}
+
+impl<'a> Iterator for Events<'a> {
+    type Item = (Event, &'a [u8]);
+
+    fn next(&mut self) -> Option<(Event, &'a [u8])> {
+        let event = self.told.next()?;
+        let start = event.at + TWO_WORDS;
+        Some((event, &self.input[start..start + event.size as usize]))
+    }
+}
+
 fn word(bytes: &[u8]) -> u32 {
     u32::from_le_bytes([bytes[0], bytes[1], bytes[2], bytes[3]])
 }
@@ -207,6 +262,11 @@ impl Pods {
     /// The walk over them.
     pub fn walk(&self) -> Walk<'_> {
         walk(&self.0)
+    }
+
+    /// All that lies inside them.
+    pub fn events(&self) -> Events<'_> {
+        events(&self.0)
     }
 
     /// The bytes.
@@ -281,5 +341,16 @@ mod tests {
         assert_eq!(inside, [(Some((1, 0)), 4, 4), (Some((2, 0)), 19, 28), (Some((3, 0)), 8, 3)]);
         assert!(nests_within(pod.bytes, 1) && !nests_within(pod.bytes, 0));
         assert!(pod.inside().next().unwrap().inside().next().is_none());
+    }
+
+    #[test]
+    fn events_come_in_order() {
+        let pod = object();
+        let told: Vec<_> = events(&pod).map(|(it, body)| (it.type_, it.depth, it.at, it.parent, body.len())).collect();
+        assert_eq!(told, [(15, 0, 0, NO_PARENT, 104), (4, 1, 24, 0, 4), (19, 1, 48, 0, 28), (8, 1, 96, 0, 3)]);
+        assert_eq!(events_into(&pod, &mut [Event::default(); 3]), Err(Error::NoRoom(14)));
+        assert_eq!(events_into(&pod, &mut [Event::default(); 4]).map(|it| it.len()), Ok(4));
+        assert_eq!(events(&pod[..111]).count(), 0);
+        assert_eq!(Pods::new(&pod).unwrap().events().count(), 4);
     }
 }

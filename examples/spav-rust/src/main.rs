@@ -1,19 +1,12 @@
 //! `spav rewrite`: reads pods from standard input and writes their rewritings. `spav show`: writes a line for each pod and those inside it.
-use spav::{Error, Pod, Pods, Walk};
+use spav::{Error, Pods};
 use std::io::{self, Read, Write};
 use std::process::ExitCode;
 
-/// A line for each pod: depth, type, size. What is still to come at each level stands in a list.
-fn show(pods: Walk<'_>, to: &mut impl Write) -> io::Result<()> {
-    let mut levels = vec![pods];
-    while let Some(level) = levels.last_mut() {
-        let Some(pod) = level.next() else {
-            levels.pop();
-            continue;
-        };
-        let Pod { type_, body, .. } = pod;
-        writeln!(to, "{} {} {}", levels.len() - 1, type_, body.len())?;
-        levels.push(pod.inside());
+/// A line for each pod: depth, type, size.
+fn show(input: &[u8], to: &mut impl Write) -> io::Result<()> {
+    for (event, _body) in spav::events(input) {
+        writeln!(to, "{} {} {}", event.depth, event.type_, event.size)?;
     }
     Ok(())
 }
@@ -26,7 +19,7 @@ fn main() -> ExitCode {
     }
     let shown = std::env::args().nth(1).as_deref() == Some("show");
     let done = match Pods::new(&input) {
-        _ if shown => show(spav::walk(&input), &mut io::BufWriter::new(io::stdout())),
+        _ if shown => show(&input, &mut io::BufWriter::new(io::stdout())),
         Ok(pods) => io::stdout().write_all(pods.as_bytes()),
         Err(error @ Error::Refused(_)) => {
             eprintln!("{}", error);

@@ -73,6 +73,16 @@ class Verdict:
     is_by_names: bool = False
 
 
+def listed(root):
+    """The libraries that each crate of crates.txt names."""
+    lines = {}
+    for line in (root / "crates.txt").read_text(encoding="utf-8").split("\n"):
+        head, colon, names = line.partition("#")[0].partition(":")
+        if colon:
+            lines[head.split()[0]] = names.split()
+    return lines
+
+
 def changes_in(text):
     """The changes that the text of an edit names."""
     changes, path, old = [], "", None

@@ -10,6 +10,7 @@ use std::fmt;
 ///
 /// `{:?}` of a value has no answer for want of memory, and so calls itself for each level of nesting. This takes memory for each
 /// level from its allocator, and is refused as `fmt::Error` where that is, or where what is printed to refuses.
+#[derive(Clone, Copy)]
 pub struct Printed<'a> {
     alloc: Global,
     value: &'a Value,

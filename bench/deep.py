@@ -1,9 +1,12 @@
 #!/usr/bin/env python3
-"""deep.py [LEVELS]: runs the built program on pods that stand LEVELS deep in one another, 1,000,000 if nothing is said.
+"""deep.py [LEVELS]: makes each public call, and runs each word of the programs, on pods that are nested LEVELS deep, 1,000,000 if
+nothing is said, and a tenth of that, on a stack of 8 MiB.
 
-Structs in structs and objects in objects, which are their own rewriting; the same around a truth value of 7, which isn't; and
-around a pod of no known type. A run must end by the program's own answer, on a stack of 8 MiB. Prints the time of each run.
-Status 1 where an answer is wrong.
+The pods are structs, objects, both in turn, and structs with a None behind each struct in them, with a truth value in the innermost.
+The calls are those of bench/depth.rt.txt, which `bench/build depth none` proves and builds (with `none` it fails, which says nothing);
+`rt run` in crates/podtool and crates/meet builds the programs. Each run must come to the number or to the output that is known, and
+take at most 20 times as long as a tenth of the levels. Prints the milliseconds of both, of a call without what comes before it, of a
+program with its start. Last, many values are read and let go in memory that doesn't hold them all. Status 1 where a row is wrong.
 """
 
 import pathlib
@@ -14,10 +17,12 @@ import sys
 import time
 
 HERE = pathlib.Path(__file__).resolve().parent
-PROGRAM = HERE.parent / "crates/podtool/out/podtool"
+CALLS, PODTOOL, MEET = HERE / "out/depth", HERE.parent / "crates/podtool/out/podtool", HERE.parent / "crates/meet/out/meet"
 HEADER, KEYED = 8, 24
 STACK = 8 << 20
-TRUE, SEVEN, UNKNOWN = (struct.pack("<4I", 4, type_, word, 0) for type_, word in ((2, 1), (2, 7), (21, 7)))
+TRUE, SEVEN, FALSE, UNKNOWN = (struct.pack("<4I", 4, type_, word, 0) for type_, word in ((2, 1), (2, 7), (2, 0), (21, 7)))
+NONE = struct.pack("<2I", 0, 1)
+MOST, ROUNDS = 20, 3
 
 
 def structs(levels, inner):
@@ -32,42 +37,130 @@ def objects(levels, inner):
     return b"".join(struct.pack("<6I", size, 15, 5, 3, 1, 0) for size in sizes) + inner
 
 
+def both(levels, inner):
+    """Structs and objects in turn, so many in all, which is an even number."""
+    step = HEADER + KEYED
+    sizes = range(step * (levels // 2 - 1) + KEYED + len(inner), len(inner), -step)
+    return b"".join(struct.pack("<2I6I", size, 14, size - HEADER, 15, 5, 3, 1, 0) for size in sizes) + inner
+
+
+def followed(levels, inner):
+    """So many structs, each holding the next one and a None, and the last one these bytes and a None."""
+    step = HEADER + len(NONE)
+    sizes = range(step * (levels - 1) + len(NONE) + len(inner), len(inner), -step)
+    return b"".join(struct.pack("<2I", size, 14) for size in sizes) + inner + NONE * levels
+
+
+def calls(nest, levels):
+    """The calls by name, each with its input and the number that it comes to."""
+    whole, other = nest(levels, TRUE), nest(levels, FALSE)
+    size = len(whole)
+    keyed, member = objects(1, whole), structs(1, whole)
+    rows = {
+        "read": (whole, size),
+        "struct": (member, len(member)),
+        "held": (whole, 0),
+        "discard": (whole, 0),
+        "clone": (whole, 0),
+        "same": (whole + whole, 1),
+        "same, innermost differs": (whole + other, 0),
+        "print": (whole, None),
+        "write": (whole, size),
+        "member": (whole, len(member)),
+        "device": (whole, size),
+        "fixed": (whole, 0),
+        "rewrite": (whole, size),
+        "rewrite, innermost isn't its own": (nest(levels, SEVEN), size),
+        "rewrite_all": (whole, size),
+        "rewrite_in_place": (nest(levels, SEVEN), size),
+        "accept_all": (whole, size),
+        "is_canonical": (whole, 1),
+        "nests_within": (whole, 0),
+        "negotiate": (keyed + keyed, 1),
+        "negotiate_pods": (keyed + keyed, len(keyed)),
+        "fixate": (keyed, len(keyed)),
+        "views": (whole, levels),
+    }
+    if nest in (structs, followed):
+        # A parser opens an object, and no further pod in it.
+        rows["parser"] = (whole, levels)
+    if nest is not followed:
+        rows["builder"] = (whole, size)
+    return rows
+
+
+def program_rows(nest, levels):
+    """The runs of the programs by what they are, each with its words, its input, its status and what it writes and says."""
+    whole, other, unknown = (nest(levels, inner) for inner in (TRUE, SEVEN, UNKNOWN))
+    refused = (1, b"", b"podtool: byte 0: InvalidType\n")
+    first, second = objects(1, whole), objects(1, nest(levels, FALSE))
+    return {
+        "podtool rewrite": ([PODTOOL, "rewrite"], whole, (0, whole, b"")),
+        "podtool rewrite, innermost isn't its own": ([PODTOOL, "rewrite"], other, (0, whole, b"")),
+        "podtool rewrite, innermost is unknown": ([PODTOOL, "rewrite"], unknown, refused),
+        "podtool fixate": ([PODTOOL, "fixate"], other, (0, other, b"")),
+        "podtool fixate, innermost is unknown": ([PODTOOL, "fixate"], unknown, refused),
+        "podtool show": ([PODTOOL, "show"], whole, (0, None, b"")),
+        "meet": ([MEET], first + first, (0, first, b"")),
+        "meet, innermost differs": ([MEET], first + second, (1, b"", b"meet: no value for key 1 is in both\n")),
+    }
+
+
 def limit_stack():
     resource.setrlimit(resource.RLIMIT_STACK, (STACK, STACK))
 
 
-def run(word, given):
-    """The status, what was written and said, and the seconds of a run."""
+def limit_memory():
+    limit_stack()
+    resource.setrlimit(resource.RLIMIT_AS, (256 << 20, 256 << 20))
+
+
+def run(command, given, limit=limit_stack):
+    """The status, what was written and said, and the milliseconds of a run."""
     before = time.monotonic()
-    with subprocess.Popen([PROGRAM, word], stdin=subprocess.PIPE, stdout=subprocess.PIPE, stderr=subprocess.PIPE, preexec_fn=limit_stack) as it:
+    with subprocess.Popen(command, stdin=subprocess.PIPE, stdout=subprocess.PIPE, stderr=subprocess.PIPE, preexec_fn=limit) as it:
         written, said = it.communicate(given)
-        seconds = time.monotonic() - before
-    return it.returncode, written, said, seconds
+        spent = (time.monotonic() - before) * 1000
+    return it.returncode, written, said, spent
+
+
+def call_once(name, given, wanted, limit=limit_stack):
+    """The milliseconds of a call, and whether it came to the wanted number."""
+    status, written, _, _ = run([CALLS, name.split(",")[0]], given, limit)
+    nanos, count = map(int, written.split()) if status == 0 else (0, -1)
+    return nanos / 1e6, status == 0 and wanted in (None, count)
+
+
+def program_once(words, given, wanted):
+    """The milliseconds of a run, and whether it ended as it has to."""
+    status, written, said, spent = run(words, given)
+    ok = status == wanted[0] and said == wanted[2] and written in (written if wanted[1] is None else wanted[1],)
+    return spent, ok and (wanted[1] is not None or written != b"")
+
+
+def compare(name, nest, few, many, once):
+    """Prints a row: the best times of few and of many levels. Whether it is as it has to be."""
+    (short, fine), (long, good) = ((min(it[0] for it in runs), all(it[1] for it in runs)) for runs in ([once(*row) for _ in range(ROUNDS)] for row in (few, many)))
+    ok = fine and good and long <= MOST * max(short, 0.05)
+    print(f"| {name} | {nest} | {short:.2f} | {long:.2f} | {long / max(short, 0.001):.1f} |{'' if ok else ' WRONG'}", flush=True)
+    return ok
 
 
 def main(words):
     levels = int(words[0]) if words else 1_000_000
     wrong = 0
-    for name, nest in (("structs", structs), ("objects", objects)):
-        whole, other, unknown = (nest(levels, inner) for inner in (TRUE, SEVEN, UNKNOWN))
-        refused = (1, b"", b"podtool: byte 0: InvalidType\n")
-        rows = [
-            ("rewrite", "their own rewriting", whole, (0, whole, b"")),
-            ("rewrite", "a truth value of 7", other, (0, whole, b"")),
-            ("rewrite", "an unknown type", unknown, refused),
-            ("fixate", "their own rewriting", whole, (0, whole, b"")),
-            ("fixate", "a truth value of 7", other, (0, other, b"")),
-            ("fixate", "an unknown type", unknown, refused),
-            ("show", "their own rewriting", whole, (0, None, b"")),
-        ]
-        for word, what, given, (status, written, said) in rows:
-            found = run(word, given)
-            lines = found[1].count(b"\n") if word == "show" else levels + 1
-            ok = found[0] == status and found[2] == said and lines == levels + 1
-            ok = ok and (written is None or found[1] == written)
-            wrong += not ok
-            print(f"{word} {levels} {name}, {what}: {found[3]:.2f} s{'' if ok else ', WRONG'}")
-    return 1 if wrong else 0
+    print(f"| Call | Pods | {levels // 10} levels, ms | {levels} levels, ms | Times |\n|---|---|---|---|---|")
+    for nest, what in ((structs, "structs"), (objects, "objects"), (both, "in turn"), (followed, "followed")):
+        few, many = calls(nest, levels // 10), calls(nest, levels)
+        for name, row in many.items():
+            wrong += not compare(name, what, (name, *few[name]), (name, *row), call_once)
+        few, many = program_rows(nest, levels // 10), program_rows(nest, levels)
+        for name, row in many.items():
+            wrong += not compare(name, what, few[name], row, program_once)
+    many = structs(10_000, TRUE) * 400
+    _, ok = call_once("read", many, len(many), limit_memory)
+    print(f"400 values are let go one after another in 256 MiB{'' if ok else ', WRONG'}")
+    return 1 if wrong or not ok else 0
 
 
 if __name__ == "__main__":

@@ -32,6 +32,7 @@ pub mod utils {
 pub mod pod {
     pub use spa_fixed::{CanonicalFixedSizedPod, ChoiceElement, FixedSizedPod};
     pub use spa_format::{laws, view_laws};
+    pub use spa_print::Printed;
     pub use spa_rewrite::{
         accept_all, is_canonical, rewrite, rewrite_all, rewrite_in_parts, rewrite_in_place,
     };

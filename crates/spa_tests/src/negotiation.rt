@@ -1,5 +1,6 @@
 //! Two objects meet: values, keys, refusals, and pods from bytes to bytes.
 mod answers;
+mod deep;
 mod keys;
 mod many;
 mod objects;

@@ -4,6 +4,7 @@ mod canonical;
 mod every_reader;
 mod fixation;
 mod hostile;
+mod printing;
 mod reading;
 mod rewriting;
 mod second_reader;

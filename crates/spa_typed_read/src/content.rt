@@ -12,6 +12,7 @@ use crate::deserializer::{DeserializeSuccess, PodDeserialize, PodDeserializer};
 use crate::exact::ExactDeserialize;
 use crate::members::StructPodDeserializer;
 use spa_fixed::DeserializeError;
+use spa_value::{Held, Value};
 
 /// A type of a program's own: it is read as another one is, its content, and made of that. So it is read exactly where the
 /// front is a pod of such a content, unless memory runs out.
@@ -54,6 +55,17 @@ where
     T::Content: ExactDeserialize<'de>,
 {
     ghost exactly = { λ b e r. made_exactly T.Content.reads T.content b e (T.Content.exactly b e r) };
+}
+
+/// Any value, kept so that it is let go by a loop: where what is read behind it is refused, too.
+impl DeserializeAs for Held {
+    type Content = Value;
+
+    ghost content = { λ held. held };
+
+    fn of_content(given: Value) -> Held {
+        Held::from(given)
+    }
 }
 
 /// The members of a struct, the first one and those behind it, up to `()`: `(A, (B, (C, ())))` are three.

@@ -1,17 +1,27 @@
-//! Texts, bytes and lists that own what they hold, written as what they lend.
+//! Texts, bytes, lists and values that own what they hold, written as what they lend.
 ghost use Rattle.std.specs.Prelude.{map, string_bytes};
 ghost use Rattle.spa_format.specs.Kind as kind;
 ghost use Rattle.spa_format.specs.Tree as tree;
+ghost use Rattle.spa_value.specs.View.{view};
 
-use crate::exact::{SerializeAs, write_bytes, write_elements, write_text};
+use crate::exact::{SerializeAs, write_bytes, write_elements, write_text, write_value};
 use spa_sink::{GenError, PodOutput};
 use spa_utils::{Fd, Float32, Float64, Fraction, Id, Rectangle};
+use spa_value::Held;
 
 impl SerializeAs for String {
     ghost says = { λ s. tree.string (string_bytes s) };
 
     fn write_as<O: PodOutput>(&self, out: &mut O) -> Result<(), GenError> {
         write_text(out, self.as_str())
+    }
+}
+
+impl SerializeAs for Held {
+    ghost says = { λ held. view held };
+
+    fn write_as<O: PodOutput>(&self, out: &mut O) -> Result<(), GenError> {
+        write_value(out, &**self)
     }
 }
 

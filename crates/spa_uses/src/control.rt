@@ -13,15 +13,14 @@ use libspa::pod::deserialize::{
 };
 use libspa::pod::serialize::PodSerializer;
 use libspa::pod::value_laws::{objects_are_their_fields, property_lists_are_in_order};
-use libspa::pod::{Object, Property, PropertyFlags, Value};
+use libspa::pod::{Held, Object, Property, PropertyFlags, Value, discard};
 use libspa::utils::Float32;
 use std::alloc::{AllocError, Global};
 
 /// The key of a volume, which PipeWire calls `SPA_PROP_volume`.
 const VOLUME: u32 = 65539;
 
-/// A volume, and all else that its object says.
-#[derive(Drop)]
+/// A volume, and all else that its object says, which may be nested deep.
 pub struct Control {
     /// The object's type.
     pub type_: u32,
@@ -35,6 +34,30 @@ pub struct Control {
     pub flags: PropertyFlags,
     /// The properties behind it, in order.
     pub behind: Vec<Property>,
+}
+
+impl Drop for Control {
+    fn drop(self) {
+        let Control {
+            type_: _,
+            id: _,
+            before,
+            volume: _,
+            flags: _,
+            behind,
+        } = self;
+        let_go(before);
+        let_go(behind);
+    }
+}
+
+/// Takes properties apart by a loop.
+fn let_go(properties: Vec<Property>) {
+    discard(Value::Object(Object {
+        type_: 0,
+        id: 0,
+        properties,
+    }));
 }
 
 impl Control {
@@ -52,12 +75,21 @@ impl Control {
             flags,
             mut behind,
         } = self;
-        properties.push(Property {
+        if let Err(error) = properties.reserve(1) {
+            let_go(properties);
+            let_go(behind);
+            return Err(error);
+        }
+        properties.push_reserved(Property {
             key: VOLUME,
             flags,
             value: Value::Float(volume),
-        })?;
-        properties.append(&mut behind)?;
+        });
+        if let Err(error) = properties.append(&mut behind) {
+            let_go(properties);
+            let_go(behind);
+            return Err(error);
+        }
         Ok(Object {
             type_,
             id,
@@ -107,7 +139,7 @@ impl<'de> Visitor<'de> for ControlVisitor {
         match visitor.visit_object(reader)? {
             Value::Object(object) => control_of(object),
             other => {
-                drop(other);
+                discard(other);
                 Err(DeserializeError::UnsupportedType)
             }
         }
@@ -138,14 +170,23 @@ fn control_of<'de>(object: Object) -> Result<Control, DeserializeError<&'de [u8]
         properties: mut before,
     } = object;
     let Some(place) = volume_place(before.as_slice()) else {
+        let_go(before);
         return Err(DeserializeError::PropertyMissing);
     };
-    let mut behind = before.split_off(place)?;
+    let mut behind = match before.split_off(place) {
+        Ok(behind) => behind,
+        Err(error) => {
+            let_go(before);
+            return Err(DeserializeError::from(error));
+        }
+    };
     let Property { flags, value, .. } = behind.remove(0);
     let volume = match value {
         Value::Float(volume) => volume,
         other => {
-            drop(other);
+            discard(other);
+            let_go(before);
+            let_go(behind);
             return Err(DeserializeError::UnsupportedType);
         }
     };
@@ -173,16 +214,15 @@ fn volume_place(properties: &[Property]) -> Option<usize>
 pub fn with_volume(alloc: Global, input: &[u8], volume: Float32) -> Option<Vec<u8>>
     ensures { IfSome result (λ bytes. (control : Control) × (value : Tree) × Begins input.now value × IsControl control value × (bytes.items ≡ encoding_of (tree_with control volume.0))) }
 {
-    let Ok((_, control)) = PodDeserializer::deserialize_from::<Control>(alloc, input) else {
+    let Ok((_, mut control)) = PodDeserializer::deserialize_from::<Control>(alloc, input) else {
         return None;
     };
-    let Ok(object) = Control { volume, ..control }.into_object() else {
+    control.volume = volume;
+    let Ok(object) = control.into_object() else {
         return None;
     };
-    let value = Value::Object(object);
-    let written = PodSerializer::serialize(Vec::new(alloc), &value);
-    drop(value);
-    let Ok((bytes, _)) = written else {
+    let held = Held::from(Value::Object(object));
+    let Ok((bytes, _)) = PodSerializer::serialize(Vec::new(alloc), &*held) else {
         return None;
     };
     Some(bytes)

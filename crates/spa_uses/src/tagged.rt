@@ -4,19 +4,19 @@ ghost use Rattle.libspa.specs.Kind as kind;
 ghost use Rattle.libspa.specs.Tree.{fixed, member, no_trees, struct};
 ghost use Rattle.libspa.specs.View.{view};
 
-use libspa::pod::Value;
 use libspa::pod::deserialize::{
     DeserializeError, DeserializeSuccess, Never, ObjectPodDeserializer, PodDeserialize,
     PodDeserializer, StructPodDeserializer, Visit, Visitor,
 };
 use libspa::pod::serialize::{GenError, PodOutput, SerializeAs, write_struct};
+use libspa::pod::{Held, Value};
 use libspa::utils::Id;
 
-/// A value under an id.
+/// A value under an id. It may be nested as deep as the bytes of others say, so it is kept in a `Held`.
 #[derive(Drop)]
 pub struct Tagged {
     pub id: Id,
-    pub value: Value,
+    pub value: Held,
 }
 
 impl SerializeAs for Tagged {
@@ -58,7 +58,7 @@ impl<'de> Visitor<'de> for TaggedVisitor {
         let Some(id) = reader.deserialize_field::<Id>()? else {
             return Err(DeserializeError::PropertyMissing);
         };
-        let Some(value) = reader.deserialize_field::<Value>()? else {
+        let Some(value) = reader.deserialize_field::<Held>()? else {
             return Err(DeserializeError::PropertyMissing);
         };
         Ok(Tagged { id, value })
@@ -90,7 +90,7 @@ pub fn tagged_number(id: Id, number: i32) -> Tagged
 {
     Tagged {
         id,
-        value: Value::Int(number),
+        value: Held::from(Value::Int(number)),
     }
 }
 

@@ -1,0 +1,177 @@
+//! What is read of types of one's own where values in it are nested deep: kept, and let go where something behind it is refused.
+use crate::compare::{assert_words, put};
+use libspa::pod::Held;
+use libspa::pod::deserialize::{
+    DeserializeError, ObjectOf, PodDeserialize, PodDeserializer, Required, StructOf,
+};
+use libspa::utils::Float32;
+use spa_uses::{Control, Tagged, with_volume};
+use std::alloc::{AllocError, Global};
+use std::process::Abort;
+use std::test::Fail;
+
+/// More levels than a stack of 8 MB holds of a drop that calls itself for each of them.
+const DEPTH: u32 = 100_000;
+
+/// The bytes of a pod whose body is these words, so many empty structs but one in each other, and these words.
+fn around(
+    alloc: Global,
+    type_: u32,
+    before: &[u32],
+    behind: &[u32],
+) -> Result<Vec<u8>, AllocError> {
+    let mut bytes = Vec::new(alloc);
+    let size = ((before.len() + behind.len()) as u32)
+        .wrapping_mul(4)
+        .wrapping_add(DEPTH * 8);
+    push_words(&mut bytes, &[size, type_])?;
+    push_words(&mut bytes, before)?;
+    for level in 0..DEPTH {
+        push_words(&mut bytes, &[(DEPTH - 1 - level) * 8, 14])?;
+    }
+    push_words(&mut bytes, behind)?;
+    Ok(bytes)
+}
+
+fn push_words(bytes: &mut Vec<u8>, words: &[u32]) -> Result<(), AllocError> {
+    for word in words {
+        bytes.extend_from_slice(&word.to_le_bytes())?;
+    }
+    Ok(())
+}
+
+/// What a read of this type answers: `read`, or the refusal's name.
+fn answer_of<'de, P: PodDeserialize<'de>>(
+    alloc: Global,
+    input: &'de [u8],
+) -> Result<&'static str, Fail> {
+    match PodDeserializer::deserialize_from::<P>(alloc, input) {
+        Ok((_, it)) => {
+            drop(it);
+            Ok("read")
+        }
+        Err(DeserializeError::OutOfMemory) => Err(Fail::from(AllocError)),
+        Err(e) => Ok(e.kind()),
+    }
+}
+
+fn assert_answer(
+    rt: &impl Abort,
+    found: Result<&'static str, Fail>,
+    wanted: &str,
+) -> Result<(), Fail> {
+    let found = found?;
+    assert_eq!(rt; found, wanted);
+    Ok(())
+}
+
+/// One member, whatever it is.
+type One = StructOf<(Held, ())>;
+
+/// A member, whatever it is, and a number.
+type Numbered = StructOf<(Held, (i32, ()))>;
+
+#[test]
+fn deep_members_are_kept_and_let_go(rt: HostRuntime) -> Result<(), Fail> {
+    let alloc = rt.alloc();
+    let alone = around(alloc, 14, &[], &[])?;
+    let numbered = around(alloc, 14, &[], &[4, 4, 3, 0])?;
+    assert_answer(&rt, answer_of::<Held>(alloc, alone.as_slice()), "read")?;
+    assert_answer(&rt, answer_of::<One>(alloc, alone.as_slice()), "read")?;
+    assert_answer(
+        &rt,
+        answer_of::<Numbered>(alloc, numbered.as_slice()),
+        "read",
+    )?;
+    // A member is left, none is there, and the second one is of another type.
+    assert_answer(
+        &rt,
+        answer_of::<One>(alloc, numbered.as_slice()),
+        "UnreadMembers",
+    )?;
+    assert_answer(
+        &rt,
+        answer_of::<Numbered>(alloc, alone.as_slice()),
+        "PropertyMissing",
+    )?;
+    let long = around(alloc, 14, &[], &[8, 5, 3, 0])?;
+    assert_answer(&rt, answer_of::<Numbered>(alloc, long.as_slice()), "Tag")
+}
+
+#[test]
+fn deep_values_under_ids_are_kept_and_let_go(rt: HostRuntime) -> Result<(), Fail> {
+    let alloc = rt.alloc();
+    let tagged = around(alloc, 14, &[4, 3, 9, 0], &[])?;
+    assert_answer(&rt, answer_of::<Tagged>(alloc, tagged.as_slice()), "read")?;
+    let more = around(alloc, 14, &[4, 3, 9, 0], &[0, 1])?;
+    assert_answer(
+        &rt,
+        answer_of::<Tagged>(alloc, more.as_slice()),
+        "UnreadMembers",
+    )
+}
+
+/// The value under a key of an object, and a number under another one.
+type Keyed = ObjectOf<5, 3, (Required<1, Held>, (Required<2, i32>, ()))>;
+
+#[test]
+fn deep_properties_are_kept_and_let_go(rt: HostRuntime) -> Result<(), Fail> {
+    let alloc = rt.alloc();
+    let both = around(alloc, 15, &[5, 3, 1, 0], &[2, 0, 4, 4, 7, 0])?;
+    assert_answer(&rt, answer_of::<Keyed>(alloc, both.as_slice()), "read")?;
+    let one = around(alloc, 15, &[5, 3, 1, 0], &[])?;
+    assert_answer(
+        &rt,
+        answer_of::<Keyed>(alloc, one.as_slice()),
+        "PropertyMissing",
+    )
+}
+
+/// The words of a volume under its key.
+fn volume_words(volume: u32) -> [u32; 6] {
+    [65539, 0, 4, 6, volume, 0]
+}
+
+#[test]
+fn deep_properties_beside_a_volume_are_kept_and_let_go(rt: HostRuntime) -> Result<(), Fail> {
+    let alloc = rt.alloc();
+    // No volume is there, and one that isn't a Float.
+    let none = around(alloc, 15, &[5, 3, 1, 0], &[])?;
+    assert_answer(
+        &rt,
+        answer_of::<Control>(alloc, none.as_slice()),
+        "PropertyMissing",
+    )?;
+    let wrong = around(alloc, 15, &[5, 3, 65539, 0], &volume_words(1))?;
+    assert_answer(
+        &rt,
+        answer_of::<Control>(alloc, wrong.as_slice()),
+        "UnsupportedType",
+    )?;
+    let input = around(alloc, 15, &[5, 3, 1, 0], &volume_words(1))?;
+    let wanted = around(alloc, 15, &[5, 3, 1, 0], &volume_words(2))?;
+    let Some(found) = with_volume(alloc, input.as_slice(), Float32(2)) else {
+        return Err(Fail::from(AllocError));
+    };
+    assert!(rt; found == wanted);
+    Ok(())
+}
+
+/// Whether what is read as this type and written again is the input.
+fn comes_back(alloc: Global, input: &[u8]) -> Result<bool, Fail> {
+    match PodDeserializer::deserialize_from::<Held>(alloc, input) {
+        Ok((_, held)) => Ok(put(Vec::new(alloc), &held)?.as_slice() == input),
+        Err(_) => Err(Fail::from(AllocError)),
+    }
+}
+
+#[test]
+fn a_held_value_is_written_as_it_is(rt: HostRuntime) -> Result<(), Fail> {
+    let alloc = rt.alloc();
+    let input = around(alloc, 14, &[], &[4, 4, 3, 0])?;
+    let holds = comes_back(alloc, input.as_slice())?;
+    assert!(rt; holds);
+    let tagged = spa_uses::tagged_number(libspa::utils::Id(9), 313);
+    let out = put(Vec::new(alloc), &tagged.value)?;
+    assert_words(&rt, alloc, out.as_slice(), "4 4 313 0")
+}

@@ -1,8 +1,9 @@
 -- Structs that are read member by member, and what is refused of them.
 use Rattle.std.proofs.Common.{◌≡◌, ◌≢◌, ℕ, List, [], length, drop, refl, sym, ap, ◌∙◌, subst, arith, length-append}
+use Rattle.std.specs.Prelude.{⊤}
 use Rattle.std.specs.Borrow.{Bor}
 use Rattle.spa_format.specs.Words.{body_of, header_size, word_at}
-use Rattle.spa_format.specs.Tree.{Tree, Trees, Properties, member, no_trees, object_type, struct_type, type_of}
+use Rattle.spa_format.specs.Tree.{Tree, Trees, Properties, member, no_trees, object, object_type, struct_type, type_of}
 use Rattle.spa_format.specs.Pod.{AreMembers, AreProperties, IsBody, IsPod}
 use Rattle.spa_format.specs.Front.{HasFront, Begins, rest_of}
 use Rattle.spa_format.proofs.Refused as format
@@ -13,7 +14,7 @@ use Rattle.spa_fixed.specs.declared.fault.DeserializeError.TheVariants as error
 use Rattle.spa_format.proofs.Fronts.{front_of_whole}
 use Rattle.spa_typed_read.specs.Asking.{LacksBytes, LacksFront, LacksObject, of_type}
 use Rattle.spa_typed_read.specs.Exactly.{AreUnread, IsUnread, ReadsFirst, ReadsStruct, RefusesExactly}
-use Rattle.spa_typed_read.specs.ExactlyLaws.{asked_exactly, fault_to}
+use Rattle.spa_typed_read.specs.ExactlyLaws.{asked_exactly, fault_to, memory_to}
 use Rattle.spa_typed_read.specs.Lookup.{ReadsObject}
 use Rattle.spa_typed_read.specs.Members.{ObjectReader, OpensObject, OpensStruct, Reader}
 use Rattle.spa_leaf.specs.Reading.{IsShortAt, OnFault, OnMemory}
@@ -69,21 +70,28 @@ memory_there A error.OutOfMemory h = h
 
 -- the front is no struct
 pub struct_unopened : {X : Type 0} (reads : Trees → X → Type 0) (b : List ℕ) (e : DeserializeError (Bor (List ℕ))) →
-    LacksFront struct_type b e → RefusesExactly (λ v (x : X). ReadsStruct reads v x) b e
-struct_unopened reads b e h =
-    asked_exactly (of_type struct_type) ⊥ _ (λ v x r. ap type_of r.is) b e (front_refused (of_type struct_type) ⊥ b e h)
+    (takes : Type 0) → LacksFront struct_type b e → RefusesExactly (λ v (x : X). ReadsStruct reads v x) takes b e
+struct_unopened {X = X} reads b e takes h =
+    let all : RefusesExactly (λ v (x : X). ReadsStruct reads v x) ⊥ b e =
+    asked_exactly (of_type struct_type) ⊥ _ (λ v x r. ap type_of r.is) b e (front_refused (of_type struct_type) ⊥ b e h) in
+    record {
+      unread = all.unread;
+      short_first = all.short_first;
+      memory = memory_to (⊥ × HasFront b) (takes × HasFront b) e (λ k. absurd k.0) all.memory;
+    }
 
 -- its members aren't read
-pub struct_unread : {X : Type 0} (reads : Trees → X → Type 0) (b : List ℕ) (e : DeserializeError (Bor (List ℕ))) (r : Reader) →
-    OpensStruct b r → OnFault (AreUnread reads r.left) e → RefusesExactly (λ v (x : X). ReadsStruct reads v x) b e
-struct_unread {X = X} reads b e r o h = record {
+pub struct_unread : {X : Type 0} (reads : Trees → X → Type 0) (b : List ℕ) (e : DeserializeError (Bor (List ℕ))) (r : Reader)
+    (takes : Type 0) → OpensStruct b r → OnFault (AreUnread reads r.left) e → OnMemory takes e →
+    RefusesExactly (λ v (x : X). ReadsStruct reads v x) takes b e
+struct_unread {X = X} reads b e r takes o h m = record {
   unread =
       fault_to (AreUnread reads r.left) (IsUnread (λ v (x : X). ReadsStruct reads v x) b) e
       (λ n v x g s.
       let body = subst (λ w. IsBody w (body_of b)) s.is (format.begun b v g).1 in
       n s.members x (subst (AreMembers s.members) (sym o.opens.its_body) body) s.are) h;
   short_first = λ n. absurd (n o.opens.there);
-  memory = memory_there (HasFront b) e o.opens.there;
+  memory = memory_to takes (takes × HasFront b) e (λ t. (t, o.opens.there)) m;
 }
 
 -- Objects.
@@ -93,24 +101,42 @@ lacks_type b fault_kind.Short s v g t = s g.there
 lacks_type b fault_kind.Tag s v g t = s.1 ((format.begun b v g).0 ∙ t)
 lacks_type b fault_kind.Text s v g t = s
 
-lacks_object : {X : Type 0} (type id : ℕ) (reads : Properties → X → Type 0) (b : List ℕ) (e : DeserializeError (Bor (List ℕ))) →
-    LacksObject b e → OnFault (IsUnread (λ v (x : X). ReadsObject type id reads v x) b) e
-lacks_object type id reads b (error.Nom f) h = λ v x g s. lacks_type b f.kind h.1 v g (ap type_of s.is)
-lacks_object type id reads b error.WrongSize h = λ v x g s.
-    let body = subst (λ w. IsBody w (body_of b)) s.is (format.begun b v g).1 in
+-- no object begins where none is opened
+pub none_opened : (b : List ℕ) (e : DeserializeError (Bor (List ℕ))) → LacksObject b e →
+    OnFault ((type id : ℕ) (ps : Properties) → ¬ (Begins b (object type id ps))) e
+none_opened b (error.Nom f) h = λ t i ps g. lacks_type b f.kind h.1 (object t i ps) g refl
+none_opened b error.WrongSize h = λ t i ps g.
+    let body = (format.begun b (object t i ps) g).1 in
     let long = body.0 in
     let short = h.2 in
     absurd (omega (arith, long, short))
-lacks_object type id reads b error.UnsupportedType h = absurd h
-lacks_object type id reads b error.InvalidType h = absurd h
-lacks_object type id reads b error.PropertyMissing h = absurd h
-lacks_object type id reads b (error.PropertyWrongKey k) h = absurd h
-lacks_object type id reads b error.InvalidChoiceType h = absurd h
-lacks_object type id reads b error.MissingChoiceValues h = absurd h
-lacks_object type id reads b error.UnreadMembers h = absurd h
-lacks_object type id reads b error.NoElementLeft h = absurd h
-lacks_object type id reads b error.FailedReader h = absurd h
-lacks_object type id reads b error.OutOfMemory h = absurd h
+none_opened b error.UnsupportedType h = absurd h
+none_opened b error.InvalidType h = absurd h
+none_opened b error.PropertyMissing h = absurd h
+none_opened b (error.PropertyWrongKey k) h = absurd h
+none_opened b error.InvalidChoiceType h = absurd h
+none_opened b error.MissingChoiceValues h = absurd h
+none_opened b error.UnreadMembers h = absurd h
+none_opened b error.NoElementLeft h = absurd h
+none_opened b error.FailedReader h = absurd h
+none_opened b error.OutOfMemory h = absurd h
+
+lacks_object : {X : Type 0} (type id : ℕ) (reads : Properties → X → Type 0) (b : List ℕ) (e : DeserializeError (Bor (List ℕ))) →
+    LacksObject b e → OnFault (IsUnread (λ v (x : X). ReadsObject type id reads v x) b) e
+lacks_object {X = X} type id reads b e h =
+    fault_to ((t i : ℕ) (ps : Properties) → ¬ (Begins b (object t i ps))) (IsUnread (λ v (x : X). ReadsObject type id reads v x) b) e
+    (λ n v x g s. n type id s.properties (subst (Begins b) s.is g)) (none_opened b e h)
+
+-- the object that begins where one is opened has the reader's type and id, and its properties are what is left
+pub opened_object : (b : List ℕ) (r : ObjectReader) (type id : ℕ) (ps : Properties) → OpensObject b r → Begins b (object type id ps) →
+    (type ≡ r.type) × (id ≡ r.id) × AreProperties ps r.reader.left
+opened_object b r type id ps o g =
+    let whole = (format.begun b (object type id ps) g).1 in
+    let same = o.opens.its_body in (
+      whole.1 ∙ ap (λ l. word_at l 0) (sym same) ∙ sym o.its_type,
+      whole.2 ∙ ap (λ l. word_at l 4) (sym same) ∙ sym o.its_id,
+      subst (AreProperties ps) (ap (drop header_size) (sym same) ∙ sym o.left) whole.3,
+    )
 
 bytes_short : (b : List ℕ) (k : FaultKind) → LacksBytes object_type b k → ¬ (HasFront b) → k ≡ fault_kind.Short
 bytes_short b fault_kind.Short s n = refl
@@ -131,7 +157,7 @@ lacks_short b error.NoElementLeft h n = absurd h
 lacks_short b error.FailedReader h n = absurd h
 lacks_short b error.OutOfMemory h n = absurd h
 
-lacks_memory : (b : List ℕ) (e : DeserializeError (Bor (List ℕ))) → LacksObject b e → OnMemory (HasFront b) e
+lacks_memory : (b : List ℕ) (e : DeserializeError (Bor (List ℕ))) → LacksObject b e → OnMemory (⊤ × HasFront b) e
 lacks_memory b (error.Nom f) h = tt
 lacks_memory b error.UnsupportedType h = tt
 lacks_memory b error.InvalidType h = tt
@@ -147,7 +173,7 @@ lacks_memory b error.OutOfMemory h = absurd h
 
 -- the front is no object, or lacks its type or its id
 pub object_unopened : {X : Type 0} (type id : ℕ) (reads : Properties → X → Type 0) (b : List ℕ) (e : DeserializeError (Bor (List ℕ))) →
-    LacksObject b e → RefusesExactly (λ v (x : X). ReadsObject type id reads v x) b e
+    LacksObject b e → RefusesExactly (λ v (x : X). ReadsObject type id reads v x) ⊤ b e
 object_unopened type id reads b e h = record {
   unread = lacks_object type id reads b e h;
   short_first = lacks_short b e h;
@@ -158,18 +184,14 @@ object_unopened type id reads b e h = record {
 pub object_unread : {X : Type 0} (type id : ℕ) (reads : Properties → X → Type 0) (b : List ℕ) (e : DeserializeError (Bor (List ℕ)))
     (r : ObjectReader) → OpensObject b r →
     OnFault ((ps : Properties) (x : X) → type ≡ r.type → id ≡ r.id → AreProperties ps r.reader.left → ¬ (reads ps x)) e →
-    RefusesExactly (λ v (x : X). ReadsObject type id reads v x) b e
+    RefusesExactly (λ v (x : X). ReadsObject type id reads v x) ⊤ b e
 object_unread {X = X} type id reads b e r o h = record {
   unread =
       fault_to ((ps : Properties) (x : X) → type ≡ r.type → id ≡ r.id → AreProperties ps r.reader.left → ¬ (reads ps x))
       (IsUnread (λ v (x : X). ReadsObject type id reads v x) b) e
       (λ n v x g s.
-      let whole = subst (λ w. IsBody w (body_of b)) s.is (format.begun b v g).1 in
-      let same = o.opens.its_body in
-      n s.properties x
-      (whole.1 ∙ ap (λ l. word_at l 0) (sym same) ∙ sym o.its_type)
-      (whole.2 ∙ ap (λ l. word_at l 4) (sym same) ∙ sym o.its_id)
-      (subst (AreProperties s.properties) (ap (drop header_size) (sym same) ∙ sym o.left) whole.3) s.are) h;
+      let opened = opened_object b r type id s.properties o (subst (Begins b) s.is g) in
+      n s.properties x opened.0 opened.1 opened.2 s.are) h;
   short_first = λ n. absurd (n o.opens.there);
-  memory = memory_there (HasFront b) e o.opens.there;
+  memory = memory_there (⊤ × HasFront b) e (tt, o.opens.there);
 }

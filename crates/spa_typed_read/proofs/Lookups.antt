@@ -207,28 +207,28 @@ none_behind a b e f good some refuses =
 
 -- the value that has to be there, or may be, is refused
 pub required_refused : {A R X : Type 0} (reads : Tree → A → Type 0) (refuses : List ℕ → DeserializeError (Bor (List ℕ)) → Type 0)
-    (key : ℕ) (made : X → A) (others : Properties → R → Type 0) (b : List ℕ) (e : DeserializeError (Bor (List ℕ))) →
-    ((place : List ℕ) (f : DeserializeError (Bor (List ℕ))) → refuses place f → RefusesExactly reads place f) →
+    (takes : Type 0) (key : ℕ) (made : X → A) (others : Properties → R → Type 0) (b : List ℕ) (e : DeserializeError (Bor (List ℕ))) →
+    ((place : List ℕ) (f : DeserializeError (Bor (List ℕ))) → refuses place f → RefusesExactly reads takes place f) →
     RefusesFirst refuses key b e →
     OnFault (NoneRead (λ ps (x : X × R). HasFirst key (λ v. reads v (made x.0)) ps × others ps x.1) b) e
-required_refused {R = R} {X = X} reads refuses key made others b e law (cut place s n) =
+required_refused {R = R} {X = X} reads refuses takes key made others b e law (cut place s n) =
     fault_there (NoneRead (λ ps (x : X × R). HasFirst key (λ v. reads v (made x.0)) ps × others ps x.1) b) e
     (λ ps x m r. n ps m)
-required_refused {R = R} {X = X} reads refuses key made others b e law (refused_first place r h) =
+required_refused {R = R} {X = X} reads refuses takes key made others b e law (refused_first place r h) =
     fault_to (IsUnread reads place) (NoneRead (λ ps (x : X × R). HasFirst key (λ v. reads v (made x.0)) ps × others ps x.1) b) e
     (λ n ps x m q.
     no_first key (λ v. Begins place v) (λ v. reads v (made x.0)) ps (h ps m) q.0 (λ v g i. n v (made x.0) g i))
     (law place e r).unread
 
 pub optional_refused : {A R X : Type 0} (reads : Tree → A → Type 0) (refuses : List ℕ → DeserializeError (Bor (List ℕ)) → Type 0)
-    (key : ℕ) (made : X → Option A) (others : Properties → R → Type 0) (b : List ℕ) (e : DeserializeError (Bor (List ℕ))) →
-    ((place : List ℕ) (f : DeserializeError (Bor (List ℕ))) → refuses place f → RefusesExactly reads place f) →
+    (takes : Type 0) (key : ℕ) (made : X → Option A) (others : Properties → R → Type 0) (b : List ℕ) (e : DeserializeError (Bor (List ℕ))) →
+    ((place : List ℕ) (f : DeserializeError (Bor (List ℕ))) → refuses place f → RefusesExactly reads takes place f) →
     RefusesFirst refuses key b e →
     OnFault
     (NoneRead
     (λ ps (x : X × R). MatchOption (made x.0) (LacksProperty key ps) (λ a. HasFirst key (λ v. reads v a) ps) × others ps x.1)
     b) e
-optional_refused {A = A} {R = R} {X = X} reads refuses key made others b e law refusal = by_cause refusal
+optional_refused {A = A} {R = R} {X = X} reads refuses takes key made others b e law refusal = by_cause refusal
   where
     Reads : Properties → X × R → Type 0
     Reads ps x = MatchOption (made x.0) (LacksProperty key ps) (λ a. HasFirst key (λ v. reads v a) ps) × others ps x.1

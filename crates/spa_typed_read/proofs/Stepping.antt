@@ -1,13 +1,18 @@
 -- How the calls of a reader of members or properties add up: what the author of a visitor cites.
-use Rattle.std.proofs.Common.{◌≡◌, ℕ, ◌<◌, true, false, List, [], ◌++◌, length, drop, refl, sym, subst, ◌∙◌, ap, arith, append_assoc, length-drop}
+use Rattle.std.proofs.Common.{◌≡◌, ◌≢◌, ℕ, ◌<◌, true, false, List, [], ◌++◌, length, drop, refl, sym, subst, ◌∙◌, ap, arith, append_assoc, length-drop}
 use Rattle.std.specs.Prelude.{⊤}
+use Rattle.std.specs.Borrow.{Bor}
 use Rattle.std.proofs.lemmas.List.{append-nil}
 use Rattle.spa_format.specs.Words.{word_at, header_size, extent}
 use Rattle.spa_format.specs.Tree.{Tree, Trees, no_trees, member, join_members, Properties, no_properties, property, join_properties}
 use Rattle.spa_format.specs.Pod.{AreMembers, AreProperties, IsPod}
-use Rattle.spa_format.specs.Front.{front_of}
+use Rattle.spa_format.specs.Front.{IsRefused, front_of}
+use Rattle.spa_format.proofs.Refused.{refused_behind_members}
 use Rattle.spa_format.proofs.Sequences.{members_joined, members_push, props_joined}
-use Rattle.spa_leaf.specs.Reading.{BeginsWith, IsRead}
+use Rattle.spa_fixed.specs.declared.fault.DeserializeError.{DeserializeError}
+use Rattle.spa_leaf.specs.Reading.{BeginsWith, IsRead, OnFault, RefusesInput}
+use Rattle.spa_typed_read.specs.Exactly.{AreNoMembers}
+use Rattle.spa_typed_read.specs.ExactlyLaws.{fault_to}
 use Rattle.spa_typed_read.specs.Members.{AllMembers, AllProperties, AtEnd, Further, FurtherIn, ObjectReader, Reader, TakesField, TakesProperty}
 use Rattle.spa_typed_read.specs.declared.visitor.Visit.{Visit}
 use Rattle.spa_typed_read.specs.Visiting.{IsVisited}
@@ -112,6 +117,14 @@ all_left a b f e =
 -- a member is shorter than what was left
 pub field_shorter : (a b : Reader) (P : Tree → Type 0) → TakesField a b P → length b.left < length a.left
 field_shorter a b P f = rest_shorter a.left b.left P f.field
+
+-- where what is left of them is refused as any value, what was left before is no members
+pub none_further_on : (a b : Reader) (e : DeserializeError (Bor (List ℕ))) → Further a b → b.failed ≡ false → b.left ≢ [] →
+    RefusesInput b.left e → OnFault (AreNoMembers a.left) e
+none_further_on a b e f good some refuses =
+    let h = f.ahead good in
+    fault_to (IsRefused b.left) (AreNoMembers a.left) e
+    (λ n vs m. refused_behind_members h.members vs h.seen b.left h.are some n (subst (AreMembers vs) h.left m)) refuses.refused
 
 -- a reader's calls took these members, and it hasn't failed
 pub record AheadBy (lent now : Reader) (vs : Trees) : Type 0 where

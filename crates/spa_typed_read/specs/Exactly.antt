@@ -12,15 +12,19 @@ abbrev pub IsUnread : {X : Type 0} → (Tree → X → Type 0) → List ℕ → 
 IsUnread {X = X} reads b = (v : Tree) (x : X) → Begins b v → ¬ (reads v x)
 
 -- Any refusal but one for lack of memory says that the input begins with no value that is read so. Where the front isn't
--- there, the input is short, and no memory is asked for.
-pub record RefusesExactly {X : Type 0} (reads : Tree → X → Type 0) (b : List ℕ) (e : DeserializeError (Bor (List ℕ))) : Type 0 where
+-- there, the input is short. One for lack of memory says that the front is there, and that such a read takes memory.
+pub record RefusesExactly {X : Type 0} (reads : Tree → X → Type 0) (takes_memory : Type 0) (b : List ℕ) (e : DeserializeError (Bor (List ℕ))) : Type 0 where
   pub unread : OnFault (IsUnread reads b) e
   pub short_first : ¬ (HasFront b) → IsShortAt b e
-  pub memory : OnMemory (HasFront b) e
+  pub memory : OnMemory (takes_memory × HasFront b) e
 
 -- these bytes are the pods of no members that are read so
 abbrev pub AreUnread : {X : Type 0} → (Trees → X → Type 0) → List ℕ → Type 0
 AreUnread {X = X} reads b = (vs : Trees) (x : X) → AreMembers vs b → ¬ (reads vs x)
+
+-- these bytes are the pods of no members
+abbrev pub AreNoMembers : List ℕ → Type 0
+AreNoMembers b = (vs : Trees) → ¬ (AreMembers vs b)
 
 -- the first of these members and those behind it are read so
 pub record ReadsFirst {A R : Type 0} (reads : Tree → A → Type 0) (others : Trees → R → Type 0) (vs : Trees) (a : A) (r : R) : Type 0 where

@@ -1,5 +1,5 @@
 -- The laws of types whose reads are refused exactly, for the built-in ones.
-use Rattle.std.specs.Prelude.{◌≡◌, ℕ, List}
+use Rattle.std.specs.Prelude.{◌≡◌, ℕ, List, ⊤}
 use Rattle.std.specs.Borrow.{Bor}
 use Rattle.spa_format.specs.Tree.{Tree}
 use Rattle.spa_format.specs.Front.{HasFront, IsRefused}
@@ -47,26 +47,27 @@ memory_to A B error.OutOfMemory to h = to h
 -- a type whose values are those that are asked for
 pub asked_exactly : {X : Type 0} (a : Asked) (m : Type 0) (reads : Tree → X → Type 0) →
     ((v : Tree) (x : X) → reads v x → IsAsked a v) → (b : List ℕ) (e : DeserializeError (Bor (List ℕ))) →
-    RefusesAsked a m b e → RefusesExactly reads b e
+    RefusesAsked a m b e → RefusesExactly reads m b e
 asked_exactly {X = X} a m reads asked b e r = record {
   unread = fault_to _ (IsUnread reads b) e (λ n v x g h. n v g (asked v x h)) r.refused;
   short_first = r.short_first;
-  memory = memory_to (m × HasFront b × (word_at b 4 ≡ asked_type a)) (HasFront b) e (λ k. k.1) r.memory;
+  memory = memory_to (m × HasFront b × (word_at b 4 ≡ asked_type a)) (m × HasFront b) e (λ k. (k.0, k.1)) r.memory;
 }
 
 -- a type that any value is read as
 pub any_exactly : {X : Type 0} (reads : Tree → X → Type 0) (b : List ℕ) (e : DeserializeError (Bor (List ℕ))) →
-    RefusesInput b e → RefusesExactly reads b e
+    RefusesInput b e → RefusesExactly reads ⊤ b e
 any_exactly reads b e r = record {
   unread = fault_to (IsRefused b) (IsUnread reads b) e (λ n v x g h. n v g) r.refused;
   short_first = r.short_first;
-  memory = memory_to (MayLackMemory b) (HasFront b) e (λ k. k.0) r.memory;
+  memory = memory_to (MayLackMemory b) (⊤ × HasFront b) e (λ k. (tt, k.0)) r.memory;
 }
 
 -- a type that is read as another one is, and made of that
-pub made_exactly : {C X : Type 0} (reads : Tree → C → Type 0) (content : X → C) (b : List ℕ)
-    (e : DeserializeError (Bor (List ℕ))) → RefusesExactly reads b e → RefusesExactly (λ v (x : X). reads v (content x)) b e
-made_exactly {X = X} reads content b e r = record {
+pub made_exactly : {C X : Type 0} (reads : Tree → C → Type 0) (takes_memory : Type 0) (content : X → C) (b : List ℕ)
+    (e : DeserializeError (Bor (List ℕ))) → RefusesExactly reads takes_memory b e →
+    RefusesExactly (λ v (x : X). reads v (content x)) takes_memory b e
+made_exactly {X = X} reads takes_memory content b e r = record {
   unread = fault_to (IsUnread reads b) (IsUnread (λ v (x : X). reads v (content x)) b) e (λ n v x g. n v (content x) g) r.unread;
   short_first = r.short_first;
   memory = r.memory;

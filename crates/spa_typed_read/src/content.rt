@@ -1,12 +1,12 @@
 //! Types that are made of what is read: of a struct's members, and of anything else.
-ghost use Rattle.std.specs.Prelude.{◌≡◌, ◌≢◌, ℕ, List, false, IfErr, IfOk};
+ghost use Rattle.std.specs.Prelude.{◌≡◌, ◌≢◌, ◌⊎◌, ℕ, List, false, IfErr, IfOk};
 ghost use Rattle.std.specs.Borrow.{Bor};
 ghost use Rattle.spa_fixed.specs.declared.fault.DeserializeError.{DeserializeError};
 ghost use Rattle.spa_format.specs.Tree.{Tree, Trees, no_trees};
 ghost use Rattle.spa_typed_read.specs.Exactly.{AreUnread, ReadsFirst, ReadsStruct, RefusesExactly};
 ghost use Rattle.spa_typed_read.specs.ExactlyLaws.{made_exactly};
 ghost use Rattle.spa_typed_read.specs.Members.{AllMembers, AtEnd, Further};
-ghost use Rattle.spa_leaf.specs.Reading.{OnFault};
+ghost use Rattle.spa_leaf.specs.Reading.{OnFault, OnMemory};
 
 use crate::deserializer::{DeserializeSuccess, PodDeserialize, PodDeserializer};
 use crate::exact::ExactDeserialize;
@@ -54,7 +54,9 @@ where
     T: DeserializeAs,
     T::Content: ExactDeserialize<'de>,
 {
-    ghost exactly = { λ b e r. made_exactly T.Content.reads T.content b e (T.Content.exactly b e r) };
+    ghost takes_memory = { T.Content.takes_memory };
+
+    ghost exactly = { λ b e r. made_exactly T.Content.reads T.Content.takes_memory T.content b e (T.Content.exactly b e r) };
 }
 
 /// Any value, kept so that it is let go by a loop: where what is read behind it is refused, too.
@@ -73,6 +75,9 @@ pub trait DeserializeMembers<'de>: Sized + Drop {
     /// Which results these members may be read as.
     ghost reads_members: { Trees → Self → Type 0 };
 
+    /// Whether their reads take memory.
+    ghost takes_memory: { Type 0 };
+
     /// Reads all that is left.
     ///
     /// Refusals: `PropertyMissing` where a member isn't there, `UnreadMembers` where there is one more, else that of the
@@ -84,11 +89,14 @@ pub trait DeserializeMembers<'de>: Sized + Drop {
         ensures end { IfOk result (λ _. AtEnd reader.new) }
         ensures read { IfOk result (λ x. AllMembers reader.old (λ members. reads_members members x)) }
         // Any refusal but one for lack of memory says that these bytes are no such members.
-        ensures refused { reader.old.failed ≡ false → IfErr result (λ e. OnFault (AreUnread reads_members reader.old.left) e) };
+        ensures refused { reader.old.failed ≡ false → IfErr result (λ e. OnFault (AreUnread reads_members reader.old.left) e) }
+        ensures memory { reader.old.failed ≡ false → IfErr result (OnMemory takes_memory) };
 }
 
 impl<'de> DeserializeMembers<'de> for () {
     ghost reads_members = { λ members _. members ≡ no_trees };
+
+    ghost takes_memory = { ⊥ };
 
     fn read_members(
         reader: &mut StructPodDeserializer<'de>,
@@ -99,6 +107,8 @@ impl<'de> DeserializeMembers<'de> for () {
 
 impl<'de, A: ExactDeserialize<'de>, R: DeserializeMembers<'de>> DeserializeMembers<'de> for (A, R) {
     ghost reads_members = { λ members x. ReadsFirst A.reads R.reads_members members x.0 x.1 };
+
+    ghost takes_memory = { A.takes_memory ⊎ R.takes_memory };
 
     fn read_members(
         reader: &mut StructPodDeserializer<'de>,
@@ -124,7 +134,7 @@ pub struct StructOf<M>(pub M);
 impl<'de, M: DeserializeMembers<'de>> PodDeserialize<'de> for StructOf<M> {
     ghost reads = { λ value it. ReadsStruct M.reads_members value it.0 };
 
-    ghost refuses = { λ input e. RefusesExactly (λ value (members : M). ReadsStruct M.reads_members value members) input e };
+    ghost refuses = { λ input e. RefusesExactly (λ value (members : M). ReadsStruct M.reads_members value members) M.takes_memory input e };
 
     fn deserialize(
         deserializer: PodDeserializer<'de>,
@@ -145,5 +155,7 @@ impl<'de, M: DeserializeMembers<'de>> PodDeserialize<'de> for StructOf<M> {
 }
 
 impl<'de, M: DeserializeMembers<'de>> ExactDeserialize<'de> for StructOf<M> {
-    ghost exactly = { λ b e r. made_exactly (λ value (members : M). ReadsStruct M.reads_members value members) (λ it. it.0) b e r };
+    ghost takes_memory = { M.takes_memory };
+
+    ghost exactly = { λ b e r. made_exactly (λ value (members : M). ReadsStruct M.reads_members value members) M.takes_memory (λ it. it.0) b e r };
 }

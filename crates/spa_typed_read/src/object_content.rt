@@ -105,7 +105,7 @@ impl<'de, const TYPE: u32, const ID: u32, P: DeserializeProperties<'de>> PodDese
     for ObjectOf<TYPE, ID, P> {
     ghost reads = { λ value it. ReadsObject TYPE ID P.reads_properties value it.0 };
 
-    ghost refuses = { λ input e. RefusesExactly (λ value (properties : P). ReadsObject TYPE ID P.reads_properties value properties) input e };
+    ghost refuses = { λ input e. RefusesExactly (λ value (properties : P). ReadsObject TYPE ID P.reads_properties value properties) ⊤ input e };
 
     fn deserialize(
         deserializer: PodDeserializer<'de>,
@@ -133,5 +133,5 @@ impl<'de, const TYPE: u32, const ID: u32, P: DeserializeProperties<'de>> PodDese
 
 impl<'de, const TYPE: u32, const ID: u32, P: DeserializeProperties<'de>> ExactDeserialize<'de>
     for ObjectOf<TYPE, ID, P> {
-    ghost exactly = { λ b e r. made_exactly (λ value (properties : P). ReadsObject TYPE ID P.reads_properties value properties) (λ it. it.0) b e r };
+    ghost exactly = { λ b e r. made_exactly (λ value (properties : P). ReadsObject TYPE ID P.reads_properties value properties) ⊤ (λ it. it.0) b e r };
 }

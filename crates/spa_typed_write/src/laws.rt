@@ -4,6 +4,7 @@ ghost use Rattle.spa_sink.specs.Writing.{RefusedFor};
 ghost use Rattle.spa_sink.specs.declared.gen_error.GenError.{GenError};
 ghost use Rattle.spa_sink.specs.declared.gen_error.GenError.TheVariants.{Full, OutOfMemory};
 ghost use Rattle.spa_format.specs.Encoding.{encoding_of};
+ghost use Rattle.spa_format.specs.Typed.{IsTyped};
 ghost use Rattle.spa_format.specs.Writable.{HasNul, IsTooLarge, IsWritable};
 ghost use Rattle.spa_value.specs.View.{view};
 ghost use Rattle.spa_typed_write.specs.Complete.{RefusesAtLimit};
@@ -67,6 +68,7 @@ pub fn declared_pods_are_written_where_they_fit<P: SerializeAs, const N: usize>(
 ) -> Result<(ArrayVec<u8, N>, u64), GenError>
     ensures encoding { IfOk result (λ done. done.0.items ≡ out.entry.items ++ encoding_of (P.says pod.now)) }
     ensures count { IfOk result (λ done. done.1 ≡ length (encoding_of (P.says pod.now))) }
+    ensures typed { IsOk result → IsTyped (P.says pod.now) }
     ensures writable { IsOk result → IsWritable (P.says pod.now) }
     ensures room { IsWritable (P.says pod.now) → length out.entry.items + length (encoding_of (P.says pod.now)) ≤ N → IsOk result }
     ensures cause { IfErr result (RefusesAtLimit (length out.entry.items) N (P.says pod.now)) }

@@ -1,10 +1,10 @@
 //! The visitor that makes a value of whatever it is handed.
-ghost use Rattle.std.specs.Prelude.{◌≡◌, IfErr, IfOk};
+ghost use Rattle.std.specs.Prelude.{◌≡◌, IfErr, IfOk, OnOk};
 ghost use Rattle.spa_format.specs.Tree.{object, struct};
-ghost use Rattle.spa_typed_read.specs.Members.{AllMembers, AllProperties, Further, FurtherIn};
+ghost use Rattle.spa_typed_read.specs.Members.{AllMembers, AllProperties, AtEnd, Further, FurtherIn};
 ghost use Rattle.spa_typed_read.specs.Visiting.{SaysValue};
 ghost use Rattle.spa_value.specs.View.{view};
-ghost use Rattle.spa_visitors.specs.Declining.{DeclinesValue};
+ghost use Rattle.spa_visitors.specs.Declining.{DeclinesMembers, DeclinesProperties, DeclinesValue};
 ghost use Rattle.spa_value.specs.Views.{property_views, views};
 
 use spa_fixed::DeserializeError;
@@ -32,6 +32,14 @@ impl<'de> Visitor<'de> for ValueVisitor {
     ghost visits_object = { λ _ type id properties value. view value ≡ object type id properties };
 
     ghost declines = { λ _ given e. DeclinesValue given e };
+
+    ghost declines_struct = { λ _ lent _ e. DeclinesMembers lent e };
+
+    ghost leaves_struct = { λ _ _ now. AtEnd now };
+
+    ghost declines_object = { λ _ lent _ e. DeclinesProperties lent e };
+
+    ghost leaves_object = { λ _ _ now. AtEnd now.reader };
 
     fn visit(&self, given: Visit<'de, Never>) -> Result<Value, DeserializeError<&'de [u8]>>
         ensures made { IfOk result (λ value. SaysValue given.entry (view value)) }
@@ -82,6 +90,8 @@ fn read_members<'de>(
 ) -> Result<Vec<Value>, DeserializeError<&'de [u8]>>
     ensures same { Further reader.old reader.new }
     ensures read { IfOk result (λ members. AllMembers reader.old (λ trees. trees ≡ views members.items)) }
+    ensures end { OnOk result (AtEnd reader.new) }
+    ensures refused { IfErr result (DeclinesMembers reader.old) }
 {
     let mut members = Vec::new(alloc);
     loop {
@@ -111,6 +121,8 @@ fn read_properties<'de>(
     ensures same { FurtherIn reader.old reader.new }
     ensures object { (reader.new.type ≡ reader.old.type) × (reader.new.id ≡ reader.old.id) }
     ensures read { IfOk result (λ properties. AllProperties reader.old (λ trees. trees ≡ property_views properties.items)) }
+    ensures end { OnOk result (AtEnd reader.new.reader) }
+    ensures refused { IfErr result (DeclinesProperties reader.old) }
 {
     let mut properties = Vec::new(alloc);
     loop {

@@ -3,12 +3,13 @@ use Rattle.spa_typed_read.proofs.Fronts.{struct_read}
 use Rattle.spa_typed_read.proofs.content.StructOfPodDeserialize.deserialize.Goals as goal
 
 pub returns-in-Err-clause-refused : goal.returns-in-Err-clause-refused
-returns-in-Err-clause-refused g c = struct_unopened g.M.DeserializeMembers.reads_members _ _ c.in-Err.ensures.refused
+returns-in-Err-clause-refused g c = struct_unopened g.M.DeserializeMembers.reads_members _ _ _ c.in-Err.ensures.refused
 
 pub returns-in-Err-read_members-clause-refused : goal.returns-in-Err-read_members-clause-refused
 returns-in-Err-read_members-clause-refused g c =
     let o = c.in-Ok.ensures.opens in
-    struct_unread g.M.DeserializeMembers.reads_members _ _ _ o (c.in-Err-read_members.ensures.refused o.good)
+    struct_unread g.M.DeserializeMembers.reads_members _ _ _ _ o (c.in-Err-read_members.ensures.refused o.good)
+    (c.in-Err-read_members.ensures.memory o.good)
 
 pub returns-in-Ok-end-clause-read : goal.returns-in-Ok-end-clause-read
 returns-in-Ok-end-clause-read g c =

@@ -1,6 +1,8 @@
-use Rattle.std.proofs.Common.{rules}
+use Rattle.std.proofs.Common.{rules, inl, inr}
+use Rattle.std.specs.Prelude.{◌⊎◌}
 use Rattle.spa_typed_read.specs.Exactly.{AreUnread, IsUnread}
-use Rattle.spa_typed_read.specs.ExactlyLaws.{fault_to}
+use Rattle.spa_format.specs.Front.{HasFront}
+use Rattle.spa_typed_read.specs.ExactlyLaws.{fault_to, memory_to}
 use Rattle.spa_typed_read.proofs.Exactly.{behind_unread, first_unread}
 use Rattle.spa_typed_read.proofs.Stepping.{all_as, all_field, further_trans}
 use Rattle.spa_typed_read.proofs.content.Tuple2DeserializeMembers.read_members.Goals as goal
@@ -14,6 +16,16 @@ returns-in-Err-clause-refused g c =
     λ good.
     fault_to (IsUnread a b) _ c.in-Err.e (first_unread a r b)
     ((g.met.A.ExactDeserialize c.lifetimes claim).exactly b c.in-Err.e (c.in-Err.ensures.refused good).1).unread
+
+pub returns-in-Err-clause-memory : goal.returns-in-Err-clause-memory
+returns-in-Err-clause-memory g c =
+    let a = g.A.ExactDeserialize.takes_memory in
+    let r = g.R.DeserializeMembers.takes_memory in
+    let b = c.args.reader.now.left in
+    let claim : g.claim c.lifetimes = search rules in
+    λ good.
+    memory_to (a × HasFront b) (a ⊎ r) c.in-Err.e (λ m. inl m.0)
+    ((g.met.A.ExactDeserialize c.lifetimes claim).exactly b c.in-Err.e (c.in-Err.ensures.refused good).1).memory
 
 pub returns-in-Ok-clause-same : goal.returns-in-Ok-clause-same
 returns-in-Ok-clause-same g c = further_trans _ _ _ c.deserialize_field.ensures.same c.read_members.ensures.same
@@ -38,3 +50,10 @@ returns-in-Err-read_members-clause-refused g c =
     λ good.
     fault_to (AreUnread r d) _ c.in-Err-read_members.e (behind_unread a r b d first.field.follows)
     (c.in-Err-read_members.ensures.refused first.good)
+
+pub returns-in-Err-read_members-clause-memory : goal.returns-in-Err-read_members-clause-memory
+returns-in-Err-read_members-clause-memory g c =
+    let first = rw c.in-Ok-Some.field-0-is at c.in-Ok-Some.ensures.field in
+    let a = g.A.ExactDeserialize.takes_memory in
+    let r = g.R.DeserializeMembers.takes_memory in
+    λ good. memory_to r (a ⊎ r) c.in-Err-read_members.e (λ m. inr m) (c.in-Err-read_members.ensures.memory first.good)

@@ -11,7 +11,7 @@ pub returns-in-Err-clause-refused : goal.returns-in-Err-clause-refused
 returns-in-Err-clause-refused g c =
     let claim : g.claim c.lifetimes = search rules in
     λ good.
-    required_refused g.A.PodDeserialize.reads g.A.PodDeserialize.refuses _ _ g.R.DeserializeProperties.reads_properties _ _
+    required_refused g.A.PodDeserialize.reads g.A.PodDeserialize.refuses _ _ _ g.R.DeserializeProperties.reads_properties _ _
     (g.met.A.ExactDeserialize c.lifetimes claim).exactly (c.in-Err.ensures.refused good)
 
 pub returns-in-Ok-clause-found : goal.returns-in-Ok-clause-found

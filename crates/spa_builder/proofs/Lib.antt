@@ -8,3 +8,4 @@ pub mod Placing
 pub mod Shapes
 pub mod Pieces
 pub mod Kept
+pub mod Leaving

@@ -4,11 +4,11 @@ use Rattle.spa_format.specs.Kind.{none, bool, id, int, long, float, double, rect
 use Rattle.spa_format.specs.Tree.{fixed, string, bytes, pointer}
 use Rattle.spa_value.specs.View.{array_view}
 use Rattle.spa_builder.specs.State.{State, start}
-use Rattle.spa_builder.specs.Step.{Call, add, add_prop, push_struct, push_object, push_array, push_choice, pop, Outcome, Accepts, Inval, Nospc, step}
+use Rattle.spa_builder.specs.Step.{Call, add, add_prop, push_struct, push_object, push_array, push_choice, pop, abandon, Outcome, Accepts, Inval, Nospc, step}
 use Rattle.spa_builder.specs.Held.{Held, IsAt}
 use Rattle.spa_builder.specs.Answers.{Spells}
 use Rattle.spa_builder.specs.declared.build_call.BuildCall.{BuildCall}
-use Rattle.spa_builder.specs.declared.build_call.BuildCall.TheVariants.{AddNone, AddBool, AddId, AddInt, AddLong, AddFloat, AddDouble, AddString, AddBytes, AddPointer, AddFd, AddRectangle, AddFraction, AddArray, AddProp, PushArray, PushChoice, PushStruct, PushObject, Pop}
+use Rattle.spa_builder.specs.declared.build_call.BuildCall.TheVariants.{AddNone, AddBool, AddId, AddInt, AddLong, AddFloat, AddDouble, AddString, AddBytes, AddPointer, AddFd, AddRectangle, AddFraction, AddArray, AddProp, PushArray, PushChoice, PushStruct, PushObject, Pop, Abandon}
 use Rattle.spa_utils.specs.declared.errno.Errno.{Errno}
 use Rattle.spa_utils.specs.declared.errno.TheConstants.Errno.{NOMEM, INVAL, NOSPC}
 
@@ -34,6 +34,7 @@ call_of (PushChoice n f) = push_choice n f
 call_of PushStruct = push_struct
 call_of (PushObject t i) = push_object t i
 call_of (Pop f) = pop f.0
+call_of (Abandon f) = abandon f.0
 
 abbrev pub calls_of : List BuildCall → List Call
 calls_of calls = map call_of calls

@@ -20,6 +20,8 @@ pub data Call : Type 0 where
   push_choice : (shape flags : ℕ) → Call
   -- the frame is the number of open trees after its push
   pop : ℕ → Call
+  -- the same frame, of the tree that is given up
+  abandon : ℕ → Call
 
 pub data Outcome : Type 0 where
   Accepts : State → Outcome
@@ -142,6 +144,11 @@ abbrev pub closes : Trees → List Partial → ℕ → Option State
 closes closed [] frame = None
 closes closed (p ∷ ps) frame = cond (nat_eq frame (length (p ∷ ps))) (elim (finished p) as (λ _. Option State) [ Some v ↦ placed closed ps v | None ↦ None ]) None
 
+-- the innermost tree is given up with what is in it, where the frame is its own: the state is that before its push
+abbrev pub abandoned : Trees → List Partial → ℕ → Option State
+abandoned closed [] frame = None
+abandoned closed (p ∷ ps) frame = cond (nat_eq frame (length (p ∷ ps))) (Some (record { closed = closed; opened = ps })) None
+
 abbrev pub step : State → Call → Outcome
 step s (add v) = cond (has_nul v) Inval (sized (nat_lt (length (encoded_body v)) size_limit) (placed s.closed s.opened v))
 step s (add_prop k f) = sized true (keyed s.closed s.opened k f)
@@ -150,3 +157,4 @@ step s (push_object t i) = sized true (begun (open_object t i no_properties) s)
 step s push_array = sized true (begun (open_array []) s)
 step s (push_choice n f) = elim (shape_of n) as (λ _. Outcome) [ Some h ↦ sized true (begun (open_choice h f []) s) | None ↦ Inval ]
 step s (pop frame) = taken (closes s.closed s.opened frame)
+step s (abandon frame) = taken (abandoned s.closed s.opened frame)

@@ -45,4 +45,6 @@ pub enum BuildCall<'a> {
     PushObject(u32, u32),
     /// The innermost pod that is begun, which this frame names, is closed.
     Pop(Frame),
+    /// The innermost pod that is begun, which this frame names, is given up.
+    Abandon(Frame),
 }

@@ -1,14 +1,18 @@
 //! The builder.
-ghost use Rattle.std.specs.Prelude.{◌≡◌, ◌+◌, IfOk, length};
+ghost use Rattle.std.specs.Prelude.{◌≡◌, ◌≢◌, ◌+◌, [], IfErr, IfOk, length};
 ghost use Rattle.spa_format.specs.Kind.{bool, double, fd, float, fraction, id, int, long, none, rectangle};
+ghost use Rattle.spa_format.specs.Encoding.{member_encodings};
 ghost use Rattle.spa_format.specs.Tree.{bytes, fixed, pointer, string};
 ghost use Rattle.spa_value.specs.View.{array_view};
 ghost use Rattle.spa_builder.specs.State.{State, start};
-ghost use Rattle.spa_builder.specs.Step.{add, add_prop, pop, push_array, push_choice, push_object, push_struct, step};
+ghost use Rattle.spa_builder.specs.Step.{abandon, add, add_prop, pop, push_array, push_choice, push_object, push_struct, step};
 ghost use Rattle.spa_builder.specs.Held.{IsAt};
 ghost use Rattle.spa_builder.specs.Answers.{Makes, Spells};
+ghost use Rattle.spa_utils.specs.declared.errno.TheConstants.Errno.{INVAL};
 
-use crate::building::{add_elements, add_encoding, add_fixed, add_key, add_pod, begin, close};
+use crate::building::{
+    add_elements, add_encoding, add_fixed, add_key, add_pod, begin, close, leave,
+};
 use crate::bytes::pointer_pod;
 use crate::frames::Frames;
 use crate::heads::{array_head, choice_head, object_head, struct_head};
@@ -58,7 +62,25 @@ impl Builder {
         self.bytes.as_slice()
     }
 
-    /// The vector.
+    /// How many pods are begun. It is the number in the innermost one's frame.
+    pub fn open_frames(&self) -> usize
+        ensures { (s : State) → IsAt self.now s → result ≡ length s.opened }
+    {
+        self.frames.len()
+    }
+
+    /// The vector with the pods that were made, each closed. INVAL where one is begun: the vector is given up then.
+    pub fn finish(self) -> Result<Vec<u8>, Errno>
+        ensures made { (s : State) → IsAt self s → IfOk result (λ made. (s.opened ≡ []) × (made.items ≡ member_encodings s.closed)) }
+        ensures refused { (s : State) → IsAt self s → IfErr result (λ e. (e ≡ INVAL) × (s.opened ≢ [])) }
+    {
+        if self.frames.len() > 0 {
+            return Err(Errno::INVAL);
+        }
+        Ok(self.bytes.into_inner())
+    }
+
+    /// The vector, whatever is begun.
     pub fn into_inner(self) -> Vec<u8>
         ensures { (s : State) → IsAt self s → Spells result.items s }
     {
@@ -283,5 +305,14 @@ impl Builder {
         ensures { (s : State) → IsAt self.old s → Makes (step s (pop frame.0)) self.old self.new result }
     {
         close(&mut self.bytes, &mut self.frames, frame.0)
+    }
+
+    /// Gives up the innermost pod that is begun, which this frame names, with all that was added to it: everything is as it
+    /// was before its push, and a key that waited for it waits again. Any other frame is INVAL. It is never NOSPC, and
+    /// wants no memory.
+    pub fn abandon(&mut self, frame: Frame) -> Result<(), Errno>
+        ensures { (s : State) → IsAt self.old s → Makes (step s (abandon frame.0)) self.old self.new result }
+    {
+        leave(&mut self.bytes, &mut self.frames, frame.0)
     }
 }

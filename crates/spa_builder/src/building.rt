@@ -6,7 +6,7 @@ ghost use Rattle.spa_format.specs.Encoding.{encoded_body, encoding_of};
 ghost use Rattle.spa_format.specs.Words.{header_size, size_limit, word_bytes};
 ghost use Rattle.spa_value.specs.View.{array_view};
 ghost use Rattle.spa_builder.specs.State.{Partial, State};
-ghost use Rattle.spa_builder.specs.Step.{add, begun, closes, keyed, placed, sized, step, taken, takes_trees};
+ghost use Rattle.spa_builder.specs.Step.{abandoned, add, begun, closes, keyed, placed, sized, step, taken, takes_trees};
 ghost use Rattle.spa_builder.specs.Held.{IsAt, IsFair, IsHeld, held, so_far, what_of};
 ghost use Rattle.spa_builder.specs.Framed.{is_nothing};
 ghost use Rattle.spa_builder.specs.Innermost.{takes_elements};
@@ -258,5 +258,23 @@ pub(crate) fn close(bytes: &mut Written, frames: &mut Frames, frame: usize) -> R
     frames.pop();
     let outer = frames.innermost();
     fill(frames, outer);
+    Ok(())
+}
+
+/// Gives up the innermost tree, with the bytes that there are of it.
+#[inline(always)]
+pub(crate) fn leave(bytes: &mut Written, frames: &mut Frames, frame: usize) -> Result<(), Errno>
+    requires { IsHeld (held bytes.old frames.old) }
+    ensures { (s : State) → IsAt (held bytes.old frames.old) s
+        → Makes (taken (abandoned s.closed s.opened frame)) (held bytes.old frames.old) (held bytes.new frames.new) result }
+{
+    let Some(open) = frames.innermost() else {
+        return Err(Errno::INVAL);
+    };
+    if frames.len() != frame {
+        return Err(Errno::INVAL);
+    }
+    bytes.truncate(open.start);
+    frames.pop();
     Ok(())
 }

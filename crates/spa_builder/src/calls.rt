@@ -33,6 +33,7 @@ fn apply(builder: &mut Builder, call: &BuildCall<'_>) -> Result<(), Errno>
         BuildCall::AddArray(values) => builder.add_array(values),
         BuildCall::AddProp(key, flags) => builder.add_prop(*key, *flags),
         BuildCall::Pop(frame) => builder.pop(*frame),
+        BuildCall::Abandon(frame) => builder.abandon(*frame),
         BuildCall::PushArray => {
             builder.push_array()?;
             Ok(())

@@ -119,6 +119,15 @@ impl Written {
         bytes
     }
 
+    /// Keeps the first ones alone, as many as are asked for.
+    #[inline(always)]
+    pub(crate) fn truncate(&mut self, count: usize)
+        requires { count ≤ length self.old }
+        ensures { self.new ≡ take count self.old }
+    {
+        self.count = count;
+    }
+
     /// What the vector takes memory from.
     pub(crate) fn allocator(&self) -> Global {
         *self.bytes.allocator()

@@ -1,5 +1,6 @@
 //! The builder, and the macros beside it.
 mod calls;
+mod finished;
 mod forms;
 mod objects;
 mod refused;

@@ -1,9 +1,9 @@
 //! Lists of calls.
 use crate::builder::rows::{ACCEPTED, INVAL, Row, assert_row};
 use spa_builder::BuildCall::{
-    AddArray, AddBool, AddBytes, AddDouble, AddFd, AddFloat, AddFraction, AddId, AddInt, AddLong,
-    AddNone, AddPointer, AddProp, AddRectangle, AddString, Pop, PushArray, PushChoice, PushObject,
-    PushStruct,
+    Abandon, AddArray, AddBool, AddBytes, AddDouble, AddFd, AddFloat, AddFraction, AddId, AddInt,
+    AddLong, AddNone, AddPointer, AddProp, AddRectangle, AddString, Pop, PushArray, PushChoice,
+    PushObject, PushStruct,
 };
 use spa_utils::{Float32, Float64, Fraction, Frame, Id, Rectangle};
 use spa_value::ValueArray;
@@ -147,6 +147,32 @@ fn misplaced_calls(rt: &impl Abort, alloc: Global) -> Result<(), Fail> {
     assert_row(rt, alloc, row)
 }
 
+fn pods_given_up(rt: &impl Abort, alloc: Global) -> Result<(), Fail> {
+    let calls = [
+        (Abandon(Frame(0)), INVAL),
+        (PushObject(5, 3), ACCEPTED),
+        (AddProp(1, 0), ACCEPTED),
+        (PushStruct, ACCEPTED),
+        (AddInt(4), ACCEPTED),
+        (Abandon(Frame(1)), INVAL),
+        (Abandon(Frame(3)), INVAL),
+        (Abandon(Frame(2)), ACCEPTED),
+        (AddProp(2, 0), INVAL),
+        (AddInt(3), ACCEPTED),
+        (Pop(Frame(1)), ACCEPTED),
+        (PushArray, ACCEPTED),
+        (AddLong(4), ACCEPTED),
+        (Abandon(Frame(1)), ACCEPTED),
+        (AddId(Id(9)), ACCEPTED),
+    ];
+    let row = Row {
+        case: "a struct given up, for whose value a key waits again, and an array",
+        calls: &calls,
+        words: &[32, 15, 5, 3, 1, 0, 4, 4, 3, 0, 4, 3, 9, 0],
+    };
+    assert_row(rt, alloc, row)
+}
+
 fn every_add(rt: &impl Abort, alloc: Global) -> Result<(), Fail> {
     let array = ValueArray::Int(vec![in alloc; 10, 15, 19]?);
     let calls = [
@@ -192,5 +218,6 @@ fn calls_are_answered(rt: HostRuntime) -> Result<(), Fail> {
     an_array_of_units(&rt, rt.alloc())?;
     a_choice_of_one_value(&rt, rt.alloc())?;
     misplaced_calls(&rt, rt.alloc())?;
+    pods_given_up(&rt, rt.alloc())?;
     every_add(&rt, rt.alloc())
 }

@@ -1,0 +1,75 @@
+-- A tree that is given up.
+use Rattle.std.proofs.Common.{◌≡◌, ℕ, ◌+◌, ◌≤◌, ◌^◌, List, [], ◌∷◌, ◌++◌, length, take, refl, sym, ap, ◌∙◌, arith, false, true, eq-eqb, ◌&&◌, Bool}
+use Rattle.std.specs.Prelude.{nat_eq, nat_lt, cond, Option, Some, None}
+use Rattle.std.proofs.lemmas.Bool.Decides.{nat_tests}
+use Rattle.std.proofs.lemmas.List.{take_at}
+use borrow.Author.Tests.{ltb-true}
+use Rattle.spa_format.specs.Words.{extent}
+use Rattle.spa_format.specs.Tree.{Trees}
+use Rattle.spa_format.specs.Encoding.{member_encodings}
+use Rattle.spa_builder.specs.State.{Partial, State}
+use Rattle.spa_builder.specs.Step.{abandoned, all_fit, own_size}
+use Rattle.spa_builder.specs.Held.{Held, IsAt, all_so_far, frames_of, so_far}
+use Rattle.spa_builder.specs.declared.open.Open.{Open}
+use Rattle.spa_builder.proofs.FrameLists.{length-frames_of}
+use Rattle.spa_builder.proofs.Steps.{Closing, lt_test}
+
+-- the state without the innermost tree
+abbrev pub without : Trees → List Partial → State
+without closed rest = record { closed = closed; opened = rest }
+
+both : (a b : Bool) → (a && b) ≡ true → (a ≡ true) × (b ≡ true)
+both true b e = (refl, e)
+both false b e = absurd (cc)
+
+join : (a b : Bool) → a ≡ true → b ≡ true → (a && b) ≡ true
+join a b e f = rw (e, f) refl
+
+-- with fewer bytes inside, sizes fit as before
+pub fewer_fit : (ps : List Partial) (n m : ℕ) → n ≤ m → all_fit m ps ≡ true → all_fit n ps ≡ true
+fewer_fit [] n m l h = refl
+fewer_fit (p ∷ ps) n m l h =
+    let b = both (nat_lt (own_size p + m) (2 ^ 32)) (all_fit (extent (own_size p + m)) ps) h in
+    let t = ltb-true (own_size p + m) (2 ^ 32) b.0 in
+    join (nat_lt (own_size p + n) (2 ^ 32)) (all_fit (extent (own_size p + n)) ps)
+    (lt_test (own_size p + n) (2 ^ 32) (omega arith))
+    (fewer_fit ps (extent (own_size p + n)) (extent (own_size p + m)) (omega arith) b.1)
+
+pub abandoned_is : (closed : Trees) (ops : List Partial) (p : Partial) (rest : List Partial)
+    (frame : ℕ) → ops ≡ p ∷ rest → frame ≡ length ops →
+    abandoned closed ops frame ≡ Some (without closed rest)
+abandoned_is closed ops p rest frame e f =
+    ap (λ l. abandoned closed l frame) e
+    ∙ ap (λ b. cond b (Some (without closed rest)) None)
+    (eq-eqb frame (length (p ∷ rest)) (f ∙ ap length e))
+
+pub abandoned_other : (closed : Trees) (ops : List Partial) (frame : ℕ) →
+    nat_eq frame (length ops) ≡ false → abandoned closed ops frame ≡ None
+abandoned_other closed [] frame e = refl
+abandoned_other closed (p ∷ rest) frame e =
+    ap (λ b. cond b (Some (without closed rest)) None) e
+
+pub other_number : (a b : ℕ) → (a ≡ b → ⊥) → nat_eq a b ≡ false
+other_number a b h = grind (arith, nat_tests)
+
+-- the bytes and the frames from before its push hold the state without it
+pub is_without : (old new : Held) (s : State) (o : Open) (p : Partial) (rest : List Partial) →
+    Closing old s o p rest → new.bytes ≡ take o.start old.bytes →
+    new.frames ≡ frames_of (length (member_encodings s.closed)) rest →
+    IsAt new (without s.closed rest)
+is_without old new s o p rest k b f = record {
+  bytes = b ∙ ap (take o.start) k.bytes
+      ∙ take_at (member_encodings s.closed ++ all_so_far rest) (so_far p) o.start (sym k.start);
+  frames = f;
+  nested = k.nested;
+  fit = fewer_fit rest 0 (extent (own_size p)) (omega arith) k.fit;
+}
+
+-- no tree is open
+pub none_opened : (ps : List Partial) → length ps ≤ 0 → ps ≡ []
+none_opened [] h = refl
+none_opened (p ∷ ps) h = absurd (omega arith)
+
+pub count_of : (h : Held) (s : State) → IsAt h s → length h.frames ≡ length s.opened
+count_of h s at = ap length at.frames
+    ∙ length-frames_of (length (member_encodings s.closed)) s.opened

@@ -1,0 +1,16 @@
+use Rattle.std.proofs.Common.{◌≡◌, ◌≤◌, [], length, ap, ◌∙◌, arith}
+use Rattle.spa_builder.specs.Held.{Held}
+use Rattle.spa_builder.proofs.Leaving.{count_of, none_opened}
+use Rattle.spa_builder.proofs.Steps.{spells}
+use Rattle.spa_builder.proofs.builder.Builder.finish.Goals as goal
+
+pub returns-clause-made : goal.returns-clause-made
+returns-clause-made c s at =
+    let n = c.len.ensures ∙ ap (λ (h : Held). length h.frames) c.self.view_is
+    ∙ count_of c.args.self s at in
+    let none : s.opened ≡ [] = none_opened s.opened
+    (let z = c.if-len-gt0.false in omega arith) in (
+      none,
+      c.into_inner.ensures ∙ ap (λ (h : Held). h.bytes) c.self.view_is
+          ∙ (spells c.args.self s at).all none,
+    )

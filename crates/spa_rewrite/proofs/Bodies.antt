@@ -53,12 +53,12 @@ elements_are body elements size number len h d z w e f whole = record {
 }
 
 -- so many bodies of a kind say values
-record IsListed (k : Kind) (n : ℕ) (b : List ℕ) : Type 0 where
-  values : List Fixed
-  its_values : AreElements k values b
-  count : length values ≡ n
+pub record IsListed (k : Kind) (n : ℕ) (b : List ℕ) : Type 0 where
+  pub values : List Fixed
+  pub its_values : AreElements k values b
+  pub count : length values ≡ n
 
-listed : (k : Kind) (n : ℕ) (b : List ℕ) → 0 < body_size k → length b ≡ n * body_size k → IsListed k n b
+pub listed : (k : Kind) (n : ℕ) (b : List ℕ) → 0 < body_size k → length b ≡ n * body_size k → IsListed k n b
 listed k zero b p e = record { values = []; its_values = nil_from_length b (e ∙ omega arith); count = refl }
 listed k (suc n) b p e =
     let s = body_size k in
@@ -72,7 +72,7 @@ listed k (suc n) b p e =
     }
 
 -- the first values are those of the first bodies
-first_elements : (k : Kind) (n : ℕ) (xs : List Fixed) (b : List ℕ) → AreElements k xs b →
+pub first_elements : (k : Kind) (n : ℕ) (xs : List Fixed) (b : List ℕ) → AreElements k xs b →
     AreElements k (take n xs) (take (n * body_size k) b)
 first_elements k zero xs b h = ap (λ m. take m b) (let z : 0 * body_size k ≡ 0 = omega arith in z)
 first_elements k (suc n) [] b h = ap (take (suc n * body_size k)) h ∙ take_all (suc n * body_size k) [] (omega arith)
@@ -243,7 +243,7 @@ same_flags flags_choice f n z e = refl
 array_parts : (a b c d e p : List ℕ) → ((a ++ b) ++ (c ++ d)) ++ (e ++ p) ≡ a ++ (b ++ ((c ++ (d ++ e)) ++ p))
 array_parts a b c d e p = simp append_assoc
 
-choice_parts : (a b c d e f g p : List ℕ) →
+pub choice_parts : (a b c d e f g p : List ℕ) →
     ((a ++ b) ++ (c ++ d)) ++ ((e ++ f) ++ (g ++ p)) ≡ a ++ (b ++ ((c ++ (d ++ (e ++ (f ++ g)))) ++ p))
 choice_parts a b c d e f g p = simp append_assoc
 

@@ -1,5 +1,5 @@
 -- Rewritings that are put where their pods lay.
-use Rattle.std.proofs.Common.{◌≡◌, ℕ, ◌+◌, ◌-◌, ◌≤◌, List, [], ◌++◌, length, take, drop, refl, sym, ap, ◌∙◌, subst, arith, length-append}
+use Rattle.std.proofs.Common.{◌≡◌, ℕ, ◌+◌, ◌-◌, ◌≤◌, List, [], ◌++◌, length, take, drop, refl, sym, ap, ◌∙◌, subst, arith, append_assoc, length-append}
 use Rattle.std.specs.Borrow.{Bor}
 use Rattle.std.specs.Prelude.{⊤}
 use Rattle.std.proofs.lemmas.List.{drop_at, take_at}
@@ -8,7 +8,18 @@ use Rattle.spa_fixed.specs.declared.fault.DeserializeError.{DeserializeError}
 use Rattle.spa_fixed.specs.declared.fault.DeserializeError.TheVariants as error
 use Rattle.spa_leaf.specs.Reading.{OnFault}
 use Rattle.spa_rewrite.specs.InPlace.{IsFaultOf, RefusesListAt}
+use Rattle.std.specs.Prelude.{false}
+use Rattle.std.proofs.lemmas.Slice.{drop-put_mid, take-put_mid}
+use borrow.Rule.Slice.PartMut.{put_mid}
+use Rattle.spa_format.specs.Tree.{Trees, join_members}
+use Rattle.spa_format.specs.Pod.{AreMembers}
+use Rattle.spa_format.specs.Encoding.{member_encodings}
+use Rattle.spa_format.proofs.Sequences.{members_joined}
+use Rattle.spa_scan.specs.Canonical.{AreCanonical}
 use Rattle.spa_rewrite.specs.Rewriting.{AreRewritten, AreRewrittenInParts, IsLeft, RefusesFront, RefusesList}
+use Rattle.spa_rewrite.specs.Steady.{ArePatched, AreSteady}
+use Rattle.spa_rewrite.proofs.Patches.{length_put}
+use Rattle.spa_rewrite.proofs.Stretches.{both_rewritten, list_refused, member_encodings-join}
 
 -- two parts of a rewriting take no more than the pods
 pub parts_fit : (input first out : List ℕ) → AreRewritten input [] (first ++ out) → length first + length out ≤ length input
@@ -71,3 +82,177 @@ refused_at input left at told e r n s m =
       front = subst (λ l. RefusesFront l told) (sym d) r.front;
       same = s;
     }
+
+-- what is left behind first pods, and others
+left_behind_pods : (input first rest left : List ℕ) (vs : Trees) → input ≡ first ++ rest → AreMembers vs first → IsLeft rest left → IsLeft input left
+left_behind_pods input first rest left vs e m l = (
+  join_members vs l.0,
+  first ++ l.1,
+  e ∙ ap (λ x. first ++ x) l.2 ∙ sym (append_assoc first l.1 left),
+  members_joined vs l.0 first l.1 m l.3,
+  l.4,
+)
+
+pub refused_behind : (input first rest steady others left : List ℕ) (at : ℕ) (told : DeserializeError (Bor (List ℕ))) (e : DeserializeError ⊤) →
+    input ≡ first ++ rest → AreCanonical first → rest ≡ steady ++ others → AreSteady steady → RefusesList others left told →
+    at ≡ length input - length left → IsFaultOf e told → (told ≡ error.OutOfMemory → e ≡ error.OutOfMemory) → RefusesListAt input at e
+refused_behind input first rest steady others left at told e i k r s f n same m =
+    let inner = left_behind_pods rest steady others left s.values r s.members f.behind in
+    let outer = left_behind_pods input first rest left k.values i k.members inner in
+    refused_at input left at told e (list_refused input left told outer f.front) n same m
+
+-- pods that became their rewritings, and the rewritings of the others
+steady_rewritten : (rest steady others patched out : List ℕ) → rest ≡ steady ++ others → (s : AreSteady steady) →
+    ArePatched false steady patched → AreRewritten others [] out → AreRewritten rest [] (patched ++ out)
+steady_rewritten rest steady others patched out e s p r =
+    let vs = join_members s.values r.0 in
+    let members = members_joined s.values r.0 steady others s.members r.1 in
+    let same : patched ++ out ≡ member_encodings vs =
+    ap (λ l. l ++ out) (p s.values s.members s.long) ∙ ap (λ l. member_encodings s.values ++ l) r.2
+    ∙ sym (member_encodings-join s.values r.0) in
+    (vs, subst (AreMembers vs) (sym e) members, same)
+
+-- what became of the bytes
+pub record IsPlaced (input first steady patched kept written : List ℕ) (from to start end : ℕ) : Type 0 where
+  pub others : List ℕ
+  pub parts : input ≡ first ++ (steady ++ (kept ++ others))
+  pub before : from ≡ length first
+  pub behind : to ≡ from + length steady
+  pub begins : start ≡ to + length kept
+  pub ends : end ≡ start + length written
+  pub long : length patched ≡ length steady
+  pub fits : length written ≤ length others
+
+patched_bytes : (input first steady patched kept written : List ℕ) (from to start end : ℕ) (p : IsPlaced input first steady patched kept written from to start end) →
+    put_mid from (to - from) input patched ≡ ((first ++ patched) ++ kept) ++ p.others
+patched_bytes input first steady patched kept written from to start end p =
+    let tail = kept ++ p.others in
+    let b = p.before in
+    let t = p.behind in
+    let front : take from input ≡ first = ap (take from) p.parts ∙ take_at first (steady ++ tail) from (sym b) in
+    let rest : drop (to - from) (drop from input) ≡ tail =
+    ap (λ x. drop (to - from) (drop from x)) p.parts ∙ ap (drop (to - from)) (drop_at first (steady ++ tail) from (sym b))
+    ∙ drop_at steady tail (to - from) (omega arith) in
+    ap (λ x. x ++ (patched ++ drop (to - from) (drop from input))) front ∙ ap (λ x. first ++ (patched ++ x)) rest
+    ∙ sym (append_assoc first patched tail) ∙ sym (append_assoc (first ++ patched) kept p.others)
+
+pub placed_front : (input first steady patched kept written : List ℕ) (from to start end k : ℕ) → IsPlaced input first steady patched kept written from to start end →
+    take end (put_mid start k (put_mid from (to - from) input patched) written) ≡ (first ++ (patched ++ kept)) ++ written
+placed_front input first steady patched kept written from to start end k p =
+    let x = (first ++ patched) ++ kept in
+    let e = patched_bytes input first steady patched kept written from to start end p in
+    let l0 = length-append (first ++ patched) kept in
+    let l1 = length-append first patched in
+    let l2 = length-append x p.others in
+    let b = p.before in
+    let t = p.behind in
+    let s = p.begins in
+    let n = p.ends in
+    let g = p.long in
+    let room : start ≤ length (x ++ p.others) = omega arith in
+    ap (λ y. take end (put_mid start k y written)) e ∙ take-put_mid start k (x ++ p.others) written end n room
+    ∙ ap (λ y. y ++ written) (take_at x p.others start (omega arith) ∙ append_assoc first patched kept)
+
+pub placed_behind : (input first steady patched kept written : List ℕ) (from to start end k : ℕ) → IsPlaced input first steady patched kept written from to start end →
+    k ≡ length written → drop end (put_mid start k (put_mid from (to - from) input patched) written) ≡ drop end input
+placed_behind input first steady patched kept written from to start end k p z =
+    let e = ap length (patched_bytes input first steady patched kept written from to start end p) in
+    let x = (first ++ patched) ++ kept in
+    let l0 = length-append (first ++ patched) kept in
+    let l1 = length-append first patched in
+    let l2 = length-append x p.others in
+    let i = ap length p.parts in
+    let i0 = length-append first (steady ++ (kept ++ p.others)) in
+    let b = p.before in
+    let t = p.behind in
+    let s = p.begins in
+    let n = p.ends in
+    let g = p.long in
+    drop-put_mid start k (put_mid from (to - from) input patched) written end (omega arith) (omega arith) (sym z)
+    ∙ drop-put_mid from (to - from) input patched end (omega arith) (omega arith) (omega arith)
+
+pub placed_rewritten : (input first rest steady others patched kept written new : List ℕ) → input ≡ first ++ rest → AreCanonical first →
+    rest ≡ steady ++ others → AreSteady steady → ArePatched false steady patched → AreRewritten others [] (kept ++ written) →
+    new ≡ (first ++ (patched ++ kept)) ++ written → AreRewritten input [] new
+placed_rewritten input first rest steady others patched kept written new i k r s p w e =
+    let same : new ≡ first ++ (patched ++ (kept ++ written)) =
+    e ∙ append_assoc first (patched ++ kept) written ∙ ap (λ x. first ++ x) (append_assoc patched kept written) in
+    subst (AreRewritten input []) (sym same)
+    (both_rewritten input first rest (patched ++ (kept ++ written)) i k (steady_rewritten rest steady others patched (kept ++ written) r s p w))
+
+pub is_placed : (input first rest steady others patched kept written : List ℕ) (from to start end : ℕ) → input ≡ first ++ rest →
+    rest ≡ steady ++ others → AreRewrittenInParts others kept written → AreRewritten others [] (kept ++ written) →
+    from ≡ length first → to ≡ from + length steady → start ≡ to + length kept → end ≡ start + length written →
+    length patched ≡ length steady → IsPlaced input first steady patched kept written from to start end
+is_placed input first rest steady others patched kept written from to start end i r a w b t s n l =
+    let f = parts_fit others kept written w in
+    let o = ap length a.1 ∙ length-append kept a.0 in
+    record {
+      others = a.0;
+      parts = i ∙ ap (λ x. first ++ x) (r ∙ ap (λ x. steady ++ x) a.1);
+      before = b;
+      behind = t;
+      begins = s;
+      ends = n;
+      long = l;
+      fits = omega arith;
+    }
+
+-- the pods that are to be made their rewritings
+pub steady_slice : (input first rest steady others : List ℕ) → input ≡ first ++ rest → rest ≡ steady ++ others →
+    take (length first + length steady - length first) (drop (length first) input) ≡ steady
+steady_slice input first rest steady others i r =
+    let n : length first + length steady - length first ≡ length steady = omega arith in
+    ap (λ m. take m (drop (length first) input)) n ∙ ap (λ x. take (length steady) (drop (length first) x)) i
+    ∙ ap (take (length steady)) (drop_at first rest (length first) refl ∙ r) ∙ take_at steady others (length steady) refl
+
+-- where the rewritings of the others begin
+abbrev pub start_of : List ℕ → List ℕ → List ℕ → ℕ
+start_of first steady kept = length first + length steady + length kept
+
+-- the bytes once the first pods became their rewritings, and once the rewritings of the others stand there
+abbrev pub patched_of : List ℕ → List ℕ → List ℕ → List ℕ → List ℕ
+patched_of input first steady patched = put_mid (length first) (length first + length steady - length first) input patched
+
+pub record AllPlaced (input first steady patched kept written : List ℕ) (l : ℕ) : Type 0 where
+  pub rewritten : AreRewritten input [] (take (start_of first steady kept + l)
+      (put_mid (start_of first steady kept) (start_of first steady kept + l - start_of first steady kept) (patched_of input first steady patched) written))
+  pub behind : drop (start_of first steady kept + l)
+      (put_mid (start_of first steady kept) (start_of first steady kept + l - start_of first steady kept) (patched_of input first steady patched) written)
+      ≡ drop (start_of first steady kept + l) input
+
+pub all_placed : (input first rest steady others patched kept written : List ℕ) (l : ℕ) → input ≡ first ++ rest → AreCanonical first →
+    rest ≡ steady ++ others → AreSteady steady → AreRewrittenInParts others kept written → AreRewritten others [] (kept ++ written) →
+    ArePatched false (take (length first + length steady - length first) (drop (length first) input)) patched →
+    length patched ≡ length (take (length first + length steady - length first) (drop (length first) input)) → l ≡ length written →
+    AllPlaced input first steady patched kept written l
+all_placed input first rest steady others patched kept written l i k r s a w p len e =
+    let from = length first in
+    let to = length first + length steady in
+    let start = start_of first steady kept in
+    let end = start + l in
+    let slice = steady_slice input first rest steady others i r in
+    let q : ArePatched false steady patched = subst (λ x. ArePatched false x patched) slice p in
+    let long : length patched ≡ length steady = len ∙ ap length slice in
+    let n : start + l - start ≡ length written = omega arith in
+    let is = is_placed input first rest steady others patched kept written from to start end i r a w refl refl refl (ap (λ m. start + m) e) long in
+    let front = placed_front input first steady patched kept written from to start end (start + l - start) is in
+    record {
+      rewritten = placed_rewritten input first rest steady others patched kept written
+          (take end (put_mid start (start + l - start) (put_mid from (to - from) input patched) written)) i k r s q w front;
+      behind = placed_behind input first steady patched kept written from to start end (start + l - start) is n;
+    }
+
+-- there is room for them
+pub placed_room : (input first rest steady others patched kept written : List ℕ) (l : ℕ) → input ≡ first ++ rest → rest ≡ steady ++ others →
+    AreRewritten others [] (kept ++ written) →
+    length patched ≡ length (take (length first + length steady - length first) (drop (length first) input)) → l ≡ length written →
+    start_of first steady kept + l ≤ length (patched_of input first steady patched)
+placed_room input first rest steady others patched kept written l i r w len e =
+    let f = parts_fit others kept written w in
+    let i0 = ap length i ∙ length-append first rest in
+    let r0 = ap length r ∙ length-append steady others in
+    let long : length patched ≡ length steady = len ∙ ap length (steady_slice input first rest steady others i r) in
+    let n : length first + length steady - length first ≡ length steady = omega arith in
+    let same = length_put (length first) (length first + length steady - length first) input patched (omega arith) (long ∙ sym n) in
+    omega arith

@@ -9,3 +9,7 @@ pub mod Runs
 pub mod Bodies
 pub mod Truths
 pub mod InPlaceLemmas
+pub mod SteadyLemmas
+pub mod Patches
+pub mod PatchSteps
+pub mod PatchedBodies

@@ -15,7 +15,7 @@ use Rattle.spa_rewrite.specs.declared.tail.Tail.{Tail}
 use Rattle.spa_rewrite.proofs.Rewritten.{no_members}
 use Rattle.spa_rewrite.proofs.Steps.{MembersSoFar, parted}
 
-member_encodings-join : (vs ws : Trees) →
+pub member_encodings-join : (vs ws : Trees) →
     member_encodings (join_members vs ws) ≡ member_encodings vs ++ member_encodings ws
 member_encodings-join no_trees ws = refl
 member_encodings-join (member v vs) ws =

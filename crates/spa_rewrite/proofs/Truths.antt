@@ -2,7 +2,9 @@
 use Rattle.std.proofs.Common.{◌≡◌, ℕ, ◌+◌, ◌*◌, ◌%◌, ◌<◌, ◌≤◌, List, [], ◌∷◌, ◌++◌, length, drop, take, refl, sym, ap, ◌∙◌, subst, arith, append_assoc, length-drop}
 use Rattle.std.specs.Prelude.{min}
 use Rattle.std.proofs.Math.Seq.{take-add}
-use Rattle.std.proofs.lemmas.List.{append-nil, length-take-le, nil_from_length, take-append-drop, take_all}
+use Rattle.std.proofs.lemmas.List.{append-nil, drop-drop, length-take-le, nil_from_length, take-append-drop, take_all}
+use Rattle.std.proofs.lemmas.Slice.{drop-put_mid, take-put_mid}
+use borrow.Rule.Slice.PartMut.{put_mid}
 use Rattle.spa_format.specs.Kind.{Fixed, body_size, bool_kind, content, fixed_body}
 use Rattle.spa_format.specs.Pod.{AreElements}
 use Rattle.spa_format.specs.Encoding.{fixed_bodies}
@@ -125,3 +127,34 @@ pub truths_taken : (number : ℕ) (elements : List ℕ) (a b : Tail) → number 
     TakesElements number elements a b
 truths_taken number elements a b e t =
     record { kind = bool_kind; its_number = e; values = t.values; its_values = t.its_values; encoding = t.encoding }
+
+-- the first words are as they are written, and the others as they were
+pub record AreTurned (old now : List ℕ) (at : ℕ) : Type 0 where
+  pub filled : AreFilled old now at
+  pub rest : drop at now ≡ drop at old
+  pub long : length now ≡ length old
+
+pub none_turned : (old : List ℕ) → AreTurned old old 0
+none_turned old = record { filled = none_filled old old; rest = refl; long = refl }
+
+pub one_turned : (old now piece word : List ℕ) (x : Fixed) (at k n : ℕ) → AreTurned old now at → AreWhole 4 old → at < length now →
+    word ≡ take k (drop at now) → k ≡ 4 → x ≡ content bool_kind word → piece ≡ fixed_body x → n ≡ at + 4 → length piece ≡ k →
+    length (put_mid at k now piece) ≡ length now → AreTurned old (put_mid at k now piece) n
+one_turned old now piece word x at k n h w l e four c p m long same =
+    let size = h.long in
+    let next : at + 4 ≡ n = sym m in
+    let here : word ≡ take 4 (drop at old) = e ∙ ap (λ i. take i (drop at now)) four ∙ ap (take 4) h.rest in
+    let filled = one_filled old now (put_mid at k now piece) piece word x at h.filled w (omega arith) here c
+    (take-put_mid at k now piece (at + 4) (omega arith) (omega arith)) p in
+    record {
+      filled = subst (AreFilled old (put_mid at k now piece)) next filled;
+      rest = drop-put_mid at k now piece n (omega arith) (omega arith) long ∙ ap (λ i. drop i now) m ∙ sym (drop-drop 4 at now)
+          ∙ ap (drop 4) h.rest ∙ drop-drop 4 at old ∙ ap (λ i. drop i old) next;
+      long = same ∙ h.long;
+    }
+
+pub all_turned : (old now : List ℕ) (at : ℕ) → AreTurned old now at → length now ≤ at → AreTruths old now
+all_turned old now at h l =
+    let size = h.long in
+    let t = all_filled old now at h.filled (omega arith) in
+    subst (AreTruths old) (take_all (length old) now (omega arith)) t

@@ -131,7 +131,7 @@ pub(crate) fn put_choice(body: &[u8], kept: &[u8], out: &mut Tail) -> Result<(),
 }
 
 /// The flags that are written of a choice of this shape.
-fn written_flags(shape: u32, flags: u32) -> u32
+pub(crate) fn written_flags(shape: u32, flags: u32) -> u32
     ensures { (s : Shape) → shape ≡ shape_number s → result ≡ kept_flags s flags }
 {
     if shape == NONE_SHAPE {

@@ -4,16 +4,22 @@ ghost use Rattle.spa_fixed.specs.declared.fault.DeserializeError.TheVariants as 
 ghost use Rattle.spa_rewrite.specs.InPlace.{IsFaultOf, RefusesListAt};
 ghost use Rattle.spa_rewrite.specs.Rewriting.{AreRewritten};
 
+use crate::patch::patch;
 use crate::rewriting::rewrite_in_parts;
+use crate::steady::steady_stretch;
 use spa_fixed::{DeserializeError, Fault};
+use spa_scan::canonical_stretch;
 use std::alloc::Global;
 
 /// Puts the rewritings of all pods that the bytes are at their front, and answers how many bytes these take: never more than the
 /// pods took. The bytes behind them stay as they were.
 ///
 /// The call is refused exactly as `rewrite_all`, and then no byte is changed. A refusal gives how many bytes stand before the refused
-/// pod, and what is wrong with that one, without the place inside it: `accept_all` tells that too. Memory is asked for as
-/// `rewrite_in_parts` does: for the rewritings from the first pod on that isn't its own.
+/// pod, and what is wrong with that one, without the place inside it: `accept_all` tells that too.
+///
+/// The pods whose rewritings are as long as they are are made these where they lie, and take no memory: noise in the padding, truth values
+/// other than 0 and 1 and words that mean nothing cost a look and a pass. From the first pod on that gets shorter, or in which structs and
+/// objects stand more than `LEVELS` deep in one another, memory is asked for as `rewrite_in_parts` does.
 #[tactic(auto, using(crate::proofs::InPlaceLemmas::parts_fit))]
 pub fn rewrite_in_place(
     alloc: Global,
@@ -26,12 +32,17 @@ pub fn rewrite_in_place(
     ensures refused { IfErr result (λ refusal. RefusesListAt bytes.old refusal.0 refusal.1) }
 {
     let len = bytes.len();
-    let (kept, others) = match rewrite_in_parts(alloc, bytes) {
-        Ok((first, others)) => (first.len(), others),
+    let (first, rest) = canonical_stretch(bytes);
+    let (steady, others) = steady_stretch(rest);
+    let from = first.len();
+    let to = from + steady.len();
+    let (start, written) = match rewrite_in_parts(alloc, others) {
+        Ok((kept, written)) => (to + kept.len(), written),
         Err((left, error)) => return Err((len - left.len(), without_place(error))),
     };
-    let end = kept + others.len();
-    bytes[kept..end].copy_from_slice(others.as_slice());
+    patch(false, &mut bytes[from..to]);
+    let end = start + written.len();
+    bytes[start..end].copy_from_slice(written.as_slice());
     Ok(end)
 }
 

@@ -12,3 +12,4 @@ pub use nesting::nests_within;
 pub use scan::{
     LEVELS, canonical_front, canonical_stretch, plain_front, plain_members, plain_properties,
 };
+pub use text::is_text;

@@ -6,7 +6,7 @@ use spa_leaf::text_of;
 
 /// Whether the body of a string is a text without NUL, and one NUL behind it.
 #[inline(always)]
-pub(crate) fn is_text(body: &[u8]) -> bool
+pub fn is_text(body: &[u8]) -> bool
     ensures canonical { result ≡ true → IsCanonicalText body.now }
     ensures found { IsCanonicalText body.now → result ≡ true }
 {

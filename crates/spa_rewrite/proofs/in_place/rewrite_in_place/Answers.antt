@@ -1,37 +1,53 @@
-use Rattle.std.proofs.Common.{◌≡◌, ◌+◌, ◌-◌, ◌≤◌, ◌++◌, arith, rules, length, refl, sym, ap, ◌∙◌, subst}
-use Rattle.std.specs.Prelude.{[], vec_len}
-use Rattle.std.proofs.lemmas.Slice.{take-put_mid}
-use Rattle.spa_rewrite.specs.Rewriting.{AreRewritten}
-use Rattle.spa_rewrite.proofs.InPlaceLemmas.{first_part, parts_fit, refused_at}
+use Rattle.std.proofs.Common.{◌≡◌, ◌+◌, ◌-◌, ◌≤◌, ◌∙◌, ap, arith, length, refl, rules, subst, sym}
+use Rattle.std.specs.Prelude.{[], ◌++◌, vec_len}
+use Rattle.spa_rewrite.specs.Rewriting.{AreRewritten, AreRewrittenInParts}
+use Rattle.spa_rewrite.proofs.InPlaceLemmas.{AllPlaced, all_placed, patched_of, placed_room, refused_behind, start_of}
 use Rattle.spa_rewrite.proofs.in_place.rewrite_in_place.Goals as goal
+
+pub returns-in-Err-clause-refused : goal.returns-in-Err-clause-refused
+returns-in-Err-clause-refused c =
+    refused_behind _ _ _ _ _ _ _ _ _ c.canonical_stretch.ensures.parts c.canonical_stretch.ensures.canonical
+    c.steady_stretch.ensures.parts c.steady_stretch.ensures.steady c.in-Err.ensures.refused refl
+    c.without_place.ensures.same c.without_place.ensures.memory
 
 pub slice_bounds-copy_from_slice-end : goal.slice_bounds-copy_from_slice-end
 slice_bounds-copy_from_slice-end c =
-    let first = c.in-Ok.first.now in
-    let others = c.in-Ok.others in
-    let fits = parts_fit c.args.bytes.now first others.items c.in-Ok.ensures.rewritten in
-    let same : vec_len others ≡ length others.items = search rules in
-    let len = c.len.ensures in
-    let room : length first + c.len.result ≤ length c.args.bytes.now = omega (arith, fits, same, len) in
+    let first = c.canonical_stretch.result.0.now in
+    let steady = c.steady_stretch.result.0.now in
+    let kept = c.in-Ok.kept.now in
+    let same : vec_len c.in-Ok.written ≡ length c.in-Ok.written.items = search rules in
+    let room : start_of first steady kept + c.len.result ≤ length (patched_of c.args.bytes.now first steady c.patch.new.bytes) =
+    placed_room c.args.bytes.now first c.canonical_stretch.result.1.now steady c.steady_stretch.result.1.now c.patch.new.bytes kept
+    c.in-Ok.written.items c.len.result c.canonical_stretch.ensures.parts c.steady_stretch.ensures.parts c.in-Ok.ensures.rewritten
+    c.patch.auto.bytes (c.len.ensures ∙ same) in
     room
 
 pub returns-clause-rewritten : goal.returns-clause-rewritten
 returns-clause-rewritten c =
-    let first = c.in-Ok.first.now in
-    let others = c.in-Ok.others in
+    let kept = c.in-Ok.kept.now in
     let written = c.copy_from_slice.new.self in
-    let fits = parts_fit c.args.bytes.now first others.items c.in-Ok.ensures.rewritten in
-    let same : vec_len others ≡ length others.items = search rules in
-    let len = c.len.ensures in
-    let new : written ≡ others.items = c.copy_from_slice.ensures.after ∙ c.as_slice.ensures.value in
-    let long = ap length new in
-    let bytes =
-    take-put_mid (length first) (length first + c.len.result - length first) c.args.bytes.now written
-    (length first + c.len.result) (omega (arith, long, same, len)) (omega (arith, fits))
-    ∙ ap (λ l. l ++ written) (first_part c.args.bytes.now first others.items c.in-Ok.ensures.parts)
-    ∙ ap (λ l. first ++ l) new in
-    subst (AreRewritten c.args.bytes.now []) (sym bytes) c.in-Ok.ensures.rewritten
+    let new : written ≡ c.in-Ok.written.items = c.copy_from_slice.ensures.after ∙ c.as_slice.ensures.value in
+    let same : vec_len c.in-Ok.written ≡ length c.in-Ok.written.items = search rules in
+    let others = c.steady_stretch.result.1.now in
+    let parts = subst (AreRewrittenInParts others kept) (sym new) c.in-Ok.ensures.parts in
+    let whole = subst (λ w. AreRewritten others [] (kept ++ w)) (sym new) c.in-Ok.ensures.rewritten in
+    let all = all_placed c.args.bytes.now c.canonical_stretch.result.0.now c.canonical_stretch.result.1.now c.steady_stretch.result.0.now others
+    c.patch.new.bytes kept written c.len.result c.canonical_stretch.ensures.parts c.canonical_stretch.ensures.canonical
+    c.steady_stretch.ensures.parts c.steady_stretch.ensures.steady parts whole c.patch.ensures c.patch.auto.bytes
+    (c.len.ensures ∙ same ∙ ap length (sym new)) in
+    all.rewritten
 
-pub returns-in-Err-clause-refused : goal.returns-in-Err-clause-refused
-returns-in-Err-clause-refused c =
-    refused_at _ _ _ _ _ c.in-Err.ensures.refused refl c.without_place.ensures.same c.without_place.ensures.memory
+pub returns-clause-behind : goal.returns-clause-behind
+returns-clause-behind c =
+    let kept = c.in-Ok.kept.now in
+    let written = c.copy_from_slice.new.self in
+    let new : written ≡ c.in-Ok.written.items = c.copy_from_slice.ensures.after ∙ c.as_slice.ensures.value in
+    let same : vec_len c.in-Ok.written ≡ length c.in-Ok.written.items = search rules in
+    let others = c.steady_stretch.result.1.now in
+    let parts = subst (AreRewrittenInParts others kept) (sym new) c.in-Ok.ensures.parts in
+    let whole = subst (λ w. AreRewritten others [] (kept ++ w)) (sym new) c.in-Ok.ensures.rewritten in
+    let all = all_placed c.args.bytes.now c.canonical_stretch.result.0.now c.canonical_stretch.result.1.now c.steady_stretch.result.0.now others
+    c.patch.new.bytes kept written c.len.result c.canonical_stretch.ensures.parts c.canonical_stretch.ensures.canonical
+    c.steady_stretch.ensures.parts c.steady_stretch.ensures.steady parts whole c.patch.ensures c.patch.auto.bytes
+    (c.len.ensures ∙ same ∙ ap length (sym new)) in
+    all.behind

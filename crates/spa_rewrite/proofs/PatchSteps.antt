@@ -1,0 +1,180 @@
+-- A loop over pods that become their rewritings where they lie.
+use Rattle.std.proofs.Common.{◌≡◌, ℕ, ◌+◌, ◌-◌, ◌^◌, ◌<◌, ◌≤◌, List, [], ◌++◌, length, drop, take, refl, sym, ap, ◌∙◌, subst, arith, append_assoc, length-append, length-drop}
+use Rattle.std.specs.Prelude.{Bool, true, false}
+use Rattle.std.proofs.Math.Seq.{take-add}
+use Rattle.std.proofs.lemmas.List.{append-nil, drop-drop, length-take-le, nil_from_length, take-append-drop, take_all}
+use Rattle.std.proofs.lemmas.Slice.{take-put_mid, drop-put_mid}
+use borrow.Rule.Slice.PartMut.{put_mid}
+use Rattle.spa_format.specs.Words.{extent, header_size, padded_size, word_at}
+use Rattle.spa_format.specs.Tree.{object_type, struct_type}
+use Rattle.spa_format.specs.Front.{HasFront, front_of, rest_of}
+use Rattle.spa_format.specs.Typed.{IsBytes}
+use Rattle.spa_format.proofs.Fronts.{length-body_of, size_of_front, type_of_front}
+use Rattle.spa_format.proofs.WordLemmas.{IsBytes-drop, IsBytes-take}
+use Rattle.spa_bytes.specs.Opening.{Opens}
+use Rattle.spa_rewrite.specs.Steady.{ArePatched, HoldsPods, IsPatched, IsPodOf, key_size}
+use Rattle.spa_rewrite.proofs.Patches.{length_put, no_pods, object_patched, pods_patched, struct_patched, too_few}
+
+-- The bytes before this place are done: once those from there on become their rewritings, all have.
+pub record PatchesOn (all keyed : Bool) (old now : List ℕ) (at : ℕ) : Type 0 where
+  pub within : at ≤ length now
+  pub long : length now ≡ length old
+  pub bytes : IsBytes now
+  pub ends : (new : List ℕ) → ArePatched keyed (drop at now) new → ArePatched all old (take at now ++ new)
+
+pub nothing_patched : (all : Bool) (old : List ℕ) → IsBytes old → PatchesOn all all old old 0
+nothing_patched all old h = record { within = omega arith; long = refl; bytes = h; ends = λ new q. q }
+
+-- nothing more is done
+pub stops : (all keyed : Bool) (old now : List ℕ) (at : ℕ) → PatchesOn all keyed old now at →
+    ArePatched keyed (drop at now) (drop at now) → ArePatched all old now
+stops all keyed old now at h q = subst (ArePatched all old) (take-append-drop at now) (h.ends (drop at now) q)
+
+pub stops_short : (all keyed : Bool) (old now : List ℕ) (at : ℕ) → PatchesOn all keyed old now at →
+    length now - at < 8 → ArePatched all old now
+stops_short all keyed old now at h l =
+    stops all keyed old now at h (too_few keyed (drop at now) (let d = length-drop at now in omega arith))
+
+-- from a pod's first byte on
+behind : (at k : ℕ) (b : List ℕ) → drop (at + k) b ≡ drop k (drop at b)
+behind at k b = sym (drop-drop k at b)
+
+pub stops_unopened : (all keyed : Bool) (old now : List ℕ) (at here : ℕ) → PatchesOn all keyed old now at →
+    here ≡ at + key_size keyed → ¬ (HasFront (drop here now)) → ArePatched all old now
+stops_unopened all keyed old now at here h e n =
+    stops all keyed old now at h
+    (no_pods keyed (drop at now) (λ f. n (subst HasFront (sym (ap (λ i. drop i now) e ∙ behind at (key_size keyed) now)) f)))
+
+-- the pod that is opened
+pub record IsOpenedAt (b body rest : List ℕ) (type size : ℕ) : Type 0 where
+  pub whole : extent size + length rest ≡ length b
+  pub front : front_of b ≡ take (extent size) b
+  pub follows : rest_of b ≡ drop (extent size) b
+  pub its : IsPodOf (take (extent size) b) type size
+
+pub opened_at : (b body rest : List ℕ) (type size : ℕ) → Opens b type body rest → size ≡ length body → IsOpenedAt b body rest type size
+opened_at b body rest type size o z =
+    let n : size ≡ word_at b 0 = z ∙ ap length o.its_body ∙ length-body_of b o.there in
+    let r = ap length o.its_rest ∙ length-drop (extent (word_at b 0)) b in
+    let w = o.there.whole in
+    let front : front_of b ≡ take (extent size) b = ap (λ m. take (extent m) b) (sym n) in
+    let x = ap extent n in
+    record {
+      whole = omega arith;
+      front = front;
+      follows = ap (λ m. drop (extent m) b) (sym n);
+      its = record {
+        long = length-take-le (extent size) b (omega arith);
+        fits = subst (λ m. m < 2 ^ 32) (sym z) o.fits;
+        its_size = ap (λ y. word_at y 0) (sym front) ∙ size_of_front b ∙ sym n;
+        its_type = ap (λ y. word_at y 4) (sym front) ∙ type_of_front b ∙ sym o.its_type;
+      };
+    }
+
+parts : (a k p n : List ℕ) → ((a ++ k) ++ p) ++ n ≡ a ++ (k ++ (p ++ n))
+parts a k p n = simp append_assoc
+
+-- one pod became its rewriting
+pub pod_done : (all keyed : Bool) (old now pod body rest : List ℕ) (at here next type size k : ℕ) → PatchesOn all keyed old now at →
+    here ≡ at + key_size keyed → here ≤ length now → Opens (drop here now) type body rest → size ≡ length body →
+    next ≡ length now - length rest → k ≡ next - here → IsPatched (take k (drop here now)) pod →
+    length pod ≡ length (take k (drop here now)) →
+    IsBytes (put_mid here k now pod) → PatchesOn all keyed old (put_mid here k now pod) next
+pod_done all keyed old now pod body rest at here next type size k h e r o z f g p long y =
+    let b = drop at now in
+    let c = drop here now in
+    let is = opened_at c body rest type size o z in
+    let d = length-drop here now in
+    let w = is.whole in
+    let n : k ≡ extent size = omega arith in
+    let to : here + k ≡ next = omega arith in
+    let l : length pod ≡ k = long ∙ length-take-le k c (omega arith) in
+    let there : c ≡ drop (key_size keyed) b = ap (λ i. drop i now) e ∙ behind at (key_size keyed) now in
+    let one : IsPatched (front_of c) pod = subst (λ x. IsPatched x pod) (ap (λ m. take m c) n ∙ sym is.front) p in
+    let t = take-put_mid here k now pod next (omega arith) r in
+    let q = drop-put_mid here k now pod next (omega arith) r l in
+    let start : take here now ≡ take at now ++ take (key_size keyed) b = ap (λ i. take i now) e ∙ take-add at (key_size keyed) now in
+    let follows : drop next now ≡ rest_of c = ap (λ i. drop i now) (sym to) ∙ behind here k now ∙ ap (λ m. drop m c) n ∙ sym is.follows in
+    record {
+      within = let m = length_put here k now pod (omega arith) l in omega arith;
+      long = length_put here k now pod (omega arith) l ∙ h.long;
+      bytes = y;
+      ends = λ new more.
+          subst (ArePatched all old)
+          (sym (ap (λ x. x ++ new) (t ∙ ap (λ x. x ++ pod) start) ∙ parts (take at now) (take (key_size keyed) b) pod new))
+          (h.ends (take (key_size keyed) b ++ (pod ++ new))
+          (pods_patched keyed b pod new (IsBytes-drop at now h.bytes) (subst HasFront there o.there)
+          (subst (λ x. IsPatched (front_of x) pod) there one)
+          (subst (λ x. ArePatched keyed (rest_of x) new) there (subst (λ x. ArePatched keyed x new) (q ∙ follows) more))));
+    }
+
+-- a struct or an object that nothing follows is entered
+inner_patched : (inner : Bool) (pod new : List ℕ) (type size : ℕ) → IsBytes pod → IsPodOf pod type size → HoldsPods type size inner →
+    ArePatched inner (drop (8 + key_size inner) pod) new → IsPatched pod (take (8 + key_size inner) pod ++ new)
+inner_patched false pod new type size h p i q = struct_patched pod new size (IsBytes-take 8 pod h) (subst (λ t. IsPodOf pod t size) i p) q
+inner_patched true pod new type size h p i q = object_patched pod new size (IsBytes-take 16 pod h) (subst (λ t. IsPodOf pod t size) i.0 p) q
+
+inner_room : (inner : Bool) (type size : ℕ) → HoldsPods type size inner → 8 + key_size inner ≤ extent size
+inner_room false type size i = omega arith
+inner_room true type size i = let l = i.1 in omega arith
+
+pub entered : (all keyed inner : Bool) (old now body rest : List ℕ) (at here next type size left : ℕ) → PatchesOn all keyed old now at →
+    here ≡ at + key_size keyed → here ≤ length now → Opens (drop here now) type body rest → size ≡ length body →
+    left ≡ length rest → (left ≡ 0) × HoldsPods type size inner → next ≡ here + 8 + key_size inner →
+    PatchesOn all inner old now next
+entered all keyed inner old now body rest at here next type size left h e r o z f i g =
+    let b = drop at now in
+    let c = drop here now in
+    let is = opened_at c body rest type size o z in
+    let d = length-drop here now in
+    let w = is.whole in
+    let none = i.0 in
+    let room = inner_room inner type size i.1 in
+    let j = 8 + key_size inner in
+    let long : length c ≡ extent size = omega arith in
+    let all_of : take (extent size) c ≡ c = take_all (extent size) c (omega arith) in
+    let its : IsPodOf c type size = subst (λ x. IsPodOf x type size) all_of is.its in
+    let there : c ≡ drop (key_size keyed) b = ap (λ i. drop i now) e ∙ behind at (key_size keyed) now in
+    let start : take here now ≡ take at now ++ take (key_size keyed) b = ap (λ i. take i now) e ∙ take-add at (key_size keyed) now in
+    let to : next ≡ here + j = omega arith in
+    let inside : drop next now ≡ drop j c = ap (λ i. drop i now) to ∙ behind here j now in
+    let before : take next now ≡ take here now ++ take j c = ap (λ i. take i now) to ∙ take-add here j now in
+    let nothing : rest_of c ≡ [] = nil_from_length (rest_of c) (ap length is.follows ∙ length-drop (extent size) c ∙ omega arith) in
+    record {
+      within = omega arith;
+      long = h.long;
+      bytes = h.bytes;
+      ends = λ new more.
+          let pod = take j c ++ new in
+          let one : IsPatched c pod = inner_patched inner c new type size (IsBytes-drop here now h.bytes) its i.1 (subst (λ x. ArePatched inner x new) inside more) in
+          let front : IsPatched (front_of c) pod = subst (λ x. IsPatched x pod) (sym (is.front ∙ all_of)) one in
+          let after : ArePatched keyed (rest_of c) [] = subst (λ x. ArePatched keyed x []) (sym nothing) (too_few keyed [] (omega arith)) in
+          subst (ArePatched all old)
+          (sym (ap (λ x. x ++ new) (before ∙ ap (λ x. x ++ take j c) start) ∙ parts (take at now) (take (key_size keyed) b) (take j c) new
+          ∙ ap (λ x. take at now ++ (take (key_size keyed) b ++ x)) (sym (append-nil pod))))
+          (h.ends (take (key_size keyed) b ++ (pod ++ []))
+          (pods_patched keyed b pod [] (IsBytes-drop at now h.bytes) (subst HasFront there o.there)
+          (subst (λ x. IsPatched (front_of x) pod) there front) (subst (λ x. ArePatched keyed (rest_of x) []) there after)));
+    }
+
+pub key_small : (keyed : Bool) → key_size keyed ≤ 8
+key_small true = omega arith
+key_small false = omega arith
+
+pub inner_fits : (now body rest : List ℕ) (inner : Bool) (here type size left : ℕ) → here ≤ length now → Opens (drop here now) type body rest →
+    size ≡ length body → (left ≡ 0) × HoldsPods type size inner → here + 8 + key_size inner ≤ length now
+inner_fits now body rest inner here type size left r o z i =
+    let is = opened_at (drop here now) body rest type size o z in
+    let w = is.whole in
+    let d = length-drop here now in
+    let room = inner_room inner type size i.1 in
+    omega arith
+
+pub pod_is : (now body rest : List ℕ) (here next type size k : ℕ) → here ≤ length now → Opens (drop here now) type body rest →
+    size ≡ length body → next ≡ length now - length rest → k ≡ next - here → IsPodOf (take k (drop here now)) type size
+pod_is now body rest here next type size k r o z f g =
+    let is = opened_at (drop here now) body rest type size o z in
+    let w = is.whole in
+    let d = length-drop here now in
+    let n : k ≡ extent size = omega arith in
+    subst (λ m. IsPodOf (take m (drop here now)) type size) (sym n) is.its

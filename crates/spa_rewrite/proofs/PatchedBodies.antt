@@ -1,0 +1,423 @@
+-- Pods without members that become their rewritings where they lie.
+use Rattle.std.proofs.Common.{◌≡◌, ◌≢◌, ℕ, suc, ◌+◌, ◌-◌, ◌*◌, ◌%◌, ◌<◌, ◌≤◌, inl, inr, List, [], ◌∷◌, ◌++◌, length, drop, take, refl, sym, ap, ◌∙◌, subst, arith, append_assoc, length-append, length-drop}
+use Rattle.std.specs.Prelude.{Bool, replicate}
+use Rattle.std.proofs.Math.Nat.{mul-le-mul_right}
+use Rattle.std.proofs.Math.Seq.{take-add}
+use Rattle.std.proofs.lemmas.Bool.{cases_lt}
+use Rattle.std.proofs.lemmas.List.{append-nil, drop-drop, drop-take, length-take-le, nil_from_length, take-append-drop, take-take, take_all, take_at, drop_at}
+use Rattle.std.proofs.lemmas.Slice.{take-put_mid, take-put_mid_below}
+use borrow.Rule.Slice.PartMut.{put_mid}
+use Rattle.spa_format.specs.Words.{extent, padded_size, padding, wide_at, wide_bytes, word_at, word_bytes}
+use Rattle.spa_format.specs.Kind.{Fixed, IsFixedBody, Kind, body_size, bool, bool_kind, content, fixed_body, kind_of, type_number}
+use Rattle.spa_format.specs.Tree.{Shape, none_choice, range_choice, step_choice, enum_choice, flags_choice, Tree, array, array_type, bitmap, bytes, choice, choice_type, fixed, object, object_type, pointer, pointer_type, shape_number, string, struct, struct_type, type_of}
+use Rattle.spa_format.specs.Normal.{kept_flags}
+use Rattle.spa_format.specs.Pod.{AreElements, IsArray, IsBody, IsChoice, IsPointer, least_count, values_taken}
+use Rattle.spa_format.specs.Encoding.{array_body, encoded_body, encoding_of, fixed_bodies, framed}
+use Rattle.spa_format.specs.Typed.{IsBytes}
+use Rattle.spa_format.proofs.Choices.{same_pointer}
+use Rattle.spa_format.proofs.Elements.{array_length, elements_length, length_of_elements, same_elements}
+use Rattle.spa_format.proofs.Encodings.{length-wide_bytes, length-word_bytes, pointer_encoding}
+use Rattle.spa_format.proofs.FixedKinds.{fixed_length, same_kind}
+use Rattle.spa_format.proofs.Shapes.{array_only, choice_only, fixed_only, pointer_only}
+use Rattle.spa_format.proofs.Short.{length-framed, padded_above}
+use Rattle.spa_format.proofs.WordLemmas.{IsBytes-drop, IsBytes-take, wide_at-drop, word_at-drop, word_at-take}
+use Rattle.spa_scan.proofs.Words.{content_kept}
+use Rattle.spa_scan.specs.Canonical.{AreCanonicalElements}
+use Rattle.spa_scan.proofs.Parts.{no_elements, whole_elements}
+use Rattle.spa_rewrite.specs.Elements.{AreTruths}
+use Rattle.spa_rewrite.specs.Steady.{IsPatched, IsPodOf, TurnsWritten, bytes_taken}
+use Rattle.spa_rewrite.proofs.Bodies.{choice_parts, first_elements}
+use Rattle.spa_rewrite.proofs.Patches.{SaysBody, behind_bytes, framed_again, front_bytes, length_put, says_body, two_words_of}
+
+-- types whose bodies are written as they lie
+pub record IsPlainType (type : ℕ) : Type 0 where
+  pub no_bool : type ≢ type_number bool_kind
+  pub no_array : type ≢ array_type
+  pub no_struct : type ≢ struct_type
+  pub no_object : type ≢ object_type
+  pub no_pointer : type ≢ pointer_type
+  pub no_choice : type ≢ choice_type
+
+as_it_lies : (v : Tree) (b : List ℕ) → IsBytes b → IsBody v b → IsPlainType (type_of v) → b ≡ encoded_body v
+as_it_lies (fixed x) b h w p =
+    content_kept (kind_of x) b h w.whole (λ e. absurd (p.no_bool (ap type_number e))) ∙ ap fixed_body (sym w.says)
+as_it_lies (string s) b h w p = w.1
+as_it_lies (bytes s) b h w p = w
+as_it_lies (bitmap s) b h w p = w
+as_it_lies (array k xs) b h w p = absurd (p.no_array refl)
+as_it_lies (choice s f k x xs) b h w p = absurd (p.no_choice refl)
+as_it_lies (pointer t a) b h w p = absurd (p.no_pointer refl)
+as_it_lies (struct vs) b h w p = absurd (p.no_struct refl)
+as_it_lies (object t i ps) b h w p = absurd (p.no_object refl)
+
+-- the header and the body, and zeros
+cleared : (pod : List ℕ) (type size : ℕ) → IsPodOf pod type size →
+    take (8 + size) pod ++ replicate (length pod - (8 + size)) 0 ≡ take 8 pod ++ (take size (drop 8 pod) ++ padding size)
+cleared pod type size p =
+    let l = p.long in
+    let n : length pod - (8 + size) ≡ padded_size size - size = omega arith in
+    ap (λ x. x ++ replicate (length pod - (8 + size)) 0) (take-add 8 size pod)
+    ∙ append_assoc (take 8 pod) (take size (drop 8 pod)) (replicate (length pod - (8 + size)) 0)
+    ∙ ap (λ m. take 8 pod ++ (take size (drop 8 pod) ++ replicate m 0)) n
+
+pub plain_patched : (pod new : List ℕ) (type size : ℕ) → IsBytes new → IsPodOf pod type size → IsPlainType type →
+    new ≡ take (8 + size) pod ++ replicate (length pod - (8 + size)) 0 → IsPatched pod new
+plain_patched pod new type size h p k e = λ v w long.
+    let b = says_body pod type size v p w in
+    let body = take size (drop 8 pod) in
+    let l = p.long in
+    let u = padded_above size in
+    let front : IsBytes (take (8 + size) pod) =
+    subst IsBytes (ap (take (8 + size)) e ∙ take_at (take (8 + size) pod) (replicate (length pod - (8 + size)) 0) (8 + size) (length-take-le (8 + size) pod (omega arith)))
+    (IsBytes-take (8 + size) new h) in
+    let same : body ≡ encoded_body v =
+    as_it_lies v body (behind_bytes 8 size (8 + size) pod refl front) b.its_body (subst IsPlainType (sym b.its_type) k) in
+    e ∙ cleared pod type size p ∙ framed_again pod body type size (front_bytes 8 (8 + size) pod (omega arith) front) p b.long ∙ ap (framed type) same
+    ∙ ap (λ t. framed t (encoded_body v)) (sym b.its_type)
+
+-- a truth value
+pub bool_patched : (pod y word : List ℕ) (t : Bool) (size k : ℕ) → IsBytes (put_mid 8 k pod y) → IsPodOf pod (type_number bool_kind) size → size ≡ 4 →
+    word ≡ take 4 (drop 8 pod) → bool t ≡ content bool_kind word → take 4 y ≡ fixed_body (bool t) → drop 4 y ≡ replicate 4 0 →
+    k ≡ 8 → IsPatched pod (put_mid 8 k pod y)
+bool_patched pod y word t size k h p four w c a d eight = λ v pd long.
+    let b = says_body pod (type_number bool_kind) size v p pd in
+    let o = fixed_only v bool_kind b.its_type in
+    let body = take size (drop 8 pod) in
+    let its : IsFixedBody (kind_of o.0) body o.0 = subst (λ x. IsBody x body) o.2 b.its_body in
+    let is : o.0 ≡ bool t =
+    its.says ∙ ap (λ j. content j body) o.1 ∙ ap (λ n. content bool_kind (take n (drop 8 pod))) four ∙ ap (content bool_kind) (sym w) ∙ sym c in
+    let pad : replicate 4 0 ≡ padding size = ap padding (sym four) in
+    let bytes : y ≡ fixed_body (bool t) ++ padding size =
+    sym (take-append-drop 4 y) ∙ ap (λ x. x ++ drop 4 y) a ∙ ap (λ x. fixed_body (bool t) ++ x) (d ∙ pad) in
+    let l = p.long in
+    let none : drop k (drop 8 pod) ≡ [] = nil_from_length _ (length-drop k (drop 8 pod) ∙ (let e = length-drop 8 pod in omega arith)) in
+    let front : IsBytes (take 8 pod) =
+    subst IsBytes (take-put_mid_below 8 k pod y 8 (omega arith) (omega arith)) (IsBytes-take 8 (put_mid 8 k pod y) h) in
+    let size_is : length (fixed_body (bool t)) ≡ size =
+    ap (λ x. length (fixed_body x)) (sym is) ∙ fixed_length (kind_of o.0) body o.0 its ∙ b.long in
+    ap (λ x. take 8 pod ++ (y ++ x)) none ∙ ap (λ x. take 8 pod ++ x) (append-nil y ∙ bytes)
+    ∙ framed_again pod (fixed_body (bool t)) (type_number bool_kind) size front p size_is
+    ∙ ap (framed (type_number bool_kind)) (ap fixed_body (sym is))
+    ∙ ap (λ j. framed (type_number j) (fixed_body o.0)) (sym o.1) ∙ ap encoding_of (sym o.2)
+
+-- a pointer
+pub pointer_patched : (pod first last body : List ℕ) (t a size k n : ℕ) → IsPodOf pod pointer_type size → k ≡ size →
+    body ≡ take k (drop 8 pod) → IsPointer t a body →
+    first ≡ (word_bytes 16 ++ word_bytes pointer_type) ++ (word_bytes t ++ word_bytes 0) → last ≡ wide_bytes a → length pod ≡ 24 → n ≡ 8 →
+    IsPatched pod (put_mid 16 n (first ++ drop 16 pod) last)
+pointer_patched pod first last body t a size k n p z b i f e l eight = λ v w long.
+    let s = says_body pod pointer_type size v p w in
+    let o = pointer_only v s.its_type in
+    let its : IsPointer o.0 o.1 (take size (drop 8 pod)) = subst (λ x. IsBody x (take size (drop 8 pod))) o.2 s.its_body in
+    let here : body ≡ take size (drop 8 pod) = b ∙ ap (λ m. take m (drop 8 pod)) z in
+    let is : pointer t a ≡ v = same_pointer t o.0 a o.1 body i (subst (IsPointer o.0 o.1) (sym here) its) ∙ sym o.2 in
+    let l0 = length-append (word_bytes 16) (word_bytes pointer_type) in
+    let l1 = length-append (word_bytes t) (word_bytes 0) in
+    let l2 = ap length f ∙ length-append (word_bytes 16 ++ word_bytes pointer_type) (word_bytes t ++ word_bytes 0) in
+    let l3 = length-word_bytes 16 in
+    let l4 = length-word_bytes pointer_type in
+    let l5 = length-word_bytes t in
+    let l6 = length-word_bytes 0 in
+    let many : length first ≡ 16 = omega arith in
+    let front : take 16 (first ++ drop 16 pod) ≡ first = take_at first (drop 16 pod) 16 many in
+    let none : drop n (drop 16 (first ++ drop 16 pod)) ≡ [] =
+    ap (drop n) (drop_at first (drop 16 pod) 16 many) ∙ nil_from_length _ (length-drop n (drop 16 pod) ∙ (let d = length-drop 16 pod in omega arith)) in
+    let words = word_bytes 16 ++ word_bytes pointer_type in
+    ap (λ x. x ++ (last ++ drop n (drop 16 (first ++ drop 16 pod)))) (front ∙ f)
+    ∙ ap (λ x. (words ++ (word_bytes t ++ word_bytes 0)) ++ (last ++ x)) none
+    ∙ ap (λ x. (words ++ (word_bytes t ++ word_bytes 0)) ++ x) (append-nil last ∙ e)
+    ∙ append_assoc words (word_bytes t ++ word_bytes 0) (wide_bytes a) ∙ sym (pointer_encoding t a) ∙ ap encoding_of is
+
+pub pointer_pod : (pod body : List ℕ) (t a size k : ℕ) → IsPodOf pod pointer_type size → k ≡ size → body ≡ take k (drop 8 pod) →
+    IsPointer t a body → length pod ≡ 24
+pointer_pod pod body t a size k p z b i =
+    let l = p.long in
+    let u = padded_above size in
+    let d = length-drop 8 pod in
+    let n = ap length b ∙ length-take-le k (drop 8 pod) (omega arith) in
+    elim i.1 [
+      | inl x ↦ (let y = x.0 in omega arith)
+      | inr x ↦ (let y = x.0 in omega arith)
+    ]
+
+-- elements
+pub truths_written : (old new : List ℕ) (number : ℕ) → number ≡ 2 → AreTruths old new → TurnsWritten number old new
+truths_written old new number z t = λ k xs n a.
+    let is : k ≡ bool_kind = same_kind k bool_kind (sym n ∙ z) in
+    t.bodies ∙ ap fixed_bodies (same_elements bool_kind t.values xs old t.its_values (subst (λ j. AreElements j xs old) is a))
+
+pub others_written : (old : List ℕ) (number : ℕ) → IsBytes old → number ≢ 2 → TurnsWritten number old old
+others_written old number h z = λ k xs n a.
+    let other : k ≢ bool_kind = λ e. z (n ∙ ap type_number e) in
+    let count = length_of_elements k xs old a in
+    let c : AreCanonicalElements k old = elim (cases_lt 0 (body_size k)) [
+      | inl p ↦ whole_elements k (length xs) old h other p count
+      | inr y ↦ no_elements k old (let e : length old ≡ 0 = grind arith in e)
+    ] in
+    c.same ∙ ap fixed_bodies (same_elements k c.values xs old c.elements a)
+
+pub no_whole_truths : (old : List ℕ) (number : ℕ) → number ≡ 2 → length old % 4 ≢ 0 → TurnsWritten number old old
+no_whole_truths old number z o = λ k xs n a.
+    let is : k ≡ bool_kind = same_kind k bool_kind (sym n ∙ z) in
+    let count = length_of_elements bool_kind xs old (subst (λ j. AreElements j xs old) is a) in
+    absurd (o (omega arith))
+
+-- an array
+pub array_patched : (pod els new : List ℕ) (number size k : ℕ) → IsBytes new → IsPodOf pod array_type size → 8 ≤ size → k ≡ size - 8 →
+    number ≡ word_at pod 12 → TurnsWritten number (take k (drop 16 pod)) els →
+    length els ≡ length (take k (drop 16 pod)) →
+    new ≡ take (8 + size) (put_mid 16 k pod els) ++ replicate (length (put_mid 16 k pod els) - (8 + size)) 0 → IsPatched pod new
+array_patched pod els new number size k h p big z w t len e = λ v pd long.
+    let b = says_body pod array_type size v p pd in
+    let o = array_only v b.its_type in
+    let body = take size (drop 8 pod) in
+    let its : IsArray o.0 o.1 body = subst (λ x. IsBody x body) o.2 b.its_body in
+    let g = p.long in
+    let u = padded_above size in
+    let n : size ≡ 8 + k = omega arith in
+    let d16 = length-drop 16 pod in
+    let l : length els ≡ k = len ∙ length-take-le k (drop 16 pod) (omega arith) in
+    let same = length_put 16 k pod els (omega arith) l in
+    let inside : drop 8 body ≡ take k (drop 16 pod) =
+    ap (λ m. drop 8 (take m (drop 8 pod))) n ∙ drop-take 8 k (drop 8 pod) ∙ ap (take k) (drop-drop 8 8 pod) in
+    let type : number ≡ type_number o.0 =
+    w ∙ sym (word_at-drop 8 4 pod) ∙ sym (word_at-take size 4 (drop 8 pod) (omega arith)) ∙ its.child_type in
+    let written : els ≡ fixed_bodies o.1 = t o.0 o.1 type (subst (AreElements o.0 o.1) inside its.elements) in
+    let kept : take (8 + size) (put_mid 16 k pod els) ≡ take 16 pod ++ els = take-put_mid 16 k pod els (8 + size) (omega arith) (omega arith) in
+    let rest : List ℕ = replicate (length (put_mid 16 k pod els) - (8 + size)) 0 in
+    let first : take 16 new ≡ take 16 pod =
+    ap (take 16) (e ∙ ap (λ x. x ++ rest) kept ∙ append_assoc (take 16 pod) els rest)
+    ∙ take_at (take 16 pod) (els ++ rest) 16 (length-take-le 16 pod (omega arith)) in
+    let sixteen : IsBytes (take 16 pod) = subst IsBytes first (IsBytes-take 16 new h) in
+    let inner : take 8 (drop 8 pod) ≡ take 8 body = sym (take-take 8 size (drop 8 pod) big) in
+    let bytes : IsBytes (take 8 body) = subst IsBytes inner (behind_bytes 8 8 16 pod refl sixteen) in
+    let words : take 8 body ≡ word_bytes (body_size o.0) ++ word_bytes (type_number o.0) =
+    two_words_of body bytes its.header ∙ ap (λ m. word_bytes m ++ word_bytes (word_at body 4)) its.child_size
+    ∙ ap (λ m. word_bytes (body_size o.0) ++ word_bytes m) its.child_type in
+    let front : take 16 pod ≡ take 8 pod ++ take 8 body =
+    take-add 8 8 pod ∙ ap (λ x. take 8 pod ++ x) inner in
+    let zeros : replicate (length (put_mid 16 k pod els) - (8 + size)) 0 ≡ padding size =
+    ap (λ m. replicate m 0) (let m : length (put_mid 16 k pod els) - (8 + size) ≡ padded_size size - size = omega arith in m) in
+    let x = array_body o.0 o.1 in
+    let y = array_length o.0 o.1 in
+    let m = ap length written in
+    let size_is : length x ≡ size = omega arith in
+    let all : take 8 body ++ els ≡ x =
+    ap (λ q. q ++ els) words ∙ append_assoc (word_bytes (body_size o.0)) (word_bytes (type_number o.0)) els
+    ∙ ap (λ q. word_bytes (body_size o.0) ++ (word_bytes (type_number o.0) ++ q)) written in
+    e ∙ ap (λ q. q ++ replicate (length (put_mid 16 k pod els) - (8 + size)) 0) (kept ∙ ap (λ q. q ++ els) front)
+    ∙ ap (λ q. ((take 8 pod ++ take 8 body) ++ els) ++ q) zeros
+    ∙ array_parts (take 8 pod) (take 8 body) els (padding size)
+    ∙ ap (λ q. take 8 pod ++ (q ++ padding size)) all
+    ∙ framed_again pod x array_type size (front_bytes 8 16 pod (omega arith) sixteen) p size_is ∙ ap encoding_of (sym o.2)
+  where
+    array_parts : (a b c d : List ℕ) → ((a ++ b) ++ c) ++ d ≡ a ++ ((b ++ c) ++ d)
+    array_parts a b c d = simp append_assoc
+
+-- the values that a choice takes are in its first bytes
+taken_first : (s : Shape) (k : Kind) (x : Fixed) (all : List Fixed) (b : List ℕ) (m n : ℕ) → AreElements k (x ∷ all) b →
+    values_taken s all ≡ take m all → n ≡ suc m * body_size k → AreElements k (x ∷ values_taken s all) (take n b)
+taken_first s k x all b m n h e c =
+    subst (λ l. AreElements k (x ∷ l) (take n b)) (sym e)
+    (subst (λ i. AreElements k (x ∷ take m all) (take i b)) (sym c) (first_elements k (suc m) (x ∷ all) b h))
+
+taken_elements : (s : Shape) (k : Kind) (x : Fixed) (all : List Fixed) (b : List ℕ) → AreElements k (x ∷ all) b →
+    AreElements k (x ∷ values_taken s all) (take (bytes_taken s (body_size k) (length b)) b)
+taken_elements none_choice k x all b h = taken_first none_choice k x all b 0 (body_size k) h refl (omega arith)
+taken_elements range_choice k x all b h = taken_first range_choice k x all b 2 (3 * body_size k) h refl (omega arith)
+taken_elements step_choice k x all b h = taken_first step_choice k x all b 3 (4 * body_size k) h refl (omega arith)
+taken_elements enum_choice k x all b h = subst (AreElements k (x ∷ all)) (sym (take_all (length b) b (omega arith))) h
+taken_elements flags_choice k x all b h = subst (AreElements k (x ∷ all)) (sym (take_all (length b) b (omega arith))) h
+
+-- a choice
+pub choice_patched : (pod first els new : List ℕ) (number size n k shape flags child : ℕ) → IsBytes new → IsPodOf pod choice_type size →
+    16 ≤ size → shape ≡ word_at pod 8 → child ≡ word_at pod 16 →
+    ((s : Shape) → shape ≡ shape_number s → n ≡ bytes_taken s child (size - 16)) → n ≤ size - 16 → number ≡ word_at pod 20 →
+    ((s : Shape) → shape ≡ shape_number s → flags ≡ kept_flags s (word_at pod 12)) →
+    first ≡ (word_bytes (16 + n) ++ word_bytes choice_type) ++ (word_bytes shape ++ word_bytes flags) → k ≡ n →
+    TurnsWritten number (take k (drop 24 (first ++ drop 16 pod))) els →
+    length els ≡ length (take k (drop 24 (first ++ drop 16 pod))) →
+    new ≡ take (8 + (16 + n)) (put_mid 24 k (first ++ drop 16 pod) els)
+    ++ replicate (length (put_mid 24 k (first ++ drop 16 pod) els) - (8 + (16 + n))) 0 → IsPatched pod new
+choice_patched pod first els new number size n k shape flags child h p big w8 w16 taken room w20 kept fe kn t len e = λ v pd long.
+    let b = says_body pod choice_type size v p pd in
+    let o = choice_only v b.its_type in
+    let body = take size (drop 8 pod) in
+    let s = o.0 in
+    let j = o.2 in
+    let its : IsChoice s o.1 j o.3 o.4 body = subst (λ x. IsBody x body) o.5 b.its_body in
+    let inside : drop 8 body ≡ take (size - 8) (drop 16 pod) =
+    ap (λ m. drop 8 (take m (drop 8 pod))) (let m : size ≡ 8 + (size - 8) = omega arith in m) ∙ drop-take 8 (size - 8) (drop 8 pod)
+    ∙ ap (take (size - 8)) (drop-drop 8 8 pod) in
+    let values : drop 8 (drop 8 body) ≡ take (size - 16) (drop 24 pod) =
+    ap (drop 8) inside ∙ ap (λ m. drop 8 (take m (drop 16 pod))) (let m : size - 8 ≡ 8 + (size - 16) = omega arith in m)
+    ∙ drop-take 8 (size - 16) (drop 16 pod) ∙ ap (take (size - 16)) (drop-drop 8 16 pod) in
+    let at = λ (i : ℕ) (r : i + 4 ≤ size). word_at-take size i (drop 8 pod) r ∙ word_at-drop 8 i pod in
+    let inner = λ (i : ℕ) (r : i + 4 ≤ size - 8). ap (λ x. word_at x i) inside ∙ word_at-take (size - 8) i (drop 16 pod) r ∙ word_at-drop 16 i pod in
+    let shape_is : shape ≡ shape_number s = w8 ∙ sym (at 0 (omega arith)) ∙ its.shape in
+    let flags_is : flags ≡ o.1 = kept s shape_is ∙ ap (kept_flags s) (sym (at 4 (omega arith))) ∙ sym its.flags in
+    let child_is : child ≡ body_size j = w16 ∙ sym (inner 0 (omega arith)) ∙ its.values.child_size in
+    let number_is : number ≡ type_number j = w20 ∙ sym (inner 4 (omega arith)) ∙ its.values.child_type in
+    let g = p.long in
+    let u = padded_above size in
+    let d24 = length-drop 24 pod in
+    let d16 = length-drop 16 pod in
+    let c = take (size - 16) (drop 24 pod) in
+    let many : length c ≡ size - 16 = length-take-le (size - 16) (drop 24 pod) (omega arith) in
+    let n_is : n ≡ bytes_taken s (body_size j) (length c) =
+    taken s shape_is ∙ ap (λ m. bytes_taken s m (size - 16)) child_is ∙ ap (bytes_taken s (body_size j)) (sym many) in
+    let xs = o.3 ∷ o.4 in
+    let all : AreElements j xs (take n c) =
+    subst (λ m. AreElements j xs (take m c)) (sym n_is)
+    (subst (λ y. AreElements j (o.3 ∷ y) (take (bytes_taken s (body_size j) (length c)) c)) (sym its.first)
+    (taken_elements s j o.3 its.all c (subst (AreElements j (o.3 ∷ its.all)) values its.values.elements))) in
+    let m0 = length-append (word_bytes (16 + n)) (word_bytes choice_type) in
+    let m1 = length-append (word_bytes shape) (word_bytes flags) in
+    let m2 = ap length fe ∙ length-append (word_bytes (16 + n) ++ word_bytes choice_type) (word_bytes shape ++ word_bytes flags) in
+    let m3 = length-word_bytes (16 + n) in
+    let m4 = length-word_bytes choice_type in
+    let m5 = length-word_bytes shape in
+    let m6 = length-word_bytes flags in
+    let sixteen : length first ≡ 16 = omega arith in
+    let part = first ++ drop 16 pod in
+    let behind : drop 24 part ≡ drop 24 pod =
+    sym (drop-drop 8 16 part) ∙ ap (drop 8) (drop_at first (drop 16 pod) 16 sixteen) ∙ drop-drop 8 16 pod in
+    let old : take k (drop 24 part) ≡ take n c = ap (take k) behind ∙ ap (λ m. take m (drop 24 pod)) kn ∙ sym (take-take n (size - 16) (drop 24 pod) room) in
+    let written : els ≡ fixed_bodies xs = t j xs number_is (subst (AreElements j xs) (sym old) all) in
+    let count : length (take n c) ≡ n = length-take-le n c (omega arith) in
+    let l : length els ≡ k = len ∙ ap length old ∙ count ∙ sym kn in
+    let lp = length-append first (drop 16 pod) in
+    let whole = put_mid 24 k part els in
+    let same = length_put 24 k part els (omega arith) l in
+    let front : take 24 part ≡ first ++ take 8 (drop 16 pod) =
+    take-add 16 8 part ∙ ap (λ y. y ++ take 8 (drop 16 part)) (take_at first (drop 16 pod) 16 sixteen)
+    ∙ ap (λ y. first ++ take 8 y) (drop_at first (drop 16 pod) 16 sixteen) in
+    let start : take (8 + (16 + n)) whole ≡ take 24 part ++ els = take-put_mid 24 k part els (8 + (16 + n)) (omega arith) (omega arith) in
+    let rest : List ℕ = replicate (length whole - (8 + (16 + n))) 0 in
+    let w = take 8 (drop 16 pod) in
+    let eight : length w ≡ 8 = length-take-le 8 (drop 16 pod) (omega arith) in
+    let new_is : new ≡ first ++ (w ++ (els ++ rest)) =
+    e ∙ ap (λ y. y ++ rest) (start ∙ ap (λ y. y ++ els) front) ∙ four_parts first w els rest in
+    let bytes : IsBytes w =
+    subst IsBytes (ap (λ y. take 8 (drop 16 y)) new_is ∙ ap (take 8) (drop_at first (w ++ (els ++ rest)) 16 sixteen) ∙ take_at w (els ++ rest) 8 eight)
+    (IsBytes-take 8 (drop 16 new) (IsBytes-drop 16 new h)) in
+    let words : take 8 (drop 16 pod) ≡ word_bytes (body_size j) ++ word_bytes (type_number j) =
+    two_words_of (drop 16 pod) bytes (omega arith)
+    ∙ ap (λ m. word_bytes m ++ word_bytes (word_at (drop 16 pod) 4)) (word_at-drop 16 0 pod ∙ sym w16 ∙ child_is)
+    ∙ ap (λ m. word_bytes (body_size j) ++ word_bytes m) (word_at-drop 16 4 pod ∙ sym w20 ∙ number_is) in
+    let body_is = word_bytes (shape_number s) ++ (word_bytes o.1 ++ array_body j xs) in
+    let a0 = length-append (word_bytes (shape_number s)) (word_bytes o.1 ++ array_body j xs) in
+    let a1 = length-append (word_bytes o.1) (array_body j xs) in
+    let a2 = length-word_bytes (shape_number s) in
+    let a3 = length-word_bytes o.1 in
+    let a4 = array_length j xs in
+    let a5 = ap length written in
+    let size_is : length body_is ≡ 16 + n = omega arith in
+    let padded : padded_size (16 + n) ≡ padded_size size =
+    let f = ap (λ x. length (encoding_of x)) (sym o.5) ∙ long in
+    let q = length-framed choice_type body_is in
+    let r = ap padded_size size_is in
+    omega arith in
+    let zeros : replicate (length whole - (8 + (16 + n))) 0 ≡ padding (16 + n) =
+    ap (λ m. replicate m 0) (let m : length whole - (8 + (16 + n)) ≡ padded_size (16 + n) - (16 + n) = omega arith in m) in
+    let first_is : first ≡ (word_bytes (16 + n) ++ word_bytes choice_type) ++ (word_bytes (shape_number s) ++ word_bytes o.1) =
+    fe ∙ ap (λ y. (word_bytes (16 + n) ++ word_bytes choice_type) ++ (word_bytes y ++ word_bytes flags)) shape_is
+    ∙ ap (λ y. (word_bytes (16 + n) ++ word_bytes choice_type) ++ (word_bytes (shape_number s) ++ word_bytes y)) flags_is in
+    let head = (word_bytes (16 + n) ++ word_bytes choice_type) ++ (word_bytes (shape_number s) ++ word_bytes o.1) in
+    e ∙ ap (λ y. y ++ replicate (length whole - (8 + (16 + n))) 0) (start ∙ ap (λ y. y ++ els) (front ∙ ap (λ y. y ++ take 8 (drop 16 pod)) first_is))
+    ∙ ap (λ y. ((head ++ take 8 (drop 16 pod)) ++ els) ++ y) zeros
+    ∙ ap (λ y. ((head ++ y) ++ els) ++ padding (16 + n)) words
+    ∙ ap (λ y. ((head ++ (word_bytes (body_size j) ++ word_bytes (type_number j))) ++ y) ++ padding (16 + n)) written
+    ∙ four_parts head (word_bytes (body_size j) ++ word_bytes (type_number j)) (fixed_bodies xs) (padding (16 + n))
+    ∙ choice_parts (word_bytes (16 + n)) (word_bytes choice_type) (word_bytes (shape_number s)) (word_bytes o.1)
+    (word_bytes (body_size j)) (word_bytes (type_number j)) (fixed_bodies xs) (padding (16 + n))
+    ∙ ap (λ m. word_bytes m ++ (word_bytes choice_type ++ (body_is ++ padding m))) (sym size_is)
+    ∙ ap encoding_of (sym o.5)
+  where
+    four_parts : (a b c d : List ℕ) → ((a ++ b) ++ c) ++ d ≡ a ++ (b ++ (c ++ d))
+    four_parts a b c d = simp append_assoc
+
+-- pods of a size that their type doesn't have
+pub no_bool : (pod : List ℕ) (size : ℕ) → IsPodOf pod (type_number bool_kind) size → size ≢ 4 → IsPatched pod pod
+no_bool pod size p n = λ v pd long.
+    let b = says_body pod (type_number bool_kind) size v p pd in
+    let o = fixed_only v bool_kind b.its_type in
+    let its : IsFixedBody (kind_of o.0) (take size (drop 8 pod)) o.0 = subst (λ x. IsBody x (take size (drop 8 pod))) o.2 b.its_body in
+    absurd (n (sym b.long ∙ its.whole ∙ ap body_size o.1))
+
+pub no_pointer : (pod : List ℕ) (size : ℕ) → IsPodOf pod pointer_type size → size ≢ 12 → size ≢ 16 → IsPatched pod pod
+no_pointer pod size p m n = λ v pd long.
+    let b = says_body pod pointer_type size v p pd in
+    let o = pointer_only v b.its_type in
+    let its : IsPointer o.0 o.1 (take size (drop 8 pod)) = subst (λ x. IsBody x (take size (drop 8 pod))) o.2 b.its_body in
+    absurd (elim its.1 [
+      | inl x ↦ m (sym b.long ∙ x.0)
+      | inr x ↦ n (sym b.long ∙ x.0)
+    ])
+
+pub no_array : (pod : List ℕ) (size : ℕ) → IsPodOf pod array_type size → size < 8 → IsPatched pod pod
+no_array pod size p n = λ v pd long.
+    let b = says_body pod array_type size v p pd in
+    let o = array_only v b.its_type in
+    let its : IsArray o.0 o.1 (take size (drop 8 pod)) = subst (λ x. IsBody x (take size (drop 8 pod))) o.2 b.its_body in
+    let h = its.header in
+    let l = b.long in
+    absurd (omega arith)
+
+pub short_choice : (pod : List ℕ) (size : ℕ) → IsPodOf pod choice_type size → size < 16 → IsPatched pod pod
+short_choice pod size p n = λ v pd long.
+    let b = says_body pod choice_type size v p pd in
+    let o = choice_only v b.its_type in
+    let its : IsChoice o.0 o.1 o.2 o.3 o.4 (take size (drop 8 pod)) = subst (λ x. IsBody x (take size (drop 8 pod))) o.5 b.its_body in
+    let h = its.values.header in
+    let d = length-drop 8 (take size (drop 8 pod)) in
+    let l = b.long in
+    absurd (omega arith)
+
+pub few_values : (pod : List ℕ) (size n shape child : ℕ) → IsPodOf pod choice_type size → 16 ≤ size → shape ≡ word_at pod 8 →
+    child ≡ word_at pod 16 → ((s : Shape) → shape ≡ shape_number s → n ≡ bytes_taken s child (size - 16)) → size - 16 < n → IsPatched pod pod
+few_values pod size n shape child p big w8 w16 taken less = λ v pd long.
+    let b = says_body pod choice_type size v p pd in
+    let o = choice_only v b.its_type in
+    let body = take size (drop 8 pod) in
+    let its : IsChoice o.0 o.1 o.2 o.3 o.4 body = subst (λ x. IsBody x body) o.5 b.its_body in
+    let inside : drop 8 body ≡ take (size - 8) (drop 16 pod) =
+    ap (λ m. drop 8 (take m (drop 8 pod))) (let m : size ≡ 8 + (size - 8) = omega arith in m) ∙ drop-take 8 (size - 8) (drop 8 pod)
+    ∙ ap (take (size - 8)) (drop-drop 8 8 pod) in
+    let shape_is : shape ≡ shape_number o.0 = w8 ∙ sym (word_at-take size 0 (drop 8 pod) (omega arith) ∙ word_at-drop 8 0 pod) ∙ its.shape in
+    let child_is : child ≡ body_size o.2 =
+    w16 ∙ sym (ap (λ x. word_at x 0) inside ∙ word_at-take (size - 8) 0 (drop 16 pod) (omega arith) ∙ word_at-drop 16 0 pod) ∙ its.values.child_size in
+    let count = length_of_elements o.2 (o.3 ∷ its.all) (drop 8 (drop 8 body)) its.values.elements in
+    let d = length-drop 8 (drop 8 body) in
+    let d2 = length-drop 8 body in
+    let l = b.long in
+    let room : length (o.3 ∷ its.all) * body_size o.2 ≡ size - 16 = omega arith in
+    absurd (enough_room o.0 n (size - 16) child (body_size o.2) (length (o.3 ∷ its.all)) (taken o.0 shape_is) child_is its.enough (sym room) less)
+  where
+    enough_room : (s : Shape) (n all child c many : ℕ) → n ≡ bytes_taken s child all → child ≡ c → least_count s ≤ many →
+        all ≡ many * c → ¬ (all < n)
+    enough_room none_choice n all child c many t e f r less = let m = mul-le-mul_right c f in omega arith
+    enough_room range_choice n all child c many t e f r less = let m = mul-le-mul_right c f in omega arith
+    enough_room step_choice n all child c many t e f r less = let m = mul-le-mul_right c f in omega arith
+    enough_room enum_choice n all child c many t e f r less = omega arith
+    enough_room flags_choice n all child c many t e f r less = omega arith
+
+-- what a pod says of an address
+pub short_address : (pod : List ℕ) (a size : ℕ) → IsPodOf pod pointer_type size → size ≡ 12 → a ≡ word_at pod 16 →
+    IsPointer (word_at pod 8) a (take size (drop 8 pod))
+short_address pod a size p z e =
+    let l = p.long in
+    let d = length-drop 8 pod in (
+      sym (word_at-take size 0 (drop 8 pod) (omega arith) ∙ word_at-drop 8 0 pod),
+      inl (length-take-le size (drop 8 pod) (omega arith) ∙ z, e ∙ sym (word_at-take size 8 (drop 8 pod) (omega arith) ∙ word_at-drop 8 8 pod)),
+    )
+
+pub long_address : (pod : List ℕ) (a size : ℕ) → IsPodOf pod pointer_type size → size ≡ 16 → a ≡ wide_at pod 16 →
+    IsPointer (word_at pod 8) a (take size (drop 8 pod))
+long_address pod a size p z e =
+    let l = p.long in
+    let d = length-drop 8 pod in
+    let all : take size (drop 8 pod) ≡ drop 8 pod = take_all size (drop 8 pod) (omega arith) in (
+      sym (word_at-take size 0 (drop 8 pod) (omega arith) ∙ word_at-drop 8 0 pod),
+      inr (length-take-le size (drop 8 pod) (omega arith) ∙ z, e ∙ sym (ap (λ x. wide_at x 8) all ∙ wide_at-drop 8 8 pod)),
+    )

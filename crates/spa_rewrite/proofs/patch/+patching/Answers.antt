@@ -1,0 +1,116 @@
+use Rattle.std.proofs.Common.{◌≡◌, ◌≤◌, ◌<◌, ◌+◌, ◌-◌, ◌*◌, ◌∙◌, ap, arith, drop, length, length-drop, length-take, refl, rules, subst, sym, take}
+use Rattle.std.proofs.lemmas.List.{take_rest}
+use Rattle.spa_format.specs.Front.{HasFront}
+use Rattle.spa_format.specs.Typed.{IsBytes}
+use Rattle.spa_bytes.specs.Opening.{Opens}
+use Rattle.spa_rewrite.specs.Steady.{key_size}
+use Rattle.spa_rewrite.proofs.Patches.{object_put, struct_put}
+use Rattle.spa_rewrite.proofs.PatchSteps.{entered, inner_fits, key_small, nothing_patched, pod_done, pod_is, stops_short, stops_unopened}
+use Rattle.spa_rewrite.proofs.PatchedBodies.{plain_patched}
+use Rattle.spa_rewrite.proofs.patch.+patching.Goals as goal
+
+pub patch-loop-bytes-init : goal.patch-loop-bytes-init
+patch-loop-bytes-init t c = nothing_patched _ _ (λ i. omega (arith, c.type_inv.bytes i))
+
+pub patch-place_behind-here-requires : goal.patch-place_behind-here-requires
+patch-place_behind-here-requires t c =
+    let k = key_small c.loop-bytes.properties in
+    let l = c.loop-bytes-test.true in
+    omega arith
+
+pub patch-shape_of-bytes-in_default : goal.patch-shape_of-bytes-in_default
+patch-shape_of-bytes-in_default t c = c.loop-bytes.invariant.long
+
+pub patch-returns-in_default : goal.patch-returns-in_default
+patch-returns-in_default t c =
+    let e = c.place_behind-here.ensures in
+    stops_unopened _ _ _ _ _ c.place_behind-here.result c.loop-bytes.invariant (e ∙ omega arith)
+    (subst (λ x. ¬ (HasFront x)) (take_rest c.loop-bytes.bytes c.place_behind-here.result) c.in_default.ensures.short)
+
+pub patch-place_behind-at-requires : goal.patch-place_behind-at-requires
+patch-place_behind-at-requires t c =
+    let k = key_small c.loop-bytes.properties in
+    let l = c.loop-bytes-test.true in
+    let e = c.place_behind-here.ensures in
+    let here = c.place_behind-here.result in
+    let opens : Opens (drop here c.loop-bytes.bytes) c.in-Some.front.type_ c.in-Some.front.body.now c.in-Some.front.rest.now =
+    subst (λ x. Opens x c.in-Some.front.type_ c.in-Some.front.body.now c.in-Some.front.rest.now) (take_rest c.loop-bytes.bytes here)
+    c.in-Some.ensures.there in
+    let within : here ≤ length c.loop-bytes.bytes = omega arith in
+    inner_fits _ _ _ _ here _ _ _ within opens refl c.in-Some-last_inner.ensures
+
+pub patch-loop-bytes-preserved-in-Some-last_inner : goal.patch-loop-bytes-preserved-in-Some-last_inner
+patch-loop-bytes-preserved-in-Some-last_inner t c =
+    let k = key_small c.loop-bytes.properties in
+    let l = c.loop-bytes-test.true in
+    let e = c.place_behind-here.ensures in
+    let here = c.place_behind-here.result in
+    let opens : Opens (drop here c.loop-bytes.bytes) c.in-Some.front.type_ c.in-Some.front.body.now c.in-Some.front.rest.now =
+    subst (λ x. Opens x c.in-Some.front.type_ c.in-Some.front.body.now c.in-Some.front.rest.now) (take_rest c.loop-bytes.bytes here)
+    c.in-Some.ensures.there in
+    let within : here ≤ length c.loop-bytes.bytes = omega arith in
+    let from : here ≡ c.loop-bytes.at + key_size c.loop-bytes.properties = omega arith in
+    entered _ _ _ _ _ _ _ _ here _ _ _ _ c.loop-bytes.invariant from within opens refl refl
+    c.in-Some-last_inner.ensures c.place_behind-at.ensures
+
+pub patch-patch_pod-requires : goal.patch-patch_pod-requires
+patch-patch_pod-requires t c =
+    let k = key_small c.loop-bytes.properties in
+    let l = c.loop-bytes-test.true in
+    let e = c.place_behind-here.ensures in
+    let here = c.place_behind-here.result in
+    let opens : Opens (drop here c.loop-bytes.bytes) c.in-Some.front.type_ c.in-Some.front.body.now c.in-Some.front.rest.now =
+    subst (λ x. Opens x c.in-Some.front.type_ c.in-Some.front.body.now c.in-Some.front.rest.now) (take_rest c.loop-bytes.bytes here)
+    c.in-Some.ensures.there in
+    let n = length c.loop-bytes.bytes - length c.in-Some.front.rest.now - here in
+    let long = c.loop-bytes.invariant.long in
+    let some = length-take n (drop here c.loop-bytes.bytes) in
+    let rest = length-drop here c.loop-bytes.bytes in
+    let smaller : 2 * length (take n (drop here c.loop-bytes.bytes)) < 2 * length c.args.bytes.now + 1 = omega arith in
+    let within : here ≤ length c.loop-bytes.bytes = omega arith in
+    (search rules, pod_is _ _ _ here _ _ _ n within opens refl refl refl)
+
+pub patch-loop-bytes-preserved : goal.patch-loop-bytes-preserved
+patch-loop-bytes-preserved t c =
+    let k = key_small c.loop-bytes.properties in
+    let l = c.loop-bytes-test.true in
+    let e = c.place_behind-here.ensures in
+    let here = c.place_behind-here.result in
+    let opens : Opens (drop here c.loop-bytes.bytes) c.in-Some.front.type_ c.in-Some.front.body.now c.in-Some.front.rest.now =
+    subst (λ x. Opens x c.in-Some.front.type_ c.in-Some.front.body.now c.in-Some.front.rest.now) (take_rest c.loop-bytes.bytes here)
+    c.in-Some.ensures.there in
+    let within : here ≤ length c.loop-bytes.bytes = omega arith in
+    let from : here ≡ c.loop-bytes.at + key_size c.loop-bytes.properties = omega arith in
+    pod_done _ _ _ c.loop-bytes.bytes c.patch_pod.new.pod _ _ _ here _ _ _ _ c.loop-bytes.invariant from within opens refl refl refl
+    c.patch_pod.ensures c.patch_pod.auto.pod (λ i. omega (arith, c.type_inv.bytes i))
+
+pub patch-shape_of-bytes : goal.patch-shape_of-bytes
+patch-shape_of-bytes t c = c.loop-bytes.invariant.long
+
+pub patch-returns : goal.patch-returns
+patch-returns t c =
+    let l = c.loop-bytes-test.false in
+    stops_short _ _ _ _ _ c.loop-bytes.invariant (omega arith)
+
+pub patch_pod-returns-in-Struct : goal.patch_pod-returns-in-Struct
+patch_pod-returns-in-Struct t c =
+    struct_put _ _ _ _ _ (λ i. omega (arith, c.type_inv.pod i)) c.requires (let is : c.args.type_ ≡ 14 = search rules in is) refl
+    c.patch.auto.bytes c.patch.ensures
+
+pub patch_pod-returns-then-size-ge-HEADER_LEN : goal.patch_pod-returns-then-size-ge-HEADER_LEN
+patch_pod-returns-then-size-ge-HEADER_LEN t c =
+    object_put _ _ _ _ _ (λ i. omega (arith, c.type_inv.pod i)) c.requires (let is : c.args.type_ ≡ 15 = search rules in is)
+    c.if-size-ge-HEADER_LEN.true refl c.patch-then-size-ge-HEADER_LEN.auto.bytes c.patch-then-size-ge-HEADER_LEN.ensures
+
+pub patch_pod-returns-in_default : goal.patch_pod-returns-in_default
+patch_pod-returns-in_default t c =
+    plain_patched _ _ _ _ (λ i. omega (arith, c.type_inv.pod i)) c.requires
+    (record {
+      no_bool = search rules;
+      no_array = search rules;
+      no_struct = search rules;
+      no_object = search rules;
+      no_pointer = search rules;
+      no_choice = search rules;
+    })
+    c.clear_padding.ensures

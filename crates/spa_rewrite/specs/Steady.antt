@@ -1,0 +1,87 @@
+-- Pods whose rewritings are as long as they are: docs/FORMAT.md, "The encoding of a value".
+use Rattle.std.specs.Prelude.{◌≡◌, ◌<◌, ◌≤◌, ◌*◌, ℕ, List, length, drop, Bool, true, false}
+use Rattle.spa_format.specs.Words.{extent, header_size, padded_size, size_limit, word_at}
+use Rattle.spa_format.specs.Tree.{Shape, none_choice, range_choice, step_choice, enum_choice, flags_choice, Tree, Trees, Properties, object_type, struct_type, type_of}
+use Rattle.spa_format.specs.Kind.{Fixed, Kind, type_number}
+use Rattle.spa_format.specs.Pod.{AreElements, AreMembers, AreProperties, IsBody, IsPod}
+use Rattle.spa_format.specs.Encoding.{encoded_body, encoding_of, fixed_bodies, member_encodings, property_encodings}
+use Rattle.spa_format.specs.Front.{front_of}
+use Rattle.spa_leaf.specs.Reading.{BeginsWith}
+
+-- pods one after another whose rewritings are together as long as they are
+pub record AreSteady (body : List ℕ) : Type 0 where
+  pub values : Trees
+  pub members : AreMembers values body
+  pub long : length (member_encodings values) ≡ length body
+
+-- the same with key and flags before each
+pub record AreSteadyProperties (body : List ℕ) : Type 0 where
+  pub values : Properties
+  pub properties : AreProperties values body
+  pub long : length (property_encodings values) ≡ length body
+
+-- properties, or members
+abbrev pub AreSteadyInside : Bool → List ℕ → Type 0
+AreSteadyInside true body = AreSteadyProperties body
+AreSteadyInside false body = AreSteady body
+
+-- the input begins with a pod whose rewriting is as long, and this follows it
+pub record BeginsSteady (input rest : List ℕ) : Type 0 where
+  pub value : Tree
+  pub begins : BeginsWith input value rest
+  pub long : length (encoding_of value) ≡ length (front_of input)
+
+-- a body of this type of a pod whose rewriting is as long
+pub record IsSteadyBody (type : ℕ) (body : List ℕ) : Type 0 where
+  pub value : Tree
+  pub its_type : type_of value ≡ type
+  pub its_body : IsBody value body
+  pub long : padded_size (length (encoded_body value)) ≡ padded_size (length body)
+
+-- what is left of properties without the first key and flags; pods have none
+abbrev pub IsBehindKey : Bool → List ℕ → List ℕ → Type 0
+IsBehindKey true left here = (header_size ≤ length left) × (here ≡ drop header_size left)
+IsBehindKey false left here = here ≡ left
+
+-- the pods in the body of a struct, or the properties in that of an object
+abbrev pub IsInside : ℕ → List ℕ → Bool → List ℕ → Type 0
+IsInside type body true inside = (type ≡ object_type) × (header_size ≤ length body) × (inside ≡ drop header_size body)
+IsInside type body false inside = (type ≡ struct_type) × (inside ≡ body)
+
+-- a struct, or an object that has its type and its id
+abbrev pub HoldsPods : ℕ → ℕ → Bool → Type 0
+HoldsPods type size true = (type ≡ object_type) × (header_size ≤ size)
+HoldsPods type size false = type ≡ struct_type
+
+-- how many bytes stand before a pod: a key and flags, or none
+abbrev pub key_size : Bool → ℕ
+key_size true = header_size
+key_size false = 0
+
+-- a pod became its rewriting, if that is as long
+abbrev pub IsPatched : List ℕ → List ℕ → Type 0
+IsPatched old new = (v : Tree) → IsPod old v → length (encoding_of v) ≡ length old → new ≡ encoding_of v
+
+-- pods one after another became their rewritings, if those are together as long; properties, or members
+abbrev pub ArePatched : Bool → List ℕ → List ℕ → Type 0
+ArePatched true old new = (ps : Properties) → AreProperties ps old → length (property_encodings ps) ≡ length old → new ≡ property_encodings ps
+ArePatched false old new = (vs : Trees) → AreMembers vs old → length (member_encodings vs) ≡ length old → new ≡ member_encodings vs
+
+-- all bytes of a pod of this type and size
+pub record IsPodOf (pod : List ℕ) (type size : ℕ) : Type 0 where
+  pub long : length pod ≡ extent size
+  pub fits : size < size_limit
+  pub its_size : word_at pod 0 ≡ size
+  pub its_type : word_at pod 4 ≡ type
+
+-- whole bodies of the kind that has this type number became these as they are written
+abbrev pub TurnsWritten : ℕ → List ℕ → List ℕ → Type 0
+TurnsWritten number old new = (k : Kind) (xs : List Fixed) → number ≡ type_number k → AreElements k xs old → new ≡ fixed_bodies xs
+
+-- how many bytes of values a choice takes, of which one has this size, of all that it holds
+abbrev pub bytes_taken : Shape → ℕ → ℕ → ℕ
+bytes_taken none_choice size all = size
+bytes_taken range_choice size all = 3 * size
+bytes_taken step_choice size all = 4 * size
+bytes_taken enum_choice size all = all
+bytes_taken flags_choice size all = all

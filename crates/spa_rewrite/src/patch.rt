@@ -1,0 +1,225 @@
+//! Pods made their rewritings where they lie, where these are as long: only padding and words that mean nothing change.
+ghost use Rattle.std.specs.Prelude.{◌≡◌, ◌≢◌, ◌+◌, ◌-◌, ◌^◌, ◌<◌, ◌≤◌, ◌++◌, ◌*◌, IfNone, IfSome, drop, length, replicate, take};
+ghost use Rattle.spa_fixed.specs.Reading.{AreWhole};
+ghost use Rattle.spa_format.specs.Pod.{IsPointer};
+ghost use Rattle.spa_format.specs.Tree.{Shape, array_type, choice_type, pointer_type, shape_number};
+ghost use Rattle.spa_format.specs.Kind.{bool_kind, type_number};
+ghost use Rattle.spa_rewrite.specs.Elements.{AreTruths};
+ghost use Rattle.spa_format.specs.Words.{header_size, size_limit, word_at};
+ghost use Rattle.spa_rewrite.specs.Steady.{ArePatched, HoldsPods, IsPatched, IsPodOf, TurnsWritten, bytes_taken, key_size};
+
+use crate::elements::written_flags;
+use spa_bytes::{
+    HEADER_LEN, POINTER_LEN, SECOND_WORD, SHORT_POINTER_LEN, joined, open, two_words, u32_at,
+    u64_at, wide_body,
+};
+use spa_fixed::{CanonicalFixedSizedPod, NONE_SHAPE, RANGE_SHAPE, STEP_SHAPE};
+use spa_utils::SpaTypes;
+
+/// The length in bytes of a word.
+const WORD_LEN: usize = 4;
+
+/// The length in bytes of a whole pod whose body is one or two words; also where the second header in a pod ends: an object's
+/// type and id, an array's child header, or a choice's shape and flags.
+const SECOND_HEADER: usize = 16;
+
+/// Where the child header of a choice ends, and its values begin.
+const VALUES_AT: usize = 24;
+
+/// The length in bytes of a whole pointer.
+const POINTER_POD: usize = 24;
+
+/// Makes pods one after another their rewritings, with key and flags before each where `keyed` is set. It promises nothing
+/// where the bytes aren't such pods, or are longer than these rewritings.
+#[cycle(patching)]
+pub(crate) fn patch(keyed: bool, bytes: &mut [u8])
+    ensures { ArePatched keyed bytes.old bytes.new }
+{
+    let mut properties = keyed;
+    let mut at = 0;
+    while bytes.len() - at >= HEADER_LEN {
+        let here = place_behind(bytes, at, 0, properties);
+        let Some(front) = open(&bytes[here..]) else {
+            return;
+        };
+        let (type_, size, left) = (front.type_, front.body.len(), front.rest.len());
+        match last_inner(left, type_, size) {
+            Some(inner) => {
+                properties = inner;
+                at = place_behind(bytes, here, HEADER_LEN, inner);
+            }
+            None => {
+                at = bytes.len() - left;
+                patch_pod(type_, size, &mut bytes[here..at]);
+            }
+        }
+    }
+}
+
+/// The place behind a header here, and behind a key and flags where `keyed` is set.
+#[inline(always)]
+fn place_behind(bytes: &[u8], at: usize, header: usize, keyed: bool) -> usize
+    requires { at + header + key_size keyed ≤ length bytes.now }
+    ensures { result ≡ at + header + key_size keyed }
+{
+    if keyed {
+        at + header + HEADER_LEN
+    } else {
+        at + header
+    }
+}
+
+/// Whether properties stand in it, of a struct or an object that nothing follows.
+#[inline(always)]
+fn last_inner(left: usize, type_: u32, size: usize) -> Option<bool>
+    ensures { IfSome result (λ keyed. (left ≡ 0) × HoldsPods type_ size keyed) }
+{
+    if left > 0 {
+        return None;
+    }
+    if type_ == SpaTypes::Struct.0 {
+        return Some(false);
+    }
+    if type_ == SpaTypes::Object.0 && size >= HEADER_LEN {
+        return Some(true);
+    }
+    None
+}
+
+/// Makes a pod its rewriting, if that is as long.
+#[cycle(patching)]
+fn patch_pod(type_: u32, size: usize, pod: &mut [u8])
+    requires { IsPodOf pod.old type_ size }
+    ensures { IsPatched pod.old pod.new }
+{
+    match SpaTypes(type_) {
+        SpaTypes::Struct => patch(false, &mut pod[HEADER_LEN..]),
+        SpaTypes::Object => {
+            if size >= HEADER_LEN {
+                patch(true, &mut pod[SECOND_HEADER..]);
+            }
+        }
+        SpaTypes::Bool => patch_bool(size, pod),
+        SpaTypes::Pointer => patch_pointer(size, pod),
+        SpaTypes::Array => patch_array(size, pod),
+        SpaTypes::Choice => patch_choice(size, pod),
+        _ => clear_padding(size, pod),
+    }
+}
+
+/// The same of a Bool: true is the word 1.
+fn patch_bool(size: usize, pod: &mut [u8])
+    requires { IsPodOf pod.old (type_number bool_kind) size }
+    ensures { IsPatched pod.old pod.new }
+{
+    if size == WORD_LEN {
+        let truth = bool::of_body(&pod[HEADER_LEN..HEADER_LEN + WORD_LEN]);
+        pod[HEADER_LEN..SECOND_HEADER].copy_from_slice(&truth.padded_body());
+    }
+}
+
+/// The same of a pointer: its free word is 0, and its address has eight bytes.
+fn patch_pointer(size: usize, pod: &mut [u8])
+    requires { IsPodOf pod.old pointer_type size }
+    ensures { IsPatched pod.old pod.new }
+{
+    let Some(address) = address_of(size, pod) else {
+        return;
+    };
+    let header = two_words(POINTER_LEN as u32, SpaTypes::Pointer.0);
+    let words = two_words(u32_at(pod, HEADER_LEN), 0);
+    pod[..SECOND_HEADER].copy_from_slice(&joined(header, words));
+    pod[SECOND_HEADER..POINTER_POD].copy_from_slice(&wide_body(address));
+}
+
+/// The address of a pointer whose body has this size, if pointers have.
+fn address_of(size: usize, pod: &[u8]) -> Option<u64>
+    requires { IsPodOf pod.now pointer_type size }
+    ensures says { IfSome result (λ address. IsPointer (word_at pod.now 8) address (take size (drop header_size pod.now))) }
+    ensures other { IfNone result ((size ≢ 12) × (size ≢ 16)) }
+{
+    if size == SHORT_POINTER_LEN {
+        return Some(u64::from(u32_at(pod, SECOND_HEADER)));
+    }
+    if size == POINTER_LEN {
+        return Some(u64_at(pod, SECOND_HEADER));
+    }
+    None
+}
+
+/// The same of an array: truth values among its elements are 0 or 1.
+fn patch_array(size: usize, pod: &mut [u8])
+    requires { IsPodOf pod.old array_type size }
+    ensures { IsPatched pod.old pod.new }
+{
+    if size >= HEADER_LEN {
+        let type_ = u32_at(pod, HEADER_LEN + SECOND_WORD);
+        patch_elements(type_, &mut pod[SECOND_HEADER..HEADER_LEN + size]);
+        clear_padding(size, pod);
+    }
+}
+
+/// The same of a choice: what it holds beyond the values that it takes is padding, and so are the flags of a None choice.
+fn patch_choice(size: usize, pod: &mut [u8])
+    requires { IsPodOf pod.old choice_type size }
+    ensures { IsPatched pod.old pod.new }
+{
+    if size < SECOND_HEADER {
+        return;
+    }
+    let all = size - SECOND_HEADER;
+    let shape = u32_at(pod, HEADER_LEN);
+    let len = taken_len(shape, u32_at(pod, SECOND_HEADER) as usize, all);
+    if len > all {
+        return;
+    }
+    let type_ = u32_at(pod, VALUES_AT - WORD_LEN);
+    let flags = written_flags(shape, u32_at(pod, HEADER_LEN + SECOND_WORD));
+    let header = two_words((SECOND_HEADER + len) as u32, SpaTypes::Choice.0);
+    pod[..SECOND_HEADER].copy_from_slice(&joined(header, two_words(shape, flags)));
+    patch_elements(type_, &mut pod[VALUES_AT..VALUES_AT + len]);
+    clear_padding(SECOND_HEADER + len, pod);
+}
+
+/// How many bytes of values a choice of this shape takes, of all that it holds.
+fn taken_len(shape: u32, size: usize, all: usize) -> usize
+    requires { size < size_limit }
+    ensures { (s : Shape) → shape ≡ shape_number s → result ≡ bytes_taken s size all }
+{
+    match shape {
+        NONE_SHAPE => size,
+        RANGE_SHAPE => 3 * size,
+        STEP_SHAPE => 4 * size,
+        _ => all,
+    }
+}
+
+/// Makes the bodies of elements of this type those that are written.
+fn patch_elements(type_: u32, elements: &mut [u8])
+    ensures { TurnsWritten type_ elements.old elements.new }
+{
+    if type_ == SpaTypes::Bool.0 && elements.len() % WORD_LEN == 0 {
+        patch_truths(elements);
+    }
+}
+
+/// Makes the bodies of truth values those that are written.
+fn patch_truths(words: &mut [u8])
+    requires { AreWhole WORD_LEN words.old }
+    ensures { AreTruths words.old words.new }
+{
+    let mut at = 0;
+    while at < words.len() {
+        let truth = bool::of_body(&words[at..at + WORD_LEN]);
+        words[at..at + WORD_LEN].copy_from_slice(&truth.padded_body()[..WORD_LEN]);
+        at += WORD_LEN;
+    }
+}
+
+/// Makes what follows a body of this size zeros.
+fn clear_padding(size: usize, pod: &mut [u8])
+    requires { header_size + size ≤ length pod.old }
+    ensures { pod.new ≡ take (header_size + size) pod.old ++ replicate (length pod.old - (header_size + size)) 0 }
+{
+    pod[HEADER_LEN + size..].fill(0);
+}

@@ -1,0 +1,193 @@
+//! Pods whose rewritings are as long as they are: a look that writes nothing and takes no memory.
+ghost use Rattle.std.specs.Prelude.{◌≡◌, ◌+◌, ◌≤◌, ◌++◌, IfSome, length, true};
+ghost use Rattle.spa_format.specs.Tree.{array_type, choice_type};
+ghost use Rattle.spa_rewrite.specs.Steady.{AreSteady, AreSteadyInside, BeginsSteady, IsBehindKey, IsInside, IsSteadyBody};
+
+use crate::elements::{elements_of, values_of};
+use spa_bytes::{HEADER_LEN, POINTER_LEN, SECOND_WORD, SHORT_POINTER_LEN, open, u32_at};
+use spa_scan::{LEVELS, fixed_len, is_text};
+use spa_utils::SpaTypes;
+
+/// The length in bytes of a body of two words, the longest of fixed size.
+const TWO_WORDS: u32 = 8;
+
+/// The length in bytes of a whole pod whose body is one or two words.
+const SHORT_POD: usize = 16;
+
+/// The length in bytes of the four words before the values of a choice.
+const CHOICE_HEADER: usize = 16;
+
+/// What stands in the body of a struct or of an object.
+#[derive(Clone, Copy)]
+pub(crate) struct Inside<'a> {
+    /// Whether a key and flags stand before each pod: whether it is an object.
+    keyed: bool,
+    /// The pods, one after another.
+    pods: &'a [u8],
+}
+
+/// The first pods whose rewritings are as long as they are, as many as are found, and what follows them. A pod in which structs and
+/// objects stand more than `LEVELS` deep in one another, those at the end of the one around them aside, isn't looked into.
+pub(crate) fn steady_stretch(input: &[u8]) -> (&[u8], &[u8])
+    ensures parts { input.now ≡ result.0.now ++ result.1.now }
+    ensures steady { AreSteady result.0.now }
+{
+    let mut left = input;
+    while let Some(rest) = steady_front(left) {
+        left = rest;
+    }
+    input.split_at(input.len() - left.len())
+}
+
+/// What follows the pod at the front, where its rewriting is found to be as long as it is.
+fn steady_front(input: &[u8]) -> Option<&[u8]>
+    ensures taken { IfSome result (λ rest. BeginsSteady input.now rest.now) }
+    ensures shorter { IfSome result (λ rest. length rest.now + 8 ≤ length input.now) }
+{
+    let Some(front) = open(input) else {
+        return None;
+    };
+    let steady = match inside_of(front.type_, front.body) {
+        Some(inside) => are_steady(inside.keyed, inside.pods, LEVELS),
+        None => is_steady_leaf(front.type_, front.body),
+    };
+    if steady { Some(front.rest) } else { None }
+}
+
+/// Whether the bytes are pods one after another whose rewritings are as long as they are, with key and flags before each where
+/// `keyed` is set.
+fn are_steady(keyed: bool, body: &[u8], levels: u32) -> bool
+    ensures { result ≡ true → AreSteadyInside keyed body.now }
+{
+    let mut properties = keyed;
+    let mut left = body;
+    while !left.is_empty() {
+        let Some(here) = behind_key(properties, left) else {
+            return false;
+        };
+        if let Some(rest) = short_front(here) {
+            left = rest;
+        } else {
+            let Some(front) = open(here) else {
+                return false;
+            };
+            if let Some(inside) = inside_of(front.type_, front.body) {
+                if front.rest.is_empty() {
+                    properties = inside.keyed;
+                    left = inside.pods;
+                } else {
+                    if levels == 0 || !are_steady(inside.keyed, inside.pods, levels - 1) {
+                        return false;
+                    }
+                    left = front.rest;
+                }
+            } else {
+                if !is_steady_leaf(front.type_, front.body) {
+                    return false;
+                }
+                left = front.rest;
+            }
+        }
+    }
+    true
+}
+
+/// What is left of properties without the first key and flags, where these are there, and of pods all.
+#[inline(always)]
+fn behind_key(keyed: bool, left: &[u8]) -> Option<&[u8]>
+    ensures { IfSome result (λ here. IsBehindKey keyed left.now here.now) }
+{
+    if !keyed {
+        return Some(left);
+    }
+    if left.len() < HEADER_LEN {
+        return None;
+    }
+    let (_, here) = left.split_at(HEADER_LEN);
+    Some(here)
+}
+
+/// What follows the pod at the front, where its body is one or two words and of a kind of fixed size.
+#[inline(always)]
+fn short_front(input: &[u8]) -> Option<&[u8]>
+    ensures taken { IfSome result (λ rest. BeginsSteady input.now rest.now) }
+    ensures shorter { IfSome result (λ rest. length rest.now + 16 ≤ length input.now) }
+{
+    if input.len() < SHORT_POD {
+        return None;
+    }
+    let size = u32_at(input, 0);
+    if size == 0 || size > TWO_WORDS {
+        return None;
+    }
+    if size != fixed_len(u32_at(input, SECOND_WORD)) {
+        return None;
+    }
+    let (_, rest) = input.split_at(SHORT_POD);
+    Some(rest)
+}
+
+/// What stands in the body of a struct or of an object; None for other types, and where an object's type and id aren't there.
+#[inline(always)]
+fn inside_of(type_: u32, body: &[u8]) -> Option<Inside<'_>>
+    ensures { IfSome result (λ inside. IsInside type_ body.now inside.keyed inside.pods.now) }
+{
+    if type_ == SpaTypes::Struct.0 {
+        return Some(Inside {
+            keyed: false,
+            pods: body,
+        });
+    }
+    if type_ != SpaTypes::Object.0 || body.len() < HEADER_LEN {
+        return None;
+    }
+    let (_, pods) = body.split_at(HEADER_LEN);
+    Some(Inside { keyed: true, pods })
+}
+
+/// Whether a body of this type is that of a value without members whose encoding is as long as the pod.
+#[inline(always)]
+fn is_steady_leaf(type_: u32, body: &[u8]) -> bool
+    ensures { result ≡ true → IsSteadyBody type_ body.now }
+{
+    match SpaTypes(type_) {
+        SpaTypes::Choice => is_steady_choice(body),
+        SpaTypes::String => is_text(body),
+        SpaTypes::Array => is_steady_array(body),
+        SpaTypes::Bytes => true,
+        SpaTypes::Bitmap => true,
+        SpaTypes::Pointer => body.len() == POINTER_LEN || body.len() == SHORT_POINTER_LEN,
+        _ => is_steady_fixed(type_, body),
+    }
+}
+
+/// The same of the kinds of fixed size.
+fn is_steady_fixed(type_: u32, body: &[u8]) -> bool
+    ensures { result ≡ true → IsSteadyBody type_ body.now }
+{
+    let len = fixed_len(type_);
+    len <= TWO_WORDS && body.len() == len as usize
+}
+
+/// The same of arrays.
+fn is_steady_array(body: &[u8]) -> bool
+    ensures { result ≡ true → IsSteadyBody array_type body.now }
+{
+    match elements_of(body) {
+        Some(_) => true,
+        None => false,
+    }
+}
+
+/// The same of choices: what they hold beyond the values that they take is within the padding.
+fn is_steady_choice(body: &[u8]) -> bool
+    ensures { result ≡ true → IsSteadyBody choice_type body.now }
+{
+    match values_of(body) {
+        Some(kept) => {
+            let size = CHOICE_HEADER + kept.len();
+            (size + 7) / HEADER_LEN == (body.len() + 7) / HEADER_LEN
+        }
+        None => false,
+    }
+}

@@ -1,0 +1,26 @@
+use Rattle.std.proofs.Common.{sym, subst}
+use Rattle.spa_fixed.specs.Choices.{choice_tree}
+use Rattle.spa_value.specs.View.{choice_view}
+use Rattle.spa_filter.specs.Offers.{IsOfferOf, OfferAdmits, default_of}
+use Rattle.spa_filter.proofs.Offering.{none_typed}
+use Rattle.spa_filter.proofs.Outcomes.{ValuesMeet-answer}
+use Rattle.spa_filter.proofs.values.typed_choices_meet.Goals as goal
+
+pub returns-in-Some : goal.returns-in-Some
+returns-in-Some g c =
+    let k = g.T.CanonicalFixedSizedPod.kind in
+    let f = g.T.CanonicalFixedSizedPod.fixed in
+    let a = c.offer_of.result in
+    let b = c.offer_of-in-Some.result in
+    let other = choice_view c.args.other.now in
+    let first = c.offer_of.ensures c.args.choice.now.0.0 in
+    let second = subst (λ t. IsOfferOf f t b) (sym c.in-Some.ensures) (c.offer_of-in-Some.ensures c.in-Some.other.now.0.0) in
+    ValuesMeet-answer (choice_tree k f c.args.choice.now) other (OfferAdmits f a) (OfferAdmits f b)
+    (default_of f a) (default_of f b) first second c.meet.result c.meet.ensures
+
+pub returns-in-None : goal.returns-in-None
+returns-in-None g c =
+    let pod = g.T.CanonicalFixedSizedPod in
+    let choice = c.args.choice.now in
+    none_typed pod.kind pod.fixed g.met.T.CanonicalFixedSizedPod.its_kind choice.0.0 choice.1
+    (choice_view c.args.other.now) c.in-None.ensures

@@ -1,0 +1,58 @@
+-- Which plain values a value admits to filter, and which values are supported: docs/NEGOTIATION.md, "What a
+-- value admits to filter".
+use Rattle.std.specs.Prelude.{⊤, ◌≡◌, ◌↔◌, List, ◌∷◌, Contains}
+use Rattle.spa_format.specs.Kind.{Kind, Fixed}
+use Rattle.spa_format.specs.Tree.{Shape, none_choice, range_choice, step_choice, enum_choice, flags_choice, Tree, fixed, choice}
+use Rattle.spa_filter.specs.Order.{IsAtMost, IsOrderedKind}
+
+-- the value itself where it is plain, and the default of a choice of any shape
+abbrev pub plain_of : Tree → Tree
+plain_of (choice shape flags kind default values) = fixed default
+plain_of value = value
+
+-- x lies from low to high
+abbrev pub IsWithin : (low high x : Fixed) → Type 0
+IsWithin low high x = IsAtMost low x × IsAtMost x high
+
+-- The content x is admitted by a choice of this shape, default and further values: by a None choice the
+-- default; by an Enum the default and its alternatives; by a Range what lies from its minimum to its maximum,
+-- wherever the default lies.
+abbrev pub AdmitsContent : Shape → Fixed → List Fixed → Fixed → Type 0
+AdmitsContent none_choice default values x = x ≡ default
+AdmitsContent enum_choice default values x = Contains (default ∷ values) x
+AdmitsContent range_choice default (low ∷ high ∷ values) x = IsWithin low high x
+AdmitsContent _ default values x = ⊥
+
+-- the plain value x is admitted: by a plain value itself, by a choice a content that it admits
+abbrev pub Admits : Tree → Tree → Type 0
+Admits (choice shape flags kind default values) (fixed x) = AdmitsContent shape default values x
+Admits (choice shape flags kind default values) x = ⊥
+Admits value x = x ≡ value
+
+-- a plain value, a None choice, an Enum, or a Range over an ordered kind
+abbrev pub IsSupported : Tree → Type 0
+IsSupported (choice none_choice flags kind default values) = ⊤
+IsSupported (choice enum_choice flags kind default values) = ⊤
+IsSupported (choice range_choice flags kind default values) = IsOrderedKind kind
+IsSupported (choice _ flags kind default values) = ⊥
+IsSupported _ = ⊤
+
+-- both values are supported
+abbrev pub AreSupported : Tree → Tree → Type 0
+AreSupported v w = IsSupported v × IsSupported w
+
+-- the value is admitted by both
+abbrev pub IsCommon : Tree → Tree → Tree → Type 0
+IsCommon v w x = Admits v x × Admits w x
+
+-- some value is admitted by both
+abbrev pub HasCommon : Tree → Tree → Type 0
+HasCommon v w = (x : Tree) × IsCommon v w x
+
+-- y admits exactly what both admit. Its default, or itself where it is plain, is the first of theirs that
+-- both admit, and admitted by both in any case.
+pub record IsMeeting (v w y : Tree) : Type 0 where
+  pub each : (x : Tree) → Admits y x ↔ IsCommon v w x
+  pub admitted : IsCommon v w (plain_of y)
+  pub first : IsCommon v w (plain_of v) → plain_of y ≡ plain_of v
+  pub second : ¬ (IsCommon v w (plain_of v)) → IsCommon v w (plain_of w) → plain_of y ≡ plain_of w

@@ -1,0 +1,113 @@
+-- What a value offers of the contents of one type, as the search for a common one sees it.
+use Rattle.std.specs.Prelude.{⊤, ◌≡◌, ◌↔◌, ◌⊎◌, List, ◌∷◌, map, Contains, Option, Some, None}
+use Rattle.std.specs.BTreeSet.{BTreeSet}
+use Rattle.spa_format.specs.Kind.{Kind, rectangle_kind, Fixed}
+use Rattle.spa_format.specs.Tree.{Tree, fixed}
+use Rattle.spa_value.specs.View.{view}
+use Rattle.spa_value.specs.declared.value.Value.{Value}
+use Rattle.spa_value.specs.declared.value.Value.TheVariants as V
+use Rattle.spa_filter.specs.Admits.{plain_of}
+use Rattle.spa_filter.specs.Order.{IsAtMost}
+use Rattle.spa_filter.specs.Admits.{IsWithin, Admits, HasCommon, IsMeeting}
+use Rattle.spa_filter.specs.Numbering.{HasAll}
+use Rattle.spa_filter.specs.declared.numbers.Numbers.{Numbers}
+use Rattle.spa_filter.specs.declared.offer.Offer.{Offer}
+use Rattle.spa_filter.specs.declared.offer.Offer.TheVariants.{Only, Among, Between, Nothing}
+
+-- the tree is that of a content
+abbrev pub IsContent : Tree → Type 0
+IsContent (fixed x) = ⊤
+IsContent _ = ⊥
+
+-- z is no greater than what neither x nor y is greater than
+pub record IsJoin (x y z : Fixed) : Type 0 where
+  pub each : (u : Fixed) → IsAtMost z u ↔ (IsAtMost x u × IsAtMost y u)
+
+-- z is no less than what neither x nor y is less than
+pub record IsMeet (x y z : Fixed) : Type 0 where
+  pub each : (u : Fixed) → IsAtMost u z ↔ (IsAtMost u x × IsAtMost u y)
+
+-- of any two contents of this kind that are in order with themselves, one is no greater than the other
+abbrev pub IsChain : Kind → Type 0
+IsChain rectangle_kind = ⊥
+IsChain _ = ⊤
+
+-- the content x is admitted by the offer, where a value of the type says this content
+abbrev pub OfferAdmits : {T : Type 0} → (T → Fixed) → Offer T → Fixed → Type 0
+OfferAdmits f (Only default) x = x ≡ f default
+OfferAdmits f (Among default others) x = Contains (f default ∷ map f others.now) x
+OfferAdmits f (Between default low high) x = IsWithin (f low) (f high) x
+OfferAdmits f (Nothing default) x = ⊥
+
+-- the default of the offer
+abbrev pub default_of : {T : Type 0} → (T → Fixed) → Offer T → Fixed
+default_of f (Only default) = f default
+default_of f (Among default others) = f default
+default_of f (Between default low high) = f default
+default_of f (Nothing default) = f default
+
+-- a value with this tree admits these contents and nothing else, and has this default
+pub record IsOffer (value : Tree) (Admitted : Fixed → Type 0) (default : Fixed) : Type 0 where
+  pub each : (x : Fixed) → Admits value (fixed x) ↔ Admitted x
+  pub only : (x : Tree) → Admits value x → IsContent x
+  pub default_is : plain_of value ≡ fixed default
+
+-- the offer is that of a value with this tree
+abbrev pub IsOfferOf : {T : Type 0} → (T → Fixed) → Tree → Offer T → Type 0
+IsOfferOf f value offer = IsOffer value (OfferAdmits f offer) (default_of f offer)
+
+-- x is the first of the defaults d and e that both admit, and admitted by both in any case
+pub record IsDefault (P Q : Fixed → Type 0) (d e x : Fixed) : Type 0 where
+  pub admitted : P x × Q x
+  pub first : P d × Q d → x ≡ d
+  pub second : ¬ (P d × Q d) → P e × Q e → x ≡ e
+
+-- a value with this tree admits exactly the contents of which both hold, and its default is the first that may be
+pub record MeetsIn (P Q : Fixed → Type 0) (d e : Fixed) (value : Tree) : Type 0 where
+  pub default : Fixed
+  pub is_default : IsDefault P Q d e default
+  pub offers : IsOffer value (λ x. P x × Q x) default
+
+-- of no content both hold, or a value of which that is so
+abbrev pub Outcome : (P Q : Fixed → Type 0) (d e : Fixed) → Option Value → Type 0
+Outcome P Q d e None = (x : Fixed) → ¬ (P x × Q x)
+Outcome P Q d e (Some value) = MeetsIn P Q d e (view value)
+
+-- the same of what two offers admit
+abbrev pub OffersMeet : {T : Type 0} → (T → Fixed) → Offer T → Offer T → Option Value → Type 0
+OffersMeet f a b met = Outcome (OfferAdmits f a) (OfferAdmits f b) (default_of f a) (default_of f b) met
+
+-- no value is admitted by both, or one that admits exactly what both admit
+abbrev pub ValuesMeet : Tree → Tree → Option Value → Type 0
+ValuesMeet v w None = ¬ (HasCommon v w)
+ValuesMeet v w (Some y) = IsMeeting v w (view y)
+
+-- the index has what is looked up in it: the default and the alternatives of an Enum
+abbrev pub IsIndexed : {T : Type 0} → (T → Fixed) → Offer T → BTreeSet Numbers → Type 0
+IsIndexed f (Among default others) index = HasAll index (f default ∷ map f others.now)
+IsIndexed f _ index = ⊤
+
+-- kept has those of the contents that are admitted, and nothing else
+pub record IsKept (Admitted : Fixed → Type 0) (contents kept : List Fixed) : Type 0 where
+  pub each : (x : Fixed) → Contains kept x ↔ (Contains contents x × Admitted x)
+
+-- what is admitted with one more content
+pub record IsOneMoreKept (Admitted : Fixed → Type 0) (content : Fixed) (old new : List Fixed) : Type 0 where
+  pub each : (x : Fixed) → Contains new x ↔ (Contains old x ⊎ ((x ≡ content) × Admitted x))
+
+-- both offers admit this content at most
+abbrev pub IsOnly : {T : Type 0} → (T → Fixed) → Offer T → Offer T → Fixed → Type 0
+IsOnly f a b x = (c : Fixed) → OfferAdmits f a c → OfferAdmits f b c → c ≡ x
+
+-- these are the contents that both offers admit
+pub record AreKept {T : Type 0} (f : T → Fixed) (a b : Offer T) (contents : List Fixed) : Type 0 where
+  pub each : (x : Fixed) → Contains contents x ↔ (OfferAdmits f a x × OfferAdmits f b x)
+
+-- both offers admit what lies from low to high
+pub record AreBetween {T : Type 0} (f : T → Fixed) (a b : Offer T) (low high : Fixed) : Type 0 where
+  pub each : (x : Fixed) → IsWithin low high x ↔ (OfferAdmits f a x × OfferAdmits f b x)
+
+-- the value is of another variant than a choice
+abbrev pub IsPlainView : Value → Type 0
+IsPlainView (V.Choice c) = ⊥
+IsPlainView _ = ⊤

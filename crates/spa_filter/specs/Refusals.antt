@@ -1,0 +1,71 @@
+-- Why two objects aren't filtered: docs/NEGOTIATION.md, "To filter".
+use Rattle.std.specs.Prelude.{⊤, ◌≡◌, ℕ, List, ◌∷◌, ◌++◌, Option, Some, None}
+use Rattle.std.specs.List.{All}
+use Rattle.spa_format.specs.Tree.{Tree, object, Properties, join_properties}
+use Rattle.spa_filter.specs.Keys.{keys_of}
+use Rattle.spa_filter.specs.Admits.{AreSupported, HasCommon}
+use Rattle.spa_filter.specs.Keys.{Offered, offered_at, IsMandatory}
+use Rattle.spa_filter.specs.Filtering.{AgreeAt}
+use Rattle.spa_filter.specs.declared.error.FilterError.{FilterError}
+use Rattle.spa_filter.specs.declared.error.FilterError.TheVariants.{TypeMismatch, Missing, Unsupported, Disjoint, OutOfMemory}
+
+-- one side has the key, as mandatory, and the other lacks it
+abbrev pub IsMissing : Option Offered → Option Offered → Type 0
+IsMissing (Some a) None = IsMandatory a.flags
+IsMissing None (Some b) = IsMandatory b.flags
+IsMissing _ _ = ⊥
+
+-- both sides have the key, and a value of theirs isn't supported
+abbrev pub AreUnsupported : Option Offered → Option Offered → Type 0
+AreUnsupported (Some a) (Some b) = ¬ (AreSupported a.value b.value)
+AreUnsupported _ _ = ⊥
+
+-- both sides have the key with supported values, and no value is admitted by both
+abbrev pub AreDisjoint : Option Offered → Option Offered → Type 0
+AreDisjoint (Some a) (Some b) = AreSupported a.value b.value × ¬ (HasCommon a.value b.value)
+AreDisjoint _ _ = ⊥
+
+-- this is the first of the keys of either side, our keys first, under which the two don't agree, and this stands there
+pub record IsRefusedAt (Stands : Option Offered → Option Offered → Type 0)
+    (ours theirs : Properties) (key : ℕ) : Type 0 where
+  pub before : List ℕ
+  pub after : List ℕ
+  pub order : keys_of (join_properties ours theirs) ≡ before ++ key ∷ after
+  pub agreed : All (AgreeAt ours theirs) before
+  pub stands : Stands (offered_at key ours) (offered_at key theirs)
+
+-- what two values under this key are refused for
+abbrev pub IsValueRefusal : ℕ → Tree → Tree → FilterError → Type 0
+IsValueRefusal key v w (Unsupported k) = (k ≡ key) × ¬ (AreSupported v w)
+IsValueRefusal key v w (Disjoint k) = (k ≡ key) × AreSupported v w × ¬ (HasCommon v w)
+IsValueRefusal key v w OutOfMemory = ⊤
+IsValueRefusal key v w _ = ⊥
+
+-- what the two sides are refused for by what they have under this key
+abbrev pub IsKeyRefusal : ℕ → Option Offered → Option Offered → FilterError → Type 0
+IsKeyRefusal key ours theirs (Missing k) = (k ≡ key) × IsMissing ours theirs
+IsKeyRefusal key ours theirs (Unsupported k) = (k ≡ key) × AreUnsupported ours theirs
+IsKeyRefusal key ours theirs (Disjoint k) = (k ≡ key) × AreDisjoint ours theirs
+IsKeyRefusal key ours theirs OutOfMemory = ⊤
+IsKeyRefusal key ours theirs _ = ⊥
+
+-- what the properties of two objects of one type are refused for
+abbrev pub IsRefusal : Properties → Properties → FilterError → Type 0
+IsRefusal ours theirs (Missing key) = IsRefusedAt IsMissing ours theirs key
+IsRefusal ours theirs (Unsupported key) = IsRefusedAt AreUnsupported ours theirs key
+IsRefusal ours theirs (Disjoint key) = IsRefusedAt AreDisjoint ours theirs key
+IsRefusal ours theirs OutOfMemory = ⊤
+IsRefusal ours theirs _ = ⊥
+
+-- what two objects are refused for
+abbrev pub AreRefused : Tree → Tree → FilterError → Type 0
+AreRefused (object type our_id ours) (object its_type its_id theirs) TypeMismatch =
+    ¬ (its_type ≡ type)
+AreRefused (object type our_id ours) (object its_type its_id theirs) e =
+    (its_type ≡ type) × IsRefusal ours theirs e
+AreRefused _ _ _ = ⊥
+
+-- this holds where the refusal is for another cause than memory
+abbrev pub OnDisagreement : Type 0 → FilterError → Type 0
+OnDisagreement fact OutOfMemory = ⊤
+OnDisagreement fact _ = fact

@@ -1,0 +1,88 @@
+//! Two offers of one type meet.
+ghost use Rattle.std.specs.Prelude.{◌↔◌, IfOk, map};
+ghost use Rattle.spa_format.specs.Kind.{Fixed};
+ghost use Rattle.spa_filter.specs.Offers.{AreBetween, AreKept, IsOnly, OffersMeet};
+
+use crate::element::Element;
+use crate::kept::kept;
+use crate::offer::{Offer, admits, common_default};
+use spa_utils::ChoiceEnum;
+use spa_value::Value;
+use std::alloc::{AllocError, Global};
+
+/// What admits exactly the elements that both offers admit, where there is one: a plain value where one of them is one, else an
+/// Enum where one of them is one, else a Range.
+pub(crate) fn meet<T: Element>(
+    alloc: Global,
+    a: &Offer<'_, T>,
+    b: &Offer<'_, T>,
+) -> Result<Option<Value>, AllocError>
+    ensures { IfOk result (OffersMeet T.fixed a.now b.now) }
+{
+    match a {
+        Offer::Only(x) => Ok(meet_only(a, b, x)),
+        Offer::Among(first, others) => match b {
+            Offer::Only(y) => Ok(meet_only(a, b, y)),
+            _ => {
+                let values = kept(alloc, first, others, b)?;
+                Ok(meet_among(a, b, values))
+            }
+        },
+        Offer::Between(_, low, high) => match b {
+            Offer::Only(y) => Ok(meet_only(a, b, y)),
+            Offer::Among(first, others) => {
+                let values = kept(alloc, first, others, a)?;
+                Ok(meet_among(a, b, values))
+            }
+            Offer::Between(_, least, greatest) => {
+                let low = low.greater(least);
+                let high = high.lesser(greatest);
+                Ok(meet_between(a, b, &low, &high))
+            }
+            Offer::Nothing(_) => Ok(None),
+        },
+        Offer::Nothing(_) => Ok(None),
+    }
+}
+
+/// An element as a value, where both offers admit it and none else.
+pub(crate) fn meet_only<T: Element>(a: &Offer<'_, T>, b: &Offer<'_, T>, x: &T) -> Option<Value>
+    requires { IsOnly T.fixed a.now b.now (T.fixed x.now) }
+    ensures { OffersMeet T.fixed a.now b.now result }
+{
+    if admits(a, x) && admits(b, x) {
+        return Some(x.value());
+    }
+    None
+}
+
+/// An Enum of those elements that both offers admit.
+fn meet_among<T: Element>(a: &Offer<'_, T>, b: &Offer<'_, T>, values: Vec<T>) -> Option<Value>
+    requires { AreKept T.fixed a.now b.now (map T.fixed values.items) }
+    ensures { OffersMeet T.fixed a.now b.now result }
+{
+    let Some(first) = values.first() else {
+        return None;
+    };
+    let default = common_default(a, b, first);
+    Some(T::choice(ChoiceEnum::Enum {
+        default,
+        alternatives: values,
+    }))
+}
+
+/// A Range of the elements that both offers admit.
+fn meet_between<T: Element>(a: &Offer<'_, T>, b: &Offer<'_, T>, low: &T, high: &T) -> Option<Value>
+    requires { AreBetween T.fixed a.now b.now (T.fixed low.now) (T.fixed high.now) }
+    ensures { OffersMeet T.fixed a.now b.now result }
+{
+    if !low.is_at_most(high) {
+        return None;
+    }
+    let default = common_default(a, b, low);
+    Some(T::choice(ChoiceEnum::Range {
+        default,
+        min: *low,
+        max: *high,
+    }))
+}

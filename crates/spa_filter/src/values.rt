@@ -1,0 +1,174 @@
+//! Two values meet.
+ghost use Rattle.std.specs.Prelude.{◌≡◌, ◌↔◌, IfErr, IfOk, IsTrue, OnOk};
+ghost use Rattle.spa_format.specs.Tree.{fixed};
+ghost use Rattle.spa_fixed.specs.Choices.{choice_enum_tree, choice_tree};
+ghost use Rattle.spa_value.specs.View.{choice_view, view};
+ghost use Rattle.spa_filter.specs.Admits.{AreSupported, IsMeeting, IsSupported};
+ghost use Rattle.spa_filter.specs.Offers.{IsPlainView, ValuesMeet};
+ghost use Rattle.spa_filter.specs.Refusals.{IsValueRefusal};
+
+use crate::element::Element;
+use crate::error::FilterError;
+use crate::meeting::{meet, meet_only};
+use crate::offer::{Offer, offer_of};
+use spa_utils::{Choice, ChoiceEnum};
+use spa_value::laws::{equal_trees_are_the_same, trees_have_their_types};
+use spa_value::{ChoiceValue, Value, same};
+use std::alloc::{AllocError, Global};
+
+/// A value that admits exactly what both admit.
+pub(crate) fn common(alloc: Global, key: u32, a: &Value, b: &Value) -> Result<Value, FilterError>
+    ensures meeting { IfOk result (λ y. IsMeeting (view a.now) (view b.now) (view y)) }
+    ensures supported { OnOk result (AreSupported (view a.now) (view b.now)) }
+    ensures cause { IfErr result (IsValueRefusal key (view a.now) (view b.now)) }
+{
+    if !is_supported(a) || !is_supported(b) {
+        return Err(FilterError::Unsupported(key));
+    }
+    match values_meet(alloc, a, b)? {
+        Some(value) => Ok(value),
+        None => Err(FilterError::Disjoint(key)),
+    }
+}
+
+/// Whether a common value is sought for this one.
+fn is_supported(value: &Value) -> bool
+    ensures { IsTrue result ↔ IsSupported (view value.now) }
+{
+    trees_have_their_types();
+    match value {
+        Value::Choice(choice) => is_choice_supported(choice),
+        _ => true,
+    }
+}
+
+/// The same of a choice.
+fn is_choice_supported(choice: &ChoiceValue) -> bool
+    ensures { IsTrue result ↔ IsSupported (choice_view choice.now) }
+{
+    match choice {
+        ChoiceValue::Bool(choice) => is_shape_supported(choice),
+        ChoiceValue::Id(choice) => is_shape_supported(choice),
+        ChoiceValue::Int(choice) => is_shape_supported(choice),
+        ChoiceValue::Long(choice) => is_shape_supported(choice),
+        ChoiceValue::Float(choice) => is_shape_supported(choice),
+        ChoiceValue::Double(choice) => is_shape_supported(choice),
+        ChoiceValue::Rectangle(choice) => is_shape_supported(choice),
+        ChoiceValue::Fraction(choice) => is_shape_supported(choice),
+        ChoiceValue::Fd(choice) => is_shape_supported(choice),
+    }
+}
+
+/// The same of a choice over one type.
+fn is_shape_supported<T: Element>(choice: &Choice<T>) -> bool
+    ensures { IsTrue result ↔ IsSupported (choice_tree T.kind T.fixed choice.now) }
+{
+    match &choice.1 {
+        ChoiceEnum::None(_) => true,
+        ChoiceEnum::Range { .. } => T::is_ordered(),
+        ChoiceEnum::Step { .. } => false,
+        ChoiceEnum::Enum { .. } => true,
+        ChoiceEnum::Flags { .. } => false,
+    }
+}
+
+/// A value that admits exactly what both admit, where they admit one. What isn't supported admits nothing here.
+fn values_meet(alloc: Global, a: &Value, b: &Value) -> Result<Option<Value>, AllocError>
+    ensures { IfOk result (ValuesMeet (view a.now) (view b.now)) }
+{
+    match a {
+        Value::Choice(choice) => choice_meets(alloc, choice, b),
+        _ => match b {
+            Value::Choice(choice) => Ok(plain_meets(a, choice)),
+            _ => plain_values_meet(alloc, a, b),
+        },
+    }
+}
+
+/// The same of two plain values.
+fn plain_values_meet(alloc: Global, a: &Value, b: &Value) -> Result<Option<Value>, AllocError>
+    requires first { IsPlainView a.now }
+    requires second { IsPlainView b.now }
+    ensures { IfOk result (ValuesMeet (view a.now) (view b.now)) }
+{
+    trees_have_their_types();
+    equal_trees_are_the_same();
+    if same(alloc, a, b)? {
+        return Ok(Some(a.clone()?));
+    }
+    Ok(None)
+}
+
+/// The same of a choice and any value.
+fn choice_meets(alloc: Global, choice: &ChoiceValue, b: &Value) -> Result<Option<Value>, AllocError>
+    ensures { IfOk result (ValuesMeet (choice_view choice.now) (view b.now)) }
+{
+    match choice {
+        ChoiceValue::Bool(choice) => typed_meets(alloc, choice, b),
+        ChoiceValue::Id(choice) => typed_meets(alloc, choice, b),
+        ChoiceValue::Int(choice) => typed_meets(alloc, choice, b),
+        ChoiceValue::Long(choice) => typed_meets(alloc, choice, b),
+        ChoiceValue::Float(choice) => typed_meets(alloc, choice, b),
+        ChoiceValue::Double(choice) => typed_meets(alloc, choice, b),
+        ChoiceValue::Rectangle(choice) => typed_meets(alloc, choice, b),
+        ChoiceValue::Fraction(choice) => typed_meets(alloc, choice, b),
+        ChoiceValue::Fd(choice) => typed_meets(alloc, choice, b),
+    }
+}
+
+/// The same of a choice over one type and any value.
+fn typed_meets<T: Element>(
+    alloc: Global,
+    choice: &Choice<T>,
+    b: &Value,
+) -> Result<Option<Value>, AllocError>
+    ensures { IfOk result (ValuesMeet (choice_tree T.kind T.fixed choice.now) (view b.now)) }
+{
+    match b {
+        Value::Choice(other) => typed_choices_meet(alloc, choice, other),
+        _ => Ok(typed_admits(choice, b)),
+    }
+}
+
+/// The same of a choice over one type and another choice.
+fn typed_choices_meet<T: Element>(
+    alloc: Global,
+    choice: &Choice<T>,
+    other: &ChoiceValue,
+) -> Result<Option<Value>, AllocError>
+    ensures { IfOk result (ValuesMeet (choice_tree T.kind T.fixed choice.now) (choice_view other.now)) }
+{
+    match T::in_choice(other) {
+        Some(other) => meet(alloc, &offer_of(&choice.1), &offer_of(&other.1)),
+        None => Ok(None),
+    }
+}
+
+/// The same of a choice over one type and a plain value.
+fn typed_admits<T: Element>(choice: &Choice<T>, b: &Value) -> Option<Value>
+    requires { IsPlainView b.now }
+    ensures { ValuesMeet (choice_tree T.kind T.fixed choice.now) (view b.now) result }
+{
+    match T::in_value(b) {
+        Some(x) => meet_only(&offer_of(&choice.1), &Offer::Only(x), &x),
+        None => None,
+    }
+}
+
+/// The same of a plain value and a choice.
+fn plain_meets(a: &Value, choice: &ChoiceValue) -> Option<Value>
+    requires { IsPlainView a.now }
+    ensures { ValuesMeet (view a.now) (choice_view choice.now) result }
+{
+    match choice {
+        ChoiceValue::Bool(choice) => typed_admits(choice, a),
+        ChoiceValue::Id(choice) => typed_admits(choice, a),
+        ChoiceValue::Int(choice) => typed_admits(choice, a),
+        ChoiceValue::Long(choice) => typed_admits(choice, a),
+        ChoiceValue::Float(choice) => typed_admits(choice, a),
+        ChoiceValue::Double(choice) => typed_admits(choice, a),
+        ChoiceValue::Rectangle(choice) => typed_admits(choice, a),
+        ChoiceValue::Fraction(choice) => typed_admits(choice, a),
+        ChoiceValue::Fd(choice) => typed_admits(choice, a),
+    }
+}

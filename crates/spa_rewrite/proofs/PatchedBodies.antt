@@ -7,7 +7,7 @@ use Rattle.std.proofs.lemmas.Bool.{cases_lt}
 use Rattle.std.proofs.lemmas.List.{append-nil, drop-drop, drop-take, length-take-le, nil_from_length, take-append-drop, take-take, take_all, take_at, drop_at}
 use Rattle.std.proofs.lemmas.Slice.{take-put_mid, take-put_mid_below}
 use borrow.Rule.Slice.PartMut.{put_mid}
-use Rattle.spa_format.specs.Words.{extent, padded_size, padding, wide_at, wide_bytes, word_at, word_bytes}
+use Rattle.spa_format.specs.Words.{padded_size, padding, wide_at, wide_bytes, word_at, word_bytes}
 use Rattle.spa_format.specs.Kind.{Fixed, IsFixedBody, Kind, body_size, bool, bool_kind, content, fixed_body, kind_of, type_number}
 use Rattle.spa_format.specs.Tree.{Shape, none_choice, range_choice, step_choice, enum_choice, flags_choice, Tree, array, array_type, bitmap, bytes, choice, choice_type, fixed, object, object_type, pointer, pointer_type, shape_number, string, struct, struct_type, type_of}
 use Rattle.spa_format.specs.Normal.{kept_flags}
@@ -15,8 +15,8 @@ use Rattle.spa_format.specs.Pod.{AreElements, IsArray, IsBody, IsChoice, IsPoint
 use Rattle.spa_format.specs.Encoding.{array_body, encoded_body, encoding_of, fixed_bodies, framed}
 use Rattle.spa_format.specs.Typed.{IsBytes}
 use Rattle.spa_format.proofs.Choices.{same_pointer}
-use Rattle.spa_format.proofs.Elements.{array_length, elements_length, length_of_elements, same_elements}
-use Rattle.spa_format.proofs.Encodings.{length-wide_bytes, length-word_bytes, pointer_encoding}
+use Rattle.spa_format.proofs.Elements.{array_length, length_of_elements, same_elements}
+use Rattle.spa_format.proofs.Encodings.{length-word_bytes, pointer_encoding}
 use Rattle.spa_format.proofs.FixedKinds.{fixed_length, same_kind}
 use Rattle.spa_format.proofs.Shapes.{array_only, choice_only, fixed_only, pointer_only}
 use Rattle.spa_format.proofs.Short.{length-framed, padded_above}
@@ -27,7 +27,7 @@ use Rattle.spa_scan.proofs.Parts.{no_elements, whole_elements}
 use Rattle.spa_rewrite.specs.Elements.{AreTruths}
 use Rattle.spa_rewrite.specs.Steady.{IsPatched, IsPodOf, TurnsWritten, bytes_taken}
 use Rattle.spa_rewrite.proofs.Bodies.{choice_parts, first_elements}
-use Rattle.spa_rewrite.proofs.Patches.{SaysBody, behind_bytes, framed_again, front_bytes, length_put, says_body, two_words_of}
+use Rattle.spa_rewrite.proofs.Patches.{behind_bytes, framed_again, front_bytes, length_put, says_body, two_words_of}
 
 -- types whose bodies are written as they lie
 pub record IsPlainType (type : ℕ) : Type 0 where

@@ -1,24 +1,22 @@
 -- Pods that become their rewritings where they lie.
-use Rattle.std.proofs.Common.{◌≡◌, ◌≢◌, ℕ, ◌+◌, ◌-◌, ◌<◌, ◌≤◌, List, [], ◌++◌, length, drop, take, refl, sym, ap, ◌∙◌, subst, arith, append_assoc, length-append, length-drop, length-take}
-use Rattle.std.specs.Prelude.{◌∷◌, Bool, true, false, replicate}
+use Rattle.std.proofs.Common.{◌≡◌, ℕ, ◌+◌, ◌-◌, ◌<◌, ◌≤◌, List, [], ◌++◌, length, drop, take, refl, sym, ap, ◌∙◌, subst, arith, append_assoc, length-append, length-drop}
+use Rattle.std.specs.Prelude.{Bool, true, false}
 use Rattle.std.proofs.Math.Seq.{take-add}
 use Rattle.std.proofs.lemmas.List.{append-nil, drop-drop, drop-take, length-take-le, nil_from_length, take-take, take_all, take_at}
-use Rattle.std.proofs.lemmas.Slice.{take-put_mid, drop-put_mid}
 use borrow.Rule.Slice.PartMut.{put_mid}
-use Rattle.spa_format.specs.Words.{extent, header_size, padded_size, padding, word_at, word_bytes, body_of}
-use Rattle.spa_format.specs.Kind.{IsFixedBody, bool_kind, kind_of, type_number}
-use Rattle.spa_format.specs.Tree.{Tree, Trees, Properties, array, array_type, bitmap, bytes, choice, choice_type, fixed, member, no_properties, no_trees, object, object_type, pointer, pointer_type, property, string, struct, struct_type, type_of}
-use Rattle.spa_format.specs.Pod.{AreMembers, AreProperties, IsBody, IsPod, IsWhole}
+use Rattle.spa_format.specs.Words.{padded_size, padding, word_at, word_bytes}
+use Rattle.spa_format.specs.Tree.{Tree, Trees, Properties, member, no_properties, no_trees, object, object_type, property, struct, struct_type, type_of}
+use Rattle.spa_format.specs.Pod.{AreMembers, AreProperties, IsBody, IsPod}
 use Rattle.spa_format.specs.Encoding.{encoded_body, encoding_of, framed, member_encodings, property_encodings}
 use Rattle.spa_format.specs.Front.{HasFront, front_of, rest_of}
 use Rattle.spa_format.specs.Typed.{IsBytes}
 use Rattle.spa_format.proofs.Encodings.{length-padding, length-property_encoding, length-word_bytes, whole_members, whole_properties}
-use Rattle.spa_format.proofs.Fronts.{front_of_whole, length-body_of, size_of_front, type_of_front}
-use Rattle.spa_format.proofs.Shapes.{array_only, choice_only, fixed_only, object_only, pointer_only, struct_only}
+use Rattle.spa_format.proofs.Fronts.{front_of_whole}
+use Rattle.spa_format.proofs.Shapes.{object_only, struct_only}
 use Rattle.spa_format.proofs.Short.{length-framed, padded_above, short_members, short_props, shortest}
 use Rattle.spa_format.proofs.WordLemmas.{IsBytes-drop, IsBytes-take, word_at-take}
 use Rattle.spa_scan.proofs.Words.{two_words_back}
-use Rattle.spa_rewrite.specs.Steady.{ArePatched, HoldsPods, IsPatched, IsPodOf, key_size}
+use Rattle.spa_rewrite.specs.Steady.{ArePatched, IsPatched, IsPodOf, key_size}
 
 -- the two words at the front
 pub two_words_of : (b : List ℕ) → IsBytes (take 8 b) → 8 ≤ length b → take 8 b ≡ word_bytes (word_at b 0) ++ word_bytes (word_at b 4)

@@ -3,13 +3,12 @@ use Rattle.std.proofs.Common.{◌≡◌, ℕ, ◌+◌, ◌*◌, ◌/◌, ◌<◌
 use Rattle.std.specs.Prelude.{◌⊎◌, ◌∷◌, ◌-◌, take, Bool, true, false}
 use Rattle.std.proofs.lemmas.Bool.{cases_lt}
 use Rattle.std.proofs.lemmas.List.{length-take-le, nil_from_length, take_at}
-use Rattle.spa_format.specs.Words.{body_of, extent, header_size, padded_size, word_at, word_bytes, wide_at}
-use Rattle.spa_format.specs.Kind.{Kind, Fixed, IsFixedBody, body_size, content, kind_of, type_number}
+use Rattle.spa_format.specs.Words.{body_of, extent, padded_size, word_at, word_bytes, wide_at}
+use Rattle.spa_format.specs.Kind.{Kind, Fixed, IsFixedBody, body_size, content, type_number}
 use Rattle.spa_format.specs.Tree.{Shape, shape_number, array, array_type, bitmap, bitmap_type, bytes, bytes_type, choice, choice_type, fixed, member, no_properties, no_trees, object, pointer, pointer_type, property, string, string_type, struct, type_of, join_members}
 use Rattle.spa_format.specs.Normal.{kept_flags}
 use Rattle.spa_format.specs.Pod.{AreElements, AreMembers, AreProperties, IsArray}
 use Rattle.spa_format.specs.Encoding.{array_body, encoded_body, encoding_of, fixed_bodies, member_encodings, property_encodings}
-use Rattle.spa_format.specs.Faults.{choice_header_size}
 use Rattle.spa_format.specs.Front.{HasFront, front_of}
 use Rattle.spa_format.proofs.Elements.{array_length, elements_length, same_array_length}
 use Rattle.spa_format.proofs.Choices.{pointer_length}
@@ -22,7 +21,7 @@ use Rattle.spa_bytes.specs.Opening.{Opens}
 use Rattle.spa_leaf.proofs.Steps.{pod_read}
 use Rattle.spa_scan.specs.Canonical.{IsCanonicalText, IsFixedLen}
 use Rattle.spa_rewrite.specs.Elements.{HasElements, HasValues}
-use Rattle.spa_rewrite.specs.Steady.{AreSteady, AreSteadyInside, AreSteadyProperties, BeginsSteady, IsBehindKey, IsInside, IsSteadyBody}
+use Rattle.spa_rewrite.specs.Steady.{AreSteady, AreSteadyInside, BeginsSteady, IsBehindKey, IsInside, IsSteadyBody}
 use Rattle.spa_rewrite.proofs.Bodies.{listed}
 use Rattle.spa_rewrite.proofs.Stretches.{member_encodings-join}
 use Rattle.spa_rewrite.proofs.Steps.{parted}

@@ -1,7 +1,7 @@
-use Rattle.std.proofs.Common.{◌≡◌, ◌+◌, ◌-◌, ◌≤◌, ◌∙◌, ap, arith, length, refl, rules, subst, sym}
+use Rattle.std.proofs.Common.{◌≡◌, ◌+◌, ◌≤◌, ◌∙◌, ap, length, refl, rules, subst, sym}
 use Rattle.std.specs.Prelude.{[], ◌++◌, vec_len}
 use Rattle.spa_rewrite.specs.Rewriting.{AreRewritten, AreRewrittenInParts}
-use Rattle.spa_rewrite.proofs.InPlaceLemmas.{AllPlaced, all_placed, patched_of, placed_room, refused_behind, start_of}
+use Rattle.spa_rewrite.proofs.InPlaceLemmas.{all_placed, patched_of, placed_room, refused_behind, start_of}
 use Rattle.spa_rewrite.proofs.in_place.rewrite_in_place.Goals as goal
 
 pub returns-in-Err-clause-refused : goal.returns-in-Err-clause-refused

@@ -1,7 +1,6 @@
-use Rattle.std.proofs.Common.{◌≡◌, ◌≤◌, ◌<◌, ◌+◌, ◌-◌, ◌*◌, ◌∙◌, ap, arith, drop, length, length-drop, length-take, refl, rules, subst, sym, take}
+use Rattle.std.proofs.Common.{◌≡◌, ◌≤◌, ◌<◌, ◌+◌, ◌-◌, ◌*◌, ◌∙◌, arith, drop, length, length-drop, length-take, refl, rules, subst, take}
 use Rattle.std.proofs.lemmas.List.{take_rest}
 use Rattle.spa_format.specs.Front.{HasFront}
-use Rattle.spa_format.specs.Typed.{IsBytes}
 use Rattle.spa_bytes.specs.Opening.{Opens}
 use Rattle.spa_rewrite.specs.Steady.{key_size}
 use Rattle.spa_rewrite.proofs.Patches.{object_put, struct_put}

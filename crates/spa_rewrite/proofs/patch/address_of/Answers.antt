@@ -1,4 +1,4 @@
-use Rattle.std.proofs.Common.{◌≡◌, ◌∙◌}
+use Rattle.std.proofs.Common.{◌∙◌}
 use Rattle.spa_rewrite.proofs.PatchedBodies.{long_address, short_address}
 use Rattle.spa_rewrite.proofs.patch.address_of.Goals as goal
 

@@ -1,4 +1,4 @@
-use Rattle.std.proofs.Common.{◌≡◌, ◌∙◌, ap, arith, drop, refl, take}
+use Rattle.std.proofs.Common.{◌∙◌, ap, arith, drop, refl, take}
 use Rattle.spa_rewrite.proofs.PatchedBodies.{bool_patched}
 use Rattle.spa_rewrite.proofs.patch.patch_bool.Goals as goal
 

@@ -1,4 +1,4 @@
-use Rattle.std.proofs.Common.{◌≡◌, ◌++◌, ◌∙◌, ap, arith, refl}
+use Rattle.std.proofs.Common.{◌≡◌, ◌++◌, ◌∙◌, ap, refl}
 use Rattle.spa_format.specs.Words.{word_at, word_bytes}
 use Rattle.spa_format.specs.Tree.{pointer_type}
 use Rattle.spa_rewrite.proofs.PatchedBodies.{pointer_patched, pointer_pod}

@@ -1,7 +1,6 @@
 use Rattle.std.proofs.Common.{◌≡◌, ◌+◌, ◌-◌, ◌∙◌, ap, arith, length, refl, rules}
 use Rattle.std.specs.Prelude.{if◌then◌else◌}
 use Rattle.spa_format.specs.Kind.{bool, fixed_body}
-use Rattle.spa_format.specs.Words.{word_bytes}
 use Rattle.spa_format.proofs.WordLemmas.{length-word_bytes}
 use Rattle.spa_rewrite.proofs.Truths.{all_turned, none_turned, one_turned}
 use Rattle.spa_rewrite.proofs.patch.patch_truths.Goals as goal

@@ -1,4 +1,4 @@
-use Rattle.std.proofs.Common.{◌≡◌, sym, ◌∙◌, arith}
+use Rattle.std.proofs.Common.{sym, ◌∙◌, arith}
 use Rattle.std.proofs.lemmas.Bool.{eqb-true}
 use Rattle.spa_rewrite.proofs.SteadyLemmas.{steady_inside, steady_last, steady_none, steady_opened, steady_step, left_shorter}
 use Rattle.spa_rewrite.proofs.steady.+are_steady.Goals as goal

@@ -1,4 +1,4 @@
-use Rattle.std.proofs.Common.{◌≡◌, ◌<◌, ap, sym, ◌∙◌, arith}
+use Rattle.std.proofs.Common.{arith}
 use Rattle.spa_rewrite.proofs.SteadyLemmas.{steady_short}
 use Rattle.spa_rewrite.proofs.steady.short_front.Goals as goal
 

@@ -1,4 +1,4 @@
-use Rattle.std.proofs.Common.{◌≡◌, sym, ◌∙◌}
+use Rattle.std.proofs.Common.{sym, ◌∙◌}
 use Rattle.spa_rewrite.proofs.SteadyLemmas.{steady_inside, steady_opened}
 use Rattle.spa_rewrite.proofs.steady.steady_front.Goals as goal
 use Rattle.spa_rewrite.proofs.steady.steady_front.Goals.{in-Some-inside_of, in-None}

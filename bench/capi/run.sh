@@ -1,13 +1,14 @@
 #!/usr/bin/env bash
 # run.sh: instructions of a rewriting by libspav (make -C capi) and by the second implementation in C, counted by callgrind: 1,000 pods of
-# examples/, as they are and with noise in their padding, all in one call; and a call for each of 1,000 Props of about 100 bytes.
+# examples/, as they are and with noise in their padding, all in one call; and a call for each of 1,000 Props of about 100 bytes. Then those of
+# a list of all that lies inside, beside a function in C that calls itself.
 # A count is the difference of two runs that rewrite 2 and 12 times, a tenth of it: the start of the program is in neither.
 set -eu
 here=$(dirname "$(readlink -f "${BASH_SOURCE[0]}")")
 root=$here/../..
 room=$(mktemp -d)
 trap 'rm -rf "$room"' EXIT
-gcc -O2 -g -Wall -I"$root/capi" "$here/calls.c" -c -o "$room/calls.o"
+gcc -O3 -g -Wall -I"$root/capi" "$here/calls.c" -c -o "$room/calls.o"
 gcc -O3 -g "$here/one_pass.c" -c -o "$room/one_pass.o"
 gcc "$room/calls.o" "$room/one_pass.o" "${SPAV_LIB:-$root/capi/out}/libspav.a" -o "$room/calls"
 python3 - "$root" "$room" <<'PY'
@@ -35,3 +36,7 @@ for row in mixed: mixed-noise: small:_each small-noise:_each; do
   ours=$(count "library$each" "$file")
   echo "| $file$each | $one | $ours | $((ours * 100 / one))% |"
 done
+"$room/calls" events_check "$room/mixed" 1
+one=$(count events_by_calls mixed)
+ours=$(count events mixed)
+echo "| mixed, events | $one | $ours | $((ours * 100 / one))% |"

@@ -10,7 +10,15 @@ mod raw {
         pub fn spav_nests_within(input: *const u8, n: usize, levels: u32) -> i32;
         pub fn spav_fixate(pod: *mut u8, n: usize) -> i32;
         pub fn spav_front(input: *const u8, n: usize, type_: *mut u32, size: *mut u32, whole: *mut usize) -> i32;
+        pub fn spav_bool(input: *const u8, n: usize, key: u32, value: *mut bool) -> i32;
+        pub fn spav_id(input: *const u8, n: usize, key: u32, value: *mut u32) -> i32;
         pub fn spav_int(input: *const u8, n: usize, key: u32, value: *mut i32) -> i32;
+        pub fn spav_long(input: *const u8, n: usize, key: u32, value: *mut i64) -> i32;
+        pub fn spav_fd(input: *const u8, n: usize, key: u32, value: *mut i64) -> i32;
+        pub fn spav_float(input: *const u8, n: usize, key: u32, bits: *mut u32) -> i32;
+        pub fn spav_double(input: *const u8, n: usize, key: u32, bits: *mut u64) -> i32;
+        pub fn spav_rectangle(input: *const u8, n: usize, key: u32, width: *mut u32, height: *mut u32) -> i32;
+        pub fn spav_fraction(input: *const u8, n: usize, key: u32, num: *mut u32, denom: *mut u32) -> i32;
         pub fn spav_events(input: *const u8, n: usize, out: *mut super::Event, room: usize, count: *mut usize) -> i32;
         pub fn spav_string(input: *const u8, n: usize, key: u32, out: *mut u8, cap: usize, len: *mut usize) -> i32;
     }
@@ -113,11 +121,67 @@ fn read(answer: i32, needed: usize) -> Result<(), Error> {
     }
 }
 
-/// The Int under a key of the object at the front.
+/// The truth value under a key of the object at the front.
+pub fn bool_(input: &[u8], key: u32) -> Result<bool, Error> {
+    let mut value = false;
+    read(unsafe { raw::spav_bool(input.as_ptr(), input.len(), key, &mut value) }, 0)?;
+    Ok(value)
+}
+
+/// The number of the Id under a key.
+pub fn id(input: &[u8], key: u32) -> Result<u32, Error> {
+    let mut value = 0;
+    read(unsafe { raw::spav_id(input.as_ptr(), input.len(), key, &mut value) }, 0)?;
+    Ok(value)
+}
+
+/// The Int under a key.
 pub fn int(input: &[u8], key: u32) -> Result<i32, Error> {
     let mut value = 0;
     read(unsafe { raw::spav_int(input.as_ptr(), input.len(), key, &mut value) }, 0)?;
     Ok(value)
+}
+
+/// The Long under a key.
+pub fn long(input: &[u8], key: u32) -> Result<i64, Error> {
+    let mut value = 0;
+    read(unsafe { raw::spav_long(input.as_ptr(), input.len(), key, &mut value) }, 0)?;
+    Ok(value)
+}
+
+/// The number of the file descriptor under a key.
+pub fn fd(input: &[u8], key: u32) -> Result<i64, Error> {
+    let mut value = 0;
+    read(unsafe { raw::spav_fd(input.as_ptr(), input.len(), key, &mut value) }, 0)?;
+    Ok(value)
+}
+
+/// The Float under a key.
+pub fn float(input: &[u8], key: u32) -> Result<f32, Error> {
+    let mut bits = 0;
+    read(unsafe { raw::spav_float(input.as_ptr(), input.len(), key, &mut bits) }, 0)?;
+    Ok(f32::from_bits(bits))
+}
+
+/// The Double under a key.
+pub fn double(input: &[u8], key: u32) -> Result<f64, Error> {
+    let mut bits = 0;
+    read(unsafe { raw::spav_double(input.as_ptr(), input.len(), key, &mut bits) }, 0)?;
+    Ok(f64::from_bits(bits))
+}
+
+/// Width and height of the Rectangle under a key.
+pub fn rectangle(input: &[u8], key: u32) -> Result<(u32, u32), Error> {
+    let (mut width, mut height) = (0, 0);
+    read(unsafe { raw::spav_rectangle(input.as_ptr(), input.len(), key, &mut width, &mut height) }, 0)?;
+    Ok((width, height))
+}
+
+/// Numerator and denominator of the Fraction under a key.
+pub fn fraction(input: &[u8], key: u32) -> Result<(u32, u32), Error> {
+    let (mut num, mut denom) = (0, 0);
+    read(unsafe { raw::spav_fraction(input.as_ptr(), input.len(), key, &mut num, &mut denom) }, 0)?;
+    Ok((num, denom))
 }
 
 /// The text under a key of the object at the front, written to `out` with one NUL behind it.
@@ -310,6 +374,23 @@ mod tests {
         assert_eq!(int(&[], 4), Err(Error::NoObject));
         assert_eq!(text(&pod, 3, &mut out), Ok(&b"ab"[..]));
         assert_eq!(text(&pod, 3, &mut out[..2]), Err(Error::NoRoom(3)));
+    }
+
+    #[test]
+    fn each_kind_is_read() {
+        let pod = bytes(&[
+            200, 15, 5, 3, 4, 0, 8, 10, 320, 240, 5, 0, 8, 11, 30, 1, 6, 0, 8, 18, 17, 0, 7, 0, 4, 6, 0x3fc0_0000, 0, 8, 0, 8, 7, 0,
+            0x3ff8_0000, 9, 0, 8, 5, 1, 1, 10, 0, 4, 2, 3, 0, 11, 0, 4, 3, 77, 0,
+        ]);
+        assert_eq!(rectangle(&pod, 4), Ok((320, 240)));
+        assert_eq!(fraction(&pod, 5), Ok((30, 1)));
+        assert_eq!(fd(&pod, 6), Ok(17));
+        assert_eq!(float(&pod, 7), Ok(1.5));
+        assert_eq!(double(&pod, 8), Ok(1.5));
+        assert_eq!(long(&pod, 9), Ok(0x1_0000_0001));
+        assert_eq!(bool_(&pod, 10), Ok(true));
+        assert_eq!(id(&pod, 11), Ok(77));
+        assert_eq!(id(&pod, 10), Err(Error::OtherType));
     }
 
     #[test]

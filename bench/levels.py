@@ -1,17 +1,27 @@
 #!/usr/bin/env python3
 """levels.py [PROGRAM]: from which depth on the calls that call themselves for each level overflow a stack of 8 MB.
 
-PROGRAM is bench/library.rt.txt, built to bench/out/library. Structs in structs and objects in objects are read and dropped, written,
-compared, and printed by `{:?}`, at depths between one that passes and one that doesn't, until these are a hundredth apart. A run
-passes where it prints its line: what it drops at its end doesn't count.
+PROGRAM is bench/library.rt.txt, built to bench/out/library. Structs in structs and objects in objects are read and dropped, and printed
+by `{:?}`; and the same with a None behind each are compared by `==`, which takes no stack for a level that nothing follows. That is done at
+depths between one that passes and one that doesn't, until these are a hundredth apart. A run passes where it prints its line: what it drops
+at its end doesn't count.
 """
 
+import struct
 import subprocess
 import sys
 
-from deep import HERE, TRUE, limit_stack, objects, structs
+from deep import HERE, KEYED, NONE, TRUE, followed, limit_stack, objects, structs
 
 MOST = 4_000_000
+
+
+def followed_objects(levels, inner):
+    """So many objects of two properties, of which the first holds the next one, or these bytes, and the second a None."""
+    behind = struct.pack("<2I", 2, 0) + NONE
+    step = KEYED + len(behind)
+    sizes = range(step * (levels - 1) + KEYED - 8 + len(behind) + len(inner), len(inner), -step)
+    return b"".join(struct.pack("<6I", size, 15, 5, 3, 1, 0) for size in sizes) + inner + behind * levels
 
 
 def passes(program, work, given):
@@ -35,9 +45,9 @@ def most_levels(program, work, nest):
 
 def main(words):
     program = words[0] if words else HERE / "out/library"
-    for work in ("read", "write", "equal", "print"):
-        for name, nest in (("structs", structs), ("objects", objects)):
-            print(work, name, most_levels(program, work, nest), flush=True)
+    for work, nests in (("read", (structs, objects)), ("print", (structs, objects)), ("equal", (followed, followed_objects))):
+        for nest in nests:
+            print(work, nest.__name__, most_levels(program, work, nest), flush=True)
 
 
 if __name__ == "__main__":

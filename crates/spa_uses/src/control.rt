@@ -41,13 +41,13 @@ impl Drop for Control {
         let Control {
             type_: _,
             id: _,
-            before,
+            before: first,
             volume: _,
             flags: _,
-            behind,
+            behind: others,
         } = self;
-        let_go(before);
-        let_go(behind);
+        let_go(first);
+        let_go(others);
     }
 }
 

@@ -5,8 +5,8 @@ nothing is said, and a tenth of that, on a stack of 8 MiB.
 The pods are structs, objects, both in turn, and structs with a None behind each struct in them, with a truth value in the innermost.
 The calls are those of bench/depth.rt.txt, which `bench/build depth none` proves and builds (with `none` it fails, which says nothing);
 `rt run` in crates/podtool and crates/meet builds the programs. Each run must come to the number or to the output that is known, and
-take at most 20 times as long as a tenth of the levels. Prints the milliseconds of both, of a call without what comes before it, of a
-program with its start. Last, many values are read and let go in memory that doesn't hold them all. Status 1 where a row is wrong.
+take at most 20 times as long as a tenth of the levels. Prints the best milliseconds of three runs, of a call without what comes before it,
+of a program with its start. Last, many values are read and let go in memory that doesn't hold them all. Status 1 where a row is wrong.
 """
 
 import pathlib
@@ -138,29 +138,30 @@ def program_once(words, given, wanted):
     return spent, ok and (wanted[1] is not None or written != b"")
 
 
-def compare(name, nest, few, many, once):
-    """Prints a row: the best times of few and of many levels. Whether it is as it has to be."""
+def compare(few, many, once):
+    """The best times of few and of many levels, and whether both came to what they have to, and the second in time."""
     (short, fine), (long, good) = ((min(it[0] for it in runs), all(it[1] for it in runs)) for runs in ([once(*row) for _ in range(ROUNDS)] for row in (few, many)))
-    ok = fine and good and long <= MOST * max(short, 0.05)
-    print(f"| {name} | {nest} | {short:.2f} | {long:.2f} | {long / max(short, 0.001):.1f} |{'' if ok else ' WRONG'}", flush=True)
-    return ok
+    return short, long, fine and good and long <= MOST * max(short, 0.05)
 
 
 def main(words):
     levels = int(words[0]) if words else 1_000_000
-    wrong = 0
-    print(f"| Call | Pods | {levels // 10} levels, ms | {levels} levels, ms | Times |\n|---|---|---|---|---|")
-    for nest, what in ((structs, "structs"), (objects, "objects"), (both, "in turn"), (followed, "followed")):
+    found, nests = {}, {"structs": structs, "objects": objects, "in turn": both, "followed": followed}
+    for what, nest in nests.items():
         few, many = calls(nest, levels // 10), calls(nest, levels)
         for name, row in many.items():
-            wrong += not compare(name, what, (name, *few[name]), (name, *row), call_once)
+            found.setdefault(name, {})[what] = compare((name, *few[name]), (name, *row), call_once)
         few, many = program_rows(nest, levels // 10), program_rows(nest, levels)
         for name, row in many.items():
-            wrong += not compare(name, what, few[name], row, program_once)
+            found.setdefault(name, {})[what] = compare(few[name], row, program_once)
+    print(f"| {levels} levels, ms (times as long as a tenth of them) | {' | '.join(nests)} |\n|---|{'---|' * len(nests)}")
+    for name, row in found.items():
+        cells = (f"{it[1]:.1f} ({it[1] / max(it[0], 0.001):.1f}){'' if it[2] else ' WRONG'}" if it else "" for it in map(row.get, nests))
+        print(f"| {name} | {' | '.join(cells)} |")
     many = structs(10_000, TRUE) * 400
     _, ok = call_once("read", many, len(many), limit_memory)
     print(f"400 values are let go one after another in 256 MiB{'' if ok else ', WRONG'}")
-    return 1 if wrong or not ok else 0
+    return 0 if ok and all(it[2] for row in found.values() for it in row.values()) else 1
 
 
 if __name__ == "__main__":

@@ -13,8 +13,8 @@ use spa_utils::SpaTypes;
 /// Whether at most so many structs and objects stand in one another in the pod at the front: an Int nests in 0 levels, a
 /// struct of Ints in 1.
 ///
-/// It takes no memory, and calls itself at most `levels` deep. A service asks it before it compares, prints, writes or drops a
-/// value that others made, since these call themselves for each level. On bytes that aren't accepted it counts the structs
+/// It takes no memory, and calls itself at most `levels` deep. A service asks it before it compares by `==`, prints by `{:?}` or drops
+/// a value that others made, since these call themselves for each level. On bytes that aren't accepted it counts the structs
 /// and objects that walks over whole pods meet in one another: none where no front is there.
 pub fn nests_within(input: &[u8], levels: u32) -> bool
     // Of an accepted input `true` exactly where its value nests no deeper,

@@ -9,3 +9,4 @@ pub mod Shapes
 pub mod Pieces
 pub mod Kept
 pub mod Leaving
+pub mod Valued

@@ -1,9 +1,13 @@
 -- What a call answers, and what the builder holds then, by what the model's step comes to.
-use Rattle.std.specs.Prelude.{◌≡◌, ◌<◌, ◌≤◌, ◌⊎◌, ℕ, List, [], ◌++◌, true, false, Result, Ok, Err}
+use Rattle.std.specs.Prelude.{◌≡◌, ◌≢◌, ◌<◌, ◌≤◌, ◌⊎◌, ℕ, List, [], ◌++◌, true, false, None, Result, Ok, Err, IsErrAnd}
 use Rattle.spa_format.specs.Words.{extent, size_limit}
 use Rattle.spa_format.specs.Encoding.{member_encodings}
+use Rattle.spa_format.specs.Tree.{Tree}
+use Rattle.spa_format.specs.Writable.{HasNul, IsTooLarge}
+use Rattle.spa_sink.specs.declared.gen_error.GenError.{GenError}
+use Rattle.spa_sink.specs.declared.gen_error.GenError.TheVariants.{Full, TooLarge, NulInText, WrongCount, Failed, Io, OutOfMemory}
 use Rattle.spa_builder.specs.State.{Partial, State}
-use Rattle.spa_builder.specs.Step.{Outcome, Accepts, Inval, Nospc, takes_trees}
+use Rattle.spa_builder.specs.Step.{Outcome, Accepts, Inval, Nospc, add, placed, step, takes_trees}
 use Rattle.spa_builder.specs.Held.{Held, IsAt}
 use Rattle.spa_builder.specs.Innermost.{has_room_for}
 use Rattle.spa_utils.specs.declared.errno.Errno.{Errno}
@@ -17,6 +21,31 @@ Makes Inval old new (Ok x) = ⊥
 Makes Inval old new (Err e) = (e ≡ INVAL) × (new ≡ old)
 Makes Nospc old new (Ok x) = ⊥
 Makes Nospc old new (Err e) = (e ≡ NOSPC) × (new ≡ old)
+
+-- Where a value may come next, it is gone through, and what is found first is answered: want of memory, or a size word in it
+-- past 32 bits. It changes nothing.
+pub record StopsInside (s : State) (v : Tree) (old new : Held) (r : Result (Unit {0}) Errno) : Type 0 where
+  pub place : placed s.closed s.opened v ≢ None
+  pub cause : IsErrAnd r (λ e. (e ≡ NOMEM) ⊎ ((e ≡ NOSPC) × IsTooLarge v))
+  pub same : new ≡ old
+
+-- a value is added as the model adds it, or its members were gone through and stopped that
+abbrev pub MakesValue : State → Tree → Held → Held → Result (Unit {0}) Errno → Type 0
+MakesValue s v old new r = Makes (step s (add v)) old new r ⊎ StopsInside s v old new r
+
+-- why a value can't be written
+abbrev pub RefusesValue : Tree → Errno → Type 0
+RefusesValue v e = ((e ≡ INVAL) × HasNul v) ⊎ ((e ≡ NOMEM) ⊎ ((e ≡ NOSPC) × IsTooLarge v))
+
+-- what is answered where the writer refuses so
+abbrev pub errno_of : GenError → Errno
+errno_of NulInText = INVAL
+errno_of TooLarge = NOSPC
+errno_of Full = NOMEM
+errno_of WrongCount = NOMEM
+errno_of Failed = NOMEM
+errno_of Io = NOMEM
+errno_of OutOfMemory = NOMEM
 
 -- The bytes begin with the encodings of the closed values, and where no tree is open they are these encodings.
 pub record Spells (bytes : List ℕ) (s : State) : Type 0 where

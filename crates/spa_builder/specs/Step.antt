@@ -1,9 +1,9 @@
 -- One call of a builder, on trees: the next state, or which refusal: docs/FORMAT.md, "Making pods call by call".
-use Rattle.std.specs.Prelude.{ℕ, ◌+◌, List, [], ◌∷◌, ◌++◌, length, Bool, true, false, cond, ◌&&◌, not, nat_eq, nat_lt, Option, Some, None}
+use Rattle.std.specs.Prelude.{ℕ, ◌+◌, List, [], ◌∷◌, ◌++◌, length, Bool, true, false, cond, ◌&&◌, ◌||◌, not, nat_eq, nat_lt, Option, Some, None}
 use Rattle.std.specs.List.{list_any}
 use Rattle.spa_format.specs.Words.{extent, header_size, size_limit}
 use Rattle.spa_format.specs.Kind.{Kind, none_kind, type_number, Fixed, none, kind_of}
-use Rattle.spa_format.specs.Tree.{Shape, none_choice, range_choice, step_choice, enum_choice, flags_choice, Tree, fixed, string, array, choice, struct, object, Trees, no_trees, no_properties}
+use Rattle.spa_format.specs.Tree.{Shape, none_choice, range_choice, step_choice, enum_choice, flags_choice, Tree, fixed, string, array, choice, struct, object, Trees, no_trees, member, Properties, no_properties, property}
 use Rattle.spa_format.specs.Normal.{kept_elements}
 use Rattle.spa_format.specs.Pod.{least_count}
 use Rattle.spa_format.specs.Faults.{choice_header_size}
@@ -35,10 +35,21 @@ shape_of n = cond (nat_eq n 0) (Some none_choice) (cond (nat_eq n 1) (Some range
 abbrev pub is_nul : ℕ → Bool
 is_nul x = nat_eq x 0
 
--- the value is a text that holds NUL
-abbrev pub has_nul : Tree → Bool
-has_nul (string s) = list_any is_nul s
-has_nul v = false
+-- a text in the value holds NUL
+abbrev mutual
+  pub has_nul : Tree → Bool
+  has_nul (string s) = list_any is_nul s
+  has_nul (struct vs) = some_has_nul vs
+  has_nul (object t i ps) = some_value_has_nul ps
+  has_nul v = false
+
+  pub some_has_nul : Trees → Bool
+  some_has_nul no_trees = false
+  some_has_nul (member v vs) = has_nul v || some_has_nul vs
+
+  pub some_value_has_nul : Properties → Bool
+  some_value_has_nul no_properties = false
+  some_value_has_nul (property k f v ps) = has_nul v || some_value_has_nul ps
 
 abbrev pub same_kind : Fixed → Fixed → Bool
 same_kind x y = nat_eq (type_number (kind_of x)) (type_number (kind_of y))

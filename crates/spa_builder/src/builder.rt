@@ -1,27 +1,28 @@
 //! The builder.
-ghost use Rattle.std.specs.Prelude.{◌≡◌, ◌≢◌, ◌+◌, [], IfErr, IfOk, length};
+ghost use Rattle.std.specs.Prelude.{◌≡◌, ◌≢◌, ◌+◌, [], IfErr, IfOk, length, map};
 ghost use Rattle.spa_format.specs.Kind.{bool, double, fd, float, fraction, id, int, long, none, rectangle};
 ghost use Rattle.spa_format.specs.Encoding.{member_encodings};
-ghost use Rattle.spa_format.specs.Tree.{bytes, fixed, pointer, string};
-ghost use Rattle.spa_value.specs.View.{array_view};
+ghost use Rattle.spa_format.specs.Tree.{array, bytes, fixed, pointer, string};
+ghost use Rattle.spa_value.specs.View.{array_view, view};
 ghost use Rattle.spa_builder.specs.State.{State, start};
 ghost use Rattle.spa_builder.specs.Step.{abandon, add, add_prop, pop, push_array, push_choice, push_object, push_struct, step};
 ghost use Rattle.spa_builder.specs.Held.{IsAt};
-ghost use Rattle.spa_builder.specs.Answers.{Makes, Spells};
+ghost use Rattle.spa_builder.specs.Answers.{Makes, MakesValue, Spells};
 ghost use Rattle.spa_utils.specs.declared.errno.TheConstants.Errno.{INVAL};
 
 use crate::building::{
-    add_elements, add_encoding, add_fixed, add_key, add_pod, begin, close, leave,
+    add_elements, add_encoding, add_fixed, add_key, add_pod, add_values, begin, close, leave,
 };
 use crate::bytes::pointer_pod;
 use crate::frames::Frames;
 use crate::heads::{array_head, choice_head, object_head, struct_head};
 use crate::open::{Elements, NO_ELEMENTS, Stage, What};
+use crate::values::add_any;
 use crate::written::Written;
 use spa_bytes::POINTER_LEN;
-use spa_fixed::FLAGS_SHAPE;
+use spa_fixed::{CanonicalFixedSizedPod, FLAGS_SHAPE};
 use spa_utils::{Errno, Fd, Float32, Float64, Fraction, Frame, Id, Rectangle, SpaTypes};
-use spa_value::ValueArray;
+use spa_value::{Value, ValueArray};
 use std::marker::Model;
 
 /// Builds pods call by call, one behind another, at the end of one vector.
@@ -212,6 +213,22 @@ impl Builder {
         ensures { (s : State) → IsAt self.old s → Makes (step s (add (array_view values.now))) self.old self.new result }
     {
         add_elements(&mut self.bytes, &mut self.frames, values)
+    }
+
+    /// Adds a whole array of these elements.
+    pub fn add_array_of<T: CanonicalFixedSizedPod>(&mut self, values: &[T]) -> Result<(), Errno>
+        ensures { (s : State) → IsAt self.old s → Makes (step s (add (array T.kind (map T.fixed values.now)))) self.old self.new result }
+    {
+        add_values(&mut self.bytes, &mut self.frames, values)
+    }
+
+    /// Adds any value: one of fixed size as the call of its kind does, and any other as it is written. It is gone through
+    /// once: where it may come next, want of memory or a size word in it past 32 bits is answered where it is found, though
+    /// a text in the value holds NUL.
+    pub fn add_value(&mut self, value: &Value) -> Result<(), Errno>
+        ensures { (s : State) → IsAt self.old s → MakesValue s (view value.now) self.old self.new result }
+    {
+        add_any(&mut self.bytes, &mut self.frames, value)
     }
 
     /// Adds the key and the flags of a property. The next call adds or begins its value.

@@ -73,8 +73,8 @@ fn array_size<T: CanonicalFixedSizedPod>(count: usize) -> usize
     count.saturating_mul(T::SIZE).saturating_add(HEADER_LEN)
 }
 
-/// Adds an array of these values, where a tree of any type may stand. It is encoded apart first, so that what is wanting
-/// in memory changes nothing.
+/// Adds an array of these values, where a tree of any type may stand. Where memory is wanting, the part that was written
+/// is taken back.
 pub(crate) fn add_values<T: CanonicalFixedSizedPod>(
     bytes: &mut Written,
     frames: &mut Frames,
@@ -85,14 +85,18 @@ pub(crate) fn add_values<T: CanonicalFixedSizedPod>(
         → Makes (step s (add (array T.kind (map T.fixed values.now)))) (held bytes.old frames.old) (held bytes.new frames.new) result }
 {
     let innermost = frames.innermost();
-    admit(bytes.len(), frames, array_size::<T>(values.len()))?;
-    let mut encoding = Vec::new(bytes.allocator());
-    let Ok(()) = put_array(&mut encoding, values) else {
-        return Err(Errno::NOMEM);
-    };
-    bytes.append(encoding.as_slice())?;
-    fill(frames, innermost);
-    Ok(())
+    let had = bytes.len();
+    admit(had, frames, array_size::<T>(values.len()))?;
+    match put_array(bytes, values) {
+        Ok(()) => {
+            fill(frames, innermost);
+            Ok(())
+        }
+        Err(_) => {
+            bytes.truncate(had);
+            Err(Errno::NOMEM)
+        }
+    }
 }
 
 /// Adds an array, where a tree of any type may stand.

@@ -11,6 +11,7 @@ mod frames;
 mod heads;
 mod macros;
 mod open;
+mod values;
 mod written;
 
 pub use build_call::BuildCall;

@@ -1,13 +1,14 @@
 //! Several calls of a builder in one expression.
 
-/// Adds a value, or a struct or an object with all that is in it, by several calls of the builder:
+/// Adds a value, or a struct, an object, an array or a choice with all that is in it, by several calls of the builder:
 ///
 /// `None`, `Bool(v)`, `Id(v)`, `Int(v)`, `Long(v)`, `Float(v)`, `Double(v)`, `String(v)`, `Bytes(v)`,
-/// `Pointer(type, v)`, `Fd(v)`, `Rectangle(v)`, `Fraction(v)`, `Struct { .. }` of such forms, and
-/// `Object(type, id) { key => form, .. }`, whose properties have no flags.
+/// `Pointer(type, v)`, `Fd(v)`, `Rectangle(v)`, `Fraction(v)`, `Array(v)` of a slice of elements, `Value(v)` of a reference
+/// to a `Value`; `Array { .. }` and `Choice(shape, flags) { .. }` of forms of fixed size, `Struct { .. }` of any forms, and
+/// `Object(type, id) { key => form, key, flags => form, .. }`, whose properties have no flags where none are given.
 ///
 /// It answers `Ok(())`, or the first refusal. Then the calls before the refused one keep their effect, and what was begun
-/// stays open.
+/// stays open: `abandon` gives it up.
 #[macro_export]
 macro_rules! builder_add {
     ($builder:expr, None) => {
@@ -49,6 +50,24 @@ macro_rules! builder_add {
     ($builder:expr, Fraction($value:expr)) => {
         $builder.add_fraction($value)
     };
+    ($builder:expr, Value($value:expr)) => {
+        $builder.add_value($value)
+    };
+    ($builder:expr, Array($values:expr)) => {
+        $builder.add_array_of($values)
+    };
+    ($builder:expr, Array { $($elements:tt)* }) => {
+        match $builder.push_array() {
+            Ok(frame) => $crate::builder_members!($builder, frame, $($elements)*),
+            Err(refusal) => Err(refusal),
+        }
+    };
+    ($builder:expr, Choice($shape:expr, $flags:expr $(,)?) { $($values:tt)* }) => {
+        match $builder.push_choice($shape, $flags) {
+            Ok(frame) => $crate::builder_members!($builder, frame, $($values)*),
+            Err(refusal) => Err(refusal),
+        }
+    };
     ($builder:expr, Struct { $($members:tt)* }) => {
         match $builder.push_struct() {
             Ok(frame) => $crate::builder_members!($builder, frame, $($members)*),
@@ -63,7 +82,7 @@ macro_rules! builder_add {
     };
 }
 
-/// The members of a struct one by one, and its pop.
+/// The members of a struct, an array or a choice one by one, and its pop.
 #[doc(hidden)]
 #[macro_export]
 macro_rules! builder_members {
@@ -76,14 +95,14 @@ macro_rules! builder_members {
             Err(refusal) => Err(refusal),
         }
     };
-    ($builder:expr, $frame:expr, Object $head:tt $body:tt $(, $($rest:tt)*)?) => {
-        match $crate::builder_add!($builder, Object $head $body) {
+    ($builder:expr, $frame:expr, $form:ident $inner:tt $(, $($rest:tt)*)?) => {
+        match $crate::builder_add!($builder, $form $inner) {
             Ok(()) => $crate::builder_members!($builder, $frame, $($($rest)*)?),
             Err(refusal) => Err(refusal),
         }
     };
-    ($builder:expr, $frame:expr, $form:ident $inner:tt $(, $($rest:tt)*)?) => {
-        match $crate::builder_add!($builder, $form $inner) {
+    ($builder:expr, $frame:expr, $form:ident $head:tt $body:tt $(, $($rest:tt)*)?) => {
+        match $crate::builder_add!($builder, $form $head $body) {
             Ok(()) => $crate::builder_members!($builder, $frame, $($($rest)*)?),
             Err(refusal) => Err(refusal),
         }
@@ -97,25 +116,15 @@ macro_rules! builder_properties {
     ($builder:expr, $frame:expr,) => {
         $builder.pop($frame)
     };
-    ($builder:expr, $frame:expr, $key:expr => None $(, $($rest:tt)*)?) => {
+    ($builder:expr, $frame:expr, $key:expr => $($rest:tt)*) => {
         match $builder.add_prop($key, 0) {
-            Ok(()) => $crate::builder_property!($builder, $frame, { None }, $($($rest)*)?),
+            Ok(()) => $crate::builder_property!($builder, $frame, $($rest)*),
             Err(refusal) => Err(refusal),
         }
     };
-    ($builder:expr, $frame:expr, $key:expr => Object $head:tt $body:tt $(, $($rest:tt)*)?) => {
-        match $builder.add_prop($key, 0) {
-            Ok(()) => {
-                $crate::builder_property!($builder, $frame, { Object $head $body }, $($($rest)*)?)
-            }
-            Err(refusal) => Err(refusal),
-        }
-    };
-    ($builder:expr, $frame:expr, $key:expr => $form:ident $inner:tt $(, $($rest:tt)*)?) => {
-        match $builder.add_prop($key, 0) {
-            Ok(()) => {
-                $crate::builder_property!($builder, $frame, { $form $inner }, $($($rest)*)?)
-            }
+    ($builder:expr, $frame:expr, $key:expr, $flags:expr => $($rest:tt)*) => {
+        match $builder.add_prop($key, $flags) {
+            Ok(()) => $crate::builder_property!($builder, $frame, $($rest)*),
             Err(refusal) => Err(refusal),
         }
     };
@@ -125,9 +134,21 @@ macro_rules! builder_properties {
 #[doc(hidden)]
 #[macro_export]
 macro_rules! builder_property {
-    ($builder:expr, $frame:expr, { $($form:tt)* }, $($rest:tt)*) => {
-        match $crate::builder_add!($builder, $($form)*) {
-            Ok(()) => $crate::builder_properties!($builder, $frame, $($rest)*),
+    ($builder:expr, $frame:expr, None $(, $($rest:tt)*)?) => {
+        match $builder.add_none() {
+            Ok(()) => $crate::builder_properties!($builder, $frame, $($($rest)*)?),
+            Err(refusal) => Err(refusal),
+        }
+    };
+    ($builder:expr, $frame:expr, $form:ident $inner:tt $(, $($rest:tt)*)?) => {
+        match $crate::builder_add!($builder, $form $inner) {
+            Ok(()) => $crate::builder_properties!($builder, $frame, $($($rest)*)?),
+            Err(refusal) => Err(refusal),
+        }
+    };
+    ($builder:expr, $frame:expr, $form:ident $head:tt $body:tt $(, $($rest:tt)*)?) => {
+        match $crate::builder_add!($builder, $form $head $body) {
+            Ok(()) => $crate::builder_properties!($builder, $frame, $($($rest)*)?),
             Err(refusal) => Err(refusal),
         }
     };

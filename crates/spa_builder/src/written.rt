@@ -1,11 +1,14 @@
 //! The bytes that a builder has written, at the front of a vector that is kept longer than they are: what lies behind
 //! them is room, which an append fills without asking for memory.
 ghost use Rattle.std.specs.Prelude.{◌≡◌, ◌+◌, ◌<◌, ◌≤◌, ◌++◌, ℕ, [], List, IfErr, OnErr, OnOk, drop, length, replicate, take};
+ghost use Rattle.std.proofs.Common.{append_assoc};
+ghost use Rattle.spa_sink.specs.declared.gen_error.GenError.TheVariants.{OutOfMemory};
 ghost use Rattle.spa_format.specs.Words.{header_size, size_limit, word_bytes};
 ghost use Rattle.spa_builder.specs.Framed.{longest_piece, vector_limit};
 ghost use Rattle.spa_utils.specs.declared.errno.TheConstants.Errno.{NOMEM};
 
 use spa_bytes::{HEADER_LEN, two_words};
+use spa_sink::{GenError, PodSink};
 use spa_utils::Errno;
 use std::alloc::Global;
 use std::marker::Model;
@@ -223,5 +226,34 @@ impl Written {
         ensures { self.new ≡ take at self.old ++ ((word_bytes first ++ word_bytes second) ++ drop (at + 8) self.old) }
     {
         self.bytes[at..at + HEADER_LEN].copy_from_slice(&two_words(first, second));
+    }
+}
+
+impl PodSink for Written {
+    ghost appends = { λ a xs b. b ≡ a ++ xs };
+
+    ghost refuses = { λ _ _ _ e. e ≡ OutOfMemory };
+
+    ghost appends_more = { λ a b c xs ys p q. Prim.rw (q, p) (append_assoc a xs ys) };
+
+    ghost refuses_longer = { λ a b m n e h r. r };
+
+    ghost refuses_after = { λ a b c xs n e p r. r };
+
+    ghost never_nul = { λ a b n r. Prim.cc (r) };
+
+    ghost never_large = { λ a b n r. Prim.cc (r) };
+
+    #[inline(always)]
+    fn append(&mut self, bytes: &[u8]) -> Result<(), GenError> {
+        match Written::append(self, bytes) {
+            Ok(()) => Ok(()),
+            Err(_) => Err(GenError::OutOfMemory),
+        }
+    }
+
+    #[inline(always)]
+    fn own_allocator(&self) -> Option<Global> {
+        Some(self.allocator())
     }
 }

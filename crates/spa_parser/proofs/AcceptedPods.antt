@@ -1,6 +1,6 @@
 -- What the calls of a parser find where the next pod is accepted.
 use Rattle.std.proofs.Common.{◌≡◌, ℕ, List, Some, None, length, refl, sym, ap, subst, arith}
-use Rattle.std.specs.Prelude.{IsSomeAnd, false}
+use Rattle.std.specs.Prelude.{IsSomeAnd, IsUtf8, false}
 use Rattle.spa_format.specs.Words.{word_at, body_of}
 use Rattle.spa_format.specs.Kind.{Fixed, kind_of, content}
 use Rattle.spa_format.specs.Tree.{Tree, Trees, no_trees, member, Properties, fixed, string, bytes, pointer, struct, object}
@@ -10,7 +10,7 @@ use Rattle.spa_format.proofs.Fronts.{front_of_whole}
 use Rattle.spa_view.specs.Tests as t
 use Rattle.spa_view.proofs.ViewedPods as views
 use Rattle.spa_parser.specs.State.{ParserState, next_pod, state_behind}
-use Rattle.spa_parser.specs.Steps.{NextIs, HoldsMembers}
+use Rattle.spa_parser.specs.Steps.{IsTextPod, NextIs, HoldsMembers}
 use Rattle.spa_parser.proofs.NextPods.{next_of-there, next_of-end}
 
 pub next_is_there : (s : ParserState) (v : Tree) → next_pod s ≡ None → NextIs v s → ⊥
@@ -33,6 +33,11 @@ string_passes s pod b e h = views.string_test pod b (next_is s pod (string b) e 
 pub string_is : (s : ParserState) (pod b : List ℕ) → next_pod s ≡ Some pod → NextIs (string b) s →
     t.before_nul (body_of pod) ≡ b
 string_is s pod b e h = views.string_value pod b (next_is s pod (string b) e h)
+
+pub string_is_text : (s : ParserState) (pod b : List ℕ) → next_pod s ≡ Some pod → NextIs (string b) s →
+    IsTextPod pod
+string_is_text s pod b e h = let p = next_is s pod (string b) e h in let c = p.content in
+    (string_passes s pod b e h, subst IsUtf8 (sym (string_is s pod b e h)) c.0.utf8)
 
 pub bytes_pass : (s : ParserState) (pod b : List ℕ) → next_pod s ≡ Some pod → NextIs (bytes b) s → t.IsBytesPod pod
 bytes_pass s pod b e h = views.bytes_test pod b (next_is s pod (bytes b) e h)
@@ -103,11 +108,14 @@ pub ruleset accepted_others = (
   next_is,
   string_passes,
   string_is,
+  string_is_text,
   bytes_pass,
   bytes_are,
   pointer_passes,
   pointer_type_is,
   address_is,
+  object_passes,
+  object_type_is,
 )
 
 -- what a parser begins with, and what its pushes find

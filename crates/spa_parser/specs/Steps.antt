@@ -1,5 +1,5 @@
 -- When the calls of a parser succeed, and why they are refused: docs/FORMAT.md, "Taking pods one by one".
-use Rattle.std.specs.Prelude.{◌≡◌, ◌≢◌, ◌⊎◌, ℕ, List, ◌∷◌, IsSomeAnd, MatchOption, false}
+use Rattle.std.specs.Prelude.{◌≡◌, ◌≢◌, ◌⊎◌, ℕ, List, ◌∷◌, IsSomeAnd, IsUtf8, MatchOption, false}
 use Rattle.spa_format.specs.Words.{word_at, body_of}
 use Rattle.spa_format.specs.Kind.{Fixed, kind_of, content}
 use Rattle.spa_format.specs.Tree.{Tree, Trees}
@@ -29,6 +29,10 @@ SaysFixed x pod = IsOfKind (kind_of x) pod × (x ≡ content (kind_of x) (body_o
 abbrev pub SaysString : List ℕ → List ℕ → Type 0
 SaysString s pod = IsNulEnded pod × (s ≡ before_nul (body_of pod))
 
+-- a string's pod, which ends in NUL and has a text before its first one
+abbrev pub IsTextPod : List ℕ → Type 0
+IsTextPod pod = IsNulEnded pod × IsUtf8 (before_nul (body_of pod))
+
 -- a pod of bytes, these
 abbrev pub SaysBytes : List ℕ → List ℕ → Type 0
 SaysBytes s pod = IsBytesPod pod × (s ≡ body_of pod)
@@ -49,6 +53,11 @@ RefusesGet Passes s e = MatchOption (next_pod s) (e ≡ PIPE) (λ pod. (¬ (Pass
 abbrev pub RefusesStruct : ParserState → Errno → Type 0
 RefusesStruct s e = MatchOption (next_pod s) (e ≡ PIPE) (λ pod.
     ((¬ (IsStructPod pod)) × (e ≡ INVAL)) ⊎ (IsStructPod pod × (e ≡ NOMEM)))
+
+-- why a get of an object is refused: the same without memory, but PROTO for another type
+abbrev pub RefusesObjectGet : ℕ → ParserState → Errno → Type 0
+RefusesObjectGet type s e = MatchOption (next_pod s) (e ≡ PIPE) (λ pod.
+    ((¬ (IsObjectPod pod)) × (e ≡ INVAL)) ⊎ (IsObjectPod pod × (word_at (body_of pod) 0 ≢ type) × (e ≡ PROTO)))
 
 -- why a push of an object is refused: the same, but that PROTO goes before memory, for another type
 abbrev pub RefusesObject : ℕ → ParserState → Errno → Type 0

@@ -1,18 +1,35 @@
 //! What a parser gets. Each call asks for the next pod by its type and its size, and moves past it.
-ghost use Rattle.std.specs.Prelude.{◌≡◌, Bool, IfErr, IfOk, IsOkAnd, List, None, Ok, OnErr, OnOk, Some, ℕ, ℤ};
+ghost use Rattle.std.specs.Prelude.{◌≡◌, Bool, IfErr, IfOk, IsOk, IsOkAnd, List, None, Ok, OnErr, OnOk, Some, ℕ, ℤ};
 ghost use Rattle.spa_format.specs.Kind as k;
 ghost use Rattle.spa_format.specs.Pod.{IsPod};
-ghost use Rattle.spa_format.specs.Tree.{Tree, bytes, fixed, pointer, string};
+ghost use Rattle.spa_format.specs.Tree.{Properties, Tree, bytes, fixed, object, pointer, string};
 ghost use Rattle.spa_parser.specs.State.{state_behind, next_pod};
-ghost use Rattle.spa_parser.specs.Steps.{NextIs, NextPasses, RefusesGet, SaysFixed, SaysBytes, SaysPointer, SaysString};
+ghost use Rattle.spa_parser.specs.Steps.{IsObjectOf, IsTextPod, NextIs, NextPasses, RefusesGet, RefusesObjectGet, SaysFixed, SaysBytes, SaysPointer, SaysString};
 ghost use Rattle.spa_view.specs.Tests as t;
 
 use crate::parser::Parser;
+use crate::text::text_of;
 use spa_utils::{Errno, Float32, Float64, Fraction, Id, Rectangle};
-use spa_view::Pod;
+use spa_view::{Pod, PodObject};
 
 #[tactic(auto, using(crate::proofs::AcceptedPods::accepted_fixed))]
 impl<'d> Parser<'d> {
+    /// Takes a None. INVAL where the next pod isn't one.
+    pub fn get_none(&mut self) -> Result<(), Errno>
+        ensures said { OnOk result (NextPasses (t.IsOfKind k.none_kind) self.old) }
+        ensures moved { OnOk result (self.new ≡ state_behind self.old) }
+        ensures accepted { NextIs (fixed k.none) self.old → IsOk result }
+        ensures refused { IfErr result (RefusesGet (t.IsOfKind k.none_kind) self.old) }
+        ensures unchanged { OnErr result (self.new ≡ self.old) }
+    {
+        let (pod, left) = self.innermost.next()?;
+        if !pod.is_none() {
+            return Err(Errno::INVAL);
+        }
+        self.innermost.bytes = left;
+        Ok(())
+    }
+
     /// The truth value: any word but 0 is true. INVAL where the next pod isn't a Bool of its size.
     pub fn get_bool(&mut self) -> Result<bool, Errno>
         ensures said { IfOk result (λ x. NextPasses (SaysFixed (k.bool x)) self.old) }
@@ -142,7 +159,7 @@ impl<'d> Parser<'d> {
 
 #[tactic(auto, using(crate::proofs::AcceptedPods::accepted_others))]
 impl<'d> Parser<'d> {
-    ghost use Rattle.spa_view.specs.View.{pod_bytes};
+    ghost use Rattle.spa_view.specs.View.{object_bytes, pod_bytes};
 
     /// The address, and the type of what it points to. INVAL where the next pod isn't a Pointer of 12 or 16 bytes.
     pub fn get_pointer(&mut self) -> Result<(u64, Id), Errno>
@@ -172,6 +189,21 @@ impl<'d> Parser<'d> {
         Ok(value)
     }
 
+    /// The text of a String: the bytes before its first NUL. INVAL where the next pod isn't one, doesn't end in NUL, or
+    /// these bytes aren't UTF-8.
+    pub fn get_string(&mut self) -> Result<&'d str, Errno>
+        ensures said { IfOk result (λ x. NextPasses (SaysString x.now) self.old) }
+        ensures moved { OnOk result (self.new ≡ state_behind self.old) }
+        ensures accepted { (s : List ℕ) → NextIs (string s) self.old → IsOkAnd result (λ x. x.now ≡ s) }
+        ensures refused { IfErr result (RefusesGet IsTextPod self.old) }
+        ensures unchanged { OnErr result (self.new ≡ self.old) }
+    {
+        let (pod, left) = self.innermost.next()?;
+        let text = text_of(&pod)?;
+        self.innermost.bytes = left;
+        Ok(text)
+    }
+
     /// The bytes of a Bytes. INVAL where the next pod isn't one.
     pub fn get_bytes(&mut self) -> Result<&'d [u8], Errno>
         ensures said { IfOk result (λ x. NextPasses (SaysBytes x.now) self.old) }
@@ -184,6 +216,24 @@ impl<'d> Parser<'d> {
         let value = pod.get_bytes()?;
         self.innermost.bytes = left;
         Ok(value)
+    }
+
+    /// The view of the next object, whole. INVAL where the next pod isn't an object of at least 8 bytes; else PROTO where it
+    /// is of another type.
+    pub fn get_object(&mut self, type_: u32) -> Result<PodObject<'d>, Errno>
+        ensures said { IfOk result (λ object. NextPasses (λ pod. IsObjectOf type_ pod × (object_bytes object ≡ pod)) self.old) }
+        ensures moved { OnOk result (self.new ≡ state_behind self.old) }
+        ensures accepted { (id : ℕ) (ps : Properties) → NextIs (object type_ id ps) self.old → IsOkAnd result (λ view. IsPod (object_bytes view) (object type_ id ps)) }
+        ensures refused { IfErr result (RefusesObjectGet type_ self.old) }
+        ensures unchanged { OnErr result (self.new ≡ self.old) }
+    {
+        let (pod, left) = self.innermost.next()?;
+        let object = pod.as_object()?;
+        if object.type_().as_raw() != type_ {
+            return Err(Errno::PROTO);
+        }
+        self.innermost.bytes = left;
+        Ok(object)
     }
 
     /// The view of the next pod, whatever it is.

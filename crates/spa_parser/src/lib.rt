@@ -5,6 +5,8 @@ mod gets;
 pub mod laws;
 mod macros;
 mod parser;
+mod text;
 
 pub use parser::Parser;
-pub use spa_utils::{Errno, Frame};
+pub use spa_utils::{Errno, Frame, Id};
+pub use text::text_of;

@@ -6,3 +6,4 @@ mod objects;
 mod refused;
 mod rows;
 mod shown;
+mod values;

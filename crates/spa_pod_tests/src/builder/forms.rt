@@ -2,6 +2,7 @@
 use crate::compare::{are_words, assert_holds, assert_holds_at};
 use spa_builder::{Builder, builder_add};
 use spa_utils::{Errno, Float32, Float64, Fraction, Id, Rectangle};
+use spa_value::Value;
 use std::alloc::{AllocError, Global};
 use std::test::Fail;
 
@@ -17,6 +18,8 @@ enum Form {
     ObjectOfIds,
     ObjectOfAll,
     EveryPlainForm,
+    ObjectWithFlags,
+    Lists,
 }
 
 /// The words of each form, by the rules of the format.
@@ -49,6 +52,18 @@ const FORMS: &[(Form, &[u32])] = &[
             9, 197121, 0, 16, 17, 7, 0, 4096, 0, 8, 18, 9, 0, 8, 10, 31, 14, 8, 11, 16, 9,
         ],
     ),
+    (
+        Form::ObjectWithFlags,
+        &[
+            80, 15, 5, 3, 1, 16, 4, 4, 3, 0, 2, 0, 28, 19, 1, 0, 4, 4, 5, 2, 10, 0,
+        ],
+    ),
+    (
+        Form::Lists,
+        &[
+            96, 14, 16, 13, 4, 4, 1, 2, 16, 13, 8, 5, 9, 0, 20, 19, 0, 9, 4, 3, 7, 0, 4, 4, 8, 0,
+        ],
+    ),
 ];
 
 fn add_struct_in_struct(builder: &mut Builder) -> Result<(), Errno> {
@@ -75,6 +90,23 @@ fn add_every_plain_form(builder: &mut Builder) -> Result<(), Errno> {
     })
 }
 
+fn add_object_with_flags(builder: &mut Builder) -> Result<(), Errno> {
+    builder_add!(builder, Object(5, 3) {
+        1, 16 => Int(3),
+        2 => Choice(1, 0) { Int(5), Int(2), Int(10) },
+    })
+}
+
+fn add_lists(builder: &mut Builder) -> Result<(), Errno> {
+    let longs: [i64; 1] = [9];
+    builder_add!(builder, Struct {
+        Array { Int(1), Int(2) },
+        Array(longs.as_slice()),
+        Choice(0, 9,) { Id(Id(7)) },
+        Value(&Value::Int(8)),
+    })
+}
+
 fn add(builder: &mut Builder, form: Form) -> Result<(), Errno> {
     match form {
         Form::Nothing => builder_add!(builder, None),
@@ -86,6 +118,8 @@ fn add(builder: &mut Builder, form: Form) -> Result<(), Errno> {
         Form::ObjectOfIds => add_object_of_ids(builder),
         Form::ObjectOfAll => add_object_of_all(builder),
         Form::EveryPlainForm => add_every_plain_form(builder),
+        Form::ObjectWithFlags => add_object_with_flags(builder),
+        Form::Lists => add_lists(builder),
     }
 }
 

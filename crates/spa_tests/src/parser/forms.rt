@@ -167,3 +167,109 @@ fn a_refused_form_leaves_the_struct_open(rt: HostRuntime) -> Result<(), Fail> {
     assert_eq!(rt; parser.pop(Frame(1)), Ok(()));
     Ok(())
 }
+
+/// A format: its id, and what its properties say.
+#[derive(Clone, Copy, Debug)]
+struct Format<'a> {
+    id: Id,
+    kind: Id,
+    name: &'a str,
+    size: Option<Rectangle>,
+    rate: Option<Fraction>,
+    stride: Option<i32>,
+}
+
+/// What is there before it is read: `None` of what is there, and `Some` of what isn't.
+const NO_FORMAT: Format<'static> = Format {
+    id: Id(0),
+    kind: Id(0),
+    name: "",
+    size: None,
+    rate: Some(Fraction { num: 0, denom: 1 }),
+    stride: Some(0),
+};
+
+fn format_at<'a>(parser: &mut Parser<'a>) -> Result<Format<'a>, Errno> {
+    let mut format = NO_FORMAT;
+    parser_get!(&mut *parser, Object(5, &mut format.id) {
+        2 => Id(&mut format.kind),
+        7 => String(&mut format.name),
+        3 => Option(Rectangle(&mut format.size)),
+        8 => Option(Fraction(&mut format.rate)),
+        9 => Option(Int(&mut format.stride)),
+    })?;
+    Ok(format)
+}
+
+/// An object of five properties, of which the key 9 has a None, and 8 isn't there; and an Int behind it.
+const FORMAT: [u32; 36] = [
+    120, 15, 5, 3, 1, 0, 4, 3, 9, 0, 2, 0, 4, 3, 7, 0, 7, 0, 4, 8, 7303014, 0, 3, 0, 8, 10, 31, 14,
+    9, 0, 0, 1, 4, 4, 6, 0,
+];
+
+#[test]
+fn parse_object(rt: HostRuntime) -> Result<(), Fail> {
+    let input = bytes_of(rt.alloc(), &FORMAT)?;
+    let mut parser = Parser::new(rt.alloc(), &input);
+    let format = format_at(&mut parser)?;
+    assert_eq!(rt; (format.id, format.kind), (Id(3), Id(7)));
+    assert_eq!(rt; format.name, "foo");
+    assert_eq!(rt;
+        format.size,
+        Some(Rectangle {
+            width: 31,
+            height: 14
+        })
+    );
+    assert_eq!(rt; format.rate, None);
+    assert_eq!(rt; format.stride, None);
+    assert_eq!(rt; parser.get_int(), Ok(6));
+    Ok(())
+}
+
+/// What an object's property of this key is as an Int, and what it leaves.
+fn int_of(parser: &mut Parser, type_: u32, key: u32) -> (Result<(), Errno>, Id, i32) {
+    let (mut id, mut int) = (Id(0), 0);
+    let answer = parser_get!(&mut *parser, Object(type_, &mut id) { key => Int(&mut int) });
+    (answer, id, int)
+}
+
+#[test]
+fn refused_properties(rt: HostRuntime) -> Result<(), Fail> {
+    let input = bytes_of(rt.alloc(), &[32, 15, 5, 3, 1, 0, 4, 4, 7, 0])?;
+    let rows = [
+        (6, 1, (Err(Errno::PROTO), Id(0), 0)),
+        (5, 2, (Err(Errno::PIPE), Id(3), 0)),
+        (5, 1, (Ok(()), Id(3), 7)),
+    ];
+    for (type_, key, wanted) in rows {
+        let mut parser = Parser::new(rt.alloc(), &input);
+        assert_eq!(rt; int_of(&mut parser, type_, key), wanted);
+    }
+    Ok(())
+}
+
+/// Two texts and a number, of which a None may stand for each but the first.
+type Texts<'a> = (&'a str, Option<&'a str>, Option<i32>);
+
+fn texts_at<'a>(parser: &mut Parser<'a>) -> Result<Texts<'a>, Errno> {
+    let (mut first, mut second, mut number) = ("", None, None);
+    parser_get!(&mut *parser, Struct {
+        String(&mut first), Option(String(&mut second)), Option(Int(&mut number))
+    })?;
+    Ok((first, second, number))
+}
+
+#[test]
+fn parse_texts(rt: HostRuntime) -> Result<(), Fail> {
+    let input = bytes_of(rt.alloc(), &[40, 14, 4, 8, 7303014, 0, 0, 1, 4, 4, 3, 0])?;
+    let texts = texts_at(&mut Parser::new(rt.alloc(), &input))?;
+    assert_eq!(rt; texts, ("foo", None, Some(3)));
+    let input = bytes_of(rt.alloc(), &[48, 14, 2, 8, 97, 0, 2, 8, 98, 0, 4, 4, 3, 0])?;
+    let texts = texts_at(&mut Parser::new(rt.alloc(), &input))?;
+    assert_eq!(rt; texts, ("a", Some("b"), Some(3)));
+    let input = bytes_of(rt.alloc(), &[16, 14, 2, 8, 255, 0])?;
+    let refused = texts_at(&mut Parser::new(rt.alloc(), &input));
+    assert_eq!(rt; refused.err(), Some(Errno::INVAL));
+    Ok(())
+}

@@ -1,5 +1,5 @@
 -- A list of properties, parted at one of them.
-use Rattle.std.proofs.Common.{◌≡◌, ◌≢◌, ◌==◌, Some, ℕ, ◌<◌, List, [], ◌∷◌, ◌++◌, length, take, drop, get_or, sym, ap, ◌∙◌, append_assoc, arith, length-drop, length-take, true≢false}
+use Rattle.std.proofs.Common.{◌≡◌, ◌≢◌, ◌==◌, Some, ℕ, ◌<◌, List, [], ◌∷◌, ◌++◌, length, take, drop, get_or, sym, ap, ◌∙◌, arith, length-drop, length-take, true≢false}
 use Rattle.std.specs.Cmp.{unsigned_Decides}
 use Rattle.std.specs.List.{All, position}
 use Rattle.std.proofs.lemmas.List.{take-append-drop, get_or-drop, get_or-take}
@@ -8,10 +8,6 @@ use Rattle.libspa.specs.Tree.{Tree, join_properties, property}
 use Rattle.spa_value.specs.declared.object.Property.{Property}
 use Rattle.spa_value.specs.View.{view}
 use Rattle.spa_value.specs.Views.{property_views}
-
--- a list that grows by one property, and then by others
-pub put_back : (before more all behind : List Property) (p : Property) → more ≡ before ++ p ∷ [] → all ≡ more ++ behind → all ≡ before ++ p ∷ behind
-put_back before more all behind p e f = f ∙ ap (λ qs. qs ++ behind) e ∙ append_assoc before (p ∷ []) behind
 
 first_and : (qs : List Property) (p : Property) → 0 < length qs → p ≡ get_or qs 0 p → qs ≡ p ∷ drop 1 qs
 first_and [] p n e = absurd (omega (arith, n))

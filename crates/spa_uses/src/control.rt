@@ -13,7 +13,7 @@ use libspa::pod::deserialize::{
 };
 use libspa::pod::serialize::PodSerializer;
 use libspa::pod::value_laws::{objects_are_their_fields, property_lists_are_in_order};
-use libspa::pod::{Held, Object, Property, PropertyFlags, Value, discard};
+use libspa::pod::{Object, Property, PropertyFlags, Value, discard};
 use libspa::utils::Float32;
 use std::alloc::{AllocError, Global};
 
@@ -221,8 +221,10 @@ pub fn with_volume(alloc: Global, input: &[u8], volume: Float32) -> Option<Vec<u
     let Ok(object) = control.into_object() else {
         return None;
     };
-    let held = Held::from(Value::Object(object));
-    let Ok((bytes, _)) = PodSerializer::serialize(Vec::new(alloc), &*held) else {
+    let value = Value::Object(object);
+    let written = PodSerializer::serialize(Vec::new(alloc), &value);
+    discard(value);
+    let Ok((bytes, _)) = written else {
         return None;
     };
     Some(bytes)

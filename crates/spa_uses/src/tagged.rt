@@ -58,10 +58,13 @@ impl<'de> Visitor<'de> for TaggedVisitor {
         let Some(id) = reader.deserialize_field::<Id>()? else {
             return Err(DeserializeError::PropertyMissing);
         };
-        let Some(value) = reader.deserialize_field::<Held>()? else {
+        let Some(value) = reader.deserialize_field::<Value>()? else {
             return Err(DeserializeError::PropertyMissing);
         };
-        Ok(Tagged { id, value })
+        Ok(Tagged {
+            id,
+            value: Held::from(value),
+        })
     }
 
     #[tactic(auto, using(spa_typed_read::proofs::Stepping::further_in_same))]

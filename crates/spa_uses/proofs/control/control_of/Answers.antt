@@ -16,15 +16,15 @@ returns c =
     let fields = out-Object c.args.object in
     let p = c.remove-value.result in
     let first = c.remove-value.ensures.value in
-    let tail = c.in_ok-behind.ensures.tail in
+    let tail = c.in-Ok.ensures.tail in
     let place = subst (λ qs. position (λ (q : Property). q.key == volume_key) qs ≡ Some c.in-Some.place) c.as_slice.ensures.value (sym c.in-Some.ensures) in
     let found = position-Some (λ (q : Property). q.key == volume_key) fields.properties.items c.in-Some.place p place in
-    let key = (unsigned_Decides p.key volume_key).0 (ap (λ (q : Property). q.key == volume_key) (at_cut fields.properties.items c.in_ok-behind.behind.items c.in-Some.place p tail first) ∙ found.1) in
-    let list = parted _ _ _ _ _ p found.0 c.in_ok-behind.ensures.items tail first c.remove-value.ensures.items in
+    let key = (unsigned_Decides p.key volume_key).0 (ap (λ (q : Property). q.key == volume_key) (at_cut fields.properties.items c.in-Ok.behind.items c.in-Some.place p tail first) ∙ found.1) in
+    let list = parted _ _ _ _ _ p found.0 c.in-Ok.ensures.items tail first c.remove-value.ensures.items in
     record {
       tree =
           c.objects_are_their_fields.ensures.fields c.args.object
           ∙ ap (object fields.type_ fields.id)
           (ap property_views list ∙ c.property_lists_are_in_order.ensures.joined _ _ ∙ with_key _ _ p _ _ key (ap view c.in-Float.is));
-      first = none_before fields.properties.items _ c.in-Some.place volume_key c.in_ok-behind.ensures.items place;
+      first = none_before fields.properties.items _ c.in-Some.place volume_key c.in-Ok.ensures.items place;
     }

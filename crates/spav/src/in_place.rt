@@ -1,0 +1,49 @@
+//! Lists of pods, rewritten where they lie in the caller's memory.
+ghost use Rattle.std.specs.Prelude.{◌≡◌};
+ghost use Rattle.spav.specs.Answers.{IsChecked, IsDone, IsInvalid, IsRefusal};
+ghost use Rattle.spav.specs.Lists.{IsForBytes, ListIsRefused, ListIsWritten};
+
+use crate::answers::{DONE, INVALID, NO_MEMORY};
+use spa_fixed::DeserializeError;
+use spa_rewrite::rewrite_in_place;
+use std::alloc::Global;
+
+/// Puts the rewritings of all pods that the bytes are at their front, one after another.
+///
+/// 0: `written` is their length, never more than the pods had, and what is behind them is as it was. -EINVAL: the bytes aren't pods one
+/// after another; the pod that begins at the byte `at` is refused. -ENOMEM: memory was asked for and refused, which isn't asked for
+/// where each rewriting is as long as its pod. Where the answer isn't 0, nothing is changed.
+#[unsafe(no_mangle)]
+pub extern "C" fn spav_rewrite_in_place(
+    alloc: Global,
+    bytes: &mut [u8],
+    written: &mut usize,
+    at: &mut usize,
+) -> i32
+    ensures done { IsDone result → ListIsWritten bytes.old written.new bytes.old bytes.new }
+    ensures refused { IsInvalid result → ListIsRefused bytes.old at.new }
+    ensures answers { IsChecked result }
+    ensures unchanged { ¬ (IsDone result) → bytes.new ≡ bytes.old }
+{
+    match rewrite_in_place(alloc, bytes) {
+        Ok(len) => {
+            *written = len;
+            DONE
+        }
+        Err((behind, error)) => {
+            *at = behind;
+            answer_of(error)
+        }
+    }
+}
+
+/// What is answered for a refusal.
+fn answer_of(error: DeserializeError<()>) -> i32
+    ensures bytes { IsInvalid result → IsForBytes error }
+    ensures answers { IsRefusal result }
+{
+    match error {
+        DeserializeError::OutOfMemory => NO_MEMORY,
+        _ => INVALID,
+    }
+}

@@ -4,10 +4,10 @@ ghost use Rattle.spa_format.specs.Kind as kind;
 ghost use Rattle.spa_format.specs.Tree as tree;
 ghost use Rattle.spa_value.specs.View.{view};
 
-use crate::exact::{SerializeAs, write_bytes, write_elements, write_text, write_value};
+use crate::exact::{SerializeAs, write_bytes, write_elements, write_text};
 use spa_sink::{GenError, PodOutput};
 use spa_utils::{Fd, Float32, Float64, Fraction, Id, Rectangle};
-use spa_value::Held;
+use spa_value::{Held, Value};
 
 impl SerializeAs for String {
     ghost says = { λ s. tree.string (string_bytes s) };
@@ -21,7 +21,8 @@ impl SerializeAs for Held {
     ghost says = { λ held. view held };
 
     fn write_as<O: PodOutput>(&self, out: &mut O) -> Result<(), GenError> {
-        write_value(out, &**self)
+        let value: &Value = &**self;
+        value.write_as(out)
     }
 }
 

@@ -1,19 +1,21 @@
 -- Pods that are their own rewritings, among those of a list.
-use Rattle.std.proofs.Common.{◌≡◌, ◌≢◌, ℕ, List, [], ◌++◌, length, refl, sym, ap, ◌∙◌, subst, append_assoc}
+use Rattle.std.proofs.Common.{◌≡◌, ◌≢◌, ◌<◌, ◌≤◌, arith, length-append, ℕ, List, [], ◌++◌, length, refl, sym, ap, ◌∙◌, subst, append_assoc}
 use Rattle.std.proofs.lemmas.List.{append-nil, nil_from_length}
 use Rattle.std.specs.Borrow.{Bor}
-use Rattle.spa_format.specs.Tree.{Trees, no_trees, member, join_members}
-use Rattle.spa_format.specs.Pod.{AreMembers}
+use Rattle.spa_format.specs.Tree.{Trees, no_trees, member, join_members, type_of}
+use Rattle.spa_format.specs.Pod.{AreMembers, IsBody}
 use Rattle.spa_format.specs.Encoding.{encoding_of, member_encodings}
-use Rattle.spa_format.specs.Front.{front_of}
+use Rattle.spa_format.specs.Front.{HasFront, front_of}
+use Rattle.spa_format.proofs.Fronts.{front_of_whole}
 use Rattle.spa_format.proofs.Sequences.{members_joined, members_push}
 use Rattle.spa_fixed.specs.declared.fault.DeserializeError.{DeserializeError}
 use Rattle.spa_scan.specs.Canonical.{AreCanonical}
 use Rattle.spa_rewrite.specs.Rewriting.{AreRewritten, AreRewrittenInParts, IsLeft, RefusesFront, RefusesList, TakesFront, TakesMembers, TakesStretch}
+use Rattle.spa_rewrite.specs.Steady.{AppendsPatched, AreSteady, TakesSteady}
 use Rattle.spa_rewrite.specs.Tails.{TailAppends, appends_both, start_bytes, tail_bytes}
 use Rattle.spa_rewrite.specs.declared.tail.Tail.{Tail}
 use Rattle.spa_rewrite.proofs.Rewritten.{no_members}
-use Rattle.spa_rewrite.proofs.Steps.{MembersSoFar, parted}
+use Rattle.spa_rewrite.proofs.Steps.{MembersSoFar, appends_none, parted}
 
 pub member_encodings-join : (vs ws : Trees) →
     member_encodings (join_members vs ws) ≡ member_encodings vs ++ member_encodings ws
@@ -136,3 +138,62 @@ rewritten_apart input out a b s t e m =
     e ∙ ap (λ l. l ++ tail_bytes b) (m.encodings.kept.bytes ∙ s)
     ∙ m.encodings.grown ∙ ap (λ l. l ++ member_encodings m.values) t in
     (m.values, m.members, bytes)
+
+-- some first pods, and those behind them whose rewritings are as long
+pub next_steady : (body left rest : List ℕ) (a b c : Tail) → MembersSoFar body left a b →
+    TakesSteady left b rest c → MembersSoFar body rest a c
+next_steady body left rest a b c h t =
+    let vs = t.steady.values in
+    let both = appends_both a b c (member_encodings h.values) (member_encodings vs) h.encodings t.encodings in
+    record {
+      values = join_members h.values vs;
+      first = h.first ++ t.first;
+      parts = h.parts ∙ ap (λ l. h.first ++ l) t.parts ∙ sym (append_assoc h.first t.first rest);
+      members = members_joined h.values vs h.first t.first h.members t.steady.members;
+      encodings = subst (λ l. TailAppends a l c) (sym (member_encodings-join h.values vs)) both;
+    }
+
+pub first_steady : (input left first rest : List ℕ) → FirstMembers input left →
+    left ≡ first ++ rest → AreSteady first → FirstMembers input rest
+first_steady input left first rest h e k = record {
+  values = join_members h.values k.values;
+  first = h.first ++ first;
+  parts = h.parts ∙ ap (λ l. h.first ++ l) e ∙ sym (append_assoc h.first first rest);
+  members = members_joined h.values k.values h.first first h.members k.members;
+}
+
+-- there is a pod
+pub steady_front_there : (input first rest : List ℕ) → input ≡ first ++ rest → AreSteady first → 0 < length first → HasFront input
+steady_front_there input first rest e k l = of_values k.values k.members
+  where
+    of_values : (vs : Trees) → AreMembers vs first → HasFront input
+    of_values no_trees m = absurd (let z = ap length m in omega arith)
+    of_values (member v vs) m =
+        (front_of_whole input m.0 (m.1 ++ rest) (type_of v) (IsBody v) (e ∙ ap (λ x. x ++ rest) m.2 ∙ append_assoc m.0 m.1 rest) m.3).0
+
+pub steady_taken : (input first rest : List ℕ) (a b : Tail) → input ≡ first ++ rest → AreSteady first → AppendsPatched a first b →
+    TakesSteady input a rest b
+steady_taken input first rest a b e k p = record {
+  first = first;
+  parts = e;
+  steady = k;
+  encodings = subst (λ l. TailAppends a l b) (p.its k.values k.members k.long) p.appended;
+}
+
+pub nothing_steady : (input : List ℕ) (a : Tail) → TakesSteady input a input a
+nothing_steady input a = record {
+  first = [];
+  parts = refl;
+  steady = record { values = no_trees; members = refl; long = refl };
+  encodings = appends_none a;
+}
+
+-- what is left is no longer than what it was left of
+pub steady_no_longer : (input rest : List ℕ) (a b : Tail) → TakesSteady input a rest b → length rest ≤ length input
+steady_no_longer input rest a b t = let e = ap length t.parts ∙ length-append t.first rest in omega arith
+
+-- all of them
+pub members_taken : (body left : List ℕ) (a b : Tail) → MembersSoFar body left a b → length left ≡ 0 → TakesMembers body a b
+members_taken body left a b h e =
+    let same : body ≡ h.first = h.parts ∙ ap (λ l. h.first ++ l) (nil_from_length left e) ∙ append-nil h.first in
+    record { values = h.values; members = subst (AreMembers h.values) (sym same) h.members; encodings = h.encodings }

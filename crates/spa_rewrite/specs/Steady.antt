@@ -1,5 +1,5 @@
 -- Pods whose rewritings are as long as they are: docs/FORMAT.md, "The encoding of a value".
-use Rattle.std.specs.Prelude.{◌≡◌, ◌<◌, ◌≤◌, ◌*◌, ℕ, List, length, drop, Bool, true, false}
+use Rattle.std.specs.Prelude.{◌≡◌, ◌<◌, ◌≤◌, ◌*◌, ◌++◌, ℕ, List, length, drop, Bool, true, false}
 use Rattle.spa_format.specs.Words.{extent, header_size, padded_size, size_limit, word_at}
 use Rattle.spa_format.specs.Tree.{Shape, none_choice, range_choice, step_choice, enum_choice, flags_choice, Tree, Trees, Properties, object_type, struct_type, type_of}
 use Rattle.spa_format.specs.Kind.{Fixed, Kind, type_number}
@@ -7,6 +7,8 @@ use Rattle.spa_format.specs.Pod.{AreElements, AreMembers, AreProperties, IsBody,
 use Rattle.spa_format.specs.Encoding.{encoded_body, encoding_of, fixed_bodies, member_encodings, property_encodings}
 use Rattle.spa_format.specs.Front.{front_of}
 use Rattle.spa_leaf.specs.Reading.{BeginsWith}
+use Rattle.spa_rewrite.specs.Tails.{TailAppends}
+use Rattle.spa_rewrite.specs.declared.tail.Tail.{Tail}
 
 -- pods one after another whose rewritings are together as long as they are
 pub record AreSteady (body : List ℕ) : Type 0 where
@@ -85,3 +87,16 @@ bytes_taken range_choice size all = 3 * size
 bytes_taken step_choice size all = 4 * size
 bytes_taken enum_choice size all = all
 bytes_taken flags_choice size all = all
+
+-- pods were appended, and became their rewritings, if those are as long
+pub record AppendsPatched (old : Tail) (pods : List ℕ) (new : Tail) : Type 0 where
+  pub patched : List ℕ
+  pub its : ArePatched false pods patched
+  pub appended : TailAppends old patched new
+
+-- some first pods have rewritings as long as they are, these were appended, and this follows the pods
+pub record TakesSteady (input : List ℕ) (old : Tail) (rest : List ℕ) (new : Tail) : Type 0 where
+  pub first : List ℕ
+  pub parts : input ≡ first ++ rest
+  pub steady : AreSteady first
+  pub encodings : TailAppends old (member_encodings steady.values) new

@@ -6,9 +6,11 @@ ghost use Rattle.spa_format.specs.Pod.{AreMembers};
 ghost use Rattle.spa_format.specs.Tree.{Trees};
 ghost use Rattle.spa_leaf.specs.Reading.{IsShortAt, Names, OnFault, OnMemory};
 ghost use Rattle.spa_rewrite.specs.Rewriting.{AreRewritten, AreRewrittenInParts, IsLeft, IsRewriting, RefusesFront, RefusesList, TakesMembers, TakesStretch};
+ghost use Rattle.spa_rewrite.specs.Steady.{TakesSteady};
 ghost use Rattle.spa_rewrite.specs.Tails.{KeepsStart};
 
 use crate::pod::rewrite_pod;
+use crate::steady::steady_stretch;
 use crate::tail::Tail;
 use spa_fixed::{DeserializeError, Refusal};
 use spa_leaf::error_at;
@@ -105,7 +107,7 @@ pub fn rewrite_in_parts(
 
 /// Tells whether `rewrite_all` would accept the input, and else refuses it as that call does.
 ///
-/// It makes no rewriting of the whole: it takes memory only for pods that aren't their own rewriting, one at a time.
+/// It makes no rewriting of the whole: it takes memory only for pods that get shorter or nest more than `LEVELS` deep, one at a time.
 pub fn accept_all(alloc: Global, input: &[u8]) -> Result<(), (&[u8], DeserializeError<&[u8]>)>
     ensures accepted { OnOk result ((vs : Trees) × AreMembers vs input.now) }
     ensures refused { IfErr result (λ refusal. RefusesList input.now refusal.0.now refusal.1) }
@@ -115,12 +117,13 @@ pub fn accept_all(alloc: Global, input: &[u8]) -> Result<(), (&[u8], Deserialize
     let mut tail = Tail::behind(Vec::new(alloc));
     loop {
         let (_, behind) = canonical_stretch(left);
-        if behind.is_empty() {
+        let (_, others) = steady_stretch(behind);
+        if others.is_empty() {
             return Ok(());
         }
-        let mut place = behind;
+        let mut place = others;
         if let Err(why) = rewrite_pod(alloc, &mut outer, &mut place, &mut tail) {
-            return Err((behind, error_at(place, why)));
+            return Err((others, error_at(place, why)));
         }
         tail.clear();
         left = place;
@@ -157,17 +160,39 @@ fn rewrite_others<'a>(
 {
     let mut left = input;
     let mut outer = Vec::new(alloc);
-    while !left.is_empty() {
-        let mut behind = left;
+    loop {
+        let Some(others) = put_steady(left, tail) else {
+            return Err((left, error_at(left, Refusal::OutOfMemory)));
+        };
+        if others.is_empty() {
+            return Ok(());
+        }
+        let mut behind = others;
         if let Err(why) = rewrite_pod(alloc, &mut outer, &mut behind, tail) {
-            return Err((left, error_at(behind, why)));
+            return Err((others, error_at(behind, why)));
         }
         let Some(rest) = put_stretch(behind, tail) else {
             return Err((behind, error_at(behind, Refusal::OutOfMemory)));
         };
         left = rest;
     }
-    Ok(())
+}
+
+/// Appends the rewritings of the first pods, as many as are found to be as long as their pods, and gives what follows these. `None` says
+/// that memory ran out.
+fn put_steady<'a>(left: &'a [u8], tail: &mut Tail) -> Option<&'a [u8]>
+    ensures taken { IfSome result (λ rest. TakesSteady left.now tail.old rest.now tail.new) }
+    ensures front { IfNone result (HasFront left.now) }
+    ensures kept { IfNone result (KeepsStart tail.old tail.new) }
+{
+    let (steady, rest) = steady_stretch(left);
+    if steady.is_empty() {
+        return Some(left);
+    }
+    match tail.append_patched(steady) {
+        Some(()) => Some(rest),
+        None => None,
+    }
 }
 
 /// Appends the first pods, as many as are their own rewritings, and gives what follows them. `None` says that memory ran out.

@@ -2,8 +2,8 @@ use Rattle.std.proofs.Common.{length}
 use Rattle.spa_rewrite.proofs.Stretches.{FirstMembers}
 use Rattle.spa_rewrite.proofs.rewriting.accept_all.Given as goal
 
-abbrev pub invariant-loop-behind : goal.invariant-loop-behind
-invariant-loop-behind l = FirstMembers l.input l.left
+abbrev pub invariant-loop-others : goal.invariant-loop-others
+invariant-loop-others l = FirstMembers l.input l.left
 
-abbrev pub decreases-loop-behind : goal.decreases-loop-behind
-decreases-loop-behind l = length l.left
+abbrev pub decreases-loop-others : goal.decreases-loop-others
+decreases-loop-others l = length l.left

@@ -1,3 +1,4 @@
 pub mod NextPods
 pub mod AcceptedPods
+pub mod Values
 pub mod WorkedRows

@@ -1,13 +1,14 @@
 -- When the calls of a parser succeed, and why they are refused: docs/FORMAT.md, "Taking pods one by one".
-use Rattle.std.specs.Prelude.{◌≡◌, ◌≢◌, ◌⊎◌, ℕ, List, ◌∷◌, IsSomeAnd, IsUtf8, MatchOption, false}
-use Rattle.spa_format.specs.Words.{word_at, body_of}
+use Rattle.std.specs.Prelude.{◌≡◌, ◌≢◌, ◌⊎◌, ℕ, List, ◌∷◌, drop, Option, Some, None, if◌then◌else◌, nat_eq, IsSomeAnd, IsUtf8, MatchOption, false}
+use Rattle.spa_format.specs.Words.{header_size, word_at, body_of}
 use Rattle.spa_format.specs.Kind.{Fixed, kind_of, content}
-use Rattle.spa_format.specs.Tree.{Tree, Trees}
+use Rattle.spa_format.specs.Tree.{Tree, Trees, Properties, no_properties, property}
+use Rattle.spa_format.specs.Walk.{first_with_key, property_walk, properties_of}
 use Rattle.spa_format.specs.Pod.{IsPod, AreMembers}
 use Rattle.spa_utils.specs.declared.errno.Errno.{Errno}
 use Rattle.spa_utils.specs.declared.errno.TheConstants.Errno.{NOMEM, INVAL, PIPE, PROTO}
 use Rattle.spa_view.specs.Tests.{IsOfKind, IsNulEnded, before_nul, IsBytesPod, IsPointerPod, IsAddress, IsStructPod, IsObjectPod}
-use Rattle.spa_parser.specs.State.{ParserState, next_pod}
+use Rattle.spa_parser.specs.State.{ParserState, next_pod, start_of}
 
 -- there is a next pod, and it passes the test
 abbrev pub NextPasses : (List ℕ → Type 0) → ParserState → Type 0
@@ -69,3 +70,16 @@ RefusesObject type s e = MatchOption (next_pod s) (e ≡ PIPE) (λ pod.
 -- the innermost frame is closed, and what is left of it is skipped
 abbrev pub ClosesFrame : ParserState → ParserState → Type 0
 ClosesFrame old new = old.outer ≡ new.innermost ∷ new.outer
+
+-- the first property with this key, in an object's bytes
+abbrev pub property_at : ℕ → List ℕ → Option (List ℕ)
+property_at key object = first_with_key key (property_walk (properties_of object))
+
+-- and its value, in properties
+abbrev pub first_value : ℕ → Properties → Option Tree
+first_value key no_properties = None
+first_value key (property k flags v ps) = if nat_eq k key then Some v else first_value key ps
+
+-- at the front of the value of the first property with this key
+abbrev pub IsValueOf : ℕ → List ℕ → ParserState → Type 0
+IsValueOf key object s = IsSomeAnd (property_at key object) (λ p. s ≡ start_of (drop header_size p))

@@ -1,10 +1,10 @@
 //! What a parser gets. Each call asks for the next pod by its type and its size, and moves past it.
-ghost use Rattle.std.specs.Prelude.{◌≡◌, Bool, IfErr, IfOk, IsOk, IsOkAnd, List, None, Ok, OnErr, OnOk, Some, ℕ, ℤ};
+ghost use Rattle.std.specs.Prelude.{◌≡◌, Bool, IfErr, IfOk, IsErr, IsOk, IsOkAnd, List, None, Ok, OnErr, OnOk, Some, ℕ, ℤ};
 ghost use Rattle.spa_format.specs.Kind as k;
 ghost use Rattle.spa_format.specs.Pod.{IsPod};
 ghost use Rattle.spa_format.specs.Tree.{Properties, Tree, bytes, fixed, object, pointer, string};
 ghost use Rattle.spa_parser.specs.State.{state_behind, next_pod};
-ghost use Rattle.spa_parser.specs.Steps.{IsObjectOf, IsTextPod, NextIs, NextPasses, RefusesGet, RefusesObjectGet, SaysFixed, SaysBytes, SaysPointer, SaysString};
+ghost use Rattle.spa_parser.specs.Steps.{IsObjectOf, IsTextPod, IsValueOf, NextIs, NextPasses, RefusesGet, RefusesObjectGet, first_value, property_at, SaysFixed, SaysBytes, SaysPointer, SaysString};
 ghost use Rattle.spa_view.specs.Tests as t;
 
 use crate::parser::Parser;
@@ -234,6 +234,19 @@ impl<'d> Parser<'d> {
         }
         self.innermost.bytes = left;
         Ok(object)
+    }
+
+    /// A parser at the front of the value of the object's first property with this key. PIPE where there is none.
+    pub fn value_of(&self, view: &PodObject<'d>, key: u32) -> Result<Parser<'d>, Errno>
+        ensures found { IfOk result (IsValueOf key (object_bytes view.now)) }
+        ensures missing { IfErr result (λ e. (property_at key (object_bytes view.now) ≡ None) × (e ≡ Errno.PIPE)) }
+        ensures accepted { (type id : ℕ) (ps : Properties) (v : Tree) → IsPod (object_bytes view.now) (object type id ps) → first_value key ps ≡ Some v → IsOkAnd result (NextIs v) }
+        ensures absent { (type id : ℕ) (ps : Properties) → IsPod (object_bytes view.now) (object type id ps) → first_value key ps ≡ None → IsErr result }
+    {
+        match view.find_prop(Id(key)) {
+            Some(property) => Ok(Parser::from_pod(*self.outer.allocator(), property.value())),
+            None => Err(Errno::PIPE),
+        }
     }
 
     /// The view of the next pod, whatever it is.

@@ -8,5 +8,4 @@ mod parser;
 mod text;
 
 pub use parser::Parser;
-pub use spa_utils::{Errno, Frame, Id};
-pub use text::text_of;
+pub use spa_utils::{Errno, Frame};

@@ -7,9 +7,9 @@
 /// next pod is a None, and else `Some` of what the form takes; and
 ///
 /// - `Struct { .. }` with forms inside, which opens a struct, takes these from it and closes it;
-/// - `Object(type, id) { key => form, .. }`, which takes the next object of this type, assigns its id, and reads the first
-///   property of each key by its form, but `Struct` and `Object`. Where there is no such property an `Option` is `None`, and
-///   any other form is refused with PIPE.
+/// - `Object(type, id) { key => form, .. }`, which takes the next object of this type, assigns its id, and reads the value of
+///   the first property with each key by its form. Where there is none an `Option` is `None`, and any other form is refused
+///   with PIPE.
 ///
 /// Each is refused as its call is, and then assigns nothing. Where a form inside `Struct` is refused, the struct stays open
 /// and those before it stay assigned; where one inside `Object` is, the parser is behind the object.
@@ -25,15 +25,16 @@ macro_rules! parser_get {
             Err(error) => Err(error),
         }
     }};
-    ($parser:expr, Object($type_:expr, $id:expr $(,)?) { $($properties:tt)* }) => {
-        match $crate::Parser::get_object($parser, $type_) {
+    ($parser:expr, Object($type_:expr, $id:expr $(,)?) { $($properties:tt)* }) => {{
+        let parser = &mut *$parser;
+        match $crate::Parser::get_object(parser, $type_) {
             Ok(object) => {
                 *$id = object.id();
-                $crate::parser_properties!(object, $($properties)*)
+                $crate::parser_properties!(parser, object, $($properties)*)
             }
             Err(error) => Err(error),
         }
-    };
+    }};
     ($parser:expr, Option($form:ident($place:expr))) => {{
         let parser = &mut *$parser;
         match $crate::Parser::get_none(parser) {
@@ -57,6 +58,21 @@ macro_rules! parser_get_all {
     ($parser:expr $(,)?) => {
         Ok::<(), $crate::Errno>(())
     };
+    ($parser:expr, Option $inner:tt $(, $($more:tt)*)?) => {
+        match $crate::parser_get!($parser, Option $inner) {
+            Ok(()) => $crate::parser_get_all!($parser, $($($more)*)?),
+            Err(error) => Err(error),
+        }
+    };
+    ($parser:expr, $form:ident($place:expr) $(, $($more:tt)*)?) => {
+        match $crate::parser_take!($parser, $form) {
+            Ok(value) => {
+                *$place = value;
+                $crate::parser_get_all!($parser, $($($more)*)?)
+            }
+            Err(error) => Err(error),
+        }
+    };
     ($parser:expr, $form:ident $inner:tt $(, $($more:tt)*)?) => {
         match $crate::parser_get!($parser, $form $inner) {
             Ok(()) => $crate::parser_get_all!($parser, $($($more)*)?),
@@ -71,58 +87,62 @@ macro_rules! parser_get_all {
     };
 }
 
-/// Reads the first property of each key by its form, in order, up to the first that is refused.
+/// Reads the value of the first property with each key by its form, in order, up to the first that is refused.
 #[doc(hidden)]
 #[macro_export]
 macro_rules! parser_properties {
-    ($object:expr $(,)?) => {
+    ($parser:expr, $object:expr $(,)?) => {
         Ok::<(), $crate::Errno>(())
     };
-    ($object:expr, $key:expr => $form:ident $inner:tt $(, $($more:tt)*)?) => {
-        match $crate::parser_property!($object.find_prop($crate::Id($key)), $form $inner) {
-            Ok(()) => $crate::parser_properties!($object, $($($more)*)?),
+    ($parser:expr, $object:expr, $key:expr => Option $inner:tt $(, $($more:tt)*)?) => {
+        match $crate::parser_property!($parser.value_of(&$object, $key), Option $inner) {
+            Ok(()) => $crate::parser_properties!($parser, $object, $($($more)*)?),
+            Err(error) => Err(error),
+        }
+    };
+    ($parser:expr, $object:expr, $key:expr => $form:ident($place:expr) $(, $($more:tt)*)?) => {
+        match $parser.value_of(&$object, $key) {
+            Ok(mut inner) => match $crate::parser_take!(&mut inner, $form) {
+                Ok(value) => {
+                    *$place = value;
+                    $crate::parser_properties!($parser, $object, $($($more)*)?)
+                }
+                Err(error) => Err(error),
+            },
+            Err(error) => Err(error),
+        }
+    };
+    ($parser:expr, $object:expr, $key:expr => $form:ident $inner:tt $(, $($more:tt)*)?) => {
+        match $crate::parser_property!($parser.value_of(&$object, $key), $form $inner) {
+            Ok(()) => $crate::parser_properties!($parser, $object, $($($more)*)?),
+            Err(error) => Err(error),
+        }
+    };
+    ($parser:expr, $object:expr, $key:expr => $form:ident $head:tt $body:tt $(, $($more:tt)*)?) => {
+        match $crate::parser_property!($parser.value_of(&$object, $key), $form $head $body) {
+            Ok(()) => $crate::parser_properties!($parser, $object, $($($more)*)?),
             Err(error) => Err(error),
         }
     };
 }
 
-/// Reads a property, where there is one, by a form.
+/// Reads the value of a property, where there is one, by a form.
 #[doc(hidden)]
 #[macro_export]
 macro_rules! parser_property {
-    ($property:expr, Option($form:ident($place:expr))) => {
-        match $property {
-            None => {
+    ($value:expr, Option($form:ident($place:expr))) => {
+        match $value {
+            Ok(mut inner) => $crate::parser_get!(&mut inner, Option($form($place))),
+            Err(_) => {
                 *$place = None;
                 Ok::<(), $crate::Errno>(())
             }
-            Some(property) => {
-                let pod = property.value();
-                if pod.is_none() {
-                    *$place = None;
-                    Ok::<(), $crate::Errno>(())
-                } else {
-                    $crate::parser_assign_some!($place, $crate::pod_take!(pod, $form))
-                }
-            }
         }
     };
-    ($property:expr, Pod($place:expr)) => {
-        match $property {
-            None => Err($crate::Errno::PIPE),
-            Some(property) => {
-                *$place = property.value();
-                Ok::<(), $crate::Errno>(())
-            }
-        }
-    };
-    ($property:expr, $form:ident($place:expr)) => {
-        match $property {
-            None => Err($crate::Errno::PIPE),
-            Some(property) => {
-                let pod = property.value();
-                $crate::parser_assign!($place, $crate::pod_take!(pod, $form))
-            }
+    ($value:expr, $($form:tt)*) => {
+        match $value {
+            Ok(mut inner) => $crate::parser_get!(&mut inner, $($form)*),
+            Err(error) => Err(error),
         }
     };
 }
@@ -131,56 +151,44 @@ macro_rules! parser_property {
 #[doc(hidden)]
 #[macro_export]
 macro_rules! parser_take {
+    ($parser:expr, Bool) => {
+        $crate::Parser::get_bool($parser)
+    };
+    ($parser:expr, Id) => {
+        $crate::Parser::get_id($parser)
+    };
+    ($parser:expr, Int) => {
+        $crate::Parser::get_int($parser)
+    };
+    ($parser:expr, Long) => {
+        $crate::Parser::get_long($parser)
+    };
+    ($parser:expr, Float) => {
+        $crate::Parser::get_float($parser)
+    };
+    ($parser:expr, Double) => {
+        $crate::Parser::get_double($parser)
+    };
     ($parser:expr, String) => {
-        $parser.get_string()
+        $crate::Parser::get_string($parser)
+    };
+    ($parser:expr, Bytes) => {
+        $crate::Parser::get_bytes($parser)
+    };
+    ($parser:expr, Pointer) => {
+        $crate::Parser::get_pointer($parser)
+    };
+    ($parser:expr, Fd) => {
+        $crate::Parser::get_fd($parser)
+    };
+    ($parser:expr, Rectangle) => {
+        $crate::Parser::get_rectangle($parser)
+    };
+    ($parser:expr, Fraction) => {
+        $crate::Parser::get_fraction($parser)
     };
     ($parser:expr, Pod) => {
-        $parser.get_pod()
-    };
-    ($parser:expr, $form:ident) => {
-        $crate::pod_take!($parser, $form)
-    };
-}
-
-/// The call of a view of a pod that a form names. Most are a parser's too.
-#[doc(hidden)]
-#[macro_export]
-macro_rules! pod_take {
-    ($source:expr, Bool) => {
-        $source.get_bool()
-    };
-    ($source:expr, Id) => {
-        $source.get_id()
-    };
-    ($source:expr, Int) => {
-        $source.get_int()
-    };
-    ($source:expr, Long) => {
-        $source.get_long()
-    };
-    ($source:expr, Float) => {
-        $source.get_float()
-    };
-    ($source:expr, Double) => {
-        $source.get_double()
-    };
-    ($source:expr, String) => {
-        $crate::text_of(&$source)
-    };
-    ($source:expr, Bytes) => {
-        $source.get_bytes()
-    };
-    ($source:expr, Pointer) => {
-        $source.get_pointer()
-    };
-    ($source:expr, Fd) => {
-        $source.get_fd()
-    };
-    ($source:expr, Rectangle) => {
-        $source.get_rectangle()
-    };
-    ($source:expr, Fraction) => {
-        $source.get_fraction()
+        $crate::Parser::get_pod($parser)
     };
 }
 

@@ -58,7 +58,7 @@ impl<'d> Remainder<'d> {
 #[derive(Drop)]
 pub struct Parser<'d> {
     pub(crate) innermost: Remainder<'d>,
-    outer: Vec<Remainder<'d>>,
+    pub(crate) outer: Vec<Remainder<'d>>,
 }
 
 impl<'d> Model for Parser<'d> {

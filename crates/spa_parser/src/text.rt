@@ -9,7 +9,7 @@ use std::str;
 
 /// The text of a String: the bytes before its first NUL. INVAL where the pod isn't one, doesn't end in NUL, or these bytes
 /// aren't UTF-8.
-pub fn text_of<'d>(pod: &Pod<'d>) -> Result<&'d str, Errno>
+pub(crate) fn text_of<'d>(pod: &Pod<'d>) -> Result<&'d str, Errno>
     ensures ok { OnOk result (IsTextPod (pod_bytes pod.now)) }
     ensures said { IfOk result (λ text. SaysString text.now (pod_bytes pod.now)) }
     ensures refused { IfErr result (λ e. (¬ (IsTextPod (pod_bytes pod.now))) × (e ≡ Errno.INVAL)) }

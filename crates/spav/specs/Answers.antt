@@ -33,10 +33,6 @@ IsRewritten answer = IsDone answer ⊎ IsNoMemory answer ⊎ IsInvalid answer �
 abbrev pub IsChecked : ℤ → Type 0
 IsChecked answer = IsDone answer ⊎ IsNoMemory answer ⊎ IsInvalid answer
 
--- what a list of pods is refused with
-abbrev pub IsRefusal : ℤ → Type 0
-IsRefusal answer = IsNoMemory answer ⊎ IsInvalid answer
-
 -- what a question answers that takes no memory
 abbrev pub IsTold : ℤ → Type 0
 IsTold answer = IsDone answer ⊎ IsYes answer

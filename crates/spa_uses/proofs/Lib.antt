@@ -1,1 +1,4 @@
 pub mod Lists
+pub mod Modes
+pub mod Values
+pub mod Controls

@@ -1,13 +1,19 @@
 -- A list of properties, parted at one of them.
-use Rattle.std.proofs.Common.{◌≡◌, ◌≢◌, ◌==◌, Some, ℕ, ◌<◌, List, [], ◌∷◌, ◌++◌, length, take, drop, get_or, sym, ap, ◌∙◌, arith, length-drop, length-take, true≢false}
+use Rattle.std.proofs.Common.{◌≡◌, ◌≢◌, ◌==◌, Some, None, ℕ, suc, ◌+◌, ◌≤◌, ◌<◌, List, [], ◌∷◌, ◌++◌, length, take, drop, get_or, sym, ap, ◌∙◌, append_assoc, arith, length-drop, length-take, true≢false}
 use Rattle.std.specs.Cmp.{unsigned_Decides}
-use Rattle.std.specs.List.{All, position}
+use Rattle.std.specs.List.{All, position, position_or_len}
+use Rattle.std.proofs.lemmas.Grind.{common_steps}
+use Rattle.std.proofs.lemmas.List.Sums.{fails_before_first}
 use Rattle.std.proofs.lemmas.List.{take-append-drop, get_or-drop, get_or-take}
 use Rattle.std.proofs.lemmas.List.Quantifiers.{position-Some}
-use Rattle.libspa.specs.Tree.{Tree, join_properties, property}
+use Rattle.libspa.specs.Tree.{Tree, Properties, join_properties, no_properties, property}
 use Rattle.spa_value.specs.declared.object.Property.{Property}
 use Rattle.spa_value.specs.View.{view}
 use Rattle.spa_value.specs.Views.{property_views}
+
+-- a list that grows by one property, and then by others
+pub put_back : (before more all behind : List Property) (p : Property) → more ≡ before ++ p ∷ [] → all ≡ more ++ behind → all ≡ before ++ p ∷ behind
+put_back before more all behind p e f = f ∙ ap (λ qs. qs ++ behind) e ∙ append_assoc before (p ∷ []) behind
 
 first_and : (qs : List Property) (p : Property) → 0 < length qs → p ≡ get_or qs 0 p → qs ≡ p ∷ drop 1 qs
 first_and [] p n e = absurd (omega (arith, n))
@@ -41,3 +47,33 @@ none_before ps before i key b found = λ k d l.
     let other = (position-Some (λ (q : Property). q.key == key) ps i d found).2 k below in
     let same : get_or before k d ≡ get_or ps k d = ap (λ qs. get_or qs k d) b ∙ get_or-take i ps k d below in
     λ e. true≢false (sym ((unsigned_Decides (get_or ps k d).key key).1 (ap (λ (q : Property). q.key) (sym same) ∙ e)) ∙ other)
+
+-- where no property is found under a key, none is under it
+pub none_found : (key : ℕ) (ps : List Property) → position (λ (q : Property). q.key == key) ps ≡ None →
+    All (λ (q : Property). q.key ≢ key) ps
+none_found key ps e = λ k d l e2.
+    let all : length ps ≤ position_or_len (λ (q : Property). q.key == key) ps = grind (arith, common_steps) in
+    let other = fails_before_first (λ (q : Property). q.key == key) ps k d (omega (arith, l, all)) in
+    true≢false (sym ((unsigned_Decides (get_or ps k d).key key).1 e2) ∙ other)
+
+tail_none : (key : ℕ) (p : Property) (ps : List Property) → All (λ (q : Property). q.key ≢ key) (p ∷ ps) →
+    All (λ (q : Property). q.key ≢ key) ps
+tail_none key p ps a = λ k d l. a (suc k) d (omega (arith, l))
+
+-- a list whose trees have a property under the key has one
+pub key_there : (key flags : ℕ) (v : Tree) (ps : List Property) (bs qs : Properties) →
+    property_views ps ≡ join_properties bs (property key flags v qs) → ¬ (All (λ (q : Property). q.key ≢ key) ps)
+key_there key f v [] no_properties qs e a = absurd (cc e)
+key_there key f v [] (property k g w bs) qs e a = absurd (cc e)
+key_there key f v (p ∷ ps) no_properties qs e a = a 0 p (omega arith) (cc e)
+key_there key f v (p ∷ ps) (property k g w bs) qs e a = key_there key f v ps bs qs (cc e) (tail_none key p ps a)
+
+-- the first property under the key, of two lists before which none is under it
+pub same_first : (key flags : ℕ) (v : Tree) (ps bs : List Property) (p : Property) (qs : List Property) (rs : Properties) →
+    property_views (ps ++ p ∷ qs) ≡ join_properties (property_views bs) (property key flags v rs) → p.key ≡ key →
+    All (λ (q : Property). q.key ≢ key) ps → All (λ (q : Property). q.key ≢ key) bs → view p.value ≡ v
+same_first key f v [] [] p qs rs e k a b = cc e
+same_first key f v [] (c ∷ bs) p qs rs e k a b = absurd (b 0 c (omega arith) (cc (e, k)))
+same_first key f v (c ∷ ps) [] p qs rs e k a b = absurd (a 0 c (omega arith) (cc e))
+same_first key f v (c ∷ ps) (d ∷ bs) p qs rs e k a b =
+    same_first key f v ps bs p qs rs (cc e) k (tail_none key c ps a) (tail_none key d bs b)

@@ -1,8 +1,16 @@
 -- An object of which one property is known.
-use Rattle.std.specs.Prelude.{◌≡◌, ◌≢◌, ℕ}
+use Rattle.std.specs.Prelude.{◌≡◌, ◌≢◌, ◌⊎◌, ℕ, List, false}
+use Rattle.std.specs.Borrow.{Bor}
 use Rattle.std.specs.List.{All}
 use Rattle.libspa.specs.Kind as kind
-use Rattle.libspa.specs.Tree.{Tree, fixed, object, join_properties, property}
+use Rattle.libspa.specs.Encoding.{encoding_of}
+use Rattle.libspa.specs.Front.{Begins}
+use Rattle.libspa.specs.Members.{ObjectReader}
+use Rattle.libspa.specs.Pod.{AreProperties}
+use Rattle.libspa.specs.Reading.{OnFault}
+use Rattle.libspa.specs.Tree.{Tree, Properties, fixed, object, join_properties, property}
+use Rattle.libspa.specs.Writable.{IsWritable}
+use Rattle.spa_fixed.specs.declared.fault.DeserializeError.{DeserializeError}
 use Rattle.spa_value.specs.Views.{property_views}
 use Rattle.spa_uses.specs.declared.control.Control.{Control}
 
@@ -25,3 +33,36 @@ control_tree c = tree_with c c.volume.0
 pub record IsControl (c : Control) (v : Tree) : Type 0 where
   pub tree : v ≡ control_tree c
   pub first : All (λ p. p.key ≢ volume_key) c.before.items
+
+-- the value is an object
+abbrev pub IsObject : Tree → Type 0
+IsObject (object type id ps) = Unit {0}
+IsObject _ = ⊥
+
+-- no control is read from this value, or from what an input begins with
+abbrev pub IsNoControl : Tree → Type 0
+IsNoControl v = (c : Control) → ¬ (IsControl c v)
+
+abbrev pub BeginsNoControl : List ℕ → Type 0
+BeginsNoControl b = (v : Tree) → Begins b v → IsNoControl v
+
+-- Of an object it declines, but for memory, only one that no control is read from.
+abbrev pub DeclinesControl : ObjectReader → DeserializeError (Bor (List ℕ)) → Type 0
+DeclinesControl lent e = lent.reader.failed ≡ false →
+    OnFault ((ps : Properties) → AreProperties ps lent.reader.left → IsNoControl (object lent.type lent.id ps)) e
+
+-- an input begins with a control, which with this volume is written as these bytes
+pub record IsChanged (input : List ℕ) (volume : ℕ) (bytes : List ℕ) : Type 0 where
+  pub control : Control
+  pub value : Tree
+  pub begins : Begins input value
+  pub is_read : IsControl control value
+  pub encoding : bytes ≡ encoding_of (tree_with control volume)
+
+-- the same, but with this volume it can't be written
+pub record IsUnwritable (input : List ℕ) (volume : ℕ) : Type 0 where
+  pub control : Control
+  pub value : Tree
+  pub begins : Begins input value
+  pub is_read : IsControl control value
+  pub unwritable : ¬ (IsWritable (tree_with control volume))

@@ -1,26 +1,30 @@
 //! An object of which one property is known, and all others are kept.
-ghost use Rattle.std.specs.Prelude.{⊤, ◌≡◌, ◌==◌, IfErr, IfOk, IfSome, position};
-ghost use Rattle.libspa.specs.Encoding.{encoding_of};
-ghost use Rattle.libspa.specs.Front.{Begins};
-ghost use Rattle.libspa.specs.Tree.{Tree, object};
-ghost use Rattle.libspa.specs.View.{object_view};
-ghost use Rattle.spa_uses.specs.Control.{IsControl, control_tree, tree_with, volume_key};
+ghost use Rattle.std.specs.Prelude.{⊤, ◌≡◌, ◌≢◌, ◌==◌, ◌⊎◌, ℕ, IfErr, IfNone, IfOk, IfSome, position};
+ghost use Rattle.libspa.specs.Kind as kind;
+ghost use Rattle.libspa.specs.Members.{AtEnd};
+ghost use Rattle.libspa.specs.Reading.{OnFault};
+ghost use Rattle.libspa.specs.Tree.{Tree, fixed, object};
+ghost use Rattle.libspa.specs.View.{object_view, view};
+ghost use Rattle.spa_uses.specs.Control.{BeginsNoControl, DeclinesControl, IsChanged, IsControl, IsNoControl, IsUnwritable, control_tree, volume_key};
 ghost use Rattle.spa_uses.specs.declared.control.Control.{Control};
 
 use libspa::pod::deserialize::{
     DeserializeError, DeserializeSuccess, Never, ObjectPodDeserializer, PodDeserialize,
     PodDeserializer, StructPodDeserializer, ValueVisitor, Visit, Visitor,
 };
-use libspa::pod::serialize::PodSerializer;
-use libspa::pod::value_laws::{objects_are_their_fields, property_lists_are_in_order};
-use libspa::pod::{Object, Property, PropertyFlags, Value, discard};
+use libspa::pod::serialize::{GenError, laws};
+use libspa::pod::value_laws::{
+    objects_are_their_fields, property_lists_are_in_order, trees_have_their_types,
+};
+use libspa::pod::{Held, Object, Property, PropertyFlags, Value};
 use libspa::utils::Float32;
 use std::alloc::{AllocError, Global};
 
 /// The key of a volume, which PipeWire calls `SPA_PROP_volume`.
 const VOLUME: u32 = 65539;
 
-/// A volume, and all else that its object says, which may be nested deep.
+/// A volume, and all else that its object says.
+#[derive(Drop)]
 pub struct Control {
     /// The object's type.
     pub type_: u32,
@@ -34,30 +38,6 @@ pub struct Control {
     pub flags: PropertyFlags,
     /// The properties behind it, in order.
     pub behind: Vec<Property>,
-}
-
-impl Drop for Control {
-    fn drop(self) {
-        let Control {
-            type_: _,
-            id: _,
-            before: first,
-            volume: _,
-            flags: _,
-            behind: others,
-        } = self;
-        let_go(first);
-        let_go(others);
-    }
-}
-
-/// Takes properties apart by a loop.
-fn let_go(properties: Vec<Property>) {
-    discard(Value::Object(Object {
-        type_: 0,
-        id: 0,
-        properties,
-    }));
 }
 
 impl Control {
@@ -75,21 +55,12 @@ impl Control {
             flags,
             mut behind,
         } = self;
-        if let Err(error) = properties.reserve(1) {
-            let_go(properties);
-            let_go(behind);
-            return Err(error);
-        }
-        properties.push_reserved(Property {
+        properties.push(Property {
             key: VOLUME,
             flags,
             value: Value::Float(volume),
-        });
-        if let Err(error) = properties.append(&mut behind) {
-            let_go(properties);
-            let_go(behind);
-            return Err(error);
-        }
+        })?;
+        properties.append(&mut behind)?;
         Ok(Object {
             type_,
             id,
@@ -112,6 +83,10 @@ impl<'de> Visitor<'de> for ControlVisitor {
     ghost visits_struct = { λ _ _ _. ⊥ };
 
     ghost visits_object = { λ _ type id properties control. IsControl control (object type id properties) };
+
+    ghost declines_object = { λ _ lent _ e. DeclinesControl lent e };
+
+    ghost leaves_object = { λ _ _ now. AtEnd now.reader };
 
     fn visit(&self, given: Visit<'de, Never>) -> Result<Control, DeserializeError<&'de [u8]>>
         ensures made { IfOk result (λ _. ⊥) }
@@ -136,19 +111,19 @@ impl<'de> Visitor<'de> for ControlVisitor {
         let visitor = ValueVisitor {
             alloc: reader.allocator(),
         };
-        match visitor.visit_object(reader)? {
-            Value::Object(object) => control_of(object),
-            other => {
-                discard(other);
-                Err(DeserializeError::UnsupportedType)
-            }
+        match visitor.visit_object(reader) {
+            Ok(value) => control_in(value),
+            Err(e) => Err(e),
         }
     }
 }
 
-/// An object in which a volume stands: all that it says is kept. The first volume counts.
+/// An object in which a volume stands: all that it says is kept. The first volume counts. It is refused, but for memory, exactly
+/// where no such object is there.
 impl<'de> PodDeserialize<'de> for Control {
     ghost reads = { λ value control. IsControl control value };
+
+    ghost refuses = { λ input e. OnFault (BeginsNoControl input) e };
 
     fn deserialize(
         deserializer: PodDeserializer<'de>,
@@ -157,10 +132,26 @@ impl<'de> PodDeserialize<'de> for Control {
     }
 }
 
+/// The control in a value. Refusals: `UnsupportedType` where it is no object, else those of `control_of`.
+fn control_in<'de>(value: Value) -> Result<Control, DeserializeError<&'de [u8]>>
+    ensures made { IfOk result (λ control. IsControl control (view value)) }
+    ensures refused { IfErr result (OnFault (IsNoControl (view value))) }
+{
+    trees_have_their_types();
+    match value {
+        Value::Object(object) => control_of(object),
+        other => {
+            drop(other);
+            Err(DeserializeError::UnsupportedType)
+        }
+    }
+}
+
 /// The object taken apart at its first volume. Refusals: `PropertyMissing`, `UnsupportedType` where that property isn't a
 /// Float, and `OutOfMemory`.
 fn control_of<'de>(object: Object) -> Result<Control, DeserializeError<&'de [u8]>>
-    ensures { IfOk result (λ control. IsControl control (object_view object)) }
+    ensures made { IfOk result (λ control. IsControl control (object_view object)) }
+    ensures refused { IfErr result (OnFault (IsNoControl (object_view object))) }
 {
     objects_are_their_fields();
     property_lists_are_in_order();
@@ -170,25 +161,14 @@ fn control_of<'de>(object: Object) -> Result<Control, DeserializeError<&'de [u8]
         properties: mut before,
     } = object;
     let Some(place) = volume_place(before.as_slice()) else {
-        let_go(before);
         return Err(DeserializeError::PropertyMissing);
     };
-    let mut behind = match before.split_off(place) {
-        Ok(behind) => behind,
-        Err(error) => {
-            let_go(before);
-            return Err(DeserializeError::from(error));
-        }
-    };
+    let mut behind = before.split_off(place)?;
     let Property { flags, value, .. } = behind.remove(0);
-    let volume = match value {
-        Value::Float(volume) => volume,
-        other => {
-            discard(other);
-            let_go(before);
-            let_go(behind);
-            return Err(DeserializeError::UnsupportedType);
-        }
+    let found = float_of(&value);
+    drop(value);
+    let Some(volume) = found else {
+        return Err(DeserializeError::UnsupportedType);
     };
     Ok(Control {
         type_,
@@ -200,6 +180,18 @@ fn control_of<'de>(object: Object) -> Result<Control, DeserializeError<&'de [u8]
     })
 }
 
+/// The number of a Float, and none of another value.
+fn float_of(value: &Value) -> Option<Float32>
+    ensures some { IfSome result (λ x. view value.now ≡ fixed (kind.float x.0)) }
+    ensures none { IfNone result ((n : ℕ) → view value.now ≢ fixed (kind.float n)) }
+{
+    trees_have_their_types();
+    match value {
+        Value::Float(x) => Some(*x),
+        _ => None,
+    }
+}
+
 /// Where the first volume stands.
 fn volume_place(properties: &[Property]) -> Option<usize>
     ensures { result ≡ position (λ p. p.key == volume_key) properties.now }
@@ -209,23 +201,28 @@ fn volume_place(properties: &[Property]) -> Option<usize>
         .position(|property| property.key == VOLUME)
 }
 
-/// The encoding of the object at the front with its first volume changed to this one, and all else as it was. None where no
-/// object with a volume is there, or it can't be written.
-pub fn with_volume(alloc: Global, input: &[u8], volume: Float32) -> Option<Vec<u8>>
-    ensures { IfSome result (λ bytes. (control : Control) × (value : Tree) × Begins input.now value × IsControl control value × (bytes.items ≡ encoding_of (tree_with control volume.0))) }
+/// The encoding of the object at the front with its first volume changed to this one, and all else as it was. None exactly where
+/// no object with a volume is there, or it can't be written. Refused only for lack of memory.
+pub fn with_volume(
+    alloc: Global,
+    input: &[u8],
+    volume: Float32,
+) -> Result<Option<Vec<u8>>, AllocError>
+    ensures changed { IfOk result (λ made. IfSome made (λ bytes. IsChanged input.now volume.0 bytes.items)) }
+    ensures none { IfOk result (λ made. IfNone made (BeginsNoControl input.now ⊎ IsUnwritable input.now volume.0)) }
 {
-    let Ok((_, mut control)) = PodDeserializer::deserialize_from::<Control>(alloc, input) else {
-        return None;
+    let control = match PodDeserializer::deserialize_from::<Control>(alloc, input) {
+        Ok((_, control)) => control,
+        Err(DeserializeError::OutOfMemory) => return Err(AllocError),
+        Err(_) => return Ok(None),
     };
-    control.volume = volume;
-    let Ok(object) = control.into_object() else {
-        return None;
-    };
-    let value = Value::Object(object);
-    let written = PodSerializer::serialize(Vec::new(alloc), &value);
-    discard(value);
-    let Ok((bytes, _)) = written else {
-        return None;
-    };
-    Some(bytes)
+    let object = Control { volume, ..control }.into_object()?;
+    let value = Held::from(Value::Object(object));
+    match laws::values_are_written_into_memory(Vec::new(alloc), &*value) {
+        Ok((bytes, _)) => Ok(Some(bytes)),
+        Err(e) => match e {
+            GenError::OutOfMemory => Err(AllocError),
+            _ => Ok(None),
+        },
+    }
 }

@@ -1,17 +1,16 @@
-//! A struct, and one that holds it, written and read.
-ghost use Rattle.std.specs.Prelude.{⊤, ◌≡◌, ◌++◌, ℕ, IfErr, IfOk, IfSome, List, OnOk, length};
+//! A struct, and one that holds it, declared by what they are made of, written and read.
+ghost use Rattle.std.specs.Prelude.{◌≡◌, ◌+◌, ◌<◌, ◌≤◌, ◌++◌, ℕ, IfErr, IfOk, IsOk, List, OnOk, length};
 ghost use Rattle.libspa.specs.Encoding.{encoding_of};
 ghost use Rattle.libspa.specs.Front.{Begins, rest_of};
 ghost use Rattle.libspa.specs.Kind as kind;
 ghost use Rattle.libspa.specs.Tree.{Tree, fixed, member, no_trees, struct};
+ghost use Rattle.spa_uses.specs.declared.mode.Mode.{Mode};
+ghost use Rattle.spa_sink.specs.declared.gen_error.GenError.TheVariants.{Full};
 
 use arrayvec::ArrayVec;
-use libspa::pod::deserialize::{
-    DeserializeError, DeserializeSuccess, Never, ObjectPodDeserializer, PodDeserialize,
-    PodDeserializer, StructPodDeserializer, Visit, Visitor,
-};
+use libspa::pod::deserialize::{DeserializeAs, DeserializeError, PodDeserializer, StructOf};
 use libspa::pod::laws::{encodings_read_back, pods_have_one_value};
-use libspa::pod::serialize::{GenError, PodOutput, PodSerializer, SerializeAs, write_struct};
+use libspa::pod::serialize::{GenError, PodOutput, SerializeAs, laws, write_struct};
 use std::alloc::Global;
 
 /// A width and a height.
@@ -19,6 +18,17 @@ use std::alloc::Global;
 pub struct Size {
     pub width: i32,
     pub height: i32,
+}
+
+/// Read as a struct of these two, and refused exactly where no such struct is there.
+impl DeserializeAs for Size {
+    type Content = StructOf<(i32, (i32, ()))>;
+
+    ghost content = { λ s. record { 0 = (s.width, (s.height, tt)) } };
+
+    fn of_content(StructOf((width, (height, ()))): Self::Content) -> Size {
+        Size { width, height }
+    }
 }
 
 impl SerializeAs for Size {
@@ -36,6 +46,17 @@ pub struct Mode {
     pub rate: i64,
 }
 
+/// Read as a struct of these two, and refused exactly where no such struct is there.
+impl DeserializeAs for Mode {
+    type Content = StructOf<(Size, (i64, ()))>;
+
+    ghost content = { λ m. record { 0 = (m.size, (m.rate, tt)) } };
+
+    fn of_content(StructOf((size, (rate, ()))): Self::Content) -> Mode {
+        Mode { size, rate }
+    }
+}
+
 impl SerializeAs for Mode {
     ghost says = { λ m. struct (member (⟦<Size as SerializeAs>⟧.says m.size) (member (fixed (kind.long m.rate)) no_trees)) };
 
@@ -44,130 +65,20 @@ impl SerializeAs for Mode {
     }
 }
 
-/// The encoding of a mode behind what the output holds, and its length.
+/// The encoding of a mode, which is 64 bytes, behind what the output holds, and its length: exactly where it fits.
 pub fn put_mode(out: ArrayVec<u8, 128>, mode: &Mode) -> Result<(ArrayVec<u8, 128>, u64), GenError>
     ensures encoding { IfOk result (λ done. done.0.items ≡ out.items ++ encoding_of (⟦<Mode as SerializeAs>⟧.says mode.now)) }
     ensures count { IfOk result (λ done. done.1 ≡ length (encoding_of (⟦<Mode as SerializeAs>⟧.says mode.now))) }
     // It reads back, whatever follows it.
     ensures back { OnOk result ((r : List ℕ) → Begins (encoding_of (⟦<Mode as SerializeAs>⟧.says mode.now) ++ r) (⟦<Mode as SerializeAs>⟧.says mode.now)) }
+    ensures room { length out.items + 64 ≤ 128 → IsOk result }
+    ensures full { IfErr result (λ e. (e ≡ Full) × (128 < length out.items + 64)) }
 {
     encodings_read_back();
-    PodSerializer::serialize(out, mode)
+    laws::declared_pods_are_written_where_they_fit(out, mode)
 }
 
-/// Reads a size.
-#[derive(Drop)]
-struct SizeVisitor;
-
-impl<'de> Visitor<'de> for SizeVisitor {
-    type Value = Size;
-
-    type ArrayElem = Never;
-
-    ghost visits = { λ _ _ _. ⊥ };
-
-    ghost visits_struct = { λ _ members size. members ≡ member (fixed (kind.int size.width)) (member (fixed (kind.int size.height)) no_trees) };
-
-    ghost visits_object = { λ _ _ _ _ _. ⊥ };
-
-    fn visit(&self, given: Visit<'de, Never>) -> Result<Size, DeserializeError<&'de [u8]>>
-        ensures made { IfOk result (λ _. ⊥) }
-        ensures declined { IfErr result (λ _. ⊤) }
-    {
-        drop(given);
-        Err(DeserializeError::UnsupportedType)
-    }
-
-    #[tactic(auto, using(spa_typed_read::proofs::Stepping::further_trans))]
-    fn visit_struct(
-        &self,
-        reader: &mut StructPodDeserializer<'de>,
-    ) -> Result<Size, DeserializeError<&'de [u8]>> {
-        let Some(width) = reader.deserialize_field::<i32>()? else {
-            return Err(DeserializeError::PropertyMissing);
-        };
-        let Some(height) = reader.deserialize_field::<i32>()? else {
-            return Err(DeserializeError::PropertyMissing);
-        };
-        Ok(Size { width, height })
-    }
-
-    #[tactic(auto, using(spa_typed_read::proofs::Stepping::further_in_same))]
-    fn visit_object(
-        &self,
-        _reader: &mut ObjectPodDeserializer<'de>,
-    ) -> Result<Size, DeserializeError<&'de [u8]>> {
-        Err(DeserializeError::UnsupportedType)
-    }
-}
-
-impl<'de> PodDeserialize<'de> for Size {
-    ghost reads = { λ value size. value ≡ ⟦<Size as SerializeAs>⟧.says size };
-
-    fn deserialize(
-        deserializer: PodDeserializer<'de>,
-    ) -> Result<(Size, DeserializeSuccess<'de>), DeserializeError<&'de [u8]>> {
-        deserializer.deserialize_struct(SizeVisitor)
-    }
-}
-
-/// Reads a mode.
-#[derive(Drop)]
-struct ModeVisitor;
-
-impl<'de> Visitor<'de> for ModeVisitor {
-    type Value = Mode;
-
-    type ArrayElem = Never;
-
-    ghost visits = { λ _ _ _. ⊥ };
-
-    ghost visits_struct = { λ _ members mode. members ≡ member (⟦<Size as SerializeAs>⟧.says mode.size) (member (fixed (kind.long mode.rate)) no_trees) };
-
-    ghost visits_object = { λ _ _ _ _ _. ⊥ };
-
-    fn visit(&self, given: Visit<'de, Never>) -> Result<Mode, DeserializeError<&'de [u8]>>
-        ensures made { IfOk result (λ _. ⊥) }
-        ensures declined { IfErr result (λ _. ⊤) }
-    {
-        drop(given);
-        Err(DeserializeError::UnsupportedType)
-    }
-
-    #[tactic(auto, using(spa_typed_read::proofs::Stepping::further_trans))]
-    fn visit_struct(
-        &self,
-        reader: &mut StructPodDeserializer<'de>,
-    ) -> Result<Mode, DeserializeError<&'de [u8]>> {
-        let Some(size) = reader.deserialize_field::<Size>()? else {
-            return Err(DeserializeError::PropertyMissing);
-        };
-        let Some(rate) = reader.deserialize_field::<i64>()? else {
-            return Err(DeserializeError::PropertyMissing);
-        };
-        Ok(Mode { size, rate })
-    }
-
-    #[tactic(auto, using(spa_typed_read::proofs::Stepping::further_in_same))]
-    fn visit_object(
-        &self,
-        _reader: &mut ObjectPodDeserializer<'de>,
-    ) -> Result<Mode, DeserializeError<&'de [u8]>> {
-        Err(DeserializeError::UnsupportedType)
-    }
-}
-
-impl<'de> PodDeserialize<'de> for Mode {
-    ghost reads = { λ value mode. value ≡ ⟦<Mode as SerializeAs>⟧.says mode };
-
-    fn deserialize(
-        deserializer: PodDeserializer<'de>,
-    ) -> Result<(Mode, DeserializeSuccess<'de>), DeserializeError<&'de [u8]>> {
-        deserializer.deserialize_struct(ModeVisitor)
-    }
-}
-
-/// The mode at the front of the input, and what follows it.
+/// The mode at the front of the input, and what follows it. It is refused exactly where no mode is there: it takes no memory.
 pub fn read_mode(alloc: Global, input: &[u8]) -> Result<(&[u8], Mode), DeserializeError<&[u8]>>
     // The front is a pod of the mode,
     ensures mode { IfOk result (λ read. Begins input.now (⟦<Mode as SerializeAs>⟧.says read.1)) }
@@ -175,20 +86,21 @@ pub fn read_mode(alloc: Global, input: &[u8]) -> Result<(&[u8], Mode), Deseriali
     ensures one { IfOk result (λ read. (v : Tree) → Begins input.now v → v ≡ ⟦<Mode as SerializeAs>⟧.says read.1) }
     // and what follows it is the rest.
     ensures rest { IfOk result (λ read. read.0.now ≡ rest_of input.now) }
+    ensures refused { IfErr result (λ _. (mode : Mode) → ¬ (Begins input.now (⟦<Mode as SerializeAs>⟧.says mode))) }
 {
     pods_have_one_value();
     PodDeserializer::deserialize_from(alloc, input)
 }
 
-/// A mode written and read back: the same one. None where either is refused.
-pub fn sent(alloc: Global, mode: &Mode) -> Option<Mode>
-    ensures { IfSome result (λ back. back ≡ mode.now) }
+/// A mode written and read back: the same one.
+pub fn sent(alloc: Global, mode: &Mode) -> Mode
+    ensures { result ≡ mode.now }
 {
     let Ok((bytes, _)) = put_mode(ArrayVec::new(), mode) else {
-        return None;
+        unreachable!()
     };
     let Ok((_, back)) = read_mode(alloc, bytes.as_slice()) else {
-        return None;
+        unreachable!()
     };
-    Some(back)
+    back
 }

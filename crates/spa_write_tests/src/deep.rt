@@ -1,11 +1,9 @@
 //! What is read of types of one's own where values in it are nested deep: kept, and let go where something behind it is refused.
 use crate::compare::{assert_words, put};
-use libspa::pod::Held;
 use libspa::pod::deserialize::{
     DeserializeError, ObjectOf, PodDeserialize, PodDeserializer, Required, StructOf,
 };
-use libspa::utils::Float32;
-use spa_uses::{Control, Tagged, with_volume};
+use libspa::pod::{Held, Value};
 use std::alloc::{AllocError, Global};
 use std::process::Abort;
 use std::test::Fail;
@@ -98,19 +96,6 @@ fn deep_members_are_kept_and_let_go(rt: HostRuntime) -> Result<(), Fail> {
     assert_answer(&rt, answer_of::<Numbered>(alloc, long.as_slice()), "Tag")
 }
 
-#[test]
-fn deep_values_under_ids_are_kept_and_let_go(rt: HostRuntime) -> Result<(), Fail> {
-    let alloc = rt.alloc();
-    let tagged = around(alloc, 14, &[4, 3, 9, 0], &[])?;
-    assert_answer(&rt, answer_of::<Tagged>(alloc, tagged.as_slice()), "read")?;
-    let more = around(alloc, 14, &[4, 3, 9, 0], &[0, 1])?;
-    assert_answer(
-        &rt,
-        answer_of::<Tagged>(alloc, more.as_slice()),
-        "UnreadMembers",
-    )
-}
-
 /// The value under a key of an object, and a number under another one.
 type Keyed = ObjectOf<5, 3, (Required<1, Held>, (Required<2, i32>, ()))>;
 
@@ -127,36 +112,6 @@ fn deep_properties_are_kept_and_let_go(rt: HostRuntime) -> Result<(), Fail> {
     )
 }
 
-/// The words of a volume under its key.
-fn volume_words(volume: u32) -> [u32; 6] {
-    [65539, 0, 4, 6, volume, 0]
-}
-
-#[test]
-fn deep_properties_beside_a_volume_are_kept_and_let_go(rt: HostRuntime) -> Result<(), Fail> {
-    let alloc = rt.alloc();
-    // No volume is there, and one that isn't a Float.
-    let none = around(alloc, 15, &[5, 3, 1, 0], &[])?;
-    assert_answer(
-        &rt,
-        answer_of::<Control>(alloc, none.as_slice()),
-        "PropertyMissing",
-    )?;
-    let wrong = around(alloc, 15, &[5, 3, 65539, 0], &volume_words(1))?;
-    assert_answer(
-        &rt,
-        answer_of::<Control>(alloc, wrong.as_slice()),
-        "UnsupportedType",
-    )?;
-    let input = around(alloc, 15, &[5, 3, 1, 0], &volume_words(1))?;
-    let wanted = around(alloc, 15, &[5, 3, 1, 0], &volume_words(2))?;
-    let Some(found) = with_volume(alloc, input.as_slice(), Float32(2)) else {
-        return Err(Fail::from(AllocError));
-    };
-    assert!(rt; found == wanted);
-    Ok(())
-}
-
 /// Whether what is read as this type and written again is the input.
 fn comes_back(alloc: Global, input: &[u8]) -> Result<bool, Fail> {
     match PodDeserializer::deserialize_from::<Held>(alloc, input) {
@@ -171,7 +126,7 @@ fn a_held_value_is_written_as_it_is(rt: HostRuntime) -> Result<(), Fail> {
     let input = around(alloc, 14, &[], &[4, 4, 3, 0])?;
     let holds = comes_back(alloc, input.as_slice())?;
     assert!(rt; holds);
-    let tagged = spa_uses::tagged_number(libspa::utils::Id(9), 313);
-    let out = put(Vec::new(alloc), &tagged.value)?;
+    let number = Held::from(Value::Int(313));
+    let out = put(Vec::new(alloc), &number)?;
     assert_words(&rt, alloc, out.as_slice(), "4 4 313 0")
 }

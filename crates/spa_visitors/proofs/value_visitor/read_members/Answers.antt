@@ -8,7 +8,7 @@ use Rattle.spa_visitors.proofs.value_visitor.read_members.Goals as goal
 pub loop-member-init : goal.loop-member-init
 loop-member-init c =
     let r = c.args.reader.now in
-    record { took = subst (λ vs. Took r r (views vs)) (sym c.new-members.new.ensures.items) (took_none r); good = λ h. h }
+    record { took = subst (λ vs. Took r r (views vs)) (sym c.new-members.ensures.items) (took_none r); good = λ h. h }
 
 pub returns-then-is_err-clause-same : goal.returns-then-is_err-clause-same
 returns-then-is_err-clause-same c =

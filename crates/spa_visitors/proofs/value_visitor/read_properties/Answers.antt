@@ -29,7 +29,7 @@ loop-value-preserved c =
 pub loop-value-init : goal.loop-value-init
 loop-value-init c =
     let r = c.args.reader.now in
-    record { took = subst (λ ps. TookIn r r (property_views ps)) (sym c.new-properties.new.ensures.items) (took_none_in r); good = λ h. h }
+    record { took = subst (λ ps. TookIn r r (property_views ps)) (sym c.new-properties.ensures.items) (took_none_in r); good = λ h. h }
 
 pub returns-in-Err-clause-same : goal.returns-in-Err-clause-same
 returns-in-Err-clause-same c =

@@ -1,0 +1,95 @@
+//! A video format, which a builder makes and a parser reads.
+ghost use Rattle.std.specs.Prelude.{◌≡◌, IfErr, IfOk, IsOk, IsOkAnd, MatchResult, OnOk};
+ghost use Rattle.spa_format.specs.Encoding.{encoding_of};
+ghost use Rattle.spa_format.specs.Front.{Begins};
+ghost use Rattle.spa_format.specs.Typed.{IsTyped};
+ghost use Rattle.spa_builder.specs.State.{start};
+ghost use Rattle.spa_builder.specs.Held.{IsAt};
+ghost use Rattle.spa_parser.specs.Steps.{NextIs};
+ghost use Rattle.spa_callers.specs.Video.{built, video_tree};
+ghost use Rattle.spa_callers.specs.declared.video.VideoFormat.{VideoFormat};
+
+use spa_builder::{Builder, builder_add};
+use spa_format::laws::encodings_read_back;
+use spa_parser::{Parser, parser_get};
+use spa_utils::{Errno, Fraction, Id, Rectangle};
+use std::alloc::Global;
+
+/// A video format: a size and a rate, under the number of how pixels are laid out.
+#[derive(Clone, Copy, Debug, PartialEq)]
+pub struct VideoFormat {
+    /// How pixels are laid out.
+    pub layout: Id,
+    /// How large a picture is.
+    pub size: Rectangle,
+    /// How many there are in a second.
+    pub rate: Fraction,
+}
+
+/// Adds the format's object.
+fn add_format(builder: &mut Builder, format: &VideoFormat) -> Result<(), Errno>
+    requires { IsAt builder.old start }
+    ensures made { OnOk result (IsAt builder.new (built (video_tree format.now))) }
+    ensures memory { IfErr result (λ e. e ≡ Errno.NOMEM) }
+{
+    builder_add!(builder, Object(262147, 4) {
+        131073 => Id(format.layout),
+        131075 => Rectangle(format.size),
+        131076 => Fraction(format.rate),
+    })
+}
+
+/// The encoding of the format's object, in this vector, which is emptied. It is refused for want of memory alone.
+pub fn format_pod(bytes: Vec<u8>, format: &VideoFormat) -> Result<Vec<u8>, Errno>
+    ensures made { IfOk result (λ made. made.items ≡ encoding_of (video_tree format.now)) }
+    ensures memory { IfErr result (λ e. e ≡ Errno.NOMEM) }
+{
+    let mut builder = Builder::new(bytes);
+    add_format(&mut builder, format)?;
+    builder.finish()
+}
+
+/// Takes the format's object.
+fn take_format(parser: &mut Parser<'_>, format: &mut VideoFormat) -> Result<(), Errno>
+    ensures { (f : VideoFormat) → NextIs (video_tree f) parser.old → IsOk result × (format.new ≡ f) }
+{
+    let mut id = Id(0);
+    parser_get!(&mut *parser, Object(262147, &mut id) {
+        131073 => Id(&mut format.layout),
+        131075 => Rectangle(&mut format.size),
+        131076 => Fraction(&mut format.rate),
+    })
+}
+
+/// The format whose object is at the front of the input.
+pub fn read_format(alloc: Global, input: &[u8]) -> Result<VideoFormat, Errno>
+    ensures { (f : VideoFormat) → Begins input.now (video_tree f) → IsOkAnd result (λ read. read ≡ f) }
+{
+    let mut format = VideoFormat {
+        layout: Id(0),
+        size: Rectangle {
+            width: 0,
+            height: 0,
+        },
+        rate: Fraction { num: 0, denom: 1 },
+    };
+    take_format(&mut Parser::new(alloc, input), &mut format)?;
+    Ok(format)
+}
+
+/// A format's numbers are within their types.
+fn are_within(format: VideoFormat)
+    ensures { IsTyped (video_tree format) }
+{
+    let _read = format;
+}
+
+/// Makes the format, and reads what was made: it is the same, unless memory is wanting.
+pub fn sent(alloc: Global, format: &VideoFormat) -> Result<VideoFormat, Errno>
+    ensures { MatchResult result (λ read. read ≡ format.now) (λ e. e ≡ Errno.NOMEM) }
+{
+    encodings_read_back();
+    are_within(*format);
+    let bytes = format_pod(Vec::new(alloc), format)?;
+    read_format(alloc, bytes.as_slice())
+}

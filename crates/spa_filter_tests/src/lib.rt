@@ -1,7 +1,11 @@
-//! The tests of filtering: values and keys, in tables made by hand from the definitions.
+//! The tests of filtering: values and keys, in tables made by hand from the definitions. There is nothing here but tests.
 #![tactic(auto)]
 
+#[cfg(test)]
 mod answers;
+#[cfg(test)]
 mod keys;
+#[cfg(test)]
 mod objects;
+#[cfg(test)]
 mod values;

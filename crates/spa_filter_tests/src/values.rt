@@ -376,6 +376,15 @@ const RANGES: &[Row] = &[
         answer: Met(&[(1, 0, Id, Range, &[2147483648, 2147483648, 4294967290])]),
         swapped: Met(&[(1, 0, Id, Range, &[2147483648, 2147483648, 4294967290])]),
     },
+];
+
+#[test]
+fn ranges(rt: HostRuntime) -> Result<(), Fail> {
+    assert_rows(&rt, rt.alloc(), RANGES)
+}
+
+/// The same of floats.
+const FLOATS: &[Row] = &[
     Row {
         case: "floats by value: -1 to 2 and -0.5 to 1",
         ours: &[(1, 0, Float, Range, &[0, 3212836864, 1073741824])],
@@ -512,6 +521,15 @@ const RANGES: &[Row] = &[
             ],
         )]),
     },
+];
+
+#[test]
+fn ranges_of_floats(rt: HostRuntime) -> Result<(), Fail> {
+    assert_rows(&rt, rt.alloc(), FLOATS)
+}
+
+/// The same of sizes and rates, and of what has no order.
+const SIZES: &[Row] = &[
     Row {
         case: "sizes side by side",
         ours: &[(1, 0, Rectangle, Range, &[640_0480, 100_0200, 1000_0900])],
@@ -585,6 +603,6 @@ const RANGES: &[Row] = &[
 ];
 
 #[test]
-fn ranges(rt: HostRuntime) -> Result<(), Fail> {
-    assert_rows(&rt, rt.alloc(), RANGES)
+fn ranges_of_sizes(rt: HostRuntime) -> Result<(), Fail> {
+    assert_rows(&rt, rt.alloc(), SIZES)
 }

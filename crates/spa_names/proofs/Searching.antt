@@ -37,14 +37,16 @@ module _ {X K : Type 0} {R : K → K → Ordering} (o : IsTotalOrder R) (key : X
   rest_rises x [] up = refl
   rest_rises x (y ∷ ys) up = (both_from _ _ up).1
 
-  adjacent : (xs : List X) → rises R key xs ≡ true → (i : ℕ) (d : X) → i + 1 < length xs → R (key (get_or xs i d)) (key (get_or xs (i + 1) d)) ≡ Less
-  adjacent [] up i d in_range = absurd (omega (arith, in_range))
-  adjacent (x ∷ xs) up zero d in_range = first_below x xs up zero d (omega (arith, in_range))
-  adjacent (x ∷ xs) up (suc i) d in_range = adjacent xs (rest_rises x xs up) i d (omega (arith, in_range))
+  -- each key is below those behind it
+  below : (xs : List X) → rises R key xs ≡ true → (i j : ℕ) (d : X) → i < j → j < length xs → R (key (get_or xs i d)) (key (get_or xs j d)) ≡ Less
+  below [] up i j d before in_range = absurd (omega (arith, in_range))
+  below (x ∷ xs) up i zero d before in_range = absurd (omega (arith, before))
+  below (x ∷ xs) up zero (suc j) d before in_range = first_below x xs up j d (omega (arith, in_range))
+  below (x ∷ xs) up (suc i) (suc j) d before in_range = below xs (rest_rises x xs up) i j d (omega (arith, before)) (omega (arith, in_range))
 
   -- no key is below the one before it, as a binary search asks
   sorted : (xs : List X) → rises R key xs ≡ true → IsSortedBy (λ x y. is_lt (R (key x) (key y))) xs
-  sorted xs up i d _ in_range = rw (o.antisymm (key (get_or xs (i + 1) d)) (key (get_or xs i d)), adjacent xs up i d in_range) refl
+  sorted xs up i d _ in_range = rw (o.antisymm (key (get_or xs (i + 1) d)) (key (get_or xs i d)), below xs up i (i + 1) d (omega arith) in_range) refl
 
   module _ (k : K) (test : X → Bool) (same : (x : X) → test x ≡ is_eq (R (key x) k)) where
     -- an element that has the key is the one that is found
@@ -57,8 +59,8 @@ module _ {X K : Type 0} {R : K → K → Ordering} (o : IsTotalOrder R) (key : X
 
     -- where no element has the key, none is found
     none_found : (xs : List X) → ((i : ℕ) (d : X) → i < length xs → is_eq (R (key (get_or xs i d)) k) ≡ false) → find test xs ≡ None
-    none_found [] no = refl
-    none_found (x ∷ xs) no = rw (same x, no 0 x (omega arith)) (none_found xs (λ i d in_range. no (suc i) d (omega (arith, in_range))))
+    none_found [] differs = refl
+    none_found (x ∷ xs) differs = rw (same x, differs 0 x (omega arith)) (none_found xs (λ i d in_range. differs (suc i) d (omega (arith, in_range))))
 
     -- what a binary search answers is what a look from the front finds
     pub searched : (xs : List X) → rises R key xs ≡ true → (r : Result ℕ ℕ) → IsSearchInRange r (length xs) → IsBinarySearchResult (λ x. R (key x) k) xs r →

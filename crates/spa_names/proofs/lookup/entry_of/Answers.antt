@@ -1,13 +1,14 @@
-use Rattle.std.proofs.Common.{rules, ◌≡◌, ℕ, ◌+◌, ◌-◌, ◌*◌, ◌<◌, ◌≤◌, length, ◌/◌, ◌%◌, Bool, true, false, nat_eq, nat_lt, List, [], ◌∷◌, ◌++◌, slice_index_or, slice_set, bit_and, bit_or, Fits, w8, w32, w64, Bor, MutBor}
-use Rattle.std.specs.Option.{option_map}
-use Rattle.spa_names.specs.Rows.{row_of}
-use Rattle.spa_names.specs.Lookup.{expected_under, name_of, number_of, path_of, row_at}
+use Rattle.std.proofs.Common.{Ok, Err, rules}
+use Rattle.std.proofs.lemmas.List.Sorted.{answers_always}
+use Rattle.spa_names.proofs.Found.{entry_found}
 use Rattle.spa_names.proofs.lookup.entry_of.Goals as goal
 
--- src/lookup.rt:54:1
 pub returns-in-Ok : goal.returns-in-Ok
-returns-in-Ok c = ?
+returns-in-Ok c =
+    let is = c.in-Ok.ensures.position (λ entry. entry.0) (answers_always _ _ _ (λ f a r g called. search rules)) in
+    entry_found c.args.table c.args.number _ c.entries_of-entries.ensures (Ok c.in-Ok.at) c.in-Ok.ensures.bound is _
 
--- src/lookup.rt:54:1
 pub returns-in-Err : goal.returns-in-Err
-returns-in-Err c = ?
+returns-in-Err c =
+    let is = c.in-Err.ensures.position (λ entry. entry.0) (answers_always _ _ _ (λ f a r g called. search rules)) in
+    entry_found c.args.table c.args.number _ c.entries_of-entries.ensures (Err c.in-Err.field-0) c.in-Err.ensures.bound is

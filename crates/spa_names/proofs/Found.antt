@@ -1,5 +1,5 @@
 -- What binary searches of the tables find.
-use Rattle.std.proofs.Common.{◌≡◌, ℕ, ◌==◌, Bool, true, List, length, get_or, map, Option, Some, None, option_map, Result, MatchResult, Bor, Ok, Err, refl, sym, ap, subst, ◌∙◌, arith}
+use Rattle.std.proofs.Common.{◌≡◌, ℕ, ◌==◌, true, List, length, get_or, map, Some, None, option_map, Result, MatchResult, Bor, Ok, Err, refl, sym, ap, ◌∙◌, arith}
 use Rattle.std.specs.List.{find}
 use Rattle.std.specs.List.Sorted.{IsSearchInRange, IsBinarySearchResult}
 use Rattle.std.specs.Str.{bytes_eq}
@@ -12,7 +12,8 @@ use Rattle.spa_names.specs.declared.entry.Expected.{Expected}
 use Rattle.spa_names.specs.declared.table.Table.{Table}
 use Rattle.spa_names.specs.Rows.{row_of, naming_of}
 use Rattle.spa_names.specs.Tables.{rows_of, namings_of}
-use Rattle.spa_names.specs.Lookup.{row_at, number_of}
+use Rattle.spa_names.specs.Lookup.{row_at, number_of, object_at}
+use Rattle.spa_names.specs.declared.table.TheConstants.{OBJECTS}
 use Rattle.spa_names.proofs.Facts.{numbers_rise-all, names_rise-all}
 use Rattle.spa_names.proofs.Searching.{rises, rises-map, find-map, searched}
 
@@ -50,3 +51,11 @@ module _ (table : Table) (name : List ℕ) (namings : List (Bor (List ℕ) × �
   number_found (Err at) in_range is =
       let found = searched nat_list_cmp_total (λ naming. naming.0.now) name (λ naming. bytes_eq naming.0.now name) (λ naming. sym (is_eq-slice_cmp naming.0.now name)) namings namings_rise (Err at) in_range is in
       sym (number_of-namings ∙ ap (λ naming. option_map (λ naming. naming.1) (option_map naming_of naming)) found)
+
+module _ (type : ℕ) (r : Result ℕ ℕ) (in_range : IsSearchInRange r (length OBJECTS)) (is : IsBinarySearchResult (λ object. nat_cmp object.0 type) OBJECTS r) where
+  pub object_found : MatchResult r (λ at. (d : ℕ × Table × Table) → Some (get_or OBJECTS at d) ≡ object_at type) (λ at. None ≡ object_at type)
+  object_found = found_or r (searched nat_cmp_total (λ object. object.0) type (λ object. object.0 == type) (λ object. is_eq-nat_cmp object.0 type) OBJECTS refl r in_range is)
+    where
+      found_or : (r : Result ℕ ℕ) → MatchResult r (λ at. (d : ℕ × Table × Table) → object_at type ≡ Some (get_or OBJECTS at d)) (λ at. object_at type ≡ None) → MatchResult r (λ at. (d : ℕ × Table × Table) → Some (get_or OBJECTS at d) ≡ object_at type) (λ at. None ≡ object_at type)
+      found_or (Ok at) found = λ d. sym (found d)
+      found_or (Err at) found = sym found

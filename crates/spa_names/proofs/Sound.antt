@@ -1,5 +1,5 @@
 -- What is asked of a table, as tests.
-use Rattle.std.proofs.Common.{ℕ, Bool, true, false, Option, Some, None, ◌==◌, is_some}
+use Rattle.std.proofs.Common.{ℕ, Bool, false, Option, Some, None, ◌==◌, is_some}
 use Rattle.std.specs.List.{list_all}
 use Rattle.std.specs.Cmp.Lexicographic.{slice_cmp}
 use Rattle.std.specs.Ordering.{nat_cmp}

@@ -9,5 +9,5 @@ mod namings;
 mod table;
 
 pub use entry::Expected;
-pub use lookup::{expected_under, name_of, number_of, path_of};
+pub use lookup::{expected_under, ids_of, keys_of, name_of, number_of, path_of};
 pub use table::Table;

@@ -2,12 +2,13 @@
 ghost use Rattle.std.specs.Prelude.{◌≡◌};
 ghost use Rattle.std.specs.Option.{option_map};
 ghost use Rattle.spa_names.specs.Rows.{row_of};
-ghost use Rattle.spa_names.specs.Lookup.{expected_under, name_of, number_of, path_of, row_at};
+ghost use Rattle.spa_names.specs.Lookup.{expected_under, ids_of, keys_of, name_of, number_of, object_at, path_of, row_at};
 
 use crate::entries::entries_of;
 use crate::entry::{Entry, Expected};
 use crate::namings::namings_of;
-use crate::table::Table;
+use crate::table::{OBJECTS, Table};
+use spa_utils::SpaTypes;
 
 /// The name of a number.
 pub fn name_of(table: Table, number: u32) -> Option<&'static str>
@@ -46,6 +47,37 @@ pub fn number_of(table: Table, name: &str) -> Option<u32>
     let namings = namings_of(table);
     match namings.binary_search_by(|naming| naming.0.cmp(&name)) {
         Ok(at) => Some(namings[at].1),
+        Err(_) => None,
+    }
+}
+
+/// The table of the keys of objects of this type.
+pub fn keys_of(type_: SpaTypes) -> Table
+    ensures { result ≡ keys_of type_ }
+{
+    match object_of(type_) {
+        Some((_, keys, _)) => keys,
+        None => Table::Nothing,
+    }
+}
+
+/// The table of the ids of objects of this type.
+pub fn ids_of(type_: SpaTypes) -> Table
+    ensures { result ≡ ids_of type_ }
+{
+    match object_of(type_) {
+        Some((_, _, ids)) => ids,
+        None => Table::Nothing,
+    }
+}
+
+/// The tables of a type of objects.
+fn object_of(type_: SpaTypes) -> Option<(u32, Table, Table)>
+    ensures { result ≡ object_at type_.0 }
+{
+    let objects: &'static [(u32, Table, Table)] = &OBJECTS;
+    match objects.binary_search_by_key(&type_.0, |object| object.0) {
+        Ok(at) => Some(objects[at]),
         Err(_) => None,
     }
 }

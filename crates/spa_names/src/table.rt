@@ -88,48 +88,22 @@ pub enum Table {
     Nothing,
 }
 
-impl Table {
-    /// The keys of objects of the type with this number.
-    pub fn keys_of(type_: u32) -> Table {
-        match type_ {
-            131073 => Table::DeviceKeys,
-            131074 => Table::NodeKeys,
-            196610 => Table::CommandNodeKeys,
-            262145 => Table::PropInfoKeys,
-            262146 => Table::PropsKeys,
-            262147 => Table::FormatKeys,
-            262148 => Table::BuffersKeys,
-            262149 => Table::ParamMetaKeys,
-            262150 => Table::IOKeys,
-            262151 => Table::ProfileKeys,
-            262152 => Table::PortConfigKeys,
-            262153 => Table::RouteKeys,
-            262154 => Table::ProfilerKeys,
-            262155 => Table::LatencyKeys,
-            262156 => Table::ProcessLatencyKeys,
-            _ => Table::Nothing,
-        }
-    }
-
-    /// The ids of objects of the type with this number.
-    pub fn ids_of(type_: u32) -> Table {
-        match type_ {
-            131073 => Table::DeviceEventId,
-            131074 => Table::Node,
-            196610 => Table::CommandNode,
-            262145 => Table::ParamId,
-            262146 => Table::ParamId,
-            262147 => Table::ParamId,
-            262148 => Table::ParamId,
-            262149 => Table::ParamId,
-            262150 => Table::ParamId,
-            262151 => Table::ParamId,
-            262152 => Table::ParamId,
-            262153 => Table::ParamId,
-            262154 => Table::ParamId,
-            262155 => Table::ParamId,
-            262156 => Table::ParamId,
-            _ => Table::Nothing,
-        }
-    }
-}
+/// The types of objects, by their numbers, each with the table of its keys and that of its ids.
+#[rattlefmt::skip]
+pub(crate) const OBJECTS: [(u32, Table, Table); 15] = [
+    (131073, Table::DeviceKeys, Table::DeviceEventId),
+    (131074, Table::NodeKeys, Table::Node),
+    (196610, Table::CommandNodeKeys, Table::CommandNode),
+    (262145, Table::PropInfoKeys, Table::ParamId),
+    (262146, Table::PropsKeys, Table::ParamId),
+    (262147, Table::FormatKeys, Table::ParamId),
+    (262148, Table::BuffersKeys, Table::ParamId),
+    (262149, Table::ParamMetaKeys, Table::ParamId),
+    (262150, Table::IOKeys, Table::ParamId),
+    (262151, Table::ProfileKeys, Table::ParamId),
+    (262152, Table::PortConfigKeys, Table::ParamId),
+    (262153, Table::RouteKeys, Table::ParamId),
+    (262154, Table::ProfilerKeys, Table::ParamId),
+    (262155, Table::LatencyKeys, Table::ParamId),
+    (262156, Table::ProcessLatencyKeys, Table::ParamId),
+];

@@ -164,15 +164,12 @@ def main():
         out += [f"    /// {docs.get(at, doc)}", f"    {titles[at]},"]
     out += ["    /// No names.", "    Nothing,", "}"]
     objects = sorted((number, values) for number, _, _, _, values in named(tables[0]) if values >= 0)
-    out += ["", "impl Table {"]
-    out += ["    /// The keys of objects of the type with this number.", "    pub fn keys_of(type_: u32) -> Table {", "        match type_ {"]
-    out += [f"            {number} => Table::{title(values)}," for number, values in objects]
-    out += ["            _ => Table::Nothing,", "        }", "    }", ""]
-    out += ["    /// The ids of objects of the type with this number.", "    pub fn ids_of(type_: u32) -> Table {", "        match type_ {"]
+    out += ["", "/// The types of objects, by their numbers, each with the table of its keys and that of its ids."]
+    out += ["#[rattlefmt::skip]", f"pub(crate) const OBJECTS: [(u32, Table, Table); {len(objects)}] = ["]
     for number, values in objects:
         ids = next((it for key, _, _, it in tables[values] if key == 0), -1)
-        out += [f"            {number} => Table::{title(ids)},"]
-    out += ["            _ => Table::Nothing,", "        }", "    }", "}"]
+        out += [f"    ({number}, Table::{title(values)}, Table::{title(ids)}),"]
+    out += ["];"]
     write("src/table.rt", out)
 
 

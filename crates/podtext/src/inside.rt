@@ -60,12 +60,19 @@ pub(crate) struct Inside<'a> {
 
 impl<'a> Inside<'a> {
     /// What is inside these parts of a value, whose body begins at this place; None where its own line says all.
-    pub(crate) fn of(parts: Parts<'a>, ids: Table, place: usize, depth: usize) -> Option<Inside<'a>> {
+    pub(crate) fn of(
+        parts: Parts<'a>,
+        ids: Table,
+        place: usize,
+        depth: usize,
+    ) -> Option<Inside<'a>> {
         let (kind, left, front) = match parts {
             Parts::Scalar(_) => return None,
             Parts::Struct(members) => (Kind::Members, members, 0),
             Parts::Object {
-                type_, properties, ..
+                type_,
+                properties,
+                ..
             } => (
                 Kind::Properties(keys_of(type_)),
                 properties,

@@ -3,8 +3,9 @@ use crate::inside::Label;
 use crate::parts::{Parts, Scalar, Shown};
 use crate::run::Failure;
 use ryu::Buffer;
-use spa_names::{Table, ids_of, path_of};
+use spa_names::{Table, ids_of, name_of, path_of};
 use std::fmt::Write;
+use std::num::{f32_from_bits_with_nan, f64_from_bits_with_nan};
 
 /// The deepest lines that are indented in full; deeper ones are indented as these, and tell their depth.
 const DEEPEST: usize = 40;
@@ -57,7 +58,11 @@ pub(crate) fn put_label(text: &mut String, label: Label) -> Result<(), Failure> 
 }
 
 /// Writes a value's type, and what it says or is made of.
-pub(crate) fn put_value(text: &mut String, value: Shown<'_>, parts: Parts<'_>) -> Result<(), Failure> {
+pub(crate) fn put_value(
+    text: &mut String,
+    value: Shown<'_>,
+    parts: Parts<'_>,
+) -> Result<(), Failure> {
     let size = value.body.len();
     match parts {
         Parts::Scalar(scalar) => return put_scalar(text, scalar),
@@ -89,11 +94,10 @@ pub(crate) fn put_value(text: &mut String, value: Shown<'_>, parts: Parts<'_>) -
             "Choice: type {}, flags {flags:08x} {size} {child}",
             path_or_unknown(Table::Choices, shape)
         )?,
-        Parts::Bytes(_) => write!(
-            text,
-            "{}: size {size}",
-            path_or_unknown(Table::Types, value.type_.0)
-        )?,
+        Parts::Bytes(_) => match name_of(Table::Types, value.type_.0) {
+            Some(name) => write!(text, "{name}: size {size}")?,
+            None => write!(text, "Type {}: size {size}", value.type_.0)?,
+        },
     }
     Ok(())
 }
@@ -129,7 +133,7 @@ fn put_float(text: &mut String, bits: u32) -> Result<(), Failure> {
         return Ok(());
     }
     text.push_str("Float ")?;
-    text.push_str(Buffer::new().format(f32::from_bits(bits)))?;
+    text.push_str(Buffer::new().format(f32_from_bits_with_nan(bits)))?;
     Ok(())
 }
 
@@ -140,7 +144,7 @@ fn put_double(text: &mut String, bits: u64) -> Result<(), Failure> {
         return Ok(());
     }
     text.push_str("Double ")?;
-    text.push_str(Buffer::new().format(f64::from_bits(bits)))?;
+    text.push_str(Buffer::new().format(f64_from_bits_with_nan(bits)))?;
     Ok(())
 }
 

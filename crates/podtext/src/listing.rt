@@ -77,7 +77,11 @@ impl<'a, W: Write + Drop> Listing<'a, W> {
                 put_indent(&mut self.text, depth)?;
                 put_label(&mut self.text, label)?;
                 self.end_line()?;
-                self.add_value(value, place.saturating_add(FRONT_LEN), depth.saturating_add(1))
+                self.add_value(
+                    value,
+                    place.saturating_add(FRONT_LEN),
+                    depth.saturating_add(1),
+                )
             }
             Item::Row(row) => {
                 put_indent(&mut self.text, depth)?;

@@ -60,7 +60,10 @@ pub(crate) enum Parts<'a> {
         properties: &'a [u8],
     },
     /// A unit, then controls.
-    Sequence { unit: u32, controls: &'a [u8] },
+    Sequence {
+        unit: u32,
+        controls: &'a [u8],
+    },
     /// The size and the type of elements, then these.
     Array {
         size: u32,
@@ -149,16 +152,10 @@ impl<'a> Shown<'a> {
         match self.type_ {
             SpaTypes::Bool => Some(Scalar::Bool(word_of(body)? != 0)),
             SpaTypes::Id => Some(Scalar::Id(word_of(body)?, self.ids)),
-            SpaTypes::Int => Some(Scalar::Int(i32::from_le_bytes(
-                word_of(body)?.to_le_bytes(),
-            ))),
+            SpaTypes::Int => Some(Scalar::Int(i32::from_le_bytes(word_of(body)?.to_le_bytes()))),
             SpaTypes::Float => Some(Scalar::Float(word_of(body)?)),
-            SpaTypes::Long => Some(Scalar::Long(i64::from_le_bytes(
-                wide_of(body)?.to_le_bytes(),
-            ))),
-            SpaTypes::Fd => Some(Scalar::Fd(i64::from_le_bytes(
-                wide_of(body)?.to_le_bytes(),
-            ))),
+            SpaTypes::Long => Some(Scalar::Long(i64::from_le_bytes(wide_of(body)?.to_le_bytes()))),
+            SpaTypes::Fd => Some(Scalar::Fd(i64::from_le_bytes(wide_of(body)?.to_le_bytes()))),
             SpaTypes::Double => Some(Scalar::Double(wide_of(body)?)),
             SpaTypes::String => Some(Scalar::Text(body)),
             SpaTypes::Pointer => pointer_of(body),
@@ -183,10 +180,7 @@ fn pointer_of<'a>(body: &[u8]) -> Option<Scalar<'a>> {
         return Some(Scalar::Pointer(u32_at(body, 0), u64_at(body, HEADER_LEN)));
     }
     if body.len() >= SHORT_POINTER_LEN {
-        return Some(Scalar::Pointer(
-            u32_at(body, 0),
-            u32_at(body, HEADER_LEN) as u64,
-        ));
+        return Some(Scalar::Pointer(u32_at(body, 0), u32_at(body, HEADER_LEN) as u64));
     }
     None
 }

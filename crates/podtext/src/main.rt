@@ -6,6 +6,8 @@ mod lines;
 mod listing;
 mod parts;
 mod run;
+#[cfg(test)]
+mod tests;
 
 use std::alloc::AllocError;
 use std::env;

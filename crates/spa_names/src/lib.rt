@@ -1,11 +1,13 @@
 //! The names that PipeWire gives to types, keys and ids, and what stands under a key.
 #![tactic(auto)]
 
-mod entries;
+mod contents;
 mod entry;
+mod id_entries;
+mod key_entries;
 pub mod laws;
 mod lookup;
-mod namings;
+mod names;
 mod table;
 
 pub use entry::Expected;

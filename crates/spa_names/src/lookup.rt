@@ -4,9 +4,8 @@ ghost use Rattle.std.specs.Option.{option_map};
 ghost use Rattle.spa_names.specs.Rows.{row_of};
 ghost use Rattle.spa_names.specs.Lookup.{expected_under, ids_of, keys_of, name_of, number_of, object_at, path_of, row_at};
 
-use crate::entries::entries_of;
+use crate::contents::{entries_of, namings_of};
 use crate::entry::{Entry, Expected};
-use crate::namings::namings_of;
 use crate::table::{OBJECTS, Table};
 use spa_utils::SpaTypes;
 

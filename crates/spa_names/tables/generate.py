@@ -77,6 +77,16 @@ def constant_of(title):
     return "".join(("_" if at and it.isupper() and not title[at - 1].isupper() else "") + it for at, it in enumerate(title)).upper()
 
 
+def entries_in(table, expected_of):
+    """The lines of a table's entries, of which each number has one."""
+    rows = {}
+    for number, name, path, type_, values in named(table):
+        expected = expected_of(type_, values)
+        gap = " " if expected == "Expected::NOTHING" else "\n        "
+        rows.setdefault(number, f'    ({number}, "{name}", "{path}",{gap}{expected}),')
+    return [rows[it] for it in sorted(rows)]
+
+
 def write(name, lines):
     (CRATE / name).write_text("\n".join(lines) + "\n", encoding="utf-8")
 
@@ -90,42 +100,49 @@ def main():
     def title(at):
         return titles.get(at, "Nothing")
 
-    def expected(type_, values):
+    def expected_of(type_, values):
         """The type of a value, that of its elements where it is an array, and the table of their numbers."""
+        element, ids = 0, values
         if type_ == ARRAY and values >= 0:
             _, element, _, ids = tables[values][0]
-            return type_, element, title(ids)
-        return type_, 0, title(values)
+        return f"Expected {{ type_: SpaTypes({type_}), element: SpaTypes({element}), ids: Table::{title(ids)} }}"
 
-    out = [f"// Written {OF_C}", "//! The entries of each table, by their numbers.", "ghost use Rattle.std.specs.Prelude.{◌≡◌, map};"]
-    out += ["ghost use Rattle.spa_names.specs.Rows.{row_of};", "ghost use Rattle.spa_names.specs.Tables.{rows_of};", ""]
-    out += ["use crate::entry::{Entry, Expected};", "use crate::table::Table;", "use spa_utils::SpaTypes;", ""]
-    out += ["/// The entries of a table.", "pub(crate) fn entries_of(table: Table) -> &'static [Entry]"]
-    out += ["    ensures { map row_of result.now ≡ rows_of table }", "{", "    match table {"]
-    out += [f"        Table::{titles[at]} => &ENTRIES_OF_{constant_of(titles[at])}," for at in kept]
-    out += ["        Table::Nothing => &[],", "    }", "}"]
-    for at in kept:
-        entries = {}
-        for number, name, path, type_, values in named(tables[at]):
-            type_, element, ids = expected(type_, values)
-            row = f'    ({number}, "{name}", "{path}",'
-            row += f"\n        Expected {{ type_: SpaTypes({type_}), element: SpaTypes({element}), ids: Table::{ids} }}),"
-            entries.setdefault(number, row)
-        out += ["", "#[rattlefmt::skip]", f"pub(crate) const ENTRIES_OF_{constant_of(titles[at])}: [Entry; {len(entries)}] = ["]
-        out += [entries[it] for it in sorted(entries)] + ["];"]
-    write("src/entries.rt", out)
+    def constants_of(ours):
+        return ", ".join("ENTRIES_OF_" + constant_of(titles[it]) for it in kept if it in ours)
 
-    out = [f"// Written {OF_C}", "//! The names of each table, in their order.", "ghost use Rattle.std.specs.Prelude.{◌≡◌, map};"]
-    out += ["ghost use Rattle.spa_names.specs.Rows.{naming_of};", "ghost use Rattle.spa_names.specs.Tables.{namings_of};", "", "use crate::entry::Naming;", "use crate::table::Table;", ""]
-    out += ["/// The names of a table.", "pub(crate) fn namings_of(table: Table) -> &'static [Naming]"]
-    out += ["    ensures { map naming_of result.now ≡ namings_of table }", "{", "    match table {"]
-    out += [f"        Table::{titles[at]} => &NAMES_OF_{constant_of(titles[at])}," for at in kept]
-    out += ["        Table::Nothing => &[],", "    }", "}"]
+    is_keys = {at for at in kept if titles[at].endswith("Keys")}
+    of_rows = (("key_entries", is_keys, "whose numbers are keys"), ("id_entries", set(kept) - is_keys, "whose numbers are types and ids"))
+    for module, ours, what in of_rows:
+        out = [f"// Written {OF_C}", f"//! The entries of the tables {what}, by their numbers.", ""]
+        out += ["use crate::entry::{Entry, Expected};"]
+        out += ["use crate::table::Table;", "use spa_utils::SpaTypes;"] if ours == is_keys else []
+        for at in [it for it in kept if it in ours]:
+            rows = entries_in(tables[at], expected_of if ours == is_keys else lambda *_: "Expected::NOTHING")
+            out += ["", "#[rattlefmt::skip]", f"pub(crate) const ENTRIES_OF_{constant_of(titles[at])}: [Entry; {len(rows)}] = ["]
+            out += rows + ["];"]
+        write(f"src/{module}.rt", out)
+
+    out = [f"// Written {OF_C}", "//! The names of each table, in their order.", "", "use crate::entry::Naming;"]
     for at in kept:
         rows = sorted((name.encode(), number) for number, name, _, _, _ in named(tables[at]))
         out += ["", "#[rattlefmt::skip]", f"pub(crate) const NAMES_OF_{constant_of(titles[at])}: [Naming; {len(rows)}] = ["]
         out += [f'    ("{name.decode()}", {number}),' for name, number in rows] + ["];"]
-    write("src/namings.rt", out)
+    write("src/names.rt", out)
+
+    out = [f"// Written {OF_C}", "//! The contents of the tables.", "ghost use Rattle.std.specs.Prelude.{◌≡◌, map};"]
+    out += ["ghost use Rattle.spa_names.specs.Rows.{naming_of, row_of};", "ghost use Rattle.spa_names.specs.Tables.{namings_of, rows_of};", ""]
+    out += ["use crate::entry::{Entry, Naming};", "use crate::table::Table;", "use crate::{id_entries, key_entries, names};"]
+    out += ["", "/// The entries of a table, by their numbers.", "pub(crate) fn entries_of(table: Table) -> &'static [Entry]"]
+    out += ["    ensures { map row_of result.now ≡ rows_of table }", "{", "    match table {"]
+    for at in kept:
+        module = "key_entries" if at in is_keys else "id_entries"
+        out += [f"        Table::{titles[at]} => &{module}::ENTRIES_OF_{constant_of(titles[at])},"]
+    out += ["        Table::Nothing => &[],", "    }", "}"]
+    out += ["", "/// The names of a table, in their order.", "pub(crate) fn namings_of(table: Table) -> &'static [Naming]"]
+    out += ["    ensures { map naming_of result.now ≡ namings_of table }", "{", "    match table {"]
+    out += [f"        Table::{titles[at]} => &names::NAMES_OF_{constant_of(titles[at])}," for at in kept]
+    out += ["        Table::Nothing => &[],", "    }", "}"]
+    write("src/contents.rt", out)
 
     out = [f"-- Written {OF_C}", "-- The contents of each table."]
     out += ["use Rattle.std.specs.Prelude.{List, [], map}"]
@@ -134,8 +151,9 @@ def main():
     variants = [titles[at] for at in kept] + ["Nothing"]
     out += [f"use Rattle.spa_names.specs.declared.table.Table.TheVariants.{{{', '.join(variants)}}}"]
     constants = [constant_of(titles[at]) for at in kept]
-    out += [f"use Rattle.spa_names.specs.declared.entries.TheConstants.{{{', '.join('ENTRIES_OF_' + it for it in constants)}}}"]
-    out += [f"use Rattle.spa_names.specs.declared.namings.TheConstants.{{{', '.join('NAMES_OF_' + it for it in constants)}}}"]
+    out += [f"use Rattle.spa_names.specs.declared.key_entries.TheConstants.{{{constants_of(is_keys)}}}"]
+    out += [f"use Rattle.spa_names.specs.declared.id_entries.TheConstants.{{{constants_of(set(kept) - is_keys)}}}"]
+    out += [f"use Rattle.spa_names.specs.declared.names.TheConstants.{{{', '.join('NAMES_OF_' + it for it in constants)}}}"]
     out += ["", "-- the entries of a table, by their numbers", "abbrev pub rows_of : Table → List Row"]
     out += [f"rows_of {titles[at]} = map (λ e. (e.0, e.1.now, e.2.now, e.3)) ENTRIES_OF_{constant_of(titles[at])}" for at in kept]
     out += ["rows_of Nothing = []"]

@@ -1,60 +1,7 @@
 // Written by tables/generate.py from the headers of PipeWire 0.3.65. Do not edit.
 //! The names of each table, in their order.
-ghost use Rattle.std.specs.Prelude.{◌≡◌, map};
-ghost use Rattle.spa_names.specs.Rows.{naming_of};
-ghost use Rattle.spa_names.specs.Tables.{namings_of};
 
 use crate::entry::Naming;
-use crate::table::Table;
-
-/// The names of a table.
-pub(crate) fn namings_of(table: Table) -> &'static [Naming]
-    ensures { map naming_of result.now ≡ namings_of table }
-{
-    match table {
-        Table::Types => &NAMES_OF_TYPES,
-        Table::Choices => &NAMES_OF_CHOICES,
-        Table::Controls => &NAMES_OF_CONTROLS,
-        Table::DeviceKeys => &NAMES_OF_DEVICE_KEYS,
-        Table::NodeKeys => &NAMES_OF_NODE_KEYS,
-        Table::CommandNodeKeys => &NAMES_OF_COMMAND_NODE_KEYS,
-        Table::PropInfoKeys => &NAMES_OF_PROP_INFO_KEYS,
-        Table::PropsKeys => &NAMES_OF_PROPS_KEYS,
-        Table::FormatKeys => &NAMES_OF_FORMAT_KEYS,
-        Table::BuffersKeys => &NAMES_OF_BUFFERS_KEYS,
-        Table::ParamMetaKeys => &NAMES_OF_PARAM_META_KEYS,
-        Table::IOKeys => &NAMES_OF_IOKEYS,
-        Table::ProfileKeys => &NAMES_OF_PROFILE_KEYS,
-        Table::PortConfigKeys => &NAMES_OF_PORT_CONFIG_KEYS,
-        Table::RouteKeys => &NAMES_OF_ROUTE_KEYS,
-        Table::ProfilerKeys => &NAMES_OF_PROFILER_KEYS,
-        Table::LatencyKeys => &NAMES_OF_LATENCY_KEYS,
-        Table::ProcessLatencyKeys => &NAMES_OF_PROCESS_LATENCY_KEYS,
-        Table::DeviceEventId => &NAMES_OF_DEVICE_EVENT_ID,
-        Table::Node => &NAMES_OF_NODE,
-        Table::CommandNode => &NAMES_OF_COMMAND_NODE,
-        Table::ParamId => &NAMES_OF_PARAM_ID,
-        Table::BluetoothAudioCodec => &NAMES_OF_BLUETOOTH_AUDIO_CODEC,
-        Table::MediaType => &NAMES_OF_MEDIA_TYPE,
-        Table::MediaSubtype => &NAMES_OF_MEDIA_SUBTYPE,
-        Table::AudioFormat => &NAMES_OF_AUDIO_FORMAT,
-        Table::AudioFlags => &NAMES_OF_AUDIO_FLAGS,
-        Table::AudioIEC958Codec => &NAMES_OF_AUDIO_IEC958_CODEC,
-        Table::ParamBitorder => &NAMES_OF_PARAM_BITORDER,
-        Table::AudioAACStreamFormat => &NAMES_OF_AUDIO_AACSTREAM_FORMAT,
-        Table::AudioWMAProfile => &NAMES_OF_AUDIO_WMAPROFILE,
-        Table::AudioAMRBandMode => &NAMES_OF_AUDIO_AMRBAND_MODE,
-        Table::VideoFormat => &NAMES_OF_VIDEO_FORMAT,
-        Table::VideoInterlaceMode => &NAMES_OF_VIDEO_INTERLACE_MODE,
-        Table::Meta => &NAMES_OF_META,
-        Table::IO => &NAMES_OF_IO,
-        Table::ParamAvailability => &NAMES_OF_PARAM_AVAILABILITY,
-        Table::Direction => &NAMES_OF_DIRECTION,
-        Table::ParamPortConfigMode => &NAMES_OF_PARAM_PORT_CONFIG_MODE,
-        Table::AudioChannel => &NAMES_OF_AUDIO_CHANNEL,
-        Table::Nothing => &[],
-    }
-}
 
 #[rattlefmt::skip]
 pub(crate) const NAMES_OF_TYPES: [Naming; 43] = [

@@ -1,0 +1,202 @@
+//! The lines of `podtext show`, without their ends.
+use crate::inside::Label;
+use crate::parts::{Parts, Scalar, Shown};
+use crate::run::Failure;
+use ryu::Buffer;
+use spa_names::{Table, ids_of, name_of, path_of};
+use std::fmt::Write;
+use std::num::{f32_from_bits_with_nan, f64_from_bits_with_nan};
+
+/// The deepest lines that are indented in full; deeper ones are indented as these, and tell their depth.
+const DEEPEST: usize = 40;
+
+/// What stands where a number has no name.
+const UNKNOWN: &str = "unknown";
+
+/// The bits of a float that tell how large it is, and those of an infinity.
+const FLOAT_MAGNITUDE: u32 = 0x7fff_ffff;
+
+const FLOAT_INFINITY: u32 = 0x7f80_0000;
+
+/// The same for a double.
+const DOUBLE_MAGNITUDE: u64 = 0x7fff_ffff_ffff_ffff;
+
+const DOUBLE_INFINITY: u64 = 0x7ff0_0000_0000_0000;
+
+/// PipeWire's name for a number.
+fn path_or_unknown(table: Table, number: u32) -> &'static str {
+    path_of(table, number).unwrap_or(UNKNOWN)
+}
+
+/// Begins a line inside so many values.
+pub(crate) fn put_indent(text: &mut String, depth: usize) -> Result<(), Failure> {
+    for _ in 0..depth.min(DEEPEST) {
+        text.push_str("  ")?;
+    }
+    if depth > DEEPEST {
+        write!(text, "({depth}) ")?;
+    }
+    Ok(())
+}
+
+/// Writes the key of a property, or the offset and type of a control.
+pub(crate) fn put_label(text: &mut String, label: Label) -> Result<(), Failure> {
+    match label {
+        Label::Bare => {}
+        Label::Property { keys, key, flags } => write!(
+            text,
+            "Prop: key {} ({key}), flags {flags:08x}",
+            path_or_unknown(keys, key)
+        )?,
+        Label::Control { offset, type_ } => write!(
+            text,
+            "Control: offset {offset}, type {}",
+            path_or_unknown(Table::Controls, type_)
+        )?,
+    }
+    Ok(())
+}
+
+/// Writes a value's type, and what it says or is made of.
+pub(crate) fn put_value(
+    text: &mut String,
+    value: Shown<'_>,
+    parts: Parts<'_>,
+) -> Result<(), Failure> {
+    let size = value.body.len();
+    match parts {
+        Parts::Scalar(scalar) => return put_scalar(text, scalar),
+        Parts::Struct(_) => write!(text, "Struct: size {size}")?,
+        Parts::Object { type_, id, .. } => write!(
+            text,
+            "Object: size {size}, type {} ({}), id {} ({id})",
+            path_or_unknown(Table::Types, type_.0),
+            type_.0,
+            path_or_unknown(ids_of(type_), id)
+        )?,
+        Parts::Sequence { unit, .. } => write!(
+            text,
+            "Sequence: size {size}, unit {}",
+            path_or_unknown(Table::Types, unit)
+        )?,
+        Parts::Array { size, type_, .. } => write!(
+            text,
+            "Array: child.size {size}, child.type {}",
+            path_or_unknown(Table::Types, type_.0)
+        )?,
+        Parts::Choice {
+            shape,
+            flags,
+            size: child,
+            ..
+        } => write!(
+            text,
+            "Choice: type {}, flags {flags:08x} {size} {child}",
+            path_or_unknown(Table::Choices, shape)
+        )?,
+        Parts::Bytes(_) => match name_of(Table::Types, value.type_.0) {
+            Some(name) => write!(text, "{name}: size {size}")?,
+            None => write!(text, "Type {}: size {size}", value.type_.0)?,
+        },
+    }
+    Ok(())
+}
+
+/// Writes what a value without others inside says.
+fn put_scalar(text: &mut String, scalar: Scalar<'_>) -> Result<(), Failure> {
+    match scalar {
+        Scalar::Bool(value) => write!(text, "Bool {value}")?,
+        Scalar::Id(number, names) => {
+            write!(text, "Id {number:<8} ({})", path_or_unknown(names, number))?
+        }
+        Scalar::Int(number) => write!(text, "Int {number}")?,
+        Scalar::Long(number) => write!(text, "Long {number}")?,
+        Scalar::Float(bits) => return put_float(text, bits),
+        Scalar::Double(bits) => return put_double(text, bits),
+        Scalar::Text(body) => return put_text(text, body),
+        Scalar::Rectangle(width, height) => write!(text, "Rectangle {width}x{height}")?,
+        Scalar::Fraction(num, denom) => write!(text, "Fraction {num}/{denom}")?,
+        Scalar::Fd(number) => write!(text, "Fd {number}")?,
+        Scalar::Pointer(type_, address) => write!(
+            text,
+            "Pointer {} {address:#x}",
+            path_or_unknown(Table::Types, type_)
+        )?,
+    }
+    Ok(())
+}
+
+/// Writes a float by its shortest digits, one that is no number by its bits.
+fn put_float(text: &mut String, bits: u32) -> Result<(), Failure> {
+    if bits & FLOAT_MAGNITUDE > FLOAT_INFINITY {
+        write!(text, "Float nan ({bits:#x})")?;
+        return Ok(());
+    }
+    text.push_str("Float ")?;
+    text.push_str(Buffer::new().format(f32_from_bits_with_nan(bits)))?;
+    Ok(())
+}
+
+/// Writes a double by its shortest digits, one that is no number by its bits.
+fn put_double(text: &mut String, bits: u64) -> Result<(), Failure> {
+    if bits & DOUBLE_MAGNITUDE > DOUBLE_INFINITY {
+        write!(text, "Double nan ({bits:#x})")?;
+        return Ok(());
+    }
+    text.push_str("Double ")?;
+    text.push_str(Buffer::new().format(f64_from_bits_with_nan(bits)))?;
+    Ok(())
+}
+
+/// Writes a text without the NUL behind it. What could move a terminal is written by its number, and so are the bytes of what is
+/// no UTF-8.
+fn put_text(text: &mut String, body: &[u8]) -> Result<(), Failure> {
+    let shown = match body {
+        [shown @ .., 0] => shown,
+        _ => body,
+    };
+    text.push_str("String \"")?;
+    match str::from_utf8(shown) {
+        Ok(shown) => {
+            for letter in shown.chars() {
+                put_letter(text, letter)?;
+            }
+        }
+        Err(_) => {
+            for byte in shown {
+                put_byte(text, *byte)?;
+            }
+        }
+    }
+    text.push_str("\"")?;
+    Ok(())
+}
+
+/// Writes a letter of a text.
+fn put_letter(text: &mut String, letter: char) -> Result<(), Failure> {
+    match letter {
+        '"' => text.push_str("\\\"")?,
+        '\\' => text.push_str("\\\\")?,
+        _ if letter.is_control() => write!(text, "\\u{:04x}", letter as u32)?,
+        _ => text.push(letter)?,
+    }
+    Ok(())
+}
+
+/// Writes a byte of what is no UTF-8.
+fn put_byte(text: &mut String, byte: u8) -> Result<(), Failure> {
+    if byte.is_ascii() {
+        return put_letter(text, byte as char);
+    }
+    write!(text, "\\x{byte:02x}")?;
+    Ok(())
+}
+
+/// Writes a row of a dump: the place of its first byte, and its bytes.
+pub(crate) fn put_row(text: &mut String, place: usize, row: &[u8]) -> Result<(), Failure> {
+    write!(text, "{place:08x}:")?;
+    for byte in row {
+        write!(text, " {byte:02x}")?;
+    }
+    Ok(())
+}

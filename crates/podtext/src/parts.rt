@@ -1,0 +1,211 @@
+//! Values taken apart, whatever their bytes are.
+use spa_bytes::{HEADER_LEN, u32_at, u64_at};
+use spa_names::Table;
+use spa_utils::SpaTypes;
+use spa_view::{Pod, body_bytes};
+
+/// How many bytes a word takes.
+const WORD_LEN: usize = 4;
+
+/// How many bytes a pointer's body takes where its address has four, and where it has eight.
+const SHORT_POINTER_LEN: usize = 12;
+
+const POINTER_LEN: usize = 16;
+
+/// A value as it is shown: its type and its body.
+#[derive(Clone, Copy)]
+pub(crate) struct Shown<'a> {
+    /// Its type.
+    pub(crate) type_: SpaTypes,
+    /// Its body.
+    pub(crate) body: &'a [u8],
+    /// The names of ids there.
+    pub(crate) ids: Table,
+    /// Its pod; an element has none.
+    pub(crate) pod: Option<Pod<'a>>,
+}
+
+/// What a value without others inside says.
+#[derive(Clone, Copy)]
+pub(crate) enum Scalar<'a> {
+    Bool(bool),
+    /// A number, and the table of its name.
+    Id(u32, Table),
+    Int(i32),
+    Long(i64),
+    /// The bits.
+    Float(u32),
+    /// The bits.
+    Double(u64),
+    /// The body as it is, with what should be a NUL behind the text.
+    Text(&'a [u8]),
+    Rectangle(u32, u32),
+    Fraction(u32, u32),
+    Fd(i64),
+    /// The type of what is there, and its address.
+    Pointer(u32, u64),
+}
+
+/// What a value is made of.
+#[derive(Clone, Copy)]
+pub(crate) enum Parts<'a> {
+    /// It has nothing inside.
+    Scalar(Scalar<'a>),
+    /// Pods one after another.
+    Struct(&'a [u8]),
+    /// A type and an id, then properties.
+    Object {
+        type_: SpaTypes,
+        id: u32,
+        properties: &'a [u8],
+    },
+    /// A unit, then controls.
+    Sequence {
+        unit: u32,
+        controls: &'a [u8],
+    },
+    /// The size and the type of elements, then these.
+    Array {
+        size: u32,
+        type_: SpaTypes,
+        elements: &'a [u8],
+    },
+    /// A shape and flags, the size and the type of values, then these.
+    Choice {
+        shape: u32,
+        flags: u32,
+        size: u32,
+        type_: SpaTypes,
+        values: &'a [u8],
+    },
+    /// Nothing but bytes: of a type that says no more, or too few for its type.
+    Bytes(&'a [u8]),
+}
+
+impl<'a> Shown<'a> {
+    /// The value of a pod, where ids have these names.
+    pub(crate) fn of_pod(pod: Pod<'a>, ids: Table) -> Shown<'a> {
+        Shown {
+            type_: pod.type_(),
+            body: body_bytes(&pod),
+            ids,
+            pod: Some(pod),
+        }
+    }
+
+    /// The value taken apart.
+    pub(crate) fn parts(&self) -> Parts<'a> {
+        match self.members() {
+            Some(parts) => parts,
+            None => match self.scalar() {
+                Some(scalar) => Parts::Scalar(scalar),
+                None => Parts::Bytes(self.body),
+            },
+        }
+    }
+
+    /// The parts of a value that has others inside.
+    fn members(&self) -> Option<Parts<'a>> {
+        match self.type_ {
+            SpaTypes::Struct => Some(Parts::Struct(self.body)),
+            SpaTypes::Object => {
+                let (type_, id, properties) = split_words(self.body)?;
+                Some(Parts::Object {
+                    type_: SpaTypes(type_),
+                    id,
+                    properties,
+                })
+            }
+            SpaTypes::Sequence => {
+                let (unit, _, controls) = split_words(self.body)?;
+                Some(Parts::Sequence { unit, controls })
+            }
+            SpaTypes::Array => {
+                let (size, type_, elements) = split_words(self.body)?;
+                Some(Parts::Array {
+                    size,
+                    type_: SpaTypes(type_),
+                    elements,
+                })
+            }
+            SpaTypes::Choice => self.choice(),
+            _ => None,
+        }
+    }
+
+    /// The parts of a choice.
+    fn choice(&self) -> Option<Parts<'a>> {
+        let (shape, flags, child) = split_words(self.body)?;
+        let (size, type_, values) = split_words(child)?;
+        Some(Parts::Choice {
+            shape,
+            flags,
+            size,
+            type_: SpaTypes(type_),
+            values,
+        })
+    }
+
+    /// What a value without others inside says; None where its body has too few bytes, or its type isn't such a one.
+    fn scalar(&self) -> Option<Scalar<'a>> {
+        let body = self.body;
+        match self.type_ {
+            SpaTypes::Bool => Some(Scalar::Bool(word_of(body)? != 0)),
+            SpaTypes::Id => Some(Scalar::Id(word_of(body)?, self.ids)),
+            SpaTypes::Int => Some(Scalar::Int(i32::from_le_bytes(word_of(body)?.to_le_bytes()))),
+            SpaTypes::Float => Some(Scalar::Float(word_of(body)?)),
+            SpaTypes::Long => Some(Scalar::Long(i64::from_le_bytes(wide_of(body)?.to_le_bytes()))),
+            SpaTypes::Fd => Some(Scalar::Fd(i64::from_le_bytes(wide_of(body)?.to_le_bytes()))),
+            SpaTypes::Double => Some(Scalar::Double(wide_of(body)?)),
+            SpaTypes::String => Some(Scalar::Text(body)),
+            SpaTypes::Pointer => pointer_of(body),
+            _ => pair_of(self.type_, body),
+        }
+    }
+}
+
+/// A rectangle or a fraction.
+fn pair_of<'a>(type_: SpaTypes, body: &[u8]) -> Option<Scalar<'a>> {
+    let (first, second, _) = split_words(body)?;
+    match type_ {
+        SpaTypes::Rectangle => Some(Scalar::Rectangle(first, second)),
+        SpaTypes::Fraction => Some(Scalar::Fraction(first, second)),
+        _ => None,
+    }
+}
+
+/// A pointer, whose address has eight bytes or four.
+fn pointer_of<'a>(body: &[u8]) -> Option<Scalar<'a>> {
+    if body.len() >= POINTER_LEN {
+        return Some(Scalar::Pointer(u32_at(body, 0), u64_at(body, HEADER_LEN)));
+    }
+    if body.len() >= SHORT_POINTER_LEN {
+        return Some(Scalar::Pointer(u32_at(body, 0), u32_at(body, HEADER_LEN) as u64));
+    }
+    None
+}
+
+/// The word at the front.
+fn word_of(bytes: &[u8]) -> Option<u32> {
+    if bytes.len() < WORD_LEN {
+        return None;
+    }
+    Some(u32_at(bytes, 0))
+}
+
+/// The number of eight bytes at the front.
+fn wide_of(bytes: &[u8]) -> Option<u64> {
+    if bytes.len() < HEADER_LEN {
+        return None;
+    }
+    Some(u64_at(bytes, 0))
+}
+
+/// The two words at the front, and what follows them.
+pub(crate) fn split_words(bytes: &[u8]) -> Option<(u32, u32, &[u8])> {
+    if bytes.len() < HEADER_LEN {
+        return None;
+    }
+    let (words, rest) = bytes.split_at(HEADER_LEN);
+    Some((u32_at(words, 0), u32_at(words, WORD_LEN), rest))
+}

@@ -1,0 +1,285 @@
+use crate::run::run;
+use spa_names::laws::{names_come_back, numbers_are_named};
+use spa_names::{Table, expected_under, ids_of, keys_of, name_of, number_of, path_of};
+use spa_utils::SpaTypes;
+use std::alloc::{AllocError, Global};
+use std::io::{self, Error, ErrorKind, Read, Write};
+use std::test::Fail;
+
+/// A device that takes bytes up to a limit, and then refuses.
+#[derive(Drop)]
+struct Device {
+    taken: Vec<u8>,
+    limit: usize,
+}
+
+impl Write for Device {
+    fn write(&mut self, bytes: &[u8]) -> io::Result<usize> {
+        let room = self.limit.saturating_sub(self.taken.len());
+        let count = bytes.len().min(room);
+        if count == 0 {
+            return Err(Error::from(ErrorKind::WriteZero));
+        }
+        if self.taken.extend_from_slice(&bytes[..count]).is_err() {
+            return Err(Error::from(ErrorKind::OutOfMemory));
+        }
+        Ok(count)
+    }
+
+    fn flush(&mut self) -> io::Result<()> {
+        Ok(())
+    }
+}
+
+/// A source that gives its bytes, and may refuse where they end.
+#[derive(Drop)]
+struct Source<'a> {
+    left: &'a [u8],
+    breaks: bool,
+}
+
+impl Read for Source<'_> {
+    fn read(&mut self, buffer: &mut [u8]) -> io::Result<usize> {
+        if self.breaks && self.left.is_empty() {
+            return Err(Error::from(ErrorKind::Other));
+        }
+        let count = self.left.len().min(buffer.len());
+        let (first, rest) = self.left.split_at(count);
+        buffer[..count].copy_from_slice(first);
+        self.left = rest;
+        Ok(count)
+    }
+}
+
+/// The bytes of these words, least byte first.
+fn bytes_of(alloc: Global, words: &[u32]) -> Result<Vec<u8>, AllocError> {
+    let mut bytes = Vec::new(alloc);
+    for word in words {
+        bytes.extend_from_slice(&word.to_le_bytes())?;
+    }
+    Ok(bytes)
+}
+
+/// Room for all that these tests write.
+const AMPLE: usize = 100_000_000;
+
+/// What a run wrote, what it said, and its status.
+fn found(
+    alloc: Global,
+    words: &[&str],
+    mut source: Source<'_>,
+    room: usize,
+) -> (Vec<u8>, Vec<u8>, u8) {
+    let mut output = Device {
+        taken: Vec::new(alloc),
+        limit: room,
+    };
+    let mut faults = Device {
+        taken: Vec::new(alloc),
+        limit: AMPLE,
+    };
+    let status = run(alloc, words, &mut source, &mut output, &mut faults);
+    (output.taken, faults.taken, status)
+}
+
+/// Whether a run wrote this, said this, and had this status.
+fn is_found(run: &(Vec<u8>, Vec<u8>, u8), written: &[u8], said: &str, status: u8) -> bool {
+    run.0.as_slice() == written && run.1.as_slice() == said.as_bytes() && run.2 == status
+}
+
+/// Whether a run over these bytes does so.
+fn is_run(
+    alloc: Global,
+    words: &[&str],
+    bytes: &[u8],
+    written: &[u8],
+    said: &str,
+    status: u8,
+) -> bool {
+    let source = Source {
+        left: bytes,
+        breaks: false,
+    };
+    let run = found(alloc, words, source, AMPLE);
+    is_found(&run, written, said, status)
+}
+
+/// Pods that the reader refuses, and odd texts, as `show` shows them. The names are PipeWire's.
+const SHOWN: [(&[u32], &str); 10] = [
+    (&[6, 8, 0x4a325b1b, 0x22], "String \"\\u001b[2J\\\"\"\n"),
+    (&[2, 8, 0x41ff, 0], "String \"\\xffA\"\n! byte 0: Text\n"),
+    (
+        &[24, 14, 4, 4, 5, 0, 16, 4],
+        "Struct: size 24\n  Int 5\n  Rest: size 8\n  ! byte 24: Short\n    00000018: 10 00 00 00 04 00 00 00\n",
+    ),
+    (
+        &[16, 14, 4, 99, 7, 0],
+        "Struct: size 16\n  Type 99: size 4\n  ! byte 8: InvalidType\n    00000010: 07 00 00 00\n",
+    ),
+    (
+        &[32, 16, 0, 0, 5, 2, 4, 4, 9, 0],
+        "Sequence: size 32, unit unknown\n! byte 0: InvalidType\n  Control: offset 5, type Spa:Enum:Control:Midi\n    Int 9\n",
+    ),
+    (
+        &[4, 15, 1, 0],
+        "Object: size 4\n! byte 0: WrongSize\n  00000008: 01 00 00 00\n",
+    ),
+    (
+        &[20, 19, 1, 0, 4, 4, 5, 0],
+        "Choice: type Spa:Enum:Choice:Range, flags 00000000 20 4\n! byte 0: MissingChoiceValues\n  Int 5\n",
+    ),
+    (
+        &[4, 4, 5, 0, 0, 99],
+        "Int 5\nType 99: size 0\n! byte 16: InvalidType\n",
+    ),
+    (
+        &[16, 13, 0, 8, 1, 2],
+        "Array: child.size 0, child.type Spa:String\n! byte 0: InvalidType\n  Rest: size 8\n    00000010: 01 00 00 00 02 00 00 00\n",
+    ),
+    (&[8, 7, 0, 0x7ff80001], "Double nan (0x7ff8000100000000)\n"),
+];
+
+/// Whether `show` shows these pods so.
+fn is_shown(alloc: Global, row: (&[u32], &str)) -> Result<bool, AllocError> {
+    let bytes = bytes_of(alloc, row.0)?;
+    Ok(is_run(alloc, &["show"], bytes.as_slice(), row.1.as_bytes(), "", 0))
+}
+
+#[test]
+fn refused_pods_are_shown(rt: HostRuntime) -> Result<(), Fail> {
+    for row in SHOWN {
+        let holds = is_shown(rt.alloc(), row)?;
+        assert!(rt; holds, "{}", row.1);
+    }
+    Ok(())
+}
+
+/// Runs: the words, the input, what is written, what is said, and the status.
+const RUNS: [(&[&str], &[u32], &str, &str, u8); 3] = [
+    (
+        &["show"],
+        &[4, 4, 5, 0, 7],
+        "Int 5\n",
+        "podtext: byte 16: Short\n",
+        1,
+    ),
+    (&[], &[], "", "usage: podtext show\n", 2),
+    (
+        &["show", "all"],
+        &[4, 4, 5, 0],
+        "",
+        "usage: podtext show\n",
+        2,
+    ),
+];
+
+/// Whether a run does as its row says.
+fn is_row(alloc: Global, row: (&[&str], &[u32], &str, &str, u8)) -> Result<bool, AllocError> {
+    let bytes = bytes_of(alloc, row.1)?;
+    Ok(is_run(
+        alloc,
+        row.0,
+        bytes.as_slice(),
+        row.2.as_bytes(),
+        row.3,
+        row.4,
+    ))
+}
+
+#[test]
+fn words_and_rests_are_refused(rt: HostRuntime) -> Result<(), Fail> {
+    for row in RUNS {
+        let holds = is_row(rt.alloc(), row)?;
+        assert!(rt; holds, "{} {}", row.2, row.3);
+    }
+    Ok(())
+}
+
+/// A None pod.
+const NONE: &[u8] = &[0, 0, 0, 0, 1, 0, 0, 0];
+
+/// Whether a source that breaks off is refused.
+fn is_read_refused(alloc: Global) -> bool {
+    let source = Source {
+        left: NONE,
+        breaks: true,
+    };
+    let run = found(alloc, &["show"], source, AMPLE);
+    is_found(&run, &[], "podtext: read failed\n", 1)
+}
+
+/// Whether a device without room is refused.
+fn is_write_refused(alloc: Global) -> bool {
+    let source = Source {
+        left: NONE,
+        breaks: false,
+    };
+    let run = found(alloc, &["show"], source, 0);
+    is_found(&run, &[], "podtext: write failed\n", 1)
+}
+
+#[test]
+fn streams_that_fail(rt: HostRuntime) -> Result<(), Fail> {
+    assert!(rt; is_read_refused(rt.alloc()));
+    assert!(rt; is_write_refused(rt.alloc()));
+    Ok(())
+}
+
+/// Structs in one another.
+fn nested(alloc: Global, count: u32) -> Result<Vec<u8>, AllocError> {
+    let mut bytes = Vec::new(alloc);
+    for outer in 0..count {
+        bytes.extend_from_slice(&(8 * (count - 1 - outer) as u64).to_le_bytes()[..4])?;
+        bytes.extend_from_slice(&[14, 0, 0, 0])?;
+    }
+    Ok(bytes)
+}
+
+/// How many levels the deepest test has.
+const LEVELS: u32 = 100_000;
+
+/// Whether `show` shows so many levels, in lines that don't grow with their depth.
+fn is_deep_shown(alloc: Global) -> Result<bool, AllocError> {
+    let bytes = nested(alloc, LEVELS)?;
+    let source = Source {
+        left: bytes.as_slice(),
+        breaks: false,
+    };
+    let run = found(alloc, &["show"], source, AMPLE);
+    Ok(
+        run.0.len() < LEVELS as usize * 120
+            && run.0.ends_with(b"(99999) Struct: size 0\n")
+            && run.2 == 0,
+    )
+}
+
+#[test]
+fn deep_pods_are_shown(rt: HostRuntime) -> Result<(), Fail> {
+    let holds = is_deep_shown(rt.alloc())?;
+    assert!(rt; holds);
+    Ok(())
+}
+
+/// Whether each call of `spa_names` answers what PipeWire's headers have.
+fn are_names() -> bool {
+    let keys = keys_of(SpaTypes(262147));
+    let position = expected_under(keys, 65541);
+    name_of(Table::AudioFormat, 259) == Some("S16LE")
+        && number_of(Table::AudioFormat, "S16") == Some(259)
+        && number_of(Table::AudioFormat, "S17").is_none()
+        && name_of(Table::Nothing, 259).is_none()
+        && path_of(keys, 131073) == Some("Spa:Pod:Object:Param:Format:Video:format")
+        && name_of(keys, 131073) == Some("Video:format")
+        && name_of(ids_of(SpaTypes(262147)), 3) == Some("EnumFormat")
+        && position.type_ == SpaTypes::Array
+        && position.element == SpaTypes::Id
+        && position.ids == Table::AudioChannel
+}
+
+#[test]
+fn names_are_those_of_pipewire(rt: HostRuntime) -> Result<(), Fail> {
+    names_come_back();
+    numbers_are_named();
+    assert!(rt; are_names());
+    Ok(())
+}

@@ -1,0 +1,52 @@
+-- Names and numbers of the tables lead to each other.
+use Rattle.std.proofs.Common.{◌≡◌, ℕ, ◌==◌, Bool, true, false, List, [], ◌∷◌, Option, Some, None, option_map, cond, is_some, IsSome, refl, ap, subst, ◌∙◌, ◌&&◌, arith}
+use Rattle.std.specs.List.{find, list_all}
+use Rattle.std.proofs.lemmas.Bool.Decides.{nat_tests}
+use Rattle.std.specs.Str.{bytes_eq}
+use Rattle.spa_names.specs.declared.table.Table.{Table}
+use Rattle.spa_names.specs.Rows.{Row, Naming}
+use Rattle.spa_names.specs.Tables.{rows_of, namings_of}
+use Rattle.spa_names.specs.Lookup.{row_at, name_of, number_of, NamesComeBack, NumbersAreNamed}
+use Rattle.spa_names.proofs.Facts.{names_come_back-all, numbers_are_named-all}
+use Rattle.spa_names.proofs.Sound.{is_number}
+
+some_alike : {X : Type 0} (x y : X) → Some x ≡ Some y → x ≡ y
+some_alike x y same = ap (λ (found : Option _). elim found [ Some z ↦ z | None ↦ x ]) same
+
+same_number : (x y : ℕ) → (x == y) ≡ true → x ≡ y
+same_number x y same = grind (arith, nat_tests, same)
+
+is_number-Some : (found : Option ℕ) (number : ℕ) → is_number found number ≡ true → found ≡ Some number
+is_number-Some None number is = search
+is_number-Some (Some found) number is = ap Some (same_number found number is)
+
+found_step : {X : Type 0} (test all : X → Bool) (y x : X) (found : Option X) (rest : Bool) → (rest ≡ true → found ≡ Some x → (test x ≡ true) × (all x ≡ true)) →
+    (t : Bool) → test y ≡ t → (a : Bool) → all y ≡ a → (a && rest) ≡ true → cond t (Some y) found ≡ Some x → (test x ≡ true) × (all x ≡ true)
+found_step test all y x found rest behind true t true a pass is = subst (λ z. (test z ≡ true) × (all z ≡ true)) (some_alike y x is) (t, a)
+found_step test all y x found rest behind true t false a pass is = search
+found_step test all y x found rest behind false t true a pass is = behind pass is
+found_step test all y x found rest behind false t false a pass is = search
+
+-- what is found passes its test, and what all pass
+found_passes : {X : Type 0} (test all : X → Bool) (xs : List X) → list_all all xs ≡ true → (x : X) → find test xs ≡ Some x → (test x ≡ true) × (all x ≡ true)
+found_passes test all [] pass x is = search
+found_passes test all (y ∷ ys) pass x is = found_step test all y x (find test ys) (list_all all ys) (λ p i. found_passes test all ys p x i) (test y) refl (all y) refl pass is
+
+come_back : (table : Table) (number : ℕ) (name : List ℕ) (row : Option Row) → row_at table number ≡ row → option_map (λ row. row.1) row ≡ Some name → number_of table name ≡ Some number
+come_back table number name None at is = search
+come_back table number name (Some row) at is =
+    let passes = found_passes (λ row. row.0 == number) (λ row. is_number (number_of table row.1) row.0) (rows_of table) (names_come_back-all table) row at in
+    subst (λ n. number_of table n ≡ Some number) (some_alike row.1 name is) (is_number-Some (number_of table row.1) row.0 passes.1 ∙ ap Some (same_number row.0 number passes.0))
+
+pub NamesComeBack-all : NamesComeBack
+NamesComeBack-all table number name is = come_back table number name (row_at table number) refl is
+
+named : (table : Table) (number : ℕ) (name : List ℕ) (naming : Option Naming) → find (λ naming. bytes_eq naming.0 name) (namings_of table) ≡ naming →
+    option_map (λ naming. naming.1) naming ≡ Some number → IsSome (name_of table number)
+named table number name None at is = search
+named table number name (Some naming) at is =
+    let passes = found_passes (λ naming. bytes_eq naming.0 name) (λ naming. is_some (name_of table naming.1)) (namings_of table) (numbers_are_named-all table) naming at in
+    subst (λ n. IsSome (name_of table n)) (some_alike naming.1 number is) passes.1
+
+pub NumbersAreNamed-all : NumbersAreNamed
+NumbersAreNamed-all table number name is = named table number name (find (λ naming. bytes_eq naming.0 name) (namings_of table)) refl is

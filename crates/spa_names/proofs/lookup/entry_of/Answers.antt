@@ -1,0 +1,14 @@
+use Rattle.std.proofs.Common.{Ok, Err, rules}
+use Rattle.std.proofs.lemmas.List.Sorted.{answers_always}
+use Rattle.spa_names.proofs.Found.{entry_found}
+use Rattle.spa_names.proofs.lookup.entry_of.Goals as goal
+
+pub returns-in-Ok : goal.returns-in-Ok
+returns-in-Ok c =
+    let is = c.in-Ok.ensures.position (λ entry. entry.0) (answers_always _ _ _ (λ f a r g called. search rules)) in
+    entry_found c.args.table c.args.number _ c.entries_of-entries.ensures (Ok c.in-Ok.at) c.in-Ok.ensures.bound is _
+
+pub returns-in-Err : goal.returns-in-Err
+returns-in-Err c =
+    let is = c.in-Err.ensures.position (λ entry. entry.0) (answers_always _ _ _ (λ f a r g called. search rules)) in
+    entry_found c.args.table c.args.number _ c.entries_of-entries.ensures (Err c.in-Err.field-0) c.in-Err.ensures.bound is

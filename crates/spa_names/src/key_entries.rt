@@ -1,0 +1,336 @@
+// Written by tables/generate.py from the headers of PipeWire 0.3.65. Do not edit.
+//! The entries of the tables whose numbers are keys, by their numbers.
+
+use crate::entry::{Entry, Expected};
+use crate::table::Table;
+use spa_utils::SpaTypes;
+
+#[rattlefmt::skip]
+pub(crate) const ENTRIES_OF_DEVICE_KEYS: [Entry; 2] = [
+    (1, "Object", "Spa:Pod:Object:Event:Device:Object",
+        Expected { type_: SpaTypes(4), element: SpaTypes(0), ids: Table::Nothing }),
+    (2, "Props", "Spa:Pod:Object:Event:Device:Props",
+        Expected { type_: SpaTypes(262146), element: SpaTypes(0), ids: Table::Nothing }),
+];
+
+#[rattlefmt::skip]
+pub(crate) const ENTRIES_OF_NODE_KEYS: [Entry; 0] = [
+];
+
+#[rattlefmt::skip]
+pub(crate) const ENTRIES_OF_COMMAND_NODE_KEYS: [Entry; 0] = [
+];
+
+#[rattlefmt::skip]
+pub(crate) const ENTRIES_OF_PROP_INFO_KEYS: [Entry; 7] = [
+    (1, "id", "Spa:Pod:Object:Param:PropInfo:id",
+        Expected { type_: SpaTypes(3), element: SpaTypes(0), ids: Table::PropsKeys }),
+    (2, "name", "Spa:Pod:Object:Param:PropInfo:name",
+        Expected { type_: SpaTypes(8), element: SpaTypes(0), ids: Table::Nothing }),
+    (3, "type", "Spa:Pod:Object:Param:PropInfo:type",
+        Expected { type_: SpaTypes(20), element: SpaTypes(0), ids: Table::Nothing }),
+    (4, "labels", "Spa:Pod:Object:Param:PropInfo:labels",
+        Expected { type_: SpaTypes(14), element: SpaTypes(0), ids: Table::Nothing }),
+    (5, "container", "Spa:Pod:Object:Param:PropInfo:container",
+        Expected { type_: SpaTypes(3), element: SpaTypes(0), ids: Table::Nothing }),
+    (6, "params", "Spa:Pod:Object:Param:PropInfo:params",
+        Expected { type_: SpaTypes(2), element: SpaTypes(0), ids: Table::Nothing }),
+    (7, "description", "Spa:Pod:Object:Param:PropInfo:description",
+        Expected { type_: SpaTypes(8), element: SpaTypes(0), ids: Table::Nothing }),
+];
+
+#[rattlefmt::skip]
+pub(crate) const ENTRIES_OF_PROPS_KEYS: [Entry; 42] = [
+    (1, "unknown", "Spa:Pod:Object:Param:Props:unknown",
+        Expected { type_: SpaTypes(1), element: SpaTypes(0), ids: Table::Nothing }),
+    (257, "device", "Spa:Pod:Object:Param:Props:device",
+        Expected { type_: SpaTypes(8), element: SpaTypes(0), ids: Table::Nothing }),
+    (258, "deviceName", "Spa:Pod:Object:Param:Props:deviceName",
+        Expected { type_: SpaTypes(8), element: SpaTypes(0), ids: Table::Nothing }),
+    (259, "deviceFd", "Spa:Pod:Object:Param:Props:deviceFd",
+        Expected { type_: SpaTypes(18), element: SpaTypes(0), ids: Table::Nothing }),
+    (260, "card", "Spa:Pod:Object:Param:Props:card",
+        Expected { type_: SpaTypes(8), element: SpaTypes(0), ids: Table::Nothing }),
+    (261, "cardName", "Spa:Pod:Object:Param:Props:cardName",
+        Expected { type_: SpaTypes(8), element: SpaTypes(0), ids: Table::Nothing }),
+    (262, "minLatency", "Spa:Pod:Object:Param:Props:minLatency",
+        Expected { type_: SpaTypes(4), element: SpaTypes(0), ids: Table::Nothing }),
+    (263, "maxLatency", "Spa:Pod:Object:Param:Props:maxLatency",
+        Expected { type_: SpaTypes(4), element: SpaTypes(0), ids: Table::Nothing }),
+    (264, "periods", "Spa:Pod:Object:Param:Props:periods",
+        Expected { type_: SpaTypes(4), element: SpaTypes(0), ids: Table::Nothing }),
+    (265, "periodSize", "Spa:Pod:Object:Param:Props:periodSize",
+        Expected { type_: SpaTypes(4), element: SpaTypes(0), ids: Table::Nothing }),
+    (266, "periodEvent", "Spa:Pod:Object:Param:Props:periodEvent",
+        Expected { type_: SpaTypes(2), element: SpaTypes(0), ids: Table::Nothing }),
+    (267, "live", "Spa:Pod:Object:Param:Props:live",
+        Expected { type_: SpaTypes(2), element: SpaTypes(0), ids: Table::Nothing }),
+    (268, "rate", "Spa:Pod:Object:Param:Props:rate",
+        Expected { type_: SpaTypes(7), element: SpaTypes(0), ids: Table::Nothing }),
+    (269, "quality", "Spa:Pod:Object:Param:Props:quality",
+        Expected { type_: SpaTypes(4), element: SpaTypes(0), ids: Table::Nothing }),
+    (270, "bluetoothAudioCodec", "Spa:Pod:Object:Param:Props:bluetoothAudioCodec",
+        Expected { type_: SpaTypes(3), element: SpaTypes(0), ids: Table::BluetoothAudioCodec }),
+    (271, "bluetoothOffloadActive", "Spa:Pod:Object:Param:Props:bluetoothOffloadActive",
+        Expected { type_: SpaTypes(2), element: SpaTypes(0), ids: Table::Nothing }),
+    (65537, "waveType", "Spa:Pod:Object:Param:Props:waveType",
+        Expected { type_: SpaTypes(3), element: SpaTypes(0), ids: Table::Nothing }),
+    (65538, "frequency", "Spa:Pod:Object:Param:Props:frequency",
+        Expected { type_: SpaTypes(4), element: SpaTypes(0), ids: Table::Nothing }),
+    (65539, "volume", "Spa:Pod:Object:Param:Props:volume",
+        Expected { type_: SpaTypes(6), element: SpaTypes(0), ids: Table::Nothing }),
+    (65540, "mute", "Spa:Pod:Object:Param:Props:mute",
+        Expected { type_: SpaTypes(2), element: SpaTypes(0), ids: Table::Nothing }),
+    (65541, "patternType", "Spa:Pod:Object:Param:Props:patternType",
+        Expected { type_: SpaTypes(3), element: SpaTypes(0), ids: Table::Nothing }),
+    (65542, "ditherType", "Spa:Pod:Object:Param:Props:ditherType",
+        Expected { type_: SpaTypes(3), element: SpaTypes(0), ids: Table::Nothing }),
+    (65543, "truncate", "Spa:Pod:Object:Param:Props:truncate",
+        Expected { type_: SpaTypes(2), element: SpaTypes(0), ids: Table::Nothing }),
+    (65544, "channelVolumes", "Spa:Pod:Object:Param:Props:channelVolumes",
+        Expected { type_: SpaTypes(13), element: SpaTypes(6), ids: Table::Nothing }),
+    (65545, "volumeBase", "Spa:Pod:Object:Param:Props:volumeBase",
+        Expected { type_: SpaTypes(6), element: SpaTypes(0), ids: Table::Nothing }),
+    (65546, "volumeStep", "Spa:Pod:Object:Param:Props:volumeStep",
+        Expected { type_: SpaTypes(6), element: SpaTypes(0), ids: Table::Nothing }),
+    (65547, "channelMap", "Spa:Pod:Object:Param:Props:channelMap",
+        Expected { type_: SpaTypes(13), element: SpaTypes(3), ids: Table::AudioChannel }),
+    (65548, "monitorMute", "Spa:Pod:Object:Param:Props:monitorMute",
+        Expected { type_: SpaTypes(2), element: SpaTypes(0), ids: Table::Nothing }),
+    (65549, "monitorVolumes", "Spa:Pod:Object:Param:Props:monitorVolumes",
+        Expected { type_: SpaTypes(13), element: SpaTypes(6), ids: Table::Nothing }),
+    (65550, "latencyOffsetNsec", "Spa:Pod:Object:Param:Props:latencyOffsetNsec",
+        Expected { type_: SpaTypes(5), element: SpaTypes(0), ids: Table::Nothing }),
+    (65551, "softMute", "Spa:Pod:Object:Param:Props:softMute",
+        Expected { type_: SpaTypes(2), element: SpaTypes(0), ids: Table::Nothing }),
+    (65552, "softVolumes", "Spa:Pod:Object:Param:Props:softVolumes",
+        Expected { type_: SpaTypes(13), element: SpaTypes(6), ids: Table::Nothing }),
+    (65553, "iec958Codecs", "Spa:Pod:Object:Param:Props:iec958Codecs",
+        Expected { type_: SpaTypes(13), element: SpaTypes(3), ids: Table::AudioIEC958Codec }),
+    (131073, "brightness", "Spa:Pod:Object:Param:Props:brightness",
+        Expected { type_: SpaTypes(4), element: SpaTypes(0), ids: Table::Nothing }),
+    (131074, "contrast", "Spa:Pod:Object:Param:Props:contrast",
+        Expected { type_: SpaTypes(4), element: SpaTypes(0), ids: Table::Nothing }),
+    (131075, "saturation", "Spa:Pod:Object:Param:Props:saturation",
+        Expected { type_: SpaTypes(4), element: SpaTypes(0), ids: Table::Nothing }),
+    (131076, "hue", "Spa:Pod:Object:Param:Props:hue",
+        Expected { type_: SpaTypes(4), element: SpaTypes(0), ids: Table::Nothing }),
+    (131077, "gamma", "Spa:Pod:Object:Param:Props:gamma",
+        Expected { type_: SpaTypes(4), element: SpaTypes(0), ids: Table::Nothing }),
+    (131078, "exposure", "Spa:Pod:Object:Param:Props:exposure",
+        Expected { type_: SpaTypes(4), element: SpaTypes(0), ids: Table::Nothing }),
+    (131079, "gain", "Spa:Pod:Object:Param:Props:gain",
+        Expected { type_: SpaTypes(4), element: SpaTypes(0), ids: Table::Nothing }),
+    (131080, "sharpness", "Spa:Pod:Object:Param:Props:sharpness",
+        Expected { type_: SpaTypes(4), element: SpaTypes(0), ids: Table::Nothing }),
+    (524289, "params", "Spa:Pod:Object:Param:Props:params",
+        Expected { type_: SpaTypes(14), element: SpaTypes(0), ids: Table::Nothing }),
+];
+
+#[rattlefmt::skip]
+pub(crate) const ENTRIES_OF_FORMAT_KEYS: [Entry; 34] = [
+    (1, "mediaType", "Spa:Pod:Object:Param:Format:mediaType",
+        Expected { type_: SpaTypes(3), element: SpaTypes(0), ids: Table::MediaType }),
+    (2, "mediaSubtype", "Spa:Pod:Object:Param:Format:mediaSubtype",
+        Expected { type_: SpaTypes(3), element: SpaTypes(0), ids: Table::MediaSubtype }),
+    (65537, "format", "Spa:Pod:Object:Param:Format:Audio:format",
+        Expected { type_: SpaTypes(3), element: SpaTypes(0), ids: Table::AudioFormat }),
+    (65538, "flags", "Spa:Pod:Object:Param:Format:Audio:flags",
+        Expected { type_: SpaTypes(3), element: SpaTypes(0), ids: Table::AudioFlags }),
+    (65539, "rate", "Spa:Pod:Object:Param:Format:Audio:rate",
+        Expected { type_: SpaTypes(4), element: SpaTypes(0), ids: Table::Nothing }),
+    (65540, "channels", "Spa:Pod:Object:Param:Format:Audio:channels",
+        Expected { type_: SpaTypes(4), element: SpaTypes(0), ids: Table::Nothing }),
+    (65541, "position", "Spa:Pod:Object:Param:Format:Audio:position",
+        Expected { type_: SpaTypes(13), element: SpaTypes(3), ids: Table::AudioChannel }),
+    (65542, "iec958Codec", "Spa:Pod:Object:Param:Format:Audio:iec958Codec",
+        Expected { type_: SpaTypes(3), element: SpaTypes(0), ids: Table::AudioIEC958Codec }),
+    (65543, "bitorder", "Spa:Pod:Object:Param:Format:Audio:bitorder",
+        Expected { type_: SpaTypes(3), element: SpaTypes(0), ids: Table::ParamBitorder }),
+    (65544, "interleave", "Spa:Pod:Object:Param:Format:Audio:interleave",
+        Expected { type_: SpaTypes(4), element: SpaTypes(0), ids: Table::Nothing }),
+    (65545, "bitrate", "Spa:Pod:Object:Param:Format:Audio:bitrate",
+        Expected { type_: SpaTypes(4), element: SpaTypes(0), ids: Table::Nothing }),
+    (65546, "blockAlign", "Spa:Pod:Object:Param:Format:Audio:blockAlign",
+        Expected { type_: SpaTypes(4), element: SpaTypes(0), ids: Table::Nothing }),
+    (65547, "streamFormat", "Spa:Pod:Object:Param:Format:Audio:AAC:streamFormat",
+        Expected { type_: SpaTypes(3), element: SpaTypes(0), ids: Table::AudioAACStreamFormat }),
+    (65548, "profile", "Spa:Pod:Object:Param:Format:Audio:WMA:profile",
+        Expected { type_: SpaTypes(3), element: SpaTypes(0), ids: Table::AudioWMAProfile }),
+    (65549, "bandMode", "Spa:Pod:Object:Param:Format:Audio:AMR:bandMode",
+        Expected { type_: SpaTypes(3), element: SpaTypes(0), ids: Table::AudioAMRBandMode }),
+    (131073, "Video:format", "Spa:Pod:Object:Param:Format:Video:format",
+        Expected { type_: SpaTypes(3), element: SpaTypes(0), ids: Table::VideoFormat }),
+    (131074, "modifier", "Spa:Pod:Object:Param:Format:Video:modifier",
+        Expected { type_: SpaTypes(5), element: SpaTypes(0), ids: Table::Nothing }),
+    (131075, "size", "Spa:Pod:Object:Param:Format:Video:size",
+        Expected { type_: SpaTypes(10), element: SpaTypes(0), ids: Table::Nothing }),
+    (131076, "framerate", "Spa:Pod:Object:Param:Format:Video:framerate",
+        Expected { type_: SpaTypes(11), element: SpaTypes(0), ids: Table::Nothing }),
+    (131077, "maxFramerate", "Spa:Pod:Object:Param:Format:Video:maxFramerate",
+        Expected { type_: SpaTypes(11), element: SpaTypes(0), ids: Table::Nothing }),
+    (131078, "views", "Spa:Pod:Object:Param:Format:Video:views",
+        Expected { type_: SpaTypes(4), element: SpaTypes(0), ids: Table::Nothing }),
+    (131079, "interlaceMode", "Spa:Pod:Object:Param:Format:Video:interlaceMode",
+        Expected { type_: SpaTypes(3), element: SpaTypes(0), ids: Table::VideoInterlaceMode }),
+    (131080, "pixelAspectRatio", "Spa:Pod:Object:Param:Format:Video:pixelAspectRatio",
+        Expected { type_: SpaTypes(11), element: SpaTypes(0), ids: Table::Nothing }),
+    (131081, "multiviewMode", "Spa:Pod:Object:Param:Format:Video:multiviewMode",
+        Expected { type_: SpaTypes(3), element: SpaTypes(0), ids: Table::Nothing }),
+    (131082, "multiviewFlags", "Spa:Pod:Object:Param:Format:Video:multiviewFlags",
+        Expected { type_: SpaTypes(3), element: SpaTypes(0), ids: Table::Nothing }),
+    (131083, "chromaSite", "Spa:Pod:Object:Param:Format:Video:chromaSite",
+        Expected { type_: SpaTypes(3), element: SpaTypes(0), ids: Table::Nothing }),
+    (131084, "colorRange", "Spa:Pod:Object:Param:Format:Video:colorRange",
+        Expected { type_: SpaTypes(3), element: SpaTypes(0), ids: Table::Nothing }),
+    (131085, "colorMatrix", "Spa:Pod:Object:Param:Format:Video:colorMatrix",
+        Expected { type_: SpaTypes(3), element: SpaTypes(0), ids: Table::Nothing }),
+    (131086, "transferFunction", "Spa:Pod:Object:Param:Format:Video:transferFunction",
+        Expected { type_: SpaTypes(3), element: SpaTypes(0), ids: Table::Nothing }),
+    (131087, "colorPrimaries", "Spa:Pod:Object:Param:Format:Video:colorPrimaries",
+        Expected { type_: SpaTypes(3), element: SpaTypes(0), ids: Table::Nothing }),
+    (131088, "Video:profile", "Spa:Pod:Object:Param:Format:Video:profile",
+        Expected { type_: SpaTypes(4), element: SpaTypes(0), ids: Table::Nothing }),
+    (131089, "level", "Spa:Pod:Object:Param:Format:Video:level",
+        Expected { type_: SpaTypes(4), element: SpaTypes(0), ids: Table::Nothing }),
+    (131090, "H264:streamFormat", "Spa:Pod:Object:Param:Format:Video:H264:streamFormat",
+        Expected { type_: SpaTypes(3), element: SpaTypes(0), ids: Table::Nothing }),
+    (131091, "alignment", "Spa:Pod:Object:Param:Format:Video:H264:alignment",
+        Expected { type_: SpaTypes(3), element: SpaTypes(0), ids: Table::Nothing }),
+];
+
+#[rattlefmt::skip]
+pub(crate) const ENTRIES_OF_BUFFERS_KEYS: [Entry; 6] = [
+    (1, "buffers", "Spa:Pod:Object:Param:Buffers:buffers",
+        Expected { type_: SpaTypes(4), element: SpaTypes(0), ids: Table::Nothing }),
+    (2, "blocks", "Spa:Pod:Object:Param:Buffers:blocks",
+        Expected { type_: SpaTypes(4), element: SpaTypes(0), ids: Table::Nothing }),
+    (3, "size", "Spa:Pod:Object:Param:Buffers:BlockInfo:size",
+        Expected { type_: SpaTypes(4), element: SpaTypes(0), ids: Table::Nothing }),
+    (4, "stride", "Spa:Pod:Object:Param:Buffers:BlockInfo:stride",
+        Expected { type_: SpaTypes(4), element: SpaTypes(0), ids: Table::Nothing }),
+    (5, "align", "Spa:Pod:Object:Param:Buffers:BlockInfo:align",
+        Expected { type_: SpaTypes(4), element: SpaTypes(0), ids: Table::Nothing }),
+    (6, "dataType", "Spa:Pod:Object:Param:Buffers:BlockInfo:dataType",
+        Expected { type_: SpaTypes(4), element: SpaTypes(0), ids: Table::Nothing }),
+];
+
+#[rattlefmt::skip]
+pub(crate) const ENTRIES_OF_PARAM_META_KEYS: [Entry; 2] = [
+    (1, "type", "Spa:Pod:Object:Param:Meta:type",
+        Expected { type_: SpaTypes(3), element: SpaTypes(0), ids: Table::Meta }),
+    (2, "size", "Spa:Pod:Object:Param:Meta:size",
+        Expected { type_: SpaTypes(4), element: SpaTypes(0), ids: Table::Nothing }),
+];
+
+#[rattlefmt::skip]
+pub(crate) const ENTRIES_OF_IOKEYS: [Entry; 2] = [
+    (1, "id", "Spa:Pod:Object:Param:IO:id",
+        Expected { type_: SpaTypes(3), element: SpaTypes(0), ids: Table::IO }),
+    (2, "size", "Spa:Pod:Object:Param:IO:size",
+        Expected { type_: SpaTypes(4), element: SpaTypes(0), ids: Table::Nothing }),
+];
+
+#[rattlefmt::skip]
+pub(crate) const ENTRIES_OF_PROFILE_KEYS: [Entry; 8] = [
+    (1, "index", "Spa:Pod:Object:Param:Profile:index",
+        Expected { type_: SpaTypes(4), element: SpaTypes(0), ids: Table::Nothing }),
+    (2, "name", "Spa:Pod:Object:Param:Profile:name",
+        Expected { type_: SpaTypes(8), element: SpaTypes(0), ids: Table::Nothing }),
+    (3, "description", "Spa:Pod:Object:Param:Profile:description",
+        Expected { type_: SpaTypes(8), element: SpaTypes(0), ids: Table::Nothing }),
+    (4, "priority", "Spa:Pod:Object:Param:Profile:priority",
+        Expected { type_: SpaTypes(4), element: SpaTypes(0), ids: Table::Nothing }),
+    (5, "available", "Spa:Pod:Object:Param:Profile:available",
+        Expected { type_: SpaTypes(3), element: SpaTypes(0), ids: Table::ParamAvailability }),
+    (6, "info", "Spa:Pod:Object:Param:Profile:info",
+        Expected { type_: SpaTypes(14), element: SpaTypes(0), ids: Table::Nothing }),
+    (7, "classes", "Spa:Pod:Object:Param:Profile:classes",
+        Expected { type_: SpaTypes(14), element: SpaTypes(0), ids: Table::Nothing }),
+    (8, "save", "Spa:Pod:Object:Param:Profile:save",
+        Expected { type_: SpaTypes(2), element: SpaTypes(0), ids: Table::Nothing }),
+];
+
+#[rattlefmt::skip]
+pub(crate) const ENTRIES_OF_PORT_CONFIG_KEYS: [Entry; 5] = [
+    (1, "direction", "Spa:Pod:Object:Param:PortConfig:direction",
+        Expected { type_: SpaTypes(3), element: SpaTypes(0), ids: Table::Direction }),
+    (2, "mode", "Spa:Pod:Object:Param:PortConfig:mode",
+        Expected { type_: SpaTypes(3), element: SpaTypes(0), ids: Table::ParamPortConfigMode }),
+    (3, "monitor", "Spa:Pod:Object:Param:PortConfig:monitor",
+        Expected { type_: SpaTypes(2), element: SpaTypes(0), ids: Table::Nothing }),
+    (4, "control", "Spa:Pod:Object:Param:PortConfig:control",
+        Expected { type_: SpaTypes(2), element: SpaTypes(0), ids: Table::Nothing }),
+    (5, "format", "Spa:Pod:Object:Param:PortConfig:format",
+        Expected { type_: SpaTypes(262147), element: SpaTypes(0), ids: Table::Nothing }),
+];
+
+#[rattlefmt::skip]
+pub(crate) const ENTRIES_OF_ROUTE_KEYS: [Entry; 13] = [
+    (1, "index", "Spa:Pod:Object:Param:Route:index",
+        Expected { type_: SpaTypes(4), element: SpaTypes(0), ids: Table::Nothing }),
+    (2, "direction", "Spa:Pod:Object:Param:Route:direction",
+        Expected { type_: SpaTypes(3), element: SpaTypes(0), ids: Table::Direction }),
+    (3, "device", "Spa:Pod:Object:Param:Route:device",
+        Expected { type_: SpaTypes(4), element: SpaTypes(0), ids: Table::Nothing }),
+    (4, "name", "Spa:Pod:Object:Param:Route:name",
+        Expected { type_: SpaTypes(8), element: SpaTypes(0), ids: Table::Nothing }),
+    (5, "description", "Spa:Pod:Object:Param:Route:description",
+        Expected { type_: SpaTypes(8), element: SpaTypes(0), ids: Table::Nothing }),
+    (6, "priority", "Spa:Pod:Object:Param:Route:priority",
+        Expected { type_: SpaTypes(4), element: SpaTypes(0), ids: Table::Nothing }),
+    (7, "available", "Spa:Pod:Object:Param:Route:available",
+        Expected { type_: SpaTypes(3), element: SpaTypes(0), ids: Table::ParamAvailability }),
+    (8, "info", "Spa:Pod:Object:Param:Route:info",
+        Expected { type_: SpaTypes(14), element: SpaTypes(0), ids: Table::Nothing }),
+    (9, "profiles", "Spa:Pod:Object:Param:Route:profiles",
+        Expected { type_: SpaTypes(4), element: SpaTypes(0), ids: Table::Nothing }),
+    (10, "props", "Spa:Pod:Object:Param:Route:props",
+        Expected { type_: SpaTypes(262146), element: SpaTypes(0), ids: Table::Nothing }),
+    (11, "devices", "Spa:Pod:Object:Param:Route:devices",
+        Expected { type_: SpaTypes(4), element: SpaTypes(0), ids: Table::Nothing }),
+    (12, "profile", "Spa:Pod:Object:Param:Route:profile",
+        Expected { type_: SpaTypes(4), element: SpaTypes(0), ids: Table::Nothing }),
+    (13, "save", "Spa:Pod:Object:Param:Route:save",
+        Expected { type_: SpaTypes(2), element: SpaTypes(0), ids: Table::Nothing }),
+];
+
+#[rattlefmt::skip]
+pub(crate) const ENTRIES_OF_PROFILER_KEYS: [Entry; 4] = [
+    (65537, "info", "Spa:Pod:Object:Profiler:info",
+        Expected { type_: SpaTypes(14), element: SpaTypes(0), ids: Table::Nothing }),
+    (65538, "clock", "Spa:Pod:Object:Profiler:clock",
+        Expected { type_: SpaTypes(14), element: SpaTypes(0), ids: Table::Nothing }),
+    (65539, "driverBlock", "Spa:Pod:Object:Profiler:driverBlock",
+        Expected { type_: SpaTypes(14), element: SpaTypes(0), ids: Table::Nothing }),
+    (131073, "followerBlock", "Spa:Pod:Object:Profiler:followerBlock",
+        Expected { type_: SpaTypes(14), element: SpaTypes(0), ids: Table::Nothing }),
+];
+
+#[rattlefmt::skip]
+pub(crate) const ENTRIES_OF_LATENCY_KEYS: [Entry; 7] = [
+    (1, "direction", "Spa:Pod:Object:Param:Latency:direction",
+        Expected { type_: SpaTypes(3), element: SpaTypes(0), ids: Table::Direction }),
+    (2, "minQuantum", "Spa:Pod:Object:Param:Latency:minQuantum",
+        Expected { type_: SpaTypes(6), element: SpaTypes(0), ids: Table::Nothing }),
+    (3, "maxQuantum", "Spa:Pod:Object:Param:Latency:maxQuantum",
+        Expected { type_: SpaTypes(6), element: SpaTypes(0), ids: Table::Nothing }),
+    (4, "minRate", "Spa:Pod:Object:Param:Latency:minRate",
+        Expected { type_: SpaTypes(4), element: SpaTypes(0), ids: Table::Nothing }),
+    (5, "maxRate", "Spa:Pod:Object:Param:Latency:maxRate",
+        Expected { type_: SpaTypes(4), element: SpaTypes(0), ids: Table::Nothing }),
+    (6, "minNs", "Spa:Pod:Object:Param:Latency:minNs",
+        Expected { type_: SpaTypes(5), element: SpaTypes(0), ids: Table::Nothing }),
+    (7, "maxNs", "Spa:Pod:Object:Param:Latency:maxNs",
+        Expected { type_: SpaTypes(5), element: SpaTypes(0), ids: Table::Nothing }),
+];
+
+#[rattlefmt::skip]
+pub(crate) const ENTRIES_OF_PROCESS_LATENCY_KEYS: [Entry; 3] = [
+    (1, "quantum", "Spa:Pod:Object:Param:ProcessLatency:quantum",
+        Expected { type_: SpaTypes(6), element: SpaTypes(0), ids: Table::Nothing }),
+    (2, "rate", "Spa:Pod:Object:Param:ProcessLatency:rate",
+        Expected { type_: SpaTypes(4), element: SpaTypes(0), ids: Table::Nothing }),
+    (3, "ns", "Spa:Pod:Object:Param:ProcessLatency:ns",
+        Expected { type_: SpaTypes(5), element: SpaTypes(0), ids: Table::Nothing }),
+];

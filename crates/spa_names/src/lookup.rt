@@ -1,0 +1,93 @@
+//! Names looked up by numbers, and numbers by names.
+ghost use Rattle.std.specs.Prelude.{◌≡◌};
+ghost use Rattle.std.specs.Option.{option_map};
+ghost use Rattle.spa_names.specs.Rows.{row_of};
+ghost use Rattle.spa_names.specs.Lookup.{expected_under, ids_of, keys_of, name_of, number_of, object_at, path_of, row_at};
+
+use crate::contents::{entries_of, namings_of};
+use crate::entry::{Entry, Expected};
+use crate::table::{OBJECTS, Table};
+use spa_utils::SpaTypes;
+
+/// The name of a number.
+pub fn name_of(table: Table, number: u32) -> Option<&'static str>
+    ensures { option_map (λ name. name.now) result ≡ name_of table number }
+{
+    match entry_of(table, number) {
+        Some(entry) => Some(entry.1),
+        None => None,
+    }
+}
+
+/// PipeWire's own name for a number, of which its name is an end.
+pub fn path_of(table: Table, number: u32) -> Option<&'static str>
+    ensures { option_map (λ path. path.now) result ≡ path_of table number }
+{
+    match entry_of(table, number) {
+        Some(entry) => Some(entry.2),
+        None => None,
+    }
+}
+
+/// What is expected under a key, by the table of its object's keys.
+pub fn expected_under(keys: Table, key: u32) -> Expected
+    ensures { result ≡ expected_under keys key }
+{
+    match entry_of(keys, key) {
+        Some(entry) => entry.3,
+        None => Expected::NOTHING,
+    }
+}
+
+/// The number of a name.
+pub fn number_of(table: Table, name: &str) -> Option<u32>
+    ensures { result ≡ number_of table name.now }
+{
+    let namings = namings_of(table);
+    match namings.binary_search_by(|naming| naming.0.cmp(&name)) {
+        Ok(at) => Some(namings[at].1),
+        Err(_) => None,
+    }
+}
+
+/// The table of the keys of objects of this type.
+pub fn keys_of(type_: SpaTypes) -> Table
+    ensures { result ≡ keys_of type_ }
+{
+    match object_of(type_) {
+        Some((_, keys, _)) => keys,
+        None => Table::Nothing,
+    }
+}
+
+/// The table of the ids of objects of this type.
+pub fn ids_of(type_: SpaTypes) -> Table
+    ensures { result ≡ ids_of type_ }
+{
+    match object_of(type_) {
+        Some((_, _, ids)) => ids,
+        None => Table::Nothing,
+    }
+}
+
+/// The tables of a type of objects.
+fn object_of(type_: SpaTypes) -> Option<(u32, Table, Table)>
+    ensures { result ≡ object_at type_.0 }
+{
+    let objects: &'static [(u32, Table, Table)] = &OBJECTS;
+    match objects.binary_search_by_key(&type_.0, |object| object.0) {
+        Ok(at) => Some(objects[at]),
+        Err(_) => None,
+    }
+}
+
+/// What a table says of a number.
+fn entry_of(table: Table, number: u32) -> Option<Entry>
+    ensures { option_map row_of result ≡ row_at table number }
+{
+    let entries = entries_of(table);
+    match entries.binary_search_by_key(&number, |entry| entry.0) {
+        Ok(at) => Some(entries[at]),
+        Err(_) => None,
+    }
+}

@@ -1,0 +1,195 @@
+#!/usr/bin/env python3
+"""Makes the tables, and the proofs of what is true of each, of what walk.c prints of PipeWire's headers.
+
+    cc $(pkg-config --cflags libspa-0.2) -o walk walk.c && ./walk | ./generate.py
+
+A name is the shortest end of PipeWire's name, cut at a colon, that no entry before it in its table has. So a name keeps its
+number when PipeWire appends entries to a table. Entries whose names end in a colon only mark where a range begins: they give no
+name. Of several entries of one number the first one gives the name that the number is shown by; all of them are looked up.
+"""
+
+import sys
+from pathlib import Path
+
+CRATE = Path(__file__).resolve().parent.parent
+ARRAY = 13
+OF_C = "by tables/generate.py from the headers of PipeWire 0.3.65. Do not edit."
+
+
+def read_tables(lines):
+    """The entries of each table: number, type, name, and the table of the value's numbers."""
+    tables = []
+    for line in lines:
+        if line.startswith("table "):
+            tables.append([])
+        else:
+            number, type_, path, values = line.rstrip("\n").split("\t")
+            tables[-1].append((int(number), int(type_), path, int(values)))
+    return tables
+
+
+def ends_of(path):
+    """The ends of a name, cut at colons, the shortest first."""
+    parts = path.split(":")
+    return [":".join(parts[at:]) for at in reversed(range(len(parts)))]
+
+
+def named(entries):
+    """The entries that have a name of their own, each with it."""
+    used = set()
+    for number, type_, path, values in entries:
+        name = next((it for it in ends_of(path) if it and it not in used), None)
+        if not path.endswith(":") and name is not None:
+            used.add(name)
+            yield number, name, path, type_, values
+
+
+def front_of(entries):
+    """What the names of a table begin with, up to the last colon that they share."""
+    fronts = [path.split(":")[:-1] for _, _, path, _ in entries]
+    shared = []
+    for parts in zip(*fronts):
+        if len(set(parts)) > 1:
+            break
+        shared.append(parts[0])
+    return ":".join(shared)
+
+
+def title_of(text):
+    return "".join(it[0].upper() + it[1:] for it in text.split(":"))
+
+
+def titles_of(tables, kept):
+    """The name of each table in the code: `Types`, `Choices`, `Controls`, of an object's keys `FormatKeys`, of ids `AudioFormat`."""
+    keys = {values: name for _, name, _, _, values in named(tables[0]) if values >= 0}
+    titles = {0: "Types", 1: "Choices", 2: "Controls"}
+    for at in kept[3:]:
+        if at in keys:
+            titles[at] = title_of(keys[at]) + "Keys"
+        else:
+            ends = [title_of(it) for it in ends_of(front_of(tables[at]))]
+            titles[at] = next(it for it in ends if it not in titles.values())
+    return titles
+
+
+def constant_of(title):
+    """AUDIO_FORMAT for AudioFormat."""
+    return "".join(("_" if at and it.isupper() and not title[at - 1].isupper() else "") + it for at, it in enumerate(title)).upper()
+
+
+def entries_in(table, expected_of):
+    """The lines of a table's entries, of which each number has one."""
+    rows = {}
+    for number, name, path, type_, values in named(table):
+        expected = expected_of(type_, values)
+        gap = " " if expected == "Expected::NOTHING" else "\n        "
+        rows.setdefault(number, f'    ({number}, "{name}", "{path}",{gap}{expected}),')
+    return [rows[it] for it in sorted(rows)]
+
+
+def write(name, lines):
+    (CRATE / name).write_text("\n".join(lines) + "\n", encoding="utf-8")
+
+
+def main():
+    tables = read_tables(sys.stdin)
+    arrays = {values for entries in tables for _, type_, _, values in entries if type_ == ARRAY and values >= 0}
+    kept = [at for at in range(len(tables)) if at not in arrays]
+    titles = titles_of(tables, kept)
+
+    def title(at):
+        return titles.get(at, "Nothing")
+
+    def expected_of(type_, values):
+        """The type of a value, that of its elements where it is an array, and the table of their numbers."""
+        element, ids = 0, values
+        if type_ == ARRAY and values >= 0:
+            _, element, _, ids = tables[values][0]
+        return f"Expected {{ type_: SpaTypes({type_}), element: SpaTypes({element}), ids: Table::{title(ids)} }}"
+
+    def constants_of(ours):
+        return ", ".join("ENTRIES_OF_" + constant_of(titles[it]) for it in kept if it in ours)
+
+    is_keys = {at for at in kept if titles[at].endswith("Keys")}
+    of_rows = (("key_entries", is_keys, "whose numbers are keys"), ("id_entries", set(kept) - is_keys, "whose numbers are types and ids"))
+    for module, ours, what in of_rows:
+        out = [f"// Written {OF_C}", f"//! The entries of the tables {what}, by their numbers.", ""]
+        out += ["use crate::entry::{Entry, Expected};"]
+        out += ["use crate::table::Table;", "use spa_utils::SpaTypes;"] if ours == is_keys else []
+        for at in [it for it in kept if it in ours]:
+            rows = entries_in(tables[at], expected_of if ours == is_keys else lambda *_: "Expected::NOTHING")
+            out += ["", "#[rattlefmt::skip]", f"pub(crate) const ENTRIES_OF_{constant_of(titles[at])}: [Entry; {len(rows)}] = ["]
+            out += rows + ["];"]
+        write(f"src/{module}.rt", out)
+
+    out = [f"// Written {OF_C}", "//! The names of each table, in their order.", "", "use crate::entry::Naming;"]
+    for at in kept:
+        rows = sorted((name.encode(), number) for number, name, _, _, _ in named(tables[at]))
+        out += ["", "#[rattlefmt::skip]", f"pub(crate) const NAMES_OF_{constant_of(titles[at])}: [Naming; {len(rows)}] = ["]
+        out += [f'    ("{name.decode()}", {number}),' for name, number in rows] + ["];"]
+    write("src/names.rt", out)
+
+    out = [f"// Written {OF_C}", "//! The contents of the tables.", "ghost use Rattle.std.specs.Prelude.{◌≡◌, map};"]
+    out += ["ghost use Rattle.spa_names.specs.Rows.{naming_of, row_of};", "ghost use Rattle.spa_names.specs.Tables.{namings_of, rows_of};", ""]
+    out += ["use crate::entry::{Entry, Naming};", "use crate::table::Table;", "use crate::{id_entries, key_entries, names};"]
+    out += ["", "/// The entries of a table, by their numbers.", "pub(crate) fn entries_of(table: Table) -> &'static [Entry]"]
+    out += ["    ensures { map row_of result.now ≡ rows_of table }", "{", "    match table {"]
+    for at in kept:
+        module = "key_entries" if at in is_keys else "id_entries"
+        out += [f"        Table::{titles[at]} => &{module}::ENTRIES_OF_{constant_of(titles[at])},"]
+    out += ["        Table::Nothing => &[],", "    }", "}"]
+    out += ["", "/// The names of a table, in their order.", "pub(crate) fn namings_of(table: Table) -> &'static [Naming]"]
+    out += ["    ensures { map naming_of result.now ≡ namings_of table }", "{", "    match table {"]
+    out += [f"        Table::{titles[at]} => &names::NAMES_OF_{constant_of(titles[at])}," for at in kept]
+    out += ["        Table::Nothing => &[],", "    }", "}"]
+    write("src/contents.rt", out)
+
+    out = [f"-- Written {OF_C}", "-- The contents of each table."]
+    out += ["use Rattle.std.specs.Prelude.{List, [], map}"]
+    out += ["use Rattle.spa_names.specs.Rows.{Row, Naming}"]
+    out += ["use Rattle.spa_names.specs.declared.table.Table.{Table}"]
+    variants = [titles[at] for at in kept] + ["Nothing"]
+    out += [f"use Rattle.spa_names.specs.declared.table.Table.TheVariants.{{{', '.join(variants)}}}"]
+    constants = [constant_of(titles[at]) for at in kept]
+    out += [f"use Rattle.spa_names.specs.declared.key_entries.TheConstants.{{{constants_of(is_keys)}}}"]
+    out += [f"use Rattle.spa_names.specs.declared.id_entries.TheConstants.{{{constants_of(set(kept) - is_keys)}}}"]
+    out += [f"use Rattle.spa_names.specs.declared.names.TheConstants.{{{', '.join('NAMES_OF_' + it for it in constants)}}}"]
+    out += ["", "-- the entries of a table, by their numbers", "abbrev pub rows_of : Table → List Row"]
+    out += [f"rows_of {titles[at]} = map (λ e. (e.0, e.1.now, e.2.now, e.3)) ENTRIES_OF_{constant_of(titles[at])}" for at in kept]
+    out += ["rows_of Nothing = []"]
+    out += ["", "-- the names of a table, in their order", "abbrev pub namings_of : Table → List Naming"]
+    out += [f"namings_of {titles[at]} = map (λ e. (e.0.now, e.1)) NAMES_OF_{constant_of(titles[at])}" for at in kept]
+    out += ["namings_of Nothing = []"]
+    write("specs/Tables.antt", out)
+
+    out = [f"-- Written {OF_C}", "-- What is true of each table."]
+    out += ["use Rattle.std.proofs.Common.{◌≡◌, Bool, true, refl}"]
+    out += ["use Rattle.spa_names.specs.declared.table.Table.{Table}"]
+    out += [f"use Rattle.spa_names.specs.declared.table.Table.TheVariants.{{{', '.join(variants)}}}"]
+    out += ["use Rattle.spa_names.proofs.Sound.{numbers_rise, names_rise, names_come_back, numbers_are_named}"]
+    for fact in ("numbers_rise", "names_rise", "names_come_back", "numbers_are_named"):
+        out += ["", f"pub {fact}-all : (table : Table) → {fact} table ≡ true"]
+        out += [f"{fact}-all {variant} = refl" for variant in variants]
+    write("proofs/Facts.antt", out)
+
+    out = [f"// Written {OF_C}", "//! The tables of names.", ""]
+    out += ["/// A table of names."]
+    out += ["#[derive(Clone, Copy, Debug, PartialEq, Eq)]", "pub enum Table {"]
+    docs = {0: "The types, those of objects too.", 1: "The shapes of choices.", 2: "The types of controls."}
+    for at in kept:
+        keys = next((path for _, _, path, _, values in named(tables[0]) if values == at), None)
+        doc = f"The keys of {keys}." if keys else f"The ids {front_of(tables[at])}."
+        out += [f"    /// {docs.get(at, doc)}", f"    {titles[at]},"]
+    out += ["    /// No names.", "    Nothing,", "}"]
+    objects = sorted((number, values) for number, _, _, _, values in named(tables[0]) if values >= 0)
+    out += ["", "/// The types of objects, by their numbers, each with the table of its keys and that of its ids."]
+    out += ["#[rattlefmt::skip]", f"pub(crate) const OBJECTS: [(u32, Table, Table); {len(objects)}] = ["]
+    for number, values in objects:
+        ids = next((it for key, _, _, it in tables[values] if key == 0), -1)
+        out += [f"    ({number}, Table::{title(values)}, Table::{title(ids)}),"]
+    out += ["];"]
+    write("src/table.rt", out)
+
+
+if __name__ == "__main__":
+    main()

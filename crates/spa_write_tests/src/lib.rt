@@ -8,8 +8,6 @@ mod compare;
 #[cfg(test)]
 mod declared;
 #[cfg(test)]
-mod deep;
-#[cfg(test)]
 mod own_types;
 #[cfg(test)]
 mod reads;

@@ -1,6 +1,5 @@
 //! Two objects meet: values, keys, refusals, and pods from bytes to bytes.
 mod answers;
-mod deep;
 mod keys;
 mod many;
 mod objects;

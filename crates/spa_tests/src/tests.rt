@@ -4,7 +4,6 @@ mod canonical;
 mod every_reader;
 mod fixation;
 mod hostile;
-mod printing;
 mod reading;
 mod rewriting;
 mod second_reader;

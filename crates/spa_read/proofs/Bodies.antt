@@ -2,7 +2,7 @@
 use Rattle.std.proofs.Common.{◌≡◌, ◌≢◌, ℕ, ◌+◌, ◌<◌, ◌≤◌, inl, inr, List, [], ◌∷◌, ◌++◌, length, drop, refl, sym, ap, ◌∙◌, subst, arith, append_assoc, length-drop, Vec, Global}
 use Rattle.spa_format.specs.Words.{header_size, word_at, body_of, extent}
 use Rattle.spa_format.specs.Tree.{Tree, struct, object, Trees, Properties, no_properties, property, join_properties, node_count, type_of, struct_type, object_type}
-use Rattle.spa_format.specs.Pod.{IsBody, AreProperties}
+use Rattle.spa_format.specs.Pod.{IsBody}
 use Rattle.spa_format.specs.Faults.{Fault, Short, Stands}
 use Rattle.spa_format.specs.Faults as fault
 use Rattle.spa_format.specs.Front.{IsRefused, front_of}
@@ -13,13 +13,13 @@ use Rattle.spa_format.proofs.Sequences.{members_push, props_joined}
 use Rattle.spa_fixed.specs.declared.fault.Refusal.{Refusal}
 use Rattle.spa_fixed.specs.declared.fault.Refusal.TheVariants as refusal
 use Rattle.spa_value.specs.View.{view}
-use Rattle.spa_value.proofs.ViewLaws.{property_views-push, views-push}
+use Rattle.spa_value.proofs.ViewLaws.{property_views-push}
 use Rattle.spa_value.specs.Views.{property_views, views}
 use Rattle.spa_value.specs.declared.object.Property.{Property}
 use Rattle.spa_value.specs.declared.value.Value.{Value}
 use Rattle.spa_bytes.specs.Opening.{Opens}
 use Rattle.spa_read.specs.Opening.{CountsShort}
-use Rattle.spa_leaf.specs.Reading.{BeginsWith, MayLackMemory, TakesMemory}
+use Rattle.spa_leaf.specs.Reading.{MayLackMemory, TakesMemory}
 use Rattle.spa_leaf.specs.Refusing.{RefusesBody}
 use Rattle.spa_read.specs.Nesting.{IsAlike, IsReadUpTo, LacksKey, Reaches, Reads, RefusesAt, RefusesBehind, so_far, with_child}
 use Rattle.spa_read.specs.declared.inside.Inside.{Inside}
@@ -33,11 +33,6 @@ use Rattle.spa_leaf.proofs.Steps.{parted, pod_read}
 pub type_with : (i : Inside) (v : Tree) → type_of (with_child i v) ≡ type_of (so_far i)
 type_with (inside.Struct vs) v = refl
 type_with (inside.Object o) v = refl
-
--- a member is put behind the others
-pub members_grown : (vs ws : Vec Value Global) (v : Value) → ws.items ≡ vs.items ++ v ∷ [] →
-    so_far (inside.Struct ws) ≡ with_child (inside.Struct vs) (view v)
-members_grown vs ws v e = ap struct (ap views e ∙ views-push vs.items v)
 
 -- an object with one more property
 abbrev with_property : OpenObject → ℕ → ℕ → Tree → Tree

@@ -1,7 +1,6 @@
 -- Counts of pods and of the headers opened.
 use Rattle.std.proofs.Common.{◌≡◌, ◌≢◌, ℕ, ◌+◌, ◌<◌, ◌≤◌, List, length, refl, sym, ap, ◌∙◌, subst, arith, Option, Some, None}
 use Rattle.std.specs.Prelude.{IfNone}
-use Rattle.std.specs.Borrow.{Bor}
 use Rattle.spa_format.specs.Words.{header_size, word_at, body_of}
 use Rattle.spa_format.specs.Tree.{Tree, fixed, string, bytes, bitmap, array, choice, pointer, struct, object, Trees, no_trees, member, Properties, no_properties, property, join_members, join_properties, node_count, member_node_count, property_node_count, type_of, struct_type, object_type}
 use Rattle.spa_format.specs.Pod.{IsBody}
@@ -13,8 +12,8 @@ use Rattle.spa_fixed.specs.declared.fault.Refusal.TheVariants as refusal
 use Rattle.spa_value.specs.Views.{property_views, views}
 use Rattle.spa_bytes.specs.Opening.{Opens}
 use Rattle.spa_read.specs.Opening.{CountsShort}
-use Rattle.spa_leaf.specs.Reading.{MayLackMemory, OnFault}
-use Rattle.spa_leaf.specs.Refusing.{RefusesBody, RefusesPod, error_of}
+use Rattle.spa_leaf.specs.Reading.{MayLackMemory}
+use Rattle.spa_leaf.specs.Refusing.{RefusesBody, RefusesPod}
 use Rattle.spa_read.specs.Nesting.{IsReadCounted, RefusesAt, so_far, with_child}
 use Rattle.spa_read.specs.declared.inside.Inside.{Inside}
 use Rattle.spa_read.specs.declared.inside.Inside.TheVariants as inside

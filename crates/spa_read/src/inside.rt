@@ -2,7 +2,7 @@
 ghost use Rattle.std.specs.Prelude.{◌≡◌, ◌≢◌, ◌+◌, ◌*◌, ◌<◌, ◌≤◌, ◌^◌, [], IfErr, IfNone, IfOk, IfSome, OnOk, length};
 ghost use Rattle.spa_format.specs.Tree.{Tree};
 ghost use Rattle.spa_format.specs.Words.{header_size};
-ghost use Rattle.spa_read.specs.Nesting.{HasRoom, IsAlike, LacksKey, Reaches, ReadsOn, RefusesBehind, so_far, with_child};
+ghost use Rattle.spa_read.specs.Nesting.{HasRoom, IsAlike, LacksKey, Reaches, ReadsOn, RefusesBehind, member_grown, so_far, with_child};
 ghost use Rattle.spa_read.specs.declared.inside.Inside.{Inside};
 ghost use Rattle.spa_read.specs.declared.inside.Inside.TheVariants as inside_variant;
 ghost use Rattle.spa_value.specs.View.{view};
@@ -10,12 +10,11 @@ ghost use Rattle.spa_value.specs.View.{view};
 use crate::front::open_counted;
 use crate::plain::put_plain;
 use crate::refused::Refused;
-use crate::taking::Takes;
 use bitflags::Flags;
 use spa_bytes::{Front, HEADER_LEN, SECOND_WORD, extent_of, u32_at};
 use spa_fixed::Refusal;
 use spa_utils::SpaTypes;
-use spa_value::{Object, Property, PropertyFlags, Value};
+use spa_value::{Object, Property, PropertyFlags, Takes, Value};
 use std::alloc::{AllocError, Global};
 
 /// What is read of a body so far.
@@ -56,22 +55,11 @@ pub(crate) trait Grows: Takes {
     ghost grown: { (a b : Self) (v : Tree) → Self.takes a v b → so_far (inside b) ≡ with_child (inside a) v };
 }
 
-impl Takes for Vec<Value> {
-    ghost has_room = { λ it. HasRoom (inside_variant.Struct it) };
-
-    ghost takes = { λ a v b. so_far (inside_variant.Struct b) ≡ with_child (inside_variant.Struct a) v };
-
-    #[inline(always)]
-    fn put(&mut self, value: Value) {
-        self.push_reserved(value);
-    }
-}
-
 /// The members of a struct.
 impl Grows for Vec<Value> {
     ghost inside = { λ it. inside_variant.Struct it };
 
-    ghost grown = { λ _ _ _ e. e };
+    ghost grown = { member_grown };
 
     #[inline(always)]
     fn reach<'a>(&mut self, left: &'a [u8]) -> Option<&'a [u8]> {

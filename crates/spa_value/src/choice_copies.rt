@@ -7,7 +7,7 @@ ghost use Rattle.spa_value.specs.declared.choice_value.ChoiceValue.TheVariants a
 
 use crate::choice_value::ChoiceValue;
 use crate::copies::copy_elements;
-use crate::leaves::Takes;
+use crate::taking::Takes;
 use crate::value::Value;
 use spa_fixed::ChoiceElement;
 use spa_utils::{Choice, ChoiceEnum, ChoiceFlags, Fd, Float32, Float64, Fraction, Id, Rectangle};

@@ -1,41 +1,16 @@
 //! Copies of values that hold no others, each put where it is kept as soon as it is made.
-ghost use Rattle.std.specs.Prelude.{◌≡◌, ⊤, IfOk, IsSomeAnd, OnOk, string_bytes};
-ghost use Rattle.spa_format.specs.Tree.{Tree, bitmap, bytes, string};
+ghost use Rattle.std.specs.Prelude.{IfOk, OnOk, string_bytes};
+ghost use Rattle.spa_format.specs.Tree.{bitmap, bytes, string};
 ghost use Rattle.spa_value.specs.NestedCopies.{CopiesLeaf};
-ghost use Rattle.spa_value.specs.View.{array_view, view};
+ghost use Rattle.spa_value.specs.View.{array_view};
 
 use crate::array::ValueArray;
 use crate::choice_copies::put_choice;
 use crate::copies::copy_elements;
 use crate::nested_copies::Nested;
+use crate::taking::Takes;
 use crate::value::Value;
 use std::alloc::AllocError;
-
-/// What takes the copy of a value.
-pub(crate) trait Takes {
-    /// There is room for it.
-    ghost has_room: { Self → Type 0 };
-
-    /// What it was, the tree of the value that it took, and what it is.
-    ghost takes: { Self → Tree → Self → Type 0 };
-
-    /// Puts the value there.
-    fn put(&mut self, value: Value)
-        requires { has_room self.old }
-        ensures { takes self.old (view value) self.new };
-}
-
-/// A lone value.
-impl Takes for Option<Value> {
-    ghost has_room = { λ _. ⊤ };
-
-    ghost takes = { λ _ value it. IsSomeAnd it (λ v. view v ≡ value) };
-
-    #[inline(always)]
-    fn put(&mut self, value: Value) {
-        drop(self.replace(value));
-    }
-}
 
 /// Puts the copy of a value that holds no others where there is room for it. A struct or an object is answered, and isn't
 /// copied.

@@ -1,9 +1,8 @@
 //! Objects and properties in one expression.
-ghost use Rattle.std.specs.Prelude.{◌≡◌, ◌++◌, ◌∷◌, [], IfErr, OnErr, OnOk};
+ghost use Rattle.std.specs.Prelude.{◌≡◌};
 
-use crate::object::Property;
 use bitflags::Flags;
-use spa_utils::{ChoiceFlags, Errno};
+use spa_utils::ChoiceFlags;
 
 /// The flags of a choice that a macro makes: none.
 #[doc(hidden)]
@@ -11,23 +10,6 @@ pub fn no_flags() -> ChoiceFlags
     ensures { result.0 ≡ 0 }
 {
     ChoiceFlags::empty()
-}
-
-/// Puts a property behind those that an object of a macro has so far. Where there is no memory for it the list stays, and the
-/// answer is NOMEM.
-#[doc(hidden)]
-pub fn put_property(properties: &mut Vec<Property>, property: Property) -> Result<(), Errno>
-    ensures put { OnOk result (properties.new.items ≡ properties.old.items ++ property ∷ []) }
-    ensures kept { OnErr result (properties.new.items ≡ properties.old.items) }
-    ensures cause { IfErr result (λ e. e ≡ Errno.NOMEM) }
-{
-    match properties.push(property) {
-        Ok(()) => Ok(()),
-        Err(failed) => {
-            drop(failed);
-            Err(Errno::NOMEM)
-        }
-    }
 }
 
 /// A property without flags: `property!(in alloc; key, ..)`, where `alloc` is what a list takes memory from. The key,
@@ -140,11 +122,11 @@ macro_rules! choice_property {
 #[macro_export]
 macro_rules! object {
     (in $alloc:expr; $type_:expr, $id:expr $(,)?) => {{
-        let properties = Vec::new($alloc);
+        let properties = $crate::HeldProperties::new($alloc);
         $crate::object_of!(properties; $type_, $id)
     }};
     (in $alloc:expr; $type_:expr, $id:expr $(, $property:expr)+ $(,)?) => {{
-        let mut properties = Vec::new($alloc);
+        let mut properties = $crate::HeldProperties::new($alloc);
         $crate::object_of!(properties; $type_, $id $(, $property)+)
     }};
 }
@@ -156,14 +138,10 @@ macro_rules! object {
 #[macro_export]
 macro_rules! object_of {
     ($properties:ident; $type_:expr, $id:expr) => {
-        Ok::<$crate::Object, $crate::Errno>($crate::Object {
-            type_: $type_.as_raw(),
-            id: $id.as_raw(),
-            properties: $properties,
-        })
+        Ok::<$crate::Object, $crate::Errno>($properties.into_object($type_.as_raw(), $id.as_raw()))
     };
     ($properties:ident; $type_:expr, $id:expr, $property:expr $(, $more:expr)*) => {
-        match $crate::put_property(&mut $properties, $property) {
+        match $properties.put($property) {
             Ok(()) => $crate::object_of!($properties; $type_, $id $(, $more)*),
             Err(why) => {
                 drop($properties);

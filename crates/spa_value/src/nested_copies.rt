@@ -7,8 +7,9 @@ ghost use Rattle.spa_format.specs.Tree.{struct};
 ghost use Rattle.spa_value.specs.declared.nested_copies.Copying.TheVariants as copying_variant;
 
 use crate::emptying::discard;
-use crate::leaves::{Takes, copy_leaf};
+use crate::leaves::copy_leaf;
 use crate::object::{Object, Property, PropertyFlags};
+use crate::taking::Takes;
 use crate::value::Value;
 use bitflags::Flags;
 use std::alloc::{AllocError, Global};

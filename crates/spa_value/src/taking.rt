@@ -1,12 +1,13 @@
-//! Where a value is put as soon as it is read, so that it isn't moved on its way.
+//! Where a value is put as soon as it is made, so that it isn't moved on its way.
 ghost use Rattle.std.specs.Prelude.{◌≡◌, ⊤, IsSomeAnd};
 ghost use Rattle.spa_format.specs.Tree.{Tree};
 ghost use Rattle.spa_value.specs.View.{view};
 
-use spa_value::Value;
+use crate::value::Value;
 
-/// What takes a value that is read.
-pub(crate) trait Takes {
+/// What takes a value that is read or copied.
+#[doc(hidden)]
+pub trait Takes {
     /// There is room for it.
     ghost has_room: { Self → Type 0 };
 

@@ -3,4 +3,5 @@ mod bytes;
 mod calling;
 mod calls;
 mod forms;
+mod keyed;
 mod refused;

@@ -8,6 +8,7 @@ mod equality;
 mod fixed;
 mod outputs;
 mod plain_types;
+mod printing;
 mod properties;
 mod refusals;
 mod results;

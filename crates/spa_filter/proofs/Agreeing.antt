@@ -76,7 +76,7 @@ module _ (ps qs ss rs : Properties) (k : ℕ) (h : FiltersKeys ps qs ss rs) wher
       subst (λ m. IsRefusedAt AreDisjoint ps qs m) (sym r.0)
       (IsRefusedAt-next AreDisjoint f v ts at agreed n r.1)
   IsRefusal-next f v ts OutOfMemory at agreed n r = tt
-  IsRefusal-next f v ts TypeMismatch at agreed n r = absurd r
+  IsRefusal-next f v ts _ at agreed n r = absurd r
 
 -- the two sides agree under one key more
 pub AgreeAt-push : (ps qs rs : Properties) (k f : ℕ) (x : Tree) → All (AgreeAt ps qs) (key_list rs) →
@@ -122,17 +122,18 @@ cannot_filter (object t i ps) (object u j qs) (Unsupported k) h =
 cannot_filter (object t i ps) (object u j qs) (Disjoint k) h =
     λ can. none_agree AreDisjoint Agree-disjoint ps qs k h.1 can.1
 cannot_filter (object t i ps) (object u j qs) OutOfMemory h = tt
+cannot_filter (object t i ps) (object u j qs) e h = absurd h.1
 cannot_filter (object t i ps) _ e h = absurd h
 cannot_filter _ w e h = absurd h
 
 -- what properties of two objects of one type are refused for, the objects are
 pub AreRefused-properties : (t i u j : ℕ) (ps qs : Properties) (e : FilterError) → u ≡ t → IsRefusal ps qs e →
     AreRefused (object t i ps) (object u j qs) e
-AreRefused-properties t i u j ps qs TypeMismatch same h = absurd h
 AreRefused-properties t i u j ps qs (Missing k) same h = (same, h)
 AreRefused-properties t i u j ps qs (Unsupported k) same h = (same, h)
 AreRefused-properties t i u j ps qs (Disjoint k) same h = (same, h)
 AreRefused-properties t i u j ps qs OutOfMemory same h = (same, h)
+AreRefused-properties t i u j ps qs _ same h = absurd h
 
 -- a key that is there is found
 found_behind_by : (k j f : ℕ) (v : Tree) (ts : Properties) (b : Bool) →

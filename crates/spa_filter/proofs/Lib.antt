@@ -16,3 +16,5 @@ pub mod Plain
 pub mod Meetings
 pub mod Contents
 pub mod Passing
+pub mod Settled
+pub mod Masks

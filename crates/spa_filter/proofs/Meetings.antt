@@ -16,6 +16,15 @@ same_fixed x y h = cc
 content_alone : (x : Fixed) (t : Tree) → t ≡ fixed x → IsContent t
 content_alone x t h = subst IsContent (sym h) tt
 
+-- what a content offers
+pub IsOffer-content : (y : Fixed) → IsOffer (fixed y) (λ c. c ≡ y) y
+IsOffer-content y =
+    record {
+      each = λ c. (λ h. same_fixed c y h, λ h. ap (λ z. fixed z) h);
+      only = λ t h. content_alone y t h;
+      default_is = refl;
+    }
+
 module _ (P Q : Fixed → Type 0) where
   abbrev Both : Fixed → Type 0
   Both c = P c × Q c
@@ -47,6 +56,7 @@ module _ (P Q : Fixed → Type 0) (d e : Fixed) where
           only = λ t h. content_alone x t h;
           default_is = refl;
         };
+        no_flags = refl;
       }
 
   -- an Enum of what both admit
@@ -66,6 +76,7 @@ module _ (P Q : Fixed → Type 0) (d e : Fixed) where
             only = λ t h. only_by enum_choice 0 k x xs t h;
             default_is = refl;
           };
+          no_flags = refl;
         }
 
   -- a Range of what both admit
@@ -81,6 +92,7 @@ module _ (P Q : Fixed → Type 0) (d e : Fixed) where
             only = λ t h. only_by range_choice 0 k x (low ∷ high ∷ []) t h;
             default_is = refl;
           };
+          no_flags = refl;
         }
 
 -- what lies within two ranges lies within that from the greater minimum to the lesser maximum

@@ -11,6 +11,7 @@ use Rattle.spa_filter.specs.declared.error.FilterError.{FilterError}
 use Rattle.spa_filter.specs.declared.error.FilterError.TheVariants.{TypeMismatch}
 use Rattle.spa_filter.specs.Keys.{keys_of}
 use Rattle.spa_filter.specs.Filtering.{FiltersKeys, AgreeAt, IsFilter, CanFilter}
+use Rattle.spa_filter.specs.Settling.{settled_properties, settled_of}
 use Rattle.spa_filter.specs.Refusals.{IsRefusal, AreRefused}
 use Rattle.spa_filter.proofs.Agreeing.{AreRefused-properties}
 
@@ -70,3 +71,14 @@ module _ (fields : ObjectsHaveTheirFields) (made : ObjectsAreMadeOfFields) (o p 
         (keys_of (join_properties (property_views xs) (property_views ys))) →
         CanFilter (object_view o) (object_view p)
     objects_can agree = both CanFilter (sym one, agree)
+
+  -- these are the settled properties of an object
+  pub objects_settle : (xs : List Property) → xs ≡ (out-Object o).properties.items → (rs : Vec Property Global) →
+      property_views rs.items ≡ settled_properties (property_views xs) →
+      let f = out-Object o in
+      let met = roll-Object (record { type_ = f.type_; id = f.id; properties = rs }) in
+      object_view met ≡ settled_of (object_view o)
+  objects_settle xs ours rs h =
+      let f = out-Object o in
+      let same = ap (λ ps. settled_properties (property_views ps)) ours in
+      made f.type_ f.id rs ∙ ap (object f.type_ f.id) (h ∙ same) ∙ sym (ap settled_of (fields o))

@@ -1,5 +1,5 @@
 -- What a choice offers.
-use Rattle.std.proofs.Common.{◌≡◌, ◌↔◌, ◌∷◌, ℕ, List, [], get_or, map, refl, sym, ap, ◌∙◌, subst}
+use Rattle.std.proofs.Common.{Bool, false, ◌&&◌, ◌≡◌, ◌↔◌, ◌∷◌, ℕ, List, [], get_or, map, refl, sym, ap, ◌∙◌, subst}
 use Rattle.std.specs.List.{Contains}
 use Rattle.std.proofs.lemmas.List.Elements.{All-cons, All-map, All-contains}
 use Rattle.spa_format.specs.Kind.{Kind, Fixed, kind_of}
@@ -7,9 +7,11 @@ use Rattle.spa_format.specs.Tree.{Shape, none_choice, range_choice, step_choice,
 use Rattle.spa_fixed.specs.Choices.{choice_enum_tree}
 use Rattle.spa_utils.specs.declared.choice.ChoiceEnum.{ChoiceEnum}
 use Rattle.spa_utils.specs.declared.choice.ChoiceEnum.TheVariants as E
-use Rattle.spa_filter.specs.Admits.{Admits, IsCommon, HasCommon}
-use Rattle.spa_filter.specs.Offers.{IsContent, IsOffer}
+use Rattle.spa_filter.specs.Admits.{Admits, IsCommon, HasCommon, AreSayable, is_flags, is_range}
+use Rattle.spa_filter.specs.Offers.{IsContent, IsOffer, AreOffersSayable, is_masked, is_between}
+use Rattle.spa_filter.specs.declared.offer.Offer.{Offer}
 use Rattle.spa_filter.proofs.Order.{kind_of-ordered}
+use Rattle.spa_filter.proofs.Masks.{kind_of-among}
 
 pub only_by : (s : Shape) (n : ℕ) (k : Kind) (d : Fixed) (vs : List Fixed) (x : Tree) →
     Admits (choice s n k d vs) x → IsContent x
@@ -35,7 +37,7 @@ kind_of-admitted k f same n (E.Enum y ys) x h =
     let Is : Fixed → Type 0 = λ z. kind_of z ≡ k in
     let others = All-map Is f ys.items (λ i z l. same (get_or ys.items i z)) in
     All-contains Is (f y ∷ map f ys.items) x (All-cons Is (f y) (map f ys.items) (same y) others) h
-kind_of-admitted k f same n (E.Flags y ys) x h = absurd h
+kind_of-admitted k f same n (E.Flags y ys) x h = kind_of-among x (f y) h ∙ same y
 
 none_typed_at : {T : Type 0} (k : Kind) (f : T → Fixed) (same : (x : T) → kind_of (f x) ≡ k) (n : ℕ)
     (e : ChoiceEnum T) (w : Tree) → ((x : Fixed) → Admits w (fixed x) → ¬ (kind_of x ≡ k)) → (x : Tree) →
@@ -48,3 +50,12 @@ pub none_typed : {T : Type 0} (k : Kind) (f : T → Fixed) (same : (x : T) → k
     (e : ChoiceEnum T) (w : Tree) → ((x : Fixed) → Admits w (fixed x) → ¬ (kind_of x ≡ k)) →
     ¬ (HasCommon (choice_enum_tree k f n e) w)
 none_typed k f same n e w other h = none_typed_at k f same n e w other h.0 h.1
+
+both_false : (p q a b : Bool) → p ≡ a → q ≡ b → (a && b) ≡ false → (p && q) ≡ false
+both_false p q a b e f h = ap (λ x. x && q) e ∙ ap (λ x. a && x) f ∙ h
+
+-- a choice can say what two offers admit where it can say what their values admit
+pub AreOffersSayable-values : {T : Type 0} (a b : Offer T) (v w : Tree) → is_masked a ≡ is_flags v →
+    is_between a ≡ is_range v → is_masked b ≡ is_flags w → is_between b ≡ is_range w → AreSayable v w →
+    AreOffersSayable a b
+AreOffersSayable-values a b v w p q r s h = (both_false _ _ _ _ p s h.0, both_false _ _ _ _ q r h.1)

@@ -42,6 +42,7 @@ module _ (v w : Tree) (P Q : Fixed → Type 0) (d e : Fixed) (i : IsOffer v P d)
           second = λ n h.
               let none = λ (b : P d × Q d). n (subst (IsCommon v w) (sym i.default_is) (both_content d b)) in
               is ∙ ap (λ x. fixed x) (m.is_default.second none (common_second h)) ∙ sym j.default_is;
+          no_flags = m.no_flags;
         }
 
   -- what two values meet in, by what their offers meet in

@@ -1,5 +1,5 @@
 -- Values that aren't choices.
-use Rattle.std.proofs.Common.{◌≡◌, ◌≢◌, refl, subst, sym, ◌∙◌}
+use Rattle.std.proofs.Common.{false, ◌≡◌, ◌≢◌, refl, subst, sym, ◌∙◌}
 use Rattle.spa_format.specs.Tree.{Tree, choice}
 use Rattle.spa_value.specs.declared.array.ValueArray.{ValueArray}
 use Rattle.spa_value.specs.declared.array.ValueArray.TheVariants as A
@@ -7,8 +7,8 @@ use Rattle.spa_value.specs.declared.object.Object.{Object'}
 use Rattle.spa_value.specs.declared.value.Value.{Value}
 use Rattle.spa_value.specs.declared.value.Value.TheVariants as V
 use Rattle.spa_value.specs.View.{view, array_view}
-use Rattle.spa_filter.specs.Admits.{plain_of}
-use Rattle.spa_filter.specs.Admits.{Admits, IsSupported, HasCommon, IsMeeting}
+use Rattle.spa_filter.specs.Admits.{plain_of, choice_flags_of}
+use Rattle.spa_filter.specs.Admits.{Admits, IsSupported, HasCommon, IsMeeting, is_flags, is_range}
 use Rattle.spa_filter.specs.Offers.{IsPlainView}
 
 -- a value of another variant than a choice
@@ -22,16 +22,19 @@ pub record IsPlainTree (t : Tree) : Type 0 where
   pub own : plain_of t ≡ t
   pub alone : (x : Tree) → Admits t x → x ≡ t
   pub itself : Admits t t
+  pub unflagged : is_flags t ≡ false
+  pub unranged : is_range t ≡ false
+  pub no_flags : choice_flags_of t ≡ 0
 
 plain_array : (a : ValueArray) → IsPlainTree (array_view a)
-plain_array (A.None xs) = record { supported = tt; own = refl; alone = λ x h. h; itself = refl }
-plain_array _ = record { supported = tt; own = refl; alone = λ x h. h; itself = refl }
+plain_array (A.None xs) = record { supported = tt; own = refl; alone = λ x h. h; itself = refl; unflagged = refl; unranged = refl; no_flags = refl }
+plain_array _ = record { supported = tt; own = refl; alone = λ x h. h; itself = refl; unflagged = refl; unranged = refl; no_flags = refl }
 
 pub IsPlainTree-view : (v : Value) → IsPlainView v → IsPlainTree (view v)
 IsPlainTree-view (V.Choice c) h = absurd h
 IsPlainTree-view (V.ValueArray a) h = plain_array a
-IsPlainTree-view (V.Object (Object' t n s ps)) h = record { supported = tt; own = refl; alone = λ x h. h; itself = refl }
-IsPlainTree-view _ h = record { supported = tt; own = refl; alone = λ x h. h; itself = refl }
+IsPlainTree-view (V.Object (Object' t n s ps)) h = record { supported = tt; own = refl; alone = λ x h. h; itself = refl; unflagged = refl; unranged = refl; no_flags = refl }
+IsPlainTree-view _ h = record { supported = tt; own = refl; alone = λ x h. h; itself = refl; unflagged = refl; unranged = refl; no_flags = refl }
 
 -- two plain values meet where they are the same,
 IsMeeting-itself : (v : Tree) → IsPlainTree v → IsMeeting v v v
@@ -42,6 +45,7 @@ IsMeeting-itself v p =
       admitted = (own, own);
       first = λ h. refl;
       second = λ n h. refl;
+      no_flags = p.no_flags;
     }
 
 pub IsMeeting-same : (v w y : Tree) → IsPlainTree v → v ≡ w → y ≡ v → IsMeeting v w y

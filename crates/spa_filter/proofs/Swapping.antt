@@ -23,6 +23,7 @@ module _ (v w : Tree) (own : plain_of w ≡ w) (alone : (x : Tree) → Admits w 
         admitted = swapped (plain_of y) m.admitted;
         first = λ h. is ∙ sym own;
         second = λ n h. is ∙ sym (alone (plain_of v) h.0);
+        no_flags = m.no_flags;
       }
 
   pub ValuesMeet-swapped : (o : Option Value) → ValuesMeet v w o → ValuesMeet w v o

@@ -1,18 +1,19 @@
 -- What a value offers of the contents of one type, as the search for a common one sees it.
-use Rattle.std.specs.Prelude.{⊤, ◌≡◌, ◌↔◌, ◌⊎◌, List, ◌∷◌, map, Contains, Option, Some, None}
+use Rattle.std.specs.Prelude.{⊤, ◌≡◌, ◌↔◌, ◌⊎◌, List, ◌∷◌, map, Contains, Option, Some, None, Bool, true, false, ◌&&◌}
 use Rattle.std.specs.BTreeSet.{BTreeSet}
 use Rattle.spa_format.specs.Kind.{Kind, rectangle_kind, Fixed}
 use Rattle.spa_format.specs.Tree.{Tree, fixed}
 use Rattle.spa_value.specs.View.{view}
 use Rattle.spa_value.specs.declared.value.Value.{Value}
 use Rattle.spa_value.specs.declared.value.Value.TheVariants as V
-use Rattle.spa_filter.specs.Admits.{plain_of}
+use Rattle.spa_filter.specs.Admits.{plain_of, choice_flags_of}
 use Rattle.spa_filter.specs.Order.{IsAtMost}
+use Rattle.spa_filter.specs.Flags.{AreAmong}
 use Rattle.spa_filter.specs.Admits.{IsWithin, Admits, HasCommon, IsMeeting}
 use Rattle.spa_filter.specs.Numbering.{HasAll}
 use Rattle.spa_filter.specs.declared.numbers.Numbers.{Numbers}
 use Rattle.spa_filter.specs.declared.offer.Offer.{Offer}
-use Rattle.spa_filter.specs.declared.offer.Offer.TheVariants.{Only, Among, Between, Nothing}
+use Rattle.spa_filter.specs.declared.offer.Offer.TheVariants.{Only, Among, Between, Masked, Nothing}
 
 -- the tree is that of a content
 abbrev pub IsContent : Tree → Type 0
@@ -37,13 +38,29 @@ abbrev pub OfferAdmits : {T : Type 0} → (T → Fixed) → Offer T → Fixed �
 OfferAdmits f (Only default) x = x ≡ f default
 OfferAdmits f (Among default others) x = Contains (f default ∷ map f others.now) x
 OfferAdmits f (Between default low high) x = IsWithin (f low) (f high) x
+OfferAdmits f (Masked default) x = AreAmong x (f default)
 OfferAdmits f (Nothing default) x = ⊥
+
+-- the offer is that of Flags
+abbrev pub is_masked : {T : Type 0} → Offer T → Bool
+is_masked (Masked default) = true
+is_masked _ = false
+
+-- the offer is that of a Range
+abbrev pub is_between : {T : Type 0} → Offer T → Bool
+is_between (Between default low high) = true
+is_between _ = false
+
+-- a choice can say what both offers admit
+abbrev pub AreOffersSayable : {T : Type 0} → Offer T → Offer T → Type 0
+AreOffersSayable a b = ((is_masked a && is_between b) ≡ false) × ((is_between a && is_masked b) ≡ false)
 
 -- the default of the offer
 abbrev pub default_of : {T : Type 0} → (T → Fixed) → Offer T → Fixed
 default_of f (Only default) = f default
 default_of f (Among default others) = f default
 default_of f (Between default low high) = f default
+default_of f (Masked default) = f default
 default_of f (Nothing default) = f default
 
 -- a value with this tree admits these contents and nothing else, and has this default
@@ -62,11 +79,13 @@ pub record IsDefault (P Q : Fixed → Type 0) (d e x : Fixed) : Type 0 where
   pub first : P d × Q d → x ≡ d
   pub second : ¬ (P d × Q d) → P e × Q e → x ≡ e
 
--- a value with this tree admits exactly the contents of which both hold, and its default is the first that may be
+-- a value with this tree admits exactly the contents of which both hold, its default is the first that may be, and it
+-- has no flags of its own
 pub record MeetsIn (P Q : Fixed → Type 0) (d e : Fixed) (value : Tree) : Type 0 where
   pub default : Fixed
   pub is_default : IsDefault P Q d e default
   pub offers : IsOffer value (λ x. P x × Q x) default
+  pub no_flags : choice_flags_of value ≡ 0
 
 -- of no content both hold, or a value of which that is so
 abbrev pub Outcome : (P Q : Fixed → Type 0) (d e : Fixed) → Option Value → Type 0
@@ -111,3 +130,17 @@ pub record AreBetween {T : Type 0} (f : T → Fixed) (a b : Offer T) (low high :
 abbrev pub IsPlainView : Value → Type 0
 IsPlainView (V.Choice c) = ⊥
 IsPlainView _ = ⊤
+
+-- r has the bits that both m and n have
+pub record IsShared (m n r : Fixed) : Type 0 where
+  pub each : (x : Fixed) → AreAmong x r ↔ (AreAmong x m × AreAmong x n)
+
+-- the same, and it is the first of the two that has no other bits, where there is one
+pub record IsSharedMask (m n r : Fixed) : Type 0 where
+  pub each : (x : Fixed) → AreAmong x r ↔ (AreAmong x m × AreAmong x n)
+  pub first : AreAmong m n → r ≡ m
+  pub second : ¬ (AreAmong m n) → AreAmong n m → r ≡ n
+
+-- what Flags of these two masks meet in
+abbrev pub MaskedMeet : {T : Type 0} → (T → Fixed) → T → T → Option Value → Type 0
+MaskedMeet f m n met = Outcome (λ x. AreAmong x (f m)) (λ x. AreAmong x (f n)) (f m) (f n) met

@@ -1,12 +1,13 @@
 //! What is asked of the nine types over which there are choices.
-ghost use Rattle.std.specs.Prelude.{◌≡◌, MatchOption};
+ghost use Rattle.std.specs.Prelude.{◌≡◌, ◌↔◌, IsTrue, MatchOption};
 ghost use Rattle.spa_format.specs.Kind.{Fixed, kind_of};
 ghost use Rattle.spa_format.specs.Tree.{fixed};
 ghost use Rattle.spa_fixed.specs.Choices.{choice_enum_tree, choice_tree};
 ghost use Rattle.spa_value.specs.View.{choice_view, view};
 ghost use Rattle.spa_filter.specs.Admits.{Admits};
 ghost use Rattle.spa_filter.specs.Numbering.{numbers_of};
-ghost use Rattle.spa_filter.specs.Offers.{IsJoin, IsMeet};
+ghost use Rattle.spa_filter.specs.Offers.{IsJoin, IsMeet, IsShared};
+ghost use Rattle.spa_filter.specs.Flags.{AreAmong, IsFlagKind};
 
 use crate::numbers::Numbers;
 use crate::ordered::Ordered;
@@ -23,6 +24,18 @@ pub(crate) trait Element: Ordered {
     /// The lesser of two elements, in the same way.
     fn lesser(&self, other: &Self) -> Self
         ensures { IsMeet (Self.fixed self.now) (Self.fixed other.now) (Self.fixed result) };
+
+    /// Whether the type's elements may be flags.
+    fn is_flags() -> bool
+        ensures { IsTrue result ↔ IsFlagKind Self.kind };
+
+    /// Whether this element has bits, and none but those of the other.
+    fn are_among(&self, other: &Self) -> bool
+        ensures { IsTrue result ↔ AreAmong (Self.fixed self.now) (Self.fixed other.now) };
+
+    /// The bits that both elements have.
+    fn shared(&self, other: &Self) -> Self
+        ensures { IsShared (Self.fixed self.now) (Self.fixed other.now) (Self.fixed result) };
 
     /// The numbers by which this element is told from all others.
     fn numbers(&self) -> Numbers

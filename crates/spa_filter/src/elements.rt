@@ -6,7 +6,7 @@ ghost use Rattle.spa_value.specs.View.{view};
 
 use crate::element::Element;
 use crate::numbers::Numbers;
-use crate::ordered::{greater_of, lesser_of};
+use crate::ordered::{greater_of, lesser_of, shared_of_none};
 use bitflags::Flags;
 use spa_fixed::CanonicalFixedSizedPod;
 use spa_utils::{Choice, ChoiceEnum, ChoiceFlags, Fd, Float32, Float64, Fraction, Id, Rectangle};
@@ -19,6 +19,19 @@ impl Element for bool {
 
     fn lesser(&self, other: &Self) -> Self {
         lesser_of(self, other)
+    }
+
+    fn is_flags() -> bool {
+        false
+    }
+
+    fn are_among(&self, other: &Self) -> bool {
+        let _other = *other;
+        false
+    }
+
+    fn shared(&self, other: &Self) -> Self {
+        shared_of_none(self, other)
     }
 
     fn numbers(&self) -> Numbers {
@@ -59,6 +72,19 @@ impl Element for Id {
         lesser_of(self, other)
     }
 
+    fn is_flags() -> bool {
+        true
+    }
+
+    fn are_among(&self, other: &Self) -> bool {
+        let bits = self.0;
+        bits != 0 && bits & other.0 == bits
+    }
+
+    fn shared(&self, other: &Self) -> Self {
+        Id(self.0 & other.0)
+    }
+
     fn numbers(&self) -> Numbers {
         Numbers::unsigned(Self::TYPE, u64::from(self.0), 0)
     }
@@ -95,6 +121,19 @@ impl Element for i32 {
 
     fn lesser(&self, other: &Self) -> Self {
         lesser_of(self, other)
+    }
+
+    fn is_flags() -> bool {
+        true
+    }
+
+    fn are_among(&self, other: &Self) -> bool {
+        let bits = self.cast_unsigned();
+        bits != 0 && bits & other.cast_unsigned() == bits
+    }
+
+    fn shared(&self, other: &Self) -> Self {
+        (self.cast_unsigned() & other.cast_unsigned()).cast_signed()
     }
 
     fn numbers(&self) -> Numbers {
@@ -135,6 +174,19 @@ impl Element for i64 {
         lesser_of(self, other)
     }
 
+    fn is_flags() -> bool {
+        true
+    }
+
+    fn are_among(&self, other: &Self) -> bool {
+        let bits = self.cast_unsigned();
+        bits != 0 && bits & other.cast_unsigned() == bits
+    }
+
+    fn shared(&self, other: &Self) -> Self {
+        (self.cast_unsigned() & other.cast_unsigned()).cast_signed()
+    }
+
     fn numbers(&self) -> Numbers {
         Numbers::signed(Self::TYPE, *self)
     }
@@ -173,6 +225,19 @@ impl Element for Float32 {
         lesser_of(self, other)
     }
 
+    fn is_flags() -> bool {
+        false
+    }
+
+    fn are_among(&self, other: &Self) -> bool {
+        let _other = *other;
+        false
+    }
+
+    fn shared(&self, other: &Self) -> Self {
+        shared_of_none(self, other)
+    }
+
     fn numbers(&self) -> Numbers {
         Numbers::unsigned(Self::TYPE, u64::from(self.0), 0)
     }
@@ -209,6 +274,19 @@ impl Element for Float64 {
 
     fn lesser(&self, other: &Self) -> Self {
         lesser_of(self, other)
+    }
+
+    fn is_flags() -> bool {
+        false
+    }
+
+    fn are_among(&self, other: &Self) -> bool {
+        let _other = *other;
+        false
+    }
+
+    fn shared(&self, other: &Self) -> Self {
+        shared_of_none(self, other)
     }
 
     fn numbers(&self) -> Numbers {
@@ -255,6 +333,19 @@ impl Element for Rectangle {
         }
     }
 
+    fn is_flags() -> bool {
+        false
+    }
+
+    fn are_among(&self, other: &Self) -> bool {
+        let _other = *other;
+        false
+    }
+
+    fn shared(&self, other: &Self) -> Self {
+        shared_of_none(self, other)
+    }
+
     fn numbers(&self) -> Numbers {
         Numbers::unsigned(Self::TYPE, u64::from(self.width), u64::from(self.height))
     }
@@ -293,6 +384,19 @@ impl Element for Fraction {
         lesser_of(self, other)
     }
 
+    fn is_flags() -> bool {
+        false
+    }
+
+    fn are_among(&self, other: &Self) -> bool {
+        let _other = *other;
+        false
+    }
+
+    fn shared(&self, other: &Self) -> Self {
+        shared_of_none(self, other)
+    }
+
     fn numbers(&self) -> Numbers {
         Numbers::unsigned(Self::TYPE, u64::from(self.num), u64::from(self.denom))
     }
@@ -329,6 +433,19 @@ impl Element for Fd {
 
     fn lesser(&self, other: &Self) -> Self {
         lesser_of(self, other)
+    }
+
+    fn is_flags() -> bool {
+        false
+    }
+
+    fn are_among(&self, other: &Self) -> bool {
+        let _other = *other;
+        false
+    }
+
+    fn shared(&self, other: &Self) -> Self {
+        shared_of_none(self, other)
     }
 
     fn numbers(&self) -> Numbers {

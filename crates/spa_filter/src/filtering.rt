@@ -7,16 +7,17 @@ ghost use Rattle.spa_value.specs.View.{object_view, view};
 ghost use Rattle.spa_value.specs.Views.{property_views};
 ghost use Rattle.spa_filter.specs.Filtering.{Agree, AgreeAt, CanFilter, Filters, FiltersKeys, IsFilter};
 ghost use Rattle.spa_filter.specs.Keys.{IsMandatory};
-ghost use Rattle.spa_filter.specs.PropertyLists.{HasPlaces, IsFiltered, IsPart, IsPushed, found_at, offered_by};
+ghost use Rattle.spa_filter.specs.PropertyLists.{HasPlaces, IsFiltered, IsPart, found_at, offered_by};
 ghost use Rattle.spa_filter.specs.Refusals.{AreRefused, IsKeyRefusal, IsRefusal, OnDisagreement};
 
 use crate::error::FilterError;
 use crate::keyed::{Keyed, add_key};
+use crate::met::{Met, push};
 use crate::values::common;
 use bitflags::Flags;
 use spa_value::laws::{objects_are_their_fields, property_lists_are_in_order};
-use spa_value::{Object, Property, PropertyFlags, Value, discard};
-use std::alloc::{AllocError, Global};
+use spa_value::{Object, Property, PropertyFlags};
+use std::alloc::Global;
 use std::collections::BTreeSet;
 
 /// The object to which two objects are filtered.
@@ -55,32 +56,6 @@ pub fn filter(alloc: Global, a: &Object, b: &Object) -> Result<Object, FilterErr
     })
 }
 
-/// Filtered properties. Their values may be nested deep, so they are taken apart by a loop.
-struct Met {
-    properties: Vec<Property>,
-}
-
-impl Met {
-    /// The properties themselves.
-    fn into_properties(self) -> Vec<Property>
-        ensures { result ≡ self.properties }
-    {
-        let Met { properties } = self;
-        properties
-    }
-}
-
-impl Drop for Met {
-    fn drop(self) {
-        let Met { properties } = self;
-        discard(Value::Object(Object {
-            type_: 0,
-            id: 0,
-            properties,
-        }));
-    }
-}
-
 /// Filtered properties, and the keys that were filtered.
 #[derive(Drop)]
 struct Filtered {
@@ -97,9 +72,7 @@ fn filter_lists(alloc: Global, a: &[Property], b: &[Property]) -> Result<Vec<Pro
     let ours = Keyed::new(alloc, a)?;
     let theirs = Keyed::new(alloc, b)?;
     let none = Filtered {
-        met: Met {
-            properties: Vec::new(alloc),
-        },
+        met: Met::new(alloc),
         keys: BTreeSet::new(alloc),
     };
     let first = filter_side(alloc, none, &[], a, &ours, &theirs)?;
@@ -193,17 +166,4 @@ fn alone(key: u32, property: &Property) -> Result<Property, FilterError>
         flags: property.flags,
         value,
     })
-}
-
-/// Appends a property.
-fn push(met: &mut Met, property: Property) -> Result<(), AllocError>
-    ensures { OnOk result (IsPushed met.old.properties.items property met.new.properties.items) }
-{
-    property_lists_are_in_order();
-    if let Err(error) = met.properties.reserve(1) {
-        discard(property.value);
-        return Err(error);
-    }
-    met.properties.push_reserved(property);
-    Ok(())
 }

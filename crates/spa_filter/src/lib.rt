@@ -7,11 +7,15 @@ mod error;
 mod filtering;
 mod kept;
 mod keyed;
+pub mod laws;
 mod meeting;
+mod met;
 mod numbers;
 mod offer;
 mod ordered;
+mod settling;
 mod values;
 
-pub use error::FilterError;
+pub use error::{FilterError, Side};
 pub use filtering::filter;
+pub use settling::settle;

@@ -1,7 +1,7 @@
 //! Two offers of one type meet.
 ghost use Rattle.std.specs.Prelude.{◌↔◌, IfOk, map};
 ghost use Rattle.spa_format.specs.Kind.{Fixed};
-ghost use Rattle.spa_filter.specs.Offers.{AreBetween, AreKept, IsOnly, OffersMeet};
+ghost use Rattle.spa_filter.specs.Offers.{AreBetween, AreKept, AreOffersSayable, IsOnly, IsSharedMask, MaskedMeet, OffersMeet};
 
 use crate::element::Element;
 use crate::kept::kept;
@@ -11,12 +11,13 @@ use spa_value::Value;
 use std::alloc::{AllocError, Global};
 
 /// What admits exactly the elements that both offers admit, where there is one: a plain value where one of them is one, else an
-/// Enum where one of them is one, else a Range.
+/// Enum where one of them is one, else a Range or Flags.
 pub(crate) fn meet<T: Element>(
     alloc: Global,
     a: &Offer<'_, T>,
     b: &Offer<'_, T>,
 ) -> Result<Option<Value>, AllocError>
+    requires { AreOffersSayable a.now b.now }
     ensures { IfOk result (OffersMeet T.fixed a.now b.now) }
 {
     match a {
@@ -39,6 +40,17 @@ pub(crate) fn meet<T: Element>(
                 let high = high.lesser(greatest);
                 Ok(meet_between(a, b, &low, &high))
             }
+            Offer::Masked(_) => unreachable!(),
+            Offer::Nothing(_) => Ok(None),
+        },
+        Offer::Masked(mask) => match b {
+            Offer::Only(y) => Ok(meet_only(a, b, y)),
+            Offer::Among(first, others) => {
+                let values = kept(alloc, first, others, a)?;
+                Ok(meet_among(a, b, values))
+            }
+            Offer::Between(_, _, _) => unreachable!(),
+            Offer::Masked(other) => Ok(meet_masked(alloc, mask, other)),
             Offer::Nothing(_) => Ok(None),
         },
         Offer::Nothing(_) => Ok(None),
@@ -85,4 +97,31 @@ fn meet_between<T: Element>(a: &Offer<'_, T>, b: &Offer<'_, T>, low: &T, high: &
         min: *low,
         max: *high,
     }))
+}
+
+/// Flags of the bits that two Flags share.
+fn meet_masked<T: Element>(alloc: Global, mask: &T, other: &T) -> Option<Value>
+    ensures { MaskedMeet T.fixed mask.now other.now result }
+{
+    let shared = shared_mask(mask, other);
+    if !shared.are_among(&shared) {
+        return None;
+    }
+    Some(T::choice(ChoiceEnum::Flags {
+        default: shared,
+        flags: Vec::new(alloc),
+    }))
+}
+
+/// The bits that two elements share: one of them where it has no other bits.
+fn shared_mask<T: Element>(mask: &T, other: &T) -> T
+    ensures { IsSharedMask (T.fixed mask.now) (T.fixed other.now) (T.fixed result) }
+{
+    if mask.are_among(other) {
+        return *mask;
+    }
+    if other.are_among(mask) {
+        return *other;
+    }
+    mask.shared(other)
 }

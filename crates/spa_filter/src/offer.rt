@@ -1,7 +1,8 @@
 //! What a value offers of the elements of one type.
 ghost use Rattle.std.specs.Prelude.{◌≡◌, ◌↔◌, ◌∷◌, ℕ, Contains, IsTrue, map};
 ghost use Rattle.spa_fixed.specs.Choices.{choice_enum_tree};
-ghost use Rattle.spa_filter.specs.Offers.{IsDefault, IsOfferOf, OfferAdmits, default_of};
+ghost use Rattle.spa_filter.specs.Admits.{is_flags, is_range};
+ghost use Rattle.spa_filter.specs.Offers.{IsDefault, IsOfferOf, OfferAdmits, default_of, is_between, is_masked};
 
 use crate::element::Element;
 use spa_utils::ChoiceEnum;
@@ -15,13 +16,17 @@ pub(crate) enum Offer<'a, T> {
     Among(T, &'a [T]),
     /// Each element from the second to the third.
     Between(T, T, T),
+    /// Each element that has bits, and none but those of this one.
+    Masked(T),
     /// No element.
     Nothing(T),
 }
 
 /// What a choice offers, whatever its flags are.
 pub(crate) fn offer_of<T: Element>(choice: &ChoiceEnum<T>) -> Offer<'_, T>
-    ensures { (flags : ℕ) → IsOfferOf T.fixed (choice_enum_tree T.kind T.fixed flags choice.now) result }
+    ensures offer { (flags : ℕ) → IsOfferOf T.fixed (choice_enum_tree T.kind T.fixed flags choice.now) result }
+    ensures masked { (flags : ℕ) → is_masked result ≡ is_flags (choice_enum_tree T.kind T.fixed flags choice.now) }
+    ensures between { (flags : ℕ) → is_between result ≡ is_range (choice_enum_tree T.kind T.fixed flags choice.now) }
 {
     match choice {
         ChoiceEnum::None(default) => Offer::Only(*default),
@@ -31,7 +36,7 @@ pub(crate) fn offer_of<T: Element>(choice: &ChoiceEnum<T>) -> Offer<'_, T>
             default,
             alternatives,
         } => Offer::Among(*default, alternatives.as_slice()),
-        ChoiceEnum::Flags { default, .. } => Offer::Nothing(*default),
+        ChoiceEnum::Flags { default, .. } => Offer::Masked(*default),
     }
 }
 
@@ -43,6 +48,7 @@ pub(crate) fn default_of<T: Element>(offer: &Offer<'_, T>) -> T
         Offer::Only(default) => *default,
         Offer::Among(default, _) => *default,
         Offer::Between(default, _, _) => *default,
+        Offer::Masked(default) => *default,
         Offer::Nothing(default) => *default,
     }
 }
@@ -84,6 +90,7 @@ pub(crate) fn admits<T: Element>(offer: &Offer<'_, T>, x: &T) -> bool
         Offer::Only(default) => is_same(x, default),
         Offer::Among(default, others) => is_one_of(x, default, others),
         Offer::Between(_, low, high) => low.is_at_most(x) && x.is_at_most(high),
+        Offer::Masked(mask) => x.are_among(mask),
         Offer::Nothing(_) => false,
     }
 }

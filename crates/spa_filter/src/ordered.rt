@@ -1,6 +1,7 @@
 //! The order of the nine types over which there are choices.
 ghost use Rattle.std.specs.Prelude.{◌*◌, ◌≡◌, ◌≤◌, ◌<◌, ◌↔◌, IsTrue};
-ghost use Rattle.spa_filter.specs.Offers.{IsChain, IsJoin, IsMeet};
+ghost use Rattle.spa_filter.specs.Offers.{IsChain, IsJoin, IsMeet, IsShared};
+ghost use Rattle.spa_filter.specs.Flags.{IsFlagKind};
 ghost use Rattle.spa_filter.specs.Order.{IsAtMost, IsNumber, IsOrderedKind, place};
 
 use spa_fixed::CanonicalFixedSizedPod;
@@ -42,6 +43,15 @@ pub(crate) fn lesser_of<T: Ordered>(x: &T, y: &T) -> T
     if x.is_at_most(x) {
         return *y;
     }
+    *x
+}
+
+/// The bits that two elements share of a type whose elements are no flags: any element does.
+pub(crate) fn shared_of_none<T: Ordered>(x: &T, y: &T) -> T
+    requires { ¬ (IsFlagKind T.kind) }
+    ensures { IsShared (T.fixed x.now) (T.fixed y.now) (T.fixed result) }
+{
+    let _y = *y;
     *x
 }
 

@@ -1,9 +1,9 @@
 //! Two values meet.
-ghost use Rattle.std.specs.Prelude.{◌≡◌, ◌↔◌, IfErr, IfOk, IsTrue, OnOk};
+ghost use Rattle.std.specs.Prelude.{◌&&◌, ◌≡◌, ◌↔◌, IfErr, IfOk, IsTrue, OnOk};
 ghost use Rattle.spa_format.specs.Tree.{fixed};
 ghost use Rattle.spa_fixed.specs.Choices.{choice_enum_tree, choice_tree};
 ghost use Rattle.spa_value.specs.View.{choice_view, view};
-ghost use Rattle.spa_filter.specs.Admits.{AreSupported, IsMeeting, IsSupported};
+ghost use Rattle.spa_filter.specs.Admits.{AreSayable, AreSupported, IsMeeting, IsSupported, is_flags, is_range};
 ghost use Rattle.spa_filter.specs.Offers.{IsPlainView, ValuesMeet};
 ghost use Rattle.spa_filter.specs.Refusals.{IsValueRefusal};
 
@@ -22,7 +22,7 @@ pub(crate) fn common(alloc: Global, key: u32, a: &Value, b: &Value) -> Result<Va
     ensures supported { OnOk result (AreSupported (view a.now) (view b.now)) }
     ensures cause { IfErr result (IsValueRefusal key (view a.now) (view b.now)) }
 {
-    if !is_supported(a) || !is_supported(b) {
+    if !is_supported(a) || !is_supported(b) || !are_sayable(a, b) {
         return Err(FilterError::Unsupported(key));
     }
     match values_meet(alloc, a, b)? {
@@ -68,12 +68,78 @@ fn is_shape_supported<T: Element>(choice: &Choice<T>) -> bool
         ChoiceEnum::Range { .. } => T::is_ordered(),
         ChoiceEnum::Step { .. } => false,
         ChoiceEnum::Enum { .. } => true,
-        ChoiceEnum::Flags { .. } => false,
+        ChoiceEnum::Flags { .. } => T::is_flags(),
+    }
+}
+
+/// Whether a choice can say what both admit: not of Flags and a Range.
+fn are_sayable(a: &Value, b: &Value) -> bool
+    ensures { IsTrue result ↔ AreSayable (view a.now) (view b.now) }
+{
+    let first = shapes(a);
+    let second = shapes(b);
+    if are_both(first.0, second.1) {
+        return false;
+    }
+    if are_both(first.1, second.0) {
+        return false;
+    }
+    true
+}
+
+/// Whether both are true.
+fn are_both(first: bool, second: bool) -> bool
+    ensures { result ≡ (first && second) }
+{
+    first && second
+}
+
+/// Whether a value is Flags, and whether it is a Range.
+fn shapes(value: &Value) -> (bool, bool)
+    ensures flags { result.0 ≡ is_flags (view value.now) }
+    ensures range { result.1 ≡ is_range (view value.now) }
+{
+    match value {
+        Value::Choice(choice) => choice_shapes(choice),
+        _ => (false, false),
+    }
+}
+
+/// The same of a choice.
+fn choice_shapes(choice: &ChoiceValue) -> (bool, bool)
+    ensures flags { result.0 ≡ is_flags (choice_view choice.now) }
+    ensures range { result.1 ≡ is_range (choice_view choice.now) }
+{
+    match choice {
+        ChoiceValue::Bool(choice) => typed_shapes(choice),
+        ChoiceValue::Id(choice) => typed_shapes(choice),
+        ChoiceValue::Int(choice) => typed_shapes(choice),
+        ChoiceValue::Long(choice) => typed_shapes(choice),
+        ChoiceValue::Float(choice) => typed_shapes(choice),
+        ChoiceValue::Double(choice) => typed_shapes(choice),
+        ChoiceValue::Rectangle(choice) => typed_shapes(choice),
+        ChoiceValue::Fraction(choice) => typed_shapes(choice),
+        ChoiceValue::Fd(choice) => typed_shapes(choice),
+    }
+}
+
+/// The same of a choice over one type.
+fn typed_shapes<T: Element>(choice: &Choice<T>) -> (bool, bool)
+    ensures flags { result.0 ≡ is_flags (choice_tree T.kind T.fixed choice.now) }
+    ensures range { result.1 ≡ is_range (choice_tree T.kind T.fixed choice.now) }
+{
+    match &choice.1 {
+        ChoiceEnum::None(_) => (false, false),
+        ChoiceEnum::Range { .. } => (false, true),
+        ChoiceEnum::Step { .. } => (false, false),
+        ChoiceEnum::Enum { .. } => (false, false),
+        ChoiceEnum::Flags { .. } => (true, false),
     }
 }
 
 /// A value that admits exactly what both admit, where they admit one. What isn't supported admits nothing here.
 fn values_meet(alloc: Global, a: &Value, b: &Value) -> Result<Option<Value>, AllocError>
+    requires { AreSayable (view a.now) (view b.now) }
     ensures { IfOk result (ValuesMeet (view a.now) (view b.now)) }
 {
     match a {
@@ -101,6 +167,7 @@ fn plain_values_meet(alloc: Global, a: &Value, b: &Value) -> Result<Option<Value
 
 /// The same of a choice and any value.
 fn choice_meets(alloc: Global, choice: &ChoiceValue, b: &Value) -> Result<Option<Value>, AllocError>
+    requires { AreSayable (choice_view choice.now) (view b.now) }
     ensures { IfOk result (ValuesMeet (choice_view choice.now) (view b.now)) }
 {
     match choice {
@@ -122,6 +189,7 @@ fn typed_meets<T: Element>(
     choice: &Choice<T>,
     b: &Value,
 ) -> Result<Option<Value>, AllocError>
+    requires { AreSayable (choice_tree T.kind T.fixed choice.now) (view b.now) }
     ensures { IfOk result (ValuesMeet (choice_tree T.kind T.fixed choice.now) (view b.now)) }
 {
     match b {
@@ -136,6 +204,7 @@ fn typed_choices_meet<T: Element>(
     choice: &Choice<T>,
     other: &ChoiceValue,
 ) -> Result<Option<Value>, AllocError>
+    requires { AreSayable (choice_tree T.kind T.fixed choice.now) (choice_view other.now) }
     ensures { IfOk result (ValuesMeet (choice_tree T.kind T.fixed choice.now) (choice_view other.now)) }
 {
     match T::in_choice(other) {

@@ -9,7 +9,7 @@ use std::test::Fail;
 /// What is to be answered: the properties of the object, or a refusal.
 #[derive(Clone, Copy)]
 pub enum Answer {
-    Met(&'static [Given]),
+    Met(&'static [Given<'static>]),
     Refused(FilterError),
 }
 
@@ -17,8 +17,8 @@ pub enum Answer {
 #[derive(Clone, Copy)]
 pub struct Row {
     pub case: &'static str,
-    pub ours: &'static [Given],
-    pub theirs: &'static [Given],
+    pub ours: &'static [Given<'static>],
+    pub theirs: &'static [Given<'static>],
     pub answer: Answer,
     /// The same with the two objects in the other order.
     pub swapped: Answer,
@@ -58,7 +58,7 @@ fn answer_of(
 }
 
 /// Whether the answer is an object of the type with this id and these properties.
-fn is_met(alloc: Global, met: &Object, id: u32, wanted: &[Given]) -> Result<bool, AllocError> {
+fn is_met(alloc: Global, met: &Object, id: u32, wanted: &[Given<'_>]) -> Result<bool, AllocError> {
     Ok(*met == object(alloc, TYPE, id, wanted)?)
 }
 

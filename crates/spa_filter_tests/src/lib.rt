@@ -8,4 +8,8 @@ mod keys;
 #[cfg(test)]
 mod objects;
 #[cfg(test)]
+mod pairs;
+#[cfg(test)]
+mod settling;
+#[cfg(test)]
 mod values;

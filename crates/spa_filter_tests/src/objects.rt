@@ -34,7 +34,7 @@ pub enum Shape {
 }
 
 /// A property: its key, its flags, and its value, whose numbers come with the default first.
-pub type Given = (u32, u32, Kind, Shape, &'static [i64]);
+pub type Given<'a> = (u32, u32, Kind, Shape, &'a [i64]);
 
 /// How many of the second number of a rectangle or a fraction there may be.
 const SECONDS: i64 = 10_000;
@@ -197,7 +197,7 @@ fn choice_value(
     }
 }
 
-fn value(alloc: Global, given: Given) -> Result<Value, AllocError> {
+fn value(alloc: Global, given: Given<'_>) -> Result<Value, AllocError> {
     match given.3 {
         Shape::Plain => Ok(plain_value(given.2, given.4)),
         _ => Ok(Value::Choice(choice_value(alloc, given.2, given.3, given.4)?)),
@@ -205,7 +205,7 @@ fn value(alloc: Global, given: Given) -> Result<Value, AllocError> {
 }
 
 /// A property of a row.
-fn property(alloc: Global, given: Given) -> Result<Property, AllocError> {
+fn property(alloc: Global, given: Given<'_>) -> Result<Property, AllocError> {
     let value = value(alloc, given)?;
     Ok(Property {
         key: given.0,
@@ -219,7 +219,7 @@ pub(crate) fn object(
     alloc: Global,
     type_: u32,
     id: u32,
-    given: &[Given],
+    given: &[Given<'_>],
 ) -> Result<Object, AllocError> {
     let mut properties = Vec::new(alloc);
     for one in given {

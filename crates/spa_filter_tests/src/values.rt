@@ -2,7 +2,7 @@
 use crate::answers::Answer::{Met, Refused};
 use crate::answers::{Row, assert_rows};
 use crate::objects::Kind::{Bool, Double, Fd, Float, Fraction, Id, Int, Long, Rectangle};
-use crate::objects::Shape::{Enum, None, Plain, Range};
+use crate::objects::Shape::{Enum, Flags, None, Plain, Range, Step};
 use spa_filter::FilterError::{Disjoint, Unsupported};
 use std::test::Fail;
 
@@ -605,4 +605,125 @@ const SIZES: &[Row] = &[
 #[test]
 fn ranges_of_sizes(rt: HostRuntime) -> Result<(), Fail> {
     assert_rows(&rt, rt.alloc(), SIZES)
+}
+
+/// Where one side's value is Flags.
+const FLAGS: &[Row] = &[
+    Row {
+        case: "a bit of the mask",
+        ours: &[(1, 0, Int, Plain, &[4])],
+        theirs: &[(1, 0, Int, Flags, &[6])],
+        answer: Met(&[(1, 0, Int, Plain, &[4])]),
+        swapped: Met(&[(1, 0, Int, Plain, &[4])]),
+    },
+    Row {
+        case: "all bits of the mask",
+        ours: &[(1, 0, Id, Plain, &[6])],
+        theirs: &[(1, 0, Id, Flags, &[6])],
+        answer: Met(&[(1, 0, Id, Plain, &[6])]),
+        swapped: Met(&[(1, 0, Id, Plain, &[6])]),
+    },
+    Row {
+        case: "a bit that isn't in the mask",
+        ours: &[(1, 0, Int, Plain, &[5])],
+        theirs: &[(1, 0, Int, Flags, &[6])],
+        answer: Refused(Disjoint(1)),
+        swapped: Refused(Disjoint(1)),
+    },
+    Row {
+        case: "no bit",
+        ours: &[(1, 0, Int, None, &[0])],
+        theirs: &[(1, 0, Int, Flags, &[6])],
+        answer: Refused(Disjoint(1)),
+        swapped: Refused(Disjoint(1)),
+    },
+    Row {
+        case: "an Enum and a mask",
+        ours: &[(1, 0, Int, Enum, &[8, 8, 2, 4, 0, 6, 7])],
+        theirs: &[(1, 0, Int, Flags, &[6])],
+        answer: Met(&[(1, 0, Int, Enum, &[6, 2, 4, 6])]),
+        swapped: Met(&[(1, 0, Int, Enum, &[6, 2, 4, 6])]),
+    },
+    Row {
+        case: "two masks that share bits",
+        ours: &[(1, 0, Int, Flags, &[6])],
+        theirs: &[(1, 0, Int, Flags, &[12])],
+        answer: Met(&[(1, 0, Int, Flags, &[4])]),
+        swapped: Met(&[(1, 0, Int, Flags, &[4])]),
+    },
+    Row {
+        case: "a mask within another",
+        ours: &[(1, 0, Long, Flags, &[4294967298])],
+        theirs: &[(1, 0, Long, Flags, &[4294967303])],
+        answer: Met(&[(1, 0, Long, Flags, &[4294967298])]),
+        swapped: Met(&[(1, 0, Long, Flags, &[4294967298])]),
+    },
+    Row {
+        case: "further values don't count",
+        ours: &[(1, 0, Int, Flags, &[6, 2, 4])],
+        theirs: &[(1, 0, Int, Flags, &[3, 1, 2])],
+        answer: Met(&[(1, 0, Int, Flags, &[2])]),
+        swapped: Met(&[(1, 0, Int, Flags, &[2])]),
+    },
+    Row {
+        case: "two masks that share no bit",
+        ours: &[(1, 0, Int, Flags, &[6])],
+        theirs: &[(1, 0, Int, Flags, &[9])],
+        answer: Refused(Disjoint(1)),
+        swapped: Refused(Disjoint(1)),
+    },
+    Row {
+        case: "a mask of no bits",
+        ours: &[(1, 0, Int, Flags, &[0])],
+        theirs: &[(1, 0, Int, Flags, &[6])],
+        answer: Refused(Disjoint(1)),
+        swapped: Refused(Disjoint(1)),
+    },
+    Row {
+        case: "the bit of the sign",
+        ours: &[(1, 0, Int, Flags, &[-2147483648])],
+        theirs: &[(1, 0, Int, Flags, &[-1])],
+        answer: Met(&[(1, 0, Int, Flags, &[-2147483648])]),
+        swapped: Met(&[(1, 0, Int, Flags, &[-2147483648])]),
+    },
+    Row {
+        case: "below 0 by its bits",
+        ours: &[(1, 0, Int, Plain, &[-4])],
+        theirs: &[(1, 0, Int, Flags, &[-2])],
+        answer: Met(&[(1, 0, Int, Plain, &[-4])]),
+        swapped: Met(&[(1, 0, Int, Plain, &[-4])]),
+    },
+    Row {
+        case: "masks of two types",
+        ours: &[(1, 0, Int, Flags, &[6])],
+        theirs: &[(1, 0, Id, Flags, &[6])],
+        answer: Refused(Disjoint(1)),
+        swapped: Refused(Disjoint(1)),
+    },
+    Row {
+        case: "Flags and a Range",
+        ours: &[(1, 0, Int, Flags, &[6])],
+        theirs: &[(1, 0, Int, Range, &[0, 0, 9])],
+        answer: Refused(Unsupported(1)),
+        swapped: Refused(Unsupported(1)),
+    },
+    Row {
+        case: "Flags over floats",
+        ours: &[(1, 0, Float, Flags, &[6])],
+        theirs: &[(1, 0, Float, Plain, &[6])],
+        answer: Refused(Unsupported(1)),
+        swapped: Refused(Unsupported(1)),
+    },
+    Row {
+        case: "a Step",
+        ours: &[(1, 0, Int, Step, &[4, 0, 8, 2])],
+        theirs: &[(1, 0, Int, Plain, &[4])],
+        answer: Refused(Unsupported(1)),
+        swapped: Refused(Unsupported(1)),
+    },
+];
+
+#[test]
+fn flags(rt: HostRuntime) -> Result<(), Fail> {
+    assert_rows(&rt, rt.alloc(), FLAGS)
 }

@@ -1,0 +1,5 @@
+use Rattle.spa_filter.proofs.Settled.{filters_settle}
+use Rattle.spa_filter.proofs.laws.filters_settle.Goals as goal
+
+pub returns : goal.returns
+returns c = filters_settle

@@ -1,0 +1,41 @@
+-- An object with each choice at its default, and what that makes of a filter: docs/NEGOTIATION.md, "To filter".
+use Rattle.std.specs.Prelude.{⊤, ◌≡◌, ℕ, Option, Some, None}
+use Rattle.spa_format.specs.Tree.{Tree, object, Properties, no_properties, property, join_properties}
+use Rattle.spa_filter.specs.Admits.{plain_of, IsCommon, IsPlain}
+use Rattle.spa_filter.specs.Keys.{Offered, offered_at, key_list, keys_of}
+use Rattle.spa_filter.specs.Filtering.{IsFilter}
+
+-- each property with its plain value, or the default of its choice
+abbrev pub settled_properties : Properties → Properties
+settled_properties no_properties = no_properties
+settled_properties (property key flags value rest) = property key flags (plain_of value) (settled_properties rest)
+
+-- the same of an object
+abbrev pub settled_of : Tree → Tree
+settled_of (object type id ps) = object type id (settled_properties ps)
+settled_of v = v
+
+-- x settles what two sides have under one key: both admit it, or it is what one has, at its default
+abbrev pub Settles : Option Offered → Option Offered → Tree → Type 0
+Settles (Some a) (Some b) x = IsCommon a.value b.value x
+Settles (Some a) None x = x ≡ plain_of a.value
+Settles None (Some b) x = x ≡ plain_of b.value
+Settles None None x = ⊥
+
+-- each property has a plain value that settles its key
+abbrev pub SettlesEach : (ours theirs : Properties) → Properties → Type 0
+SettlesEach ours theirs no_properties = ⊤
+SettlesEach ours theirs (property key flags x rest) =
+    IsPlain x × Settles (offered_at key ours) (offered_at key theirs) x × SettlesEach ours theirs rest
+
+-- The third object is a fixed one that the two sides admit: it has the type of both and the first's id, each key of
+-- either once, and a plain value under each that settles it.
+abbrev pub IsFixedFor : Tree → Tree → Tree → Type 0
+IsFixedFor (object type our_id ours) (object its_type its_id theirs) (object met_type met_id met) =
+    (its_type ≡ type) × (met_type ≡ type) × (met_id ≡ our_id)
+    × (key_list met ≡ keys_of (join_properties ours theirs)) × SettlesEach ours theirs met
+IsFixedFor _ _ _ = ⊥
+
+-- what two objects filter to, settled, is a fixed object that both admit
+abbrev pub FiltersSettle : Type 0
+FiltersSettle = (v w met : Tree) → IsFilter v w met → IsFixedFor v w (settled_of met)

@@ -1,0 +1,55 @@
+//! Properties of an answer, as it is made.
+ghost use Rattle.std.specs.Prelude.{◌≡◌, [], OnOk};
+ghost use Rattle.spa_filter.specs.PropertyLists.{IsPushed};
+
+use spa_value::laws::property_lists_are_in_order;
+use spa_value::{Object, Property, Value, discard};
+use std::alloc::{AllocError, Global};
+
+/// Properties of an answer. Their values may be nested deep, so they are taken apart by a loop.
+pub(crate) struct Met {
+    pub(crate) properties: Vec<Property>,
+}
+
+impl Met {
+    /// No properties yet.
+    pub(crate) fn new(alloc: Global) -> Met
+        ensures { result.properties.items ≡ [] }
+    {
+        Met {
+            properties: Vec::new(alloc),
+        }
+    }
+
+    /// The properties themselves.
+    pub(crate) fn into_properties(self) -> Vec<Property>
+        ensures { result ≡ self.properties }
+    {
+        let Met { properties } = self;
+        properties
+    }
+}
+
+impl Drop for Met {
+    fn drop(self) {
+        let Met { properties } = self;
+        discard(Value::Object(Object {
+            type_: 0,
+            id: 0,
+            properties,
+        }));
+    }
+}
+
+/// Appends a property.
+pub(crate) fn push(met: &mut Met, property: Property) -> Result<(), AllocError>
+    ensures { OnOk result (IsPushed met.old.properties.items property met.new.properties.items) }
+{
+    property_lists_are_in_order();
+    if let Err(error) = met.properties.reserve(1) {
+        discard(property.value);
+        return Err(error);
+    }
+    met.properties.push_reserved(property);
+    Ok(())
+}

@@ -77,6 +77,24 @@ static void refuse_each(const void *in, size_t n, bool may_ask) {
 	SEE(may_ask == (refuse_at > 1));
 }
 
+/* The same where the pods lie: what stays as long asks for no memory. */
+static void refuse_in_place(const void *in, size_t n, bool may_ask) {
+	static uint8_t bytes[1024];
+	size_t written, at;
+	for (refuse_at = 1;; refuse_at++) {
+		asked = 0;
+		memcpy(bytes, in, n);
+		int32_t answer = spav_rewrite_in_place(bytes, n, &written, &at);
+		SEE(held == 0);
+		if (asked < refuse_at) {
+			SEE(answer == 0);
+			break;
+		}
+		SEE(answer == -ENOMEM ? !memcmp(bytes, in, n) : answer == 0 && !and_after);
+	}
+	SEE(may_ask == (refuse_at > 1));
+}
+
 /* Objects so deep in one another that is_canonical has to ask for memory. */
 static void refuse_deep(void) {
 	enum { LEVELS = 1200, LEN = 24 * LEVELS - 8 };
@@ -111,6 +129,8 @@ int main(void) {
 		and_after = i == 1;
 		refuse_each(noisy, sizeof noisy, true);
 		refuse_each(own, written, false);
+		refuse_in_place(noisy, 16, false);
+		refuse_in_place(noisy, sizeof noisy, true);
 		refuse_deep();
 	}
 	return 0;

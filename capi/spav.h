@@ -35,6 +35,14 @@ uint32_t spav_abi(void);
  * Where the answer isn't 0, `out` is unchanged. */
 int32_t spav_rewrite(const void *in, size_t n, void *out, size_t cap, size_t *written, size_t *at);
 
+/* The same where the pods lie: their rewritings go to the front of `bytes`. Never more than n are written.
+ *   0        *written is their length; behind them the bytes are as they were
+ *   -EINVAL  the bytes aren't pods one after another: the refused pod begins at the byte *at
+ *   -ENOMEM  memory was asked for and refused; none is asked for where each rewriting is as long as its pod, and these nest in 1000 levels
+ *            at most
+ * Where the answer isn't 0, nothing is changed. */
+int32_t spav_rewrite_in_place(void *bytes, size_t n, size_t *written, size_t *at);
+
 /* Whether `in` is pods one after another, and so can be rewritten. 0: it is. -EINVAL: the refused pod begins at the byte *at.
  * -ENOMEM: as above. */
 int32_t spav_check(const void *in, size_t n, size_t *at);
@@ -105,6 +113,10 @@ static inline int32_t spav_rewrite_some(const void *in, size_t n, void *out, siz
 	uint8_t none;
 	return spav_rewrite(spav_some(in), n, out ? out : &none, cap, written, at);
 }
+static inline int32_t spav_rewrite_in_place_some(void *bytes, size_t n, size_t *written, size_t *at) {
+	uint8_t none;
+	return spav_rewrite_in_place(bytes ? bytes : &none, n, written, at);
+}
 static inline int32_t spav_check_some(const void *in, size_t n, size_t *at) { return spav_check(spav_some(in), n, at); }
 static inline int32_t spav_is_canonical_some(const void *in, size_t n) { return spav_is_canonical(spav_some(in), n); }
 static inline int32_t spav_nests_within_some(const void *in, size_t n, uint32_t levels) {
@@ -153,6 +165,7 @@ static inline int32_t spav_events_some(const void *in, size_t n, struct spav_eve
 	return spav_events(spav_some(in), n, out ? out : &none, room, count);
 }
 #define spav_rewrite spav_rewrite_some
+#define spav_rewrite_in_place spav_rewrite_in_place_some
 #define spav_check spav_check_some
 #define spav_is_canonical spav_is_canonical_some
 #define spav_nests_within spav_nests_within_some

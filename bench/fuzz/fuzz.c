@@ -40,11 +40,15 @@ static void try_rewriting(const uint8_t *in, size_t n, uint8_t *out) {
 	if (len == SIZE_MAX) {
 		SEE(answer == -EINVAL && is_untouched(out, n) && at < n && one_pass(in, at, wanted) != SIZE_MAX);
 		SEE(spav_check(in, n, &other) == -EINVAL && other == at);
+		memcpy(again, in, n);
+		SEE(spav_rewrite_in_place(again, n, &written, &other) == -EINVAL && other == at && !memcmp(again, in, n));
 		return;
 	}
 	SEE(answer == 0 && written == len && !memcmp(out, wanted, len) && is_untouched(out + len, n - len));
 	SEE(spav_check(in, n, &at) == 0);
 	SEE(spav_rewrite(out, len, again, MOST, &written, &at) == 0 && written == len && !memcmp(again, out, len));
+	memcpy(again, in, n);
+	SEE(spav_rewrite_in_place(again, n, &written, &at) == 0 && written == len && !memcmp(again, wanted, len) && !memcmp(again + len, in + len, n - len));
 	if (len > 0)
 		SEE(spav_rewrite(in, n, again, len - 1, &written, &at) == -ENOSPC && written == len);
 }

@@ -1,9 +1,11 @@
 -- Lists of pods in the caller's memory: docs/CAPI.md, "Rewriting".
-use Rattle.std.specs.Prelude.{◌≡◌, ◌<◌, ◌++◌, ℕ, List, length, take, drop}
+use Rattle.std.specs.Prelude.{⊤, ◌≡◌, ◌<◌, ◌++◌, ℕ, List, length, take, drop}
 use Rattle.spa_format.specs.Encoding.{member_encodings}
 use Rattle.spa_format.specs.Front.{IsRefused}
 use Rattle.spa_format.specs.Pod.{AreMembers}
 use Rattle.spa_format.specs.Tree.{Trees}
+use Rattle.spa_fixed.specs.declared.fault.DeserializeError.{DeserializeError}
+use Rattle.spa_fixed.specs.declared.fault.DeserializeError.TheVariants.{OutOfMemory}
 
 -- these bytes are so many, the front of the output became them, and behind them it is as it was
 pub record IsWritten (bytes : List ℕ) (count : ℕ) (old new : List ℕ) : Type 0 where
@@ -30,3 +32,8 @@ pub record ListIsRefused (input : List ℕ) (at : ℕ) : Type 0 where
   pub inside : at < length input
   pub refused : IsRefused (drop at input)
   pub whole : (values : Trees) → ¬ (AreMembers values input)
+
+-- a refusal for what the bytes are, and not for lack of memory
+abbrev pub IsForBytes : {I : Type 0} → DeserializeError I → Type 0
+IsForBytes OutOfMemory = ⊥
+IsForBytes _ = ⊤

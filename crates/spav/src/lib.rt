@@ -8,6 +8,7 @@ ghost use Rattle.std.specs.Prelude.{◌≡◌};
 mod answers;
 mod events;
 mod fixation;
+mod in_place;
 mod lists;
 mod questions;
 mod reading;

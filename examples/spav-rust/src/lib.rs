@@ -5,6 +5,7 @@ mod raw {
     extern "C" {
         pub fn spav_abi() -> u32;
         pub fn spav_rewrite(input: *const u8, n: usize, out: *mut u8, cap: usize, written: *mut usize, at: *mut usize) -> i32;
+        pub fn spav_rewrite_in_place(bytes: *mut u8, n: usize, written: *mut usize, at: *mut usize) -> i32;
         pub fn spav_check(input: *const u8, n: usize, at: *mut usize) -> i32;
         pub fn spav_is_canonical(input: *const u8, n: usize) -> i32;
         pub fn spav_nests_within(input: *const u8, n: usize, levels: u32) -> i32;
@@ -75,6 +76,16 @@ pub fn rewrite_into<'a>(input: &[u8], out: &'a mut [u8]) -> Result<&'a mut [u8],
         0 => Ok(&mut out[..written]),
         -22 => Err(Error::Refused(at)),
         -28 => Err(Error::NoRoom(written)),
+        _ => Err(Error::OutOfMemory),
+    }
+}
+
+/// Puts the rewritings of all pods that the bytes are at their front, and gives them.
+pub fn rewrite_in_place(bytes: &mut [u8]) -> Result<&mut [u8], Error> {
+    let (mut written, mut at) = (0, 0);
+    match unsafe { raw::spav_rewrite_in_place(bytes.as_mut_ptr(), bytes.len(), &mut written, &mut at) } {
+        0 => Ok(&mut bytes[..written]),
+        -22 => Err(Error::Refused(at)),
         _ => Err(Error::OutOfMemory),
     }
 }
@@ -399,6 +410,8 @@ mod tests {
         assert_eq!(fixate(&mut pod), Ok(()));
         assert_eq!(is_canonical(&pod), Ok(false));
         let pods = Pods::new(&pod).unwrap();
+        let mut same = pod.clone();
+        assert_eq!(rewrite_in_place(&mut same).unwrap(), pods.as_bytes());
         assert_eq!(pods.as_bytes().len(), pod.len() - 8);
         assert_eq!(is_canonical(pods.as_bytes()), Ok(true));
         assert_eq!(fixate(&mut []), Err(Error::NoObject));

@@ -1,0 +1,76 @@
+-- Why a list of pods isn't rewritten where it lies.
+use Rattle.std.proofs.Common.{◌≡◌, ◌≢◌, ℕ, ◌+◌, ◌-◌, ◌<◌, ◌≤◌, inl, inr, List, [], ◌++◌, length, take, drop, refl, sym, ap, subst, ◌∙◌, arith, length-append, length-drop}
+use Rattle.std.specs.Prelude.{⊤, codes, slice_index}
+use Rattle.std.specs.Borrow.{Bor}
+use Rattle.std.proofs.lemmas.Bool.{cases_lt}
+use Rattle.std.proofs.lemmas.List.{nil_from_length, take_at}
+use Rattle.spa_fixed.specs.declared.fault.DeserializeError.{DeserializeError}
+use Rattle.spa_fixed.specs.declared.fault.DeserializeError.TheVariants as error
+use Rattle.spa_fixed.specs.declared.fault.FaultKind.{FaultKind}
+use Rattle.spa_fixed.specs.declared.fault.FaultKind.TheVariants as fault_kind
+use Rattle.spa_fixed.specs.Faults.{fault_kind_text, kind_text}
+use Rattle.spa_format.specs.Pod.{AreMembers}
+use Rattle.spa_leaf.specs.Reading.{OnFault}
+use Rattle.spa_rewrite.specs.InPlace.{RefusesListAt}
+use Rattle.spav.specs.Lists.{IsForBytes, ListIsRefused}
+
+-- texts that begin otherwise are others
+begins_otherwise : (xs ys : List ℕ) → slice_index xs 0 ≢ slice_index ys 0 → xs ≡ ys → ⊥
+begins_otherwise xs ys n e = n (ap (λ l. slice_index l 0) e)
+
+fault_named : (k : FaultKind) → fault_kind_text k ≡ codes "OutOfMemory" → ⊥
+fault_named fault_kind.Short e = begins_otherwise (codes "Short") (codes "OutOfMemory") (λ h. omega (arith, h)) e
+fault_named fault_kind.Tag e = begins_otherwise (codes "Tag") (codes "OutOfMemory") (λ h. omega (arith, h)) e
+fault_named fault_kind.Text e = begins_otherwise (codes "Text") (codes "OutOfMemory") (λ h. omega (arith, h)) e
+
+-- no refusal for what the bytes are has the name of the one for lack of memory
+named : (e : DeserializeError ⊤) → IsForBytes e → kind_text e ≡ codes "OutOfMemory" → ⊥
+named (error.Nom f) b e = fault_named f.kind e
+named error.UnsupportedType b e = begins_otherwise (codes "UnsupportedType") (codes "OutOfMemory") (λ h. omega (arith, h)) e
+named error.InvalidType b e = begins_otherwise (codes "InvalidType") (codes "OutOfMemory") (λ h. omega (arith, h)) e
+named error.PropertyMissing b e = begins_otherwise (codes "PropertyMissing") (codes "OutOfMemory") (λ h. omega (arith, h)) e
+named (error.PropertyWrongKey k) b e = begins_otherwise (codes "PropertyWrongKey") (codes "OutOfMemory") (λ h. omega (arith, h)) e
+named error.InvalidChoiceType b e = begins_otherwise (codes "InvalidChoiceType") (codes "OutOfMemory") (λ h. omega (arith, h)) e
+named error.MissingChoiceValues b e = begins_otherwise (codes "MissingChoiceValues") (codes "OutOfMemory") (λ h. omega (arith, h)) e
+named error.WrongSize b e = begins_otherwise (codes "WrongSize") (codes "OutOfMemory") (λ h. omega (arith, h)) e
+named error.UnreadMembers b e = begins_otherwise (codes "UnreadMembers") (codes "OutOfMemory") (λ h. omega (arith, h)) e
+named error.NoElementLeft b e = begins_otherwise (codes "NoElementLeft") (codes "OutOfMemory") (λ h. omega (arith, h)) e
+named error.FailedReader b e = begins_otherwise (codes "FailedReader") (codes "OutOfMemory") (λ h. omega (arith, h)) e
+named error.OutOfMemory b e = absurd b
+
+-- what a refusal says that isn't for lack of memory
+fact_of : {I : Type 0} (F : Type 0) (e : DeserializeError I) → (e ≡ error.OutOfMemory → ⊥) → OnFault F e → F
+fact_of F (error.Nom f) n h = h
+fact_of F error.UnsupportedType n h = h
+fact_of F error.InvalidType n h = h
+fact_of F error.PropertyMissing n h = h
+fact_of F (error.PropertyWrongKey k) n h = h
+fact_of F error.InvalidChoiceType n h = h
+fact_of F error.MissingChoiceValues n h = h
+fact_of F error.WrongSize n h = h
+fact_of F error.UnreadMembers n h = h
+fact_of F error.NoElementLeft n h = h
+fact_of F error.FailedReader n h = h
+fact_of F error.OutOfMemory n h = absurd (n refl)
+
+pub list_refused : (input : List ℕ) (at : ℕ) (e : DeserializeError ⊤) → RefusesListAt input at e → IsForBytes e → ListIsRefused input at
+list_refused input at e r b =
+    let l = r.behind in
+    let rest = drop at input in
+    let d = length-drop at input in
+    let a = ap length l.2 in
+    let s = length-append l.1 rest in
+    let inside : at < length input =
+    elim (cases_lt at (length input)) [
+      | inl i ↦ i
+      | inr i ↦ absurd (l.4 (nil_from_length rest (omega arith)))
+    ] in
+    let long : length l.1 ≡ at = omega arith in
+    let front : take at input ≡ l.1 = ap (take at) l.2 ∙ take_at l.1 rest at long in
+    record {
+      first = l.0;
+      before = subst (AreMembers l.0) (sym front) l.3;
+      inside = inside;
+      refused = fact_of _ r.told (λ o. named e b (r.same ∙ ap kind_text o)) r.front.refused;
+      whole = fact_of _ e (λ o. named e b (ap kind_text o)) r.refused;
+    }

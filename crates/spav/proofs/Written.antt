@@ -1,0 +1,20 @@
+-- A list of pods whose rewritings stand where the pods lay.
+use Rattle.std.proofs.Common.{◌≡◌, ℕ, ◌≤◌, List, [], ◌++◌, length, take, drop, sym, ap, ◌∙◌, arith, length-take}
+use Rattle.std.proofs.lemmas.List.{take-append-drop}
+use Rattle.spa_format.specs.Encoding.{member_encodings}
+use Rattle.spa_rewrite.specs.Rewriting.{AreRewritten}
+use Rattle.spav.specs.Lists.{ListIsWritten}
+
+pub list_written : (old new : List ℕ) (len : ℕ) → AreRewritten old [] (take len new) → len ≤ length old → length new ≡ length old →
+    drop len new ≡ drop len old → ListIsWritten old len old new
+list_written old new len r within same behind =
+    let l = length-take len new in
+    let e = ap length r.2 in
+    record {
+      values = r.0;
+      members = r.1;
+      written = record {
+        counted = omega arith;
+        front = sym (take-append-drop len new) ∙ ap (λ z. z ++ drop len new) r.2 ∙ ap (λ z. member_encodings r.0 ++ z) behind;
+      };
+    }

@@ -1,25 +1,20 @@
 -- A loop over pods that become their rewritings where they lie.
-use Rattle.std.proofs.Common.{◌≡◌, ℕ, ◌+◌, ◌-◌, ◌^◌, ◌<◌, ◌≤◌, List, [], ◌++◌, length, drop, take, refl, sym, ap, ◌∙◌, subst, arith, append_assoc, length-drop}
-use Rattle.std.specs.Prelude.{Bool, true, false}
+use Rattle.std.proofs.Common.{◌≡◌, ◌≢◌, ℕ, ◌+◌, ◌-◌, ◌^◌, ◌<◌, ◌≤◌, List, [], ◌++◌, length, drop, take, refl, sym, ap, ◌∙◌, subst, arith, append_assoc, length-drop}
+use Rattle.std.specs.Prelude.{Bool, replicate, true, false}
 use Rattle.std.proofs.Math.Seq.{take-add}
-use Rattle.std.proofs.lemmas.List.{append-nil, drop-drop, length-take-le, nil_from_length, take-append-drop, take_all}
+use Rattle.std.proofs.lemmas.List.{append-nil, drop-drop, drop_at, length-take-le, nil_from_length, take-append-drop, take_all, take_at}
 use Rattle.std.proofs.lemmas.Slice.{take-put_mid, drop-put_mid}
 use borrow.Rule.Slice.PartMut.{put_mid}
-use Rattle.spa_format.specs.Words.{extent, word_at}
+use Rattle.spa_format.specs.Words.{body_of, extent, word_at}
+use Rattle.spa_format.specs.Kind.{Kind, none_kind, bool_kind, id_kind, int_kind, long_kind, float_kind, double_kind, rectangle_kind, fraction_kind, fd_kind, body_size, type_number}
 use Rattle.spa_format.specs.Front.{HasFront, front_of, rest_of}
 use Rattle.spa_format.specs.Typed.{IsBytes}
 use Rattle.spa_format.proofs.Fronts.{length-body_of, size_of_front, type_of_front}
 use Rattle.spa_format.proofs.WordLemmas.{IsBytes-drop, IsBytes-take}
 use Rattle.spa_bytes.specs.Opening.{Opens}
-use Rattle.spa_rewrite.specs.Steady.{ArePatched, HoldsPods, IsPatched, IsPodOf, key_size}
+use Rattle.spa_rewrite.specs.Steady.{ArePatched, BeginsWord, HoldsPods, IsPatched, IsPodOf, IsWordType, PatchesOn, key_size}
+use Rattle.spa_rewrite.proofs.PatchedBodies.{IsPlainType, plain_patched}
 use Rattle.spa_rewrite.proofs.Patches.{length_put, no_pods, object_patched, pods_patched, struct_patched, too_few}
-
--- The bytes before this place are done: once those from there on become their rewritings, all have.
-pub record PatchesOn (all keyed : Bool) (old now : List ℕ) (at : ℕ) : Type 0 where
-  pub within : at ≤ length now
-  pub long : length now ≡ length old
-  pub bytes : IsBytes now
-  pub ends : (new : List ℕ) → ArePatched keyed (drop at now) new → ArePatched all old (take at now ++ new)
 
 pub nothing_patched : (all : Bool) (old : List ℕ) → IsBytes old → PatchesOn all all old old 0
 nothing_patched all old h = record { within = omega arith; long = refl; bytes = h; ends = λ new q. q }
@@ -177,3 +172,104 @@ pod_is now body rest here next type size k r o z f g =
     let d = length-drop here now in
     let n : k ≡ extent size = omega arith in
     subst (λ m. IsPodOf (take m (drop here now)) type size) (sym n) is.its
+
+-- a word becomes its rewriting
+plain_number : (n : ℕ) → n ≢ 2 → n < 8 → IsPlainType n
+plain_number n m l = record {
+  no_bool = m;
+  no_array = λ e. omega (arith, e, l);
+  no_struct = λ e. omega (arith, e, l);
+  no_object = λ e. omega (arith, e, l);
+  no_pointer = λ e. omega (arith, e, l);
+  no_choice = λ e. omega (arith, e, l);
+}
+
+plain_kind : (k : Kind) → body_size k ≡ 4 → k ≢ bool_kind → IsPlainType (type_number k)
+plain_kind none_kind s n = absurd (omega (arith, s))
+plain_kind bool_kind s n = absurd (n refl)
+plain_kind id_kind s n = plain_number 3 (λ e. omega (arith, e)) (omega arith)
+plain_kind int_kind s n = plain_number 4 (λ e. omega (arith, e)) (omega arith)
+plain_kind long_kind s n = absurd (omega (arith, s))
+plain_kind float_kind s n = plain_number 6 (λ e. omega (arith, e)) (omega arith)
+plain_kind double_kind s n = absurd (omega (arith, s))
+plain_kind rectangle_kind s n = absurd (omega (arith, s))
+plain_kind fraction_kind s n = absurd (omega (arith, s))
+plain_kind fd_kind s n = absurd (omega (arith, s))
+
+word_opens : (input : List ℕ) → BeginsWord input → Opens input (word_at input 4) (body_of input) (drop 16 input)
+word_opens input w =
+    let l = w.long in
+    let n = w.its_size in
+    let whole : extent (word_at input 0) ≡ 16 = omega arith in
+    let there : HasFront input = record { header = omega arith; whole = omega arith } in
+    let long : length (body_of input) ≡ 4 = length-body_of input there ∙ n in
+    let d = length-drop 16 input in
+    record {
+      there = there;
+      its_type = refl;
+      its_body = refl;
+      its_rest = ap (λ m. drop m input) (sym whole);
+      shorter = omega arith;
+      fits = omega arith;
+    }
+
+pub word_done : (all keyed : Bool) (old now pod : List ℕ) (at here next k : ℕ) → here ≡ at + key_size keyed → here ≤ length now →
+    BeginsWord (drop here now) → next ≡ here + 16 → k ≡ 16 →
+    pod ≡ take (8 + 4) (take k (drop here now)) ++ replicate (length (take k (drop here now)) - (8 + 4)) 0 →
+    length pod ≡ length (take k (drop here now)) → IsBytes (put_mid here k now pod) → PatchesOn all keyed old now at →
+    PatchesOn all keyed old (put_mid here k now pod) next
+word_done all keyed old now pod at here next k e r w x z p long y h =
+    let c = drop here now in
+    let o = word_opens c w in
+    let four : length (body_of c) ≡ 4 = length-body_of c o.there ∙ w.its_size in
+    let l = w.long in
+    let d = length-drop here now in
+    let d16 = length-drop 16 c in
+    let f : next ≡ length now - length (drop 16 c) = omega arith in
+    let g : k ≡ next - here = omega arith in
+    let t = w.its_type in
+    let plain : IsPlainType (word_at c 4) = subst IsPlainType (sym t.1) (plain_kind t.0 t.2 t.3) in
+    let its : IsPodOf (take k c) (word_at c 4) 4 = pod_is now (body_of c) (drop 16 c) here next (word_at c 4) 4 k r o (sym four) f g in
+    let others = drop k (drop here now) in
+    let back : drop here (put_mid here k now pod) ≡ pod ++ others = drop_at (take here now) (pod ++ others) here (length-take-le here now r) in
+    let bytes : IsBytes pod =
+    subst IsBytes (ap (take (length pod)) back ∙ take_at pod others (length pod) refl)
+    (IsBytes-take (length pod) (drop here (put_mid here k now pod)) (IsBytes-drop here (put_mid here k now pod) y)) in
+    pod_done all keyed old now pod (body_of c) (drop 16 c) at here next (word_at c 4) 4 k h e r o (sym four) f g
+    (plain_patched (take k c) pod (word_at c 4) 4 bytes its plain p) long y
+
+-- what runs over words keep
+pub record RunsOn (keyed : Bool) (old now : List ℕ) (from at : ℕ) : Type 0 where
+  pub within : at ≤ length now
+  pub further : from ≤ at
+  pub long : length now ≡ length old
+  pub on : (all : Bool) (first : List ℕ) → PatchesOn all keyed first old from → PatchesOn all keyed first now at
+
+pub runs_from : (keyed : Bool) (old : List ℕ) (from : ℕ) → from ≤ length old → RunsOn keyed old old from from
+runs_from keyed old from l = record { within = l; further = omega arith; long = refl; on = λ all first h. h }
+
+pub runs_further : (keyed : Bool) (old now pod : List ℕ) (from at here next k : ℕ) → RunsOn keyed old now from at → here ≡ at + key_size keyed →
+    here ≤ length now → BeginsWord (drop here now) → next ≡ here + 16 → k ≡ 16 →
+    pod ≡ take (8 + 4) (take k (drop here now)) ++ replicate (length (take k (drop here now)) - (8 + 4)) 0 →
+    length pod ≡ length (take k (drop here now)) → IsBytes (put_mid here k now pod) →
+    RunsOn keyed old (put_mid here k now pod) from next
+runs_further keyed old now pod from at here next k r e l w x z p long y =
+    let c = drop here now in
+    let s = w.long in
+    let d = length-drop here now in
+    let f = r.further in
+    let count : length pod ≡ k = long ∙ length-take-le k c (omega arith) in
+    let same = length_put here k now pod (omega arith) count in
+    record {
+      within = omega arith;
+      further = omega arith;
+      long = same ∙ r.long;
+      on = λ all first h. word_done all keyed first now pod at here next k e l w x z p long y (r.on all first h);
+    }
+
+-- the same where it is known which of both stand there
+pub runs_on : (keyed inner : Bool) (old now : List ℕ) (from at : ℕ) → keyed ≡ inner →
+    ((all : Bool) (first : List ℕ) → PatchesOn all inner first old from → PatchesOn all inner first now at) →
+    (all : Bool) (first : List ℕ) → PatchesOn all keyed first old from → PatchesOn all keyed first now at
+runs_on keyed inner old now from at e f = λ all first h.
+    subst (λ k. PatchesOn all k first now at) (sym e) (f all first (subst (λ k. PatchesOn all k first old from) e h))

@@ -269,3 +269,8 @@ left_shorter false left here body rest type k o =
     let w = o.there.whole in
     let d = ap length k in
     omega arith
+
+-- where it is known which of both stand there
+pub inside_is : (keyed inner : Bool) (left pods : List ℕ) → keyed ≡ inner → (AreSteadyInside inner left → AreSteadyInside inner pods) →
+    AreSteadyInside keyed left → AreSteadyInside keyed pods
+inside_is keyed inner left pods e f s = subst (λ k. AreSteadyInside k pods) (sym e) (f (subst (λ k. AreSteadyInside k left) e s))

@@ -1,11 +1,12 @@
 -- Pods whose rewritings are as long as they are: docs/FORMAT.md, "The encoding of a value".
-use Rattle.std.specs.Prelude.{◌≡◌, ◌<◌, ◌≤◌, ◌*◌, ◌++◌, ℕ, List, length, drop, Bool, true, false}
+use Rattle.std.specs.Prelude.{◌≡◌, ◌≢◌, ◌+◌, ◌<◌, ◌≤◌, ◌*◌, ◌++◌, ℕ, List, length, drop, take, Bool, true, false}
 use Rattle.spa_format.specs.Words.{extent, header_size, padded_size, size_limit, word_at}
 use Rattle.spa_format.specs.Tree.{Shape, none_choice, range_choice, step_choice, enum_choice, flags_choice, Tree, Trees, Properties, object_type, struct_type, type_of}
-use Rattle.spa_format.specs.Kind.{Fixed, Kind, type_number}
+use Rattle.spa_format.specs.Kind.{Fixed, Kind, body_size, bool_kind, type_number}
 use Rattle.spa_format.specs.Pod.{AreElements, AreMembers, AreProperties, IsBody, IsPod}
 use Rattle.spa_format.specs.Encoding.{encoded_body, encoding_of, fixed_bodies, member_encodings, property_encodings}
 use Rattle.spa_format.specs.Front.{front_of}
+use Rattle.spa_format.specs.Typed.{IsBytes}
 use Rattle.spa_leaf.specs.Reading.{BeginsWith}
 use Rattle.spa_rewrite.specs.Tails.{TailAppends}
 use Rattle.spa_rewrite.specs.declared.tail.Tail.{Tail}
@@ -68,6 +69,23 @@ IsPatched old new = (v : Tree) → IsPod old v → length (encoding_of v) ≡ le
 abbrev pub ArePatched : Bool → List ℕ → List ℕ → Type 0
 ArePatched true old new = (ps : Properties) → AreProperties ps old → length (property_encodings ps) ≡ length old → new ≡ property_encodings ps
 ArePatched false old new = (vs : Trees) → AreMembers vs old → length (member_encodings vs) ≡ length old → new ≡ member_encodings vs
+
+-- The bytes before this place are done: once those from there on become their rewritings, all have.
+pub record PatchesOn (all keyed : Bool) (old now : List ℕ) (at : ℕ) : Type 0 where
+  pub within : at ≤ length now
+  pub long : length now ≡ length old
+  pub bytes : IsBytes now
+  pub ends : (new : List ℕ) → ArePatched keyed (drop at now) new → ArePatched all old (take at now ++ new)
+
+-- the type of a kind whose bodies are any word
+abbrev pub IsWordType : ℕ → Type 0
+IsWordType number = (kind : Kind) × (number ≡ type_number kind) × (body_size kind ≡ 4) × (kind ≢ bool_kind)
+
+-- the pod at the front is a word, and no truth value
+pub record BeginsWord (input : List ℕ) : Type 0 where
+  pub long : header_size + 8 ≤ length input
+  pub its_size : word_at input 0 ≡ 4
+  pub its_type : IsWordType (word_at input 4)
 
 -- all bytes of a pod of this type and size
 pub record IsPodOf (pod : List ℕ) (type size : ℕ) : Type 0 where

@@ -1,12 +1,12 @@
 //! Pods made their rewritings where they lie, where these are as long: only padding and words that mean nothing change.
-ghost use Rattle.std.specs.Prelude.{◌≡◌, ◌≢◌, ◌+◌, ◌-◌, ◌^◌, ◌<◌, ◌≤◌, ◌++◌, ◌*◌, IfNone, IfSome, drop, length, replicate, take};
+ghost use Rattle.std.specs.Prelude.{Bool, List, true, ℕ, ◌≡◌, ◌≢◌, ◌+◌, ◌-◌, ◌^◌, ◌<◌, ◌≤◌, ◌++◌, ◌*◌, IfNone, IfSome, drop, length, replicate, take};
 ghost use Rattle.spa_fixed.specs.Reading.{AreWhole};
 ghost use Rattle.spa_format.specs.Pod.{IsPointer};
 ghost use Rattle.spa_format.specs.Tree.{Shape, array_type, choice_type, pointer_type, shape_number};
 ghost use Rattle.spa_format.specs.Kind.{bool_kind, type_number};
 ghost use Rattle.spa_rewrite.specs.Elements.{AreTruths};
 ghost use Rattle.spa_format.specs.Words.{header_size, size_limit, word_at};
-ghost use Rattle.spa_rewrite.specs.Steady.{ArePatched, HoldsPods, IsPatched, IsPodOf, TurnsWritten, bytes_taken, key_size};
+ghost use Rattle.spa_rewrite.specs.Steady.{ArePatched, BeginsWord, HoldsPods, IsPatched, IsPodOf, IsWordType, PatchesOn, TurnsWritten, bytes_taken, key_size};
 
 use crate::elements::written_flags;
 use spa_bytes::{
@@ -38,7 +38,11 @@ pub(crate) fn patch(keyed: bool, bytes: &mut [u8])
     let mut properties = keyed;
     let mut at = 0;
     while bytes.len() - at >= HEADER_LEN {
-        let here = place_behind(bytes, at, 0, properties);
+        let start = behind_words(properties, bytes, at);
+        if bytes.len() - start < HEADER_LEN {
+            return;
+        }
+        let here = place_behind(bytes, start, 0, properties);
         let Some(front) = open(&bytes[here..]) else {
             return;
         };
@@ -53,6 +57,84 @@ pub(crate) fn patch(keyed: bool, bytes: &mut [u8])
                 patch_pod(type_, size, &mut bytes[here..at]);
             }
         }
+    }
+}
+
+/// The place behind the first pods from there on that are a word, truth values aside, with key and flags before each where `keyed` is
+/// set: these become their rewritings.
+#[inline(always)]
+fn behind_words(keyed: bool, bytes: &mut [u8], from: usize) -> usize
+    requires { from ≤ length bytes.old }
+    ensures patched { (all : Bool) (old : List ℕ) → PatchesOn all keyed old bytes.old from → PatchesOn all keyed old bytes.new result }
+    ensures within { result ≤ length bytes.old }
+    ensures further { from ≤ result }
+{
+    if keyed {
+        return behind_word_properties(bytes, from);
+    }
+    let mut at = from;
+    while begins_word(&bytes[at..]) {
+        let next = at + SECOND_HEADER;
+        clear_padding(WORD_LEN, &mut bytes[at..next]);
+        at = next;
+    }
+    at
+}
+
+/// The same of properties.
+#[inline(always)]
+fn behind_word_properties(bytes: &mut [u8], from: usize) -> usize
+    requires { from ≤ length bytes.old }
+    ensures patched { (all : Bool) (old : List ℕ) → PatchesOn all true old bytes.old from → PatchesOn all true old bytes.new result }
+    ensures within { result ≤ length bytes.old }
+    ensures further { from ≤ result }
+{
+    let mut at = from;
+    while begins_word_property(&bytes[at..]) {
+        let here = at + HEADER_LEN;
+        let next = here + SECOND_HEADER;
+        clear_padding(WORD_LEN, &mut bytes[here..next]);
+        at = next;
+    }
+    at
+}
+
+/// Whether a key and flags are there, and such a pod behind them.
+#[inline(always)]
+fn begins_word_property(input: &[u8]) -> bool
+    ensures { result ≡ true → BeginsWord (drop header_size input.now) }
+{
+    if input.len() < HEADER_LEN {
+        return false;
+    }
+    let (_, pod) = input.split_at(HEADER_LEN);
+    begins_word(pod)
+}
+
+/// Whether the pod at the front is there, and a word that is no truth value.
+#[inline(always)]
+fn begins_word(input: &[u8]) -> bool
+    ensures { result ≡ true → BeginsWord input.now }
+{
+    if input.len() < SECOND_HEADER {
+        return false;
+    }
+    if u32_at(input, 0) as usize != WORD_LEN {
+        return false;
+    }
+    is_word_type(u32_at(input, SECOND_WORD))
+}
+
+/// Whether this is the type of a kind whose bodies are any word.
+#[inline(always)]
+fn is_word_type(type_: u32) -> bool
+    ensures { result ≡ true → IsWordType type_ }
+{
+    match SpaTypes(type_) {
+        SpaTypes::Id => true,
+        SpaTypes::Int => true,
+        SpaTypes::Float => true,
+        _ => false,
     }
 }
 
@@ -217,9 +299,15 @@ fn patch_truths(words: &mut [u8])
 }
 
 /// Makes what follows a body of this size zeros.
+#[inline(always)]
 fn clear_padding(size: usize, pod: &mut [u8])
     requires { header_size + size ≤ length pod.old }
     ensures { pod.new ≡ take (header_size + size) pod.old ++ replicate (length pod.old - (header_size + size)) 0 }
 {
-    pod[HEADER_LEN + size..].fill(0);
+    let from = HEADER_LEN + size;
+    match pod.len() - from {
+        0 => (),
+        WORD_LEN => pod[from..].copy_from_slice(&[0; WORD_LEN]),
+        _ => pod[from..].fill(0),
+    }
 }

@@ -1,7 +1,7 @@
 //! Pods whose rewritings are as long as they are: a look that writes nothing and takes no memory.
 ghost use Rattle.std.specs.Prelude.{◌≡◌, ◌+◌, ◌≤◌, ◌++◌, IfSome, length, true};
 ghost use Rattle.spa_format.specs.Tree.{array_type, choice_type};
-ghost use Rattle.spa_rewrite.specs.Steady.{AreSteady, AreSteadyInside, BeginsSteady, IsBehindKey, IsInside, IsSteadyBody};
+ghost use Rattle.spa_rewrite.specs.Steady.{AreSteady, AreSteadyInside, AreSteadyProperties, BeginsSteady, IsBehindKey, IsInside, IsSteadyBody};
 
 use crate::elements::{elements_of, values_of};
 use spa_bytes::{HEADER_LEN, POINTER_LEN, SECOND_WORD, SHORT_POINTER_LEN, open, u32_at};
@@ -66,7 +66,7 @@ fn are_steady(keyed: bool, body: &[u8], levels: u32) -> bool
             return false;
         };
         if let Some(rest) = short_front(here) {
-            left = rest;
+            left = behind_short(properties, rest);
         } else {
             let Some(front) = open(here) else {
                 return false;
@@ -125,6 +125,52 @@ fn short_front(input: &[u8]) -> Option<&[u8]>
     }
     let (_, rest) = input.split_at(SHORT_POD);
     Some(rest)
+}
+
+/// What follows the first pods whose bodies are one or two words and of a kind of fixed size, with key and flags before each where
+/// `keyed` is set.
+#[inline(always)]
+fn behind_short(keyed: bool, pods: &[u8]) -> &[u8]
+    ensures steady { AreSteadyInside keyed result.now → AreSteadyInside keyed pods.now }
+    ensures within { length result.now ≤ length pods.now }
+{
+    if keyed {
+        return behind_short_properties(pods);
+    }
+    let mut left = pods;
+    while let Some(rest) = short_front(left) {
+        left = rest;
+    }
+    left
+}
+
+/// The same of properties.
+#[inline(always)]
+fn behind_short_properties(pods: &[u8]) -> &[u8]
+    ensures steady { AreSteadyProperties result.now → AreSteadyProperties pods.now }
+    ensures within { length result.now ≤ length pods.now }
+{
+    let mut left = pods;
+    while let Some(rest) = short_property(left) {
+        left = rest;
+    }
+    left
+}
+
+/// What follows the property at the front, where the body of its value is one or two words and of a kind of fixed size.
+#[inline(always)]
+fn short_property(input: &[u8]) -> Option<&[u8]>
+    ensures steady { IfSome result (λ rest. AreSteadyProperties rest.now → AreSteadyProperties input.now) }
+    ensures shorter { IfSome result (λ rest. length rest.now + 24 ≤ length input.now) }
+{
+    if input.len() < HEADER_LEN {
+        return None;
+    }
+    let (_, here) = input.split_at(HEADER_LEN);
+    match short_front(here) {
+        Some(rest) => Some(rest),
+        None => None,
+    }
 }
 
 /// What stands in the body of a struct or of an object; None for other types, and where an object's type and id aren't there.

@@ -11,76 +11,84 @@ use Rattle.spa_rewrite.proofs.patch.+patching.Goals as goal
 pub patch-loop-bytes-init : goal.patch-loop-bytes-init
 patch-loop-bytes-init t c = nothing_patched _ _ (λ i. omega (arith, c.type_inv.bytes i))
 
+pub patch-behind_words-start-requires : goal.patch-behind_words-start-requires
+patch-behind_words-start-requires t c = c.loop-bytes.invariant.within
+
+pub patch-returns-then-bytes-start-lt-HEADER_LEN : goal.patch-returns-then-bytes-start-lt-HEADER_LEN
+patch-returns-then-bytes-start-lt-HEADER_LEN t c =
+    let l = c.if-bytes-start-lt-HEADER_LEN.true in
+    stops_short _ _ _ _ _ (c.behind_words-start.ensures.patched _ _ c.loop-bytes.invariant) (omega arith)
+
 pub patch-place_behind-here-requires : goal.patch-place_behind-here-requires
 patch-place_behind-here-requires t c =
     let k = key_small c.loop-bytes.properties in
-    let l = c.loop-bytes-test.true in
+    let l = c.if-bytes-start-lt-HEADER_LEN.false in
     omega arith
 
 pub patch-shape_of-bytes-in_default : goal.patch-shape_of-bytes-in_default
-patch-shape_of-bytes-in_default t c = c.loop-bytes.invariant.long
+patch-shape_of-bytes-in_default t c = (c.behind_words-start.ensures.patched _ _ c.loop-bytes.invariant).long
 
 pub patch-returns-in_default : goal.patch-returns-in_default
 patch-returns-in_default t c =
     let e = c.place_behind-here.ensures in
-    stops_unopened _ _ _ _ _ c.place_behind-here.result c.loop-bytes.invariant (e ∙ omega arith)
-    (subst (λ x. ¬ (HasFront x)) (take_rest c.loop-bytes.bytes c.place_behind-here.result) c.in_default.ensures.short)
+    stops_unopened _ _ _ _ _ c.place_behind-here.result (c.behind_words-start.ensures.patched _ _ c.loop-bytes.invariant) (e ∙ omega arith)
+    (subst (λ x. ¬ (HasFront x)) (take_rest c.behind_words-start.new.bytes c.place_behind-here.result) c.in_default.ensures.short)
 
 pub patch-place_behind-at-requires : goal.patch-place_behind-at-requires
 patch-place_behind-at-requires t c =
     let k = key_small c.loop-bytes.properties in
-    let l = c.loop-bytes-test.true in
+    let l = c.if-bytes-start-lt-HEADER_LEN.false in
     let e = c.place_behind-here.ensures in
     let here = c.place_behind-here.result in
-    let opens : Opens (drop here c.loop-bytes.bytes) c.in-Some.front.type_ c.in-Some.front.body.now c.in-Some.front.rest.now =
-    subst (λ x. Opens x c.in-Some.front.type_ c.in-Some.front.body.now c.in-Some.front.rest.now) (take_rest c.loop-bytes.bytes here)
+    let opens : Opens (drop here c.behind_words-start.new.bytes) c.in-Some.front.type_ c.in-Some.front.body.now c.in-Some.front.rest.now =
+    subst (λ x. Opens x c.in-Some.front.type_ c.in-Some.front.body.now c.in-Some.front.rest.now) (take_rest c.behind_words-start.new.bytes here)
     c.in-Some.ensures.there in
-    let within : here ≤ length c.loop-bytes.bytes = omega arith in
+    let within : here ≤ length c.behind_words-start.new.bytes = omega arith in
     inner_fits _ _ _ _ here _ _ _ within opens refl c.in-Some-last_inner.ensures
 
 pub patch-loop-bytes-preserved-in-Some-last_inner : goal.patch-loop-bytes-preserved-in-Some-last_inner
 patch-loop-bytes-preserved-in-Some-last_inner t c =
     let k = key_small c.loop-bytes.properties in
-    let l = c.loop-bytes-test.true in
+    let l = c.if-bytes-start-lt-HEADER_LEN.false in
     let e = c.place_behind-here.ensures in
     let here = c.place_behind-here.result in
-    let opens : Opens (drop here c.loop-bytes.bytes) c.in-Some.front.type_ c.in-Some.front.body.now c.in-Some.front.rest.now =
-    subst (λ x. Opens x c.in-Some.front.type_ c.in-Some.front.body.now c.in-Some.front.rest.now) (take_rest c.loop-bytes.bytes here)
+    let opens : Opens (drop here c.behind_words-start.new.bytes) c.in-Some.front.type_ c.in-Some.front.body.now c.in-Some.front.rest.now =
+    subst (λ x. Opens x c.in-Some.front.type_ c.in-Some.front.body.now c.in-Some.front.rest.now) (take_rest c.behind_words-start.new.bytes here)
     c.in-Some.ensures.there in
-    let within : here ≤ length c.loop-bytes.bytes = omega arith in
-    let from : here ≡ c.loop-bytes.at + key_size c.loop-bytes.properties = omega arith in
-    entered _ _ _ _ _ _ _ _ here _ _ _ _ c.loop-bytes.invariant from within opens refl refl
+    let within : here ≤ length c.behind_words-start.new.bytes = omega arith in
+    let from : here ≡ c.behind_words-start.result + key_size c.loop-bytes.properties = omega arith in
+    entered _ _ _ _ _ _ _ _ here _ _ _ _ (c.behind_words-start.ensures.patched _ _ c.loop-bytes.invariant) from within opens refl refl
     c.in-Some-last_inner.ensures c.place_behind-at.ensures
 
 pub patch-patch_pod-requires : goal.patch-patch_pod-requires
 patch-patch_pod-requires t c =
     let k = key_small c.loop-bytes.properties in
-    let l = c.loop-bytes-test.true in
+    let l = c.if-bytes-start-lt-HEADER_LEN.false in
     let e = c.place_behind-here.ensures in
     let here = c.place_behind-here.result in
-    let opens : Opens (drop here c.loop-bytes.bytes) c.in-Some.front.type_ c.in-Some.front.body.now c.in-Some.front.rest.now =
-    subst (λ x. Opens x c.in-Some.front.type_ c.in-Some.front.body.now c.in-Some.front.rest.now) (take_rest c.loop-bytes.bytes here)
+    let opens : Opens (drop here c.behind_words-start.new.bytes) c.in-Some.front.type_ c.in-Some.front.body.now c.in-Some.front.rest.now =
+    subst (λ x. Opens x c.in-Some.front.type_ c.in-Some.front.body.now c.in-Some.front.rest.now) (take_rest c.behind_words-start.new.bytes here)
     c.in-Some.ensures.there in
-    let n = length c.loop-bytes.bytes - length c.in-Some.front.rest.now - here in
-    let long = c.loop-bytes.invariant.long in
-    let some = length-take n (drop here c.loop-bytes.bytes) in
-    let rest = length-drop here c.loop-bytes.bytes in
-    let smaller : 2 * length (take n (drop here c.loop-bytes.bytes)) < 2 * length c.args.bytes.now + 1 = omega arith in
-    let within : here ≤ length c.loop-bytes.bytes = omega arith in
+    let n = length c.behind_words-start.new.bytes - length c.in-Some.front.rest.now - here in
+    let long = (c.behind_words-start.ensures.patched _ _ c.loop-bytes.invariant).long in
+    let some = length-take n (drop here c.behind_words-start.new.bytes) in
+    let rest = length-drop here c.behind_words-start.new.bytes in
+    let smaller : 2 * length (take n (drop here c.behind_words-start.new.bytes)) < 2 * length c.args.bytes.now + 1 = omega arith in
+    let within : here ≤ length c.behind_words-start.new.bytes = omega arith in
     (search rules, pod_is _ _ _ here _ _ _ n within opens refl refl refl)
 
 pub patch-loop-bytes-preserved : goal.patch-loop-bytes-preserved
 patch-loop-bytes-preserved t c =
     let k = key_small c.loop-bytes.properties in
-    let l = c.loop-bytes-test.true in
+    let l = c.if-bytes-start-lt-HEADER_LEN.false in
     let e = c.place_behind-here.ensures in
     let here = c.place_behind-here.result in
-    let opens : Opens (drop here c.loop-bytes.bytes) c.in-Some.front.type_ c.in-Some.front.body.now c.in-Some.front.rest.now =
-    subst (λ x. Opens x c.in-Some.front.type_ c.in-Some.front.body.now c.in-Some.front.rest.now) (take_rest c.loop-bytes.bytes here)
+    let opens : Opens (drop here c.behind_words-start.new.bytes) c.in-Some.front.type_ c.in-Some.front.body.now c.in-Some.front.rest.now =
+    subst (λ x. Opens x c.in-Some.front.type_ c.in-Some.front.body.now c.in-Some.front.rest.now) (take_rest c.behind_words-start.new.bytes here)
     c.in-Some.ensures.there in
-    let within : here ≤ length c.loop-bytes.bytes = omega arith in
-    let from : here ≡ c.loop-bytes.at + key_size c.loop-bytes.properties = omega arith in
-    pod_done _ _ _ c.loop-bytes.bytes c.patch_pod.new.pod _ _ _ here _ _ _ _ c.loop-bytes.invariant from within opens refl refl refl
+    let within : here ≤ length c.behind_words-start.new.bytes = omega arith in
+    let from : here ≡ c.behind_words-start.result + key_size c.loop-bytes.properties = omega arith in
+    pod_done _ _ _ c.behind_words-start.new.bytes c.patch_pod.new.pod _ _ _ here _ _ _ _ (c.behind_words-start.ensures.patched _ _ c.loop-bytes.invariant) from within opens refl refl refl
     c.patch_pod.ensures c.patch_pod.auto.pod (λ i. omega (arith, c.type_inv.bytes i))
 
 pub patch-shape_of-bytes : goal.patch-shape_of-bytes

@@ -5,7 +5,7 @@ use Rattle.spa_rewrite.proofs.steady.+are_steady.Goals as goal
 
 pub loop-left-preserved-in-Some-short_front : goal.loop-left-preserved-in-Some-short_front
 loop-left-preserved-in-Some-short_front t c = λ s.
-    c.loop-left.invariant (steady_step _ _ _ _ c.in-Some.ensures c.in-Some-short_front.ensures.taken s)
+    c.loop-left.invariant (steady_step _ _ _ _ c.in-Some.ensures c.in-Some-short_front.ensures.taken (c.behind_short-left.ensures.steady s))
 
 pub loop-left-preserved-then-is_empty : goal.loop-left-preserved-then-is_empty
 loop-left-preserved-then-is_empty t c = λ s.

@@ -1,0 +1,89 @@
+-- When the objects at the fronts of two inputs are filtered, and why they aren't: docs/NEGOTIATION.md, "From bytes to bytes".
+use Rattle.std.specs.Prelude.{⊤, ◌≡◌, ◌⊎◌, ℕ, List}
+use Rattle.spa_format.specs.Tree.{Tree, object}
+use Rattle.spa_format.specs.Front.{Begins, IsRefused}
+use Rattle.spa_format.specs.Encoding.{encoding_of}
+use Rattle.spa_format.specs.Pod.{IsPod}
+use Rattle.spa_format.specs.Normal.{normal_of}
+use Rattle.spa_format.specs.Writable.{HasNul, IsTooLarge}
+use Rattle.spa_leaf.specs.Reading.{MayLackMemory}
+use Rattle.spa_filter.specs.Filtering.{IsFilter}
+use Rattle.spa_filter.specs.Refusals.{AreRefused}
+use Rattle.spa_filter.specs.declared.error.Side.{Side}
+use Rattle.spa_filter.specs.declared.error.Side.TheVariants.{First, Second}
+use Rattle.spa_filter.specs.declared.error.FilterError.{FilterError}
+use Rattle.spa_filter.specs.declared.error.FilterError.TheVariants.{Unread, NotObject, TooLarge, OutOfMemory}
+
+-- the value is an object
+abbrev pub IsObject : Tree → Type 0
+IsObject (object type id ps) = ⊤
+IsObject _ = ⊥
+
+-- the front of the input is a pod of an object
+pub record BeginsObject (input : List ℕ) : Type 0 where
+  pub value : Tree
+  pub begins : Begins input value
+  pub is_object : IsObject value
+
+-- the front of the input is a pod of another value
+pub record BeginsOther (input : List ℕ) : Type 0 where
+  pub value : Tree
+  pub begins : Begins input value
+  pub no_object : ¬ (IsObject value)
+
+-- the fronts of two inputs are pods of two values of which the fact holds
+pub record BeginBoth (a b : List ℕ) (Holds : Tree → Tree → Type 0) : Type 0 where
+  pub ours : Tree
+  pub theirs : Tree
+  pub first : Begins a ours
+  pub second : Begins b theirs
+  pub holds : Holds ours theirs
+
+-- the two values filter to one whose encoding these bytes are, which are a pod of it
+pub record FilterIn (bytes : List ℕ) (ours theirs : Tree) : Type 0 where
+  pub met : Tree
+  pub filter : IsFilter ours theirs met
+  pub encoding : bytes ≡ encoding_of met
+  pub pod : IsPod bytes met
+
+-- the two values filter to one in whose encoding a size word is past 32 bits
+pub record FilterTooLarge (ours theirs : Tree) : Type 0 where
+  pub met : Tree
+  pub filter : IsFilter ours theirs met
+  pub large : IsTooLarge met
+
+-- what two inputs are refused for: the first is settled before the second, and both before the rest
+abbrev pub AreFrontsRefused : (a b : List ℕ) → FilterError → Type 0
+AreFrontsRefused a b (Unread First) = IsRefused a
+AreFrontsRefused a b (Unread Second) = BeginsObject a × IsRefused b
+AreFrontsRefused a b (NotObject First) = BeginsOther a
+AreFrontsRefused a b (NotObject Second) = BeginsObject a × BeginsOther b
+AreFrontsRefused a b TooLarge = BeginBoth a b FilterTooLarge
+AreFrontsRefused a b OutOfMemory =
+    MayLackMemory a ⊎ (BeginsObject a × MayLackMemory b)
+    ⊎ BeginBoth a b (λ v w. AreRefused v w OutOfMemory)
+AreFrontsRefused a b e = BeginBoth a b (λ v w. AreRefused v w e)
+
+-- this holds where the refusal is for another cause than memory or the size of the answer
+abbrev pub OnNoFilter : Type 0 → FilterError → Type 0
+OnNoFilter fact OutOfMemory = ⊤
+OnNoFilter fact TooLarge = ⊤
+OnNoFilter fact _ = fact
+
+-- the value can be written without a refusal for a text, and reads back as itself
+pub record ReadsBack (v : Tree) : Type 0 where
+  pub no_nul : ¬ (HasNul v)
+  pub normal : normal_of v ≡ v
+
+-- what one side is refused for
+abbrev pub IsFrontRefused : Side → List ℕ → FilterError → Type 0
+IsFrontRefused side input (Unread s) = (s ≡ side) × IsRefused input
+IsFrontRefused side input (NotObject s) = (s ≡ side) × BeginsOther input
+IsFrontRefused side input OutOfMemory = MayLackMemory input
+IsFrontRefused side input _ = ⊥
+
+-- what the object to which two filter isn't written for
+abbrev pub IsWriteRefused : Tree → FilterError → Type 0
+IsWriteRefused met TooLarge = IsTooLarge met
+IsWriteRefused met OutOfMemory = ⊤
+IsWriteRefused met _ = ⊥

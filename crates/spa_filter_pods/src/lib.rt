@@ -1,0 +1,11 @@
+//! Filtering from bytes to bytes: the objects of two pods are filtered, and the answer is written.
+#![tactic(auto)]
+
+#[cfg(test)]
+mod formats;
+mod pods;
+#[cfg(test)]
+mod tests;
+
+pub use pods::filter_pods;
+pub use spa_filter::{FilterError, Side};

@@ -1,0 +1,276 @@
+//! Two pods are filtered: worked rows, and the formats of PipeWire's own builder in all pairs.
+use crate::FilterError::{Disjoint, Missing, NotObject, TypeMismatch, Unread, Unsupported};
+use crate::formats::{ANSWERS, AUDIO, FORMATS, VIDEO};
+use crate::{FilterError, Side, filter_pods};
+use libspa::pod::Value;
+use libspa::pod::deserialize::PodDeserializer;
+use libspa::pod::serialize::PodSerializer;
+use spa_filter::settle;
+use spa_spelling::bytes_of;
+use std::alloc::{AllocError, Global};
+use std::test::Fail;
+
+/// What is to be answered: the words of a pod, or a refusal.
+#[derive(Clone, Copy)]
+enum Answer {
+    Words(&'static [u32]),
+    Refused(FilterError),
+}
+
+use Answer::{Refused, Words};
+
+/// The words of two inputs, and what is to be answered, in either order.
+#[derive(Clone, Copy)]
+struct Row {
+    case: &'static str,
+    a: &'static [u32],
+    b: &'static [u32],
+    answer: Answer,
+    swapped: Answer,
+}
+
+/// An object of type 5 whose key 1 is a Range of Ints from 2 to 10 with the default 5.
+const RANGE: &[u32] = &[56, 15, 5, 3, 1, 0, 28, 19, 1, 0, 4, 4, 5, 2, 10, 0];
+
+/// An object of type 5 without properties.
+const EMPTY: &[u32] = &[8, 15, 5, 3];
+
+const ROWS: &[Row] = &[
+    Row {
+        case: "another Range",
+        a: RANGE,
+        b: &[56, 15, 5, 7, 1, 0, 28, 19, 1, 0, 4, 4, 20, 8, 20, 0],
+        answer: Words(&[56, 15, 5, 3, 1, 0, 28, 19, 1, 0, 4, 4, 8, 8, 10, 0]),
+        swapped: Words(&[56, 15, 5, 7, 1, 0, 28, 19, 1, 0, 4, 4, 8, 8, 10, 0]),
+    },
+    Row {
+        case: "a plain value",
+        a: RANGE,
+        b: &[32, 15, 5, 7, 1, 0, 4, 4, 6, 0],
+        answer: Words(&[32, 15, 5, 3, 1, 0, 4, 4, 6, 0]),
+        swapped: Words(&[32, 15, 5, 7, 1, 0, 4, 4, 6, 0]),
+    },
+    Row {
+        case: "a Long",
+        a: RANGE,
+        b: &[32, 15, 5, 7, 1, 0, 8, 5, 5, 0],
+        answer: Refused(Disjoint(1)),
+        swapped: Refused(Disjoint(1)),
+    },
+    Row {
+        case: "a Step",
+        a: RANGE,
+        b: &[56, 15, 5, 7, 1, 0, 32, 19, 2, 0, 4, 4, 5, 2, 10, 1],
+        answer: Refused(Unsupported(1)),
+        swapped: Refused(Unsupported(1)),
+    },
+    Row {
+        case: "a key of one, and what follows",
+        a: RANGE,
+        b: &[8, 15, 5, 7, 1, 2, 3],
+        answer: Words(RANGE),
+        swapped: Words(&[56, 15, 5, 7, 1, 0, 28, 19, 1, 0, 4, 4, 5, 2, 10, 0]),
+    },
+    Row {
+        case: "a key of one that is mandatory",
+        a: EMPTY,
+        b: &[32, 15, 5, 7, 2, 8, 4, 4, 6, 0],
+        answer: Refused(Missing(2)),
+        swapped: Refused(Missing(2)),
+    },
+    Row {
+        case: "another type",
+        a: RANGE,
+        b: &[8, 15, 6, 7],
+        answer: Refused(TypeMismatch),
+        swapped: Refused(TypeMismatch),
+    },
+    Row {
+        case: "a struct",
+        a: RANGE,
+        b: &[0, 14],
+        answer: Refused(NotObject(Side::Second)),
+        swapped: Refused(NotObject(Side::First)),
+    },
+    Row {
+        case: "no bytes",
+        a: EMPTY,
+        b: &[],
+        answer: Refused(Unread(Side::Second)),
+        swapped: Refused(Unread(Side::First)),
+    },
+    Row {
+        case: "the first side before the second",
+        a: &[0, 14],
+        b: &[],
+        answer: Refused(NotObject(Side::First)),
+        swapped: Refused(Unread(Side::First)),
+    },
+];
+
+/// The answer for two inputs, or that memory ran out.
+fn answered(alloc: Global, a: &[u8], b: &[u8]) -> Result<Result<Vec<u8>, FilterError>, AllocError> {
+    match filter_pods(alloc, a, b) {
+        Err(FilterError::OutOfMemory) => Err(AllocError),
+        answer => Ok(answer),
+    }
+}
+
+/// The answer for two inputs. Where memory ran out, they are asked once more: a run of the tests may refuse one request.
+fn answer_of(
+    alloc: Global,
+    a: &[u8],
+    b: &[u8],
+) -> Result<Result<Vec<u8>, FilterError>, AllocError> {
+    match answered(alloc, a, b) {
+        Err(_) => answered(alloc, a, b),
+        answer => answer,
+    }
+}
+
+/// Whether this is the answer for the words of two inputs.
+fn is_answer(alloc: Global, a: &[u32], b: &[u32], wanted: Answer) -> Result<bool, AllocError> {
+    let ours = bytes_of(alloc, a)?;
+    let theirs = bytes_of(alloc, b)?;
+    match (
+        answer_of(alloc, ours.as_slice(), theirs.as_slice())?,
+        wanted,
+    ) {
+        (Ok(met), Words(words)) => Ok(met.as_slice() == bytes_of(alloc, words)?.as_slice()),
+        (Err(found), Refused(refusal)) => Ok(found == refusal),
+        _ => Ok(false),
+    }
+}
+
+/// Whether a row's answers come in both orders.
+fn is_row(alloc: Global, row: Row) -> Result<bool, AllocError> {
+    Ok(is_answer(alloc, row.a, row.b, row.answer)? && is_answer(alloc, row.b, row.a, row.swapped)?)
+}
+
+/// The same, once more where memory ran out.
+fn is_row_again(alloc: Global, row: Row) -> Result<bool, AllocError> {
+    match is_row(alloc, row) {
+        Err(_) => is_row(alloc, row),
+        answer => answer,
+    }
+}
+
+#[test]
+fn pods_are_filtered(rt: HostRuntime) -> Result<(), Fail> {
+    for row in ROWS {
+        let holds = is_row_again(rt.alloc(), *row)?;
+        assert!(rt; holds, "{}", row.case);
+    }
+    Ok(())
+}
+
+/// The bytes of an answer with each choice at its default; none where it isn't an object's.
+fn settled_bytes(alloc: Global, bytes: &[u8]) -> Result<Vec<u8>, AllocError> {
+    let Ok((_rest, Value::Object(object))) = PodDeserializer::deserialize_any_from(alloc, bytes)
+    else {
+        return Ok(Vec::new(alloc));
+    };
+    let value = Value::Object(settle(alloc, &object)?);
+    match PodSerializer::serialize(Vec::new(alloc), &value) {
+        Ok((written, _len)) => Ok(written),
+        Err(_) => Err(AllocError),
+    }
+}
+
+/// The letter of an answer in the table.
+fn letter_of(answer: &Result<Vec<u8>, FilterError>) -> u8 {
+    match answer {
+        Ok(_) => b'.',
+        Err(Disjoint(1)) => b't',
+        Err(Disjoint(2)) => b's',
+        Err(Disjoint(65537)) => b'f',
+        Err(Disjoint(131_073)) => b'v',
+        Err(Unsupported(131_075)) => b'z',
+        Err(Unsupported(65540)) => b'c',
+        Err(Missing(131_074)) => b'm',
+        Err(_) => b'?',
+    }
+}
+
+/// Whether a format answers each format with the letters of the table.
+fn are_letters(alloc: Global, ours: &[u32], letters: &str) -> Result<bool, AllocError> {
+    let a = bytes_of(alloc, ours)?;
+    for (theirs, letter) in FORMATS.iter().zip(letters.as_bytes()) {
+        let b = bytes_of(alloc, theirs)?;
+        if letter_of(&answer_of(alloc, a.as_slice(), b.as_slice())?) != *letter {
+            return Ok(false);
+        }
+    }
+    Ok(true)
+}
+
+/// The same, once more where memory ran out.
+fn are_letters_again(alloc: Global, ours: &[u32], letters: &str) -> Result<bool, AllocError> {
+    match are_letters(alloc, ours, letters) {
+        Err(_) => are_letters(alloc, ours, letters),
+        answer => answer,
+    }
+}
+
+#[test]
+fn formats_in_all_pairs(rt: HostRuntime) -> Result<(), Fail> {
+    assert_eq!(rt; ANSWERS.len(), FORMATS.len());
+    for (ours, letters) in FORMATS.iter().zip(ANSWERS) {
+        let holds = are_letters_again(rt.alloc(), ours, letters)?;
+        assert!(rt; letters.len() == FORMATS.len());
+        assert!(rt; holds, "{letters}");
+    }
+    Ok(())
+}
+
+/// Whether two formats filter to what has these words, settled.
+fn is_settled(
+    alloc: Global,
+    ours: &[u32],
+    theirs: &[u32],
+    wanted: &[u32],
+) -> Result<bool, AllocError> {
+    let a = bytes_of(alloc, ours)?;
+    let b = bytes_of(alloc, theirs)?;
+    match answer_of(alloc, a.as_slice(), b.as_slice())? {
+        Ok(met) => {
+            let settled = settled_bytes(alloc, met.as_slice())?;
+            Ok(settled.as_slice() == bytes_of(alloc, wanted)?.as_slice())
+        }
+        Err(_) => Ok(false),
+    }
+}
+
+/// Whether the formats of a row do.
+fn is_pair(alloc: Global, row: (usize, usize, &[u32])) -> Result<bool, AllocError> {
+    match (FORMATS.get(row.0), FORMATS.get(row.1)) {
+        (Some(ours), Some(theirs)) => is_settled(alloc, ours, theirs, row.2),
+        _ => Ok(false),
+    }
+}
+
+/// The same, once more where memory ran out, or where a refused request left no bytes.
+fn is_pair_again(alloc: Global, row: (usize, usize, &[u32])) -> Result<bool, AllocError> {
+    match is_pair(alloc, row) {
+        Ok(true) => Ok(true),
+        _ => is_pair(alloc, row),
+    }
+}
+
+#[test]
+fn formats_of_sound_settle(rt: HostRuntime) -> Result<(), Fail> {
+    for row in AUDIO {
+        let holds = is_pair_again(rt.alloc(), *row)?;
+        assert!(rt; holds, "{} and {}", row.0, row.1);
+    }
+    Ok(())
+}
+
+#[test]
+fn other_formats_settle(rt: HostRuntime) -> Result<(), Fail> {
+    for row in VIDEO {
+        let holds = is_pair_again(rt.alloc(), *row)?;
+        assert!(rt; holds, "{} and {}", row.0, row.1);
+    }
+    Ok(())
+}

@@ -1,18 +1,23 @@
 -- Known bytes that stay, and then stay or grow.
 use Rattle.std.specs.Io.KnownBytes.{Appends, Keeps}
-use Rattle.std.proofs.Common.{◌≡◌, ℕ, ◌+◌, List, [], Option, Some, None, refl, sym, append-nil, append_assoc, length-append, arith, ◌≤◌, take, drop, length, ◌∙◌, ◌++◌, ap, subst}
-use Rattle.std.proofs.lemmas.List.{take-append-drop}
-use Rattle.spa_device.specs.CountingLaws.{known_more}
+use Rattle.std.proofs.Common.{◌≡◌, ◌≤◌, ℕ, ◌+◌, length-append, length-drop, drop, List, [], Option, Some, None, refl, sym, inl, inr, append-nil, arith, take, length, ◌∙◌, ◌++◌, ap, subst}
+use Rattle.std.specs.Borrow.{Bor}
+use Rattle.std.specs.Prelude.{⊤, Result, Ok, Err, OnOk, IfErr, OnErr}
+use Rattle.std.proofs.lemmas.Bool.{cases_lt}
+use Rattle.std.proofs.lemmas.List.{nil_from_length, take_all}
 use Rattle.spa_format.specs.Tree.{Trees}
 use Rattle.spa_format.specs.Pod.{AreMembers}
+use Rattle.spa_leaf.specs.Reading.{OnFault}
+use Rattle.spa_fixed.specs.Faults.{kind_text}
 use Rattle.spa_fixed.specs.declared.fault.DeserializeError.{DeserializeError}
 use Rattle.spa_fixed.specs.declared.fault.DeserializeError.TheVariants as error
-use Rattle.std.specs.Borrow.{Bor}
-use Rattle.std.specs.Prelude.{Result, OnErr, Ok, Err}
-use Rattle.spa_rewrite.specs.Rewriting.{IsLeft, RefusesList}
-use Rattle.podtool.specs.Answers.{Begins, IsAllOf, IsNotRewritten, IsRefusalAt, IsTold, RefusesInput, WritesRewritings}
-use Rattle.podtool.specs.declared.run.Failure.{Failure}
-use Rattle.podtool.specs.declared.run.Failure.TheVariants.{Pod, OutOfMemory, ReadFailed, WriteFailed}
+use Rattle.spa_rewrite.specs.Rewriting.{IsLeft, RefusesFront, RefusesList}
+use Rattle.spa_rewrite.specs.InPlace.{RefusesListAt}
+use Rattle.podtool.specs.Answers.{Answers, BeginsToWrite, IsAllOf, IsCutOff, IsNotListed, IsRefusalAt, IsTold, IsUndone, OnAnswer, RefusesInput, Writes}
+use Rattle.podtool.specs.declared.answer.Answer.{Answer}
+use Rattle.podtool.specs.declared.answer.Answer.TheVariants.{Refused}
+use Rattle.podtool.specs.declared.answer.Failure.{Failure}
+use Rattle.podtool.specs.declared.answer.Failure.TheVariants.{Pod, OutOfMemory, ReadFailed, WriteFailed}
 
 pub keeps_first : (a : Option (List ℕ)) → Keeps a a
 keeps_first None = tt
@@ -41,67 +46,149 @@ keeps_nothing None b xs k = tt
 keeps_nothing (Some a) None xs k = absurd k
 keeps_nothing (Some a) (Some b) xs k = k ∙ sym (append-nil a)
 
--- a beginning of the first of two parts, and one of the second behind the first
-pub begins_first : (a b : Option (List ℕ)) (n : ℕ) (xs ys : List ℕ) → Appends a b (take n xs) → Begins a b (xs ++ ys)
-begins_first a b n xs ys p = record {
-  first = take n xs;
-  rest = drop n xs ++ ys;
-  parts = sym (append_assoc (take n xs) (drop n xs) ys) ∙ ap (λ l. l ++ ys) (take-append-drop n xs);
-  written = p;
-}
+pub appends_nothing : (a : Option (List ℕ)) → Appends a a []
+appends_nothing None = tt
+appends_nothing (Some a) = sym (append-nil a)
 
-pub begins_second : (a b c : Option (List ℕ)) (n : ℕ) (xs ys : List ℕ) → Appends a b xs → Appends b c (take n ys) → Begins a c (xs ++ ys)
-begins_second a b c n xs ys p q = record {
-  first = xs ++ take n ys;
-  rest = drop n ys;
-  parts = append_assoc xs (take n ys) (drop n ys) ∙ ap (λ l. xs ++ l) (take-append-drop n ys);
-  written = known_more a b c xs (take n ys) p q;
-}
-
--- where the input isn't pods one after another, its refusal is told, and nothing is written
-at_place : (remaining old : Option (List ℕ)) (input left : List ℕ) (place : ℕ) (why : Failure) → IsAllOf remaining input → IsLeft input left →
-    place + length left ≡ length input → ((vs : Trees) → ¬ (AreMembers vs input)) → IsRefusalAt place why → IsNotRewritten remaining old old why
-at_place remaining old input left place (Pod p kind) all behind eq refuses t =
-    (record { input = input; read = all; left = left; behind = behind; its_place = subst (λ n. n + length left ≡ length input) (sym t) eq; refused = refuses }, keeps_first old)
-at_place remaining old input left place OutOfMemory all behind eq refuses t = absurd t
-at_place remaining old input left place ReadFailed all behind eq refuses t = absurd t
-at_place remaining old input left place WriteFailed all behind eq refuses t = absurd t
-
-pub not_rewritten : (remaining old : Option (List ℕ)) (input left : List ℕ) (place : ℕ) (e : DeserializeError (Bor (List ℕ))) (why : Failure) →
-    IsAllOf remaining input → RefusesList input left e → place + length left ≡ length input → IsTold place e why →
-    IsNotRewritten remaining old old why
-not_rewritten remaining old input left place error.OutOfMemory why all r eq t = subst (λ w. IsNotRewritten remaining old old w) (sym t.told) (keeps_first old)
-not_rewritten remaining old input left place (error.Nom f) why all r eq t = at_place remaining old input left place why all r.behind eq r.refused t.told
-not_rewritten remaining old input left place (error.PropertyWrongKey k) why all r eq t = at_place remaining old input left place why all r.behind eq r.refused t.told
-not_rewritten remaining old input left place error.UnsupportedType why all r eq t = at_place remaining old input left place why all r.behind eq r.refused t.told
-not_rewritten remaining old input left place error.InvalidType why all r eq t = at_place remaining old input left place why all r.behind eq r.refused t.told
-not_rewritten remaining old input left place error.PropertyMissing why all r eq t = at_place remaining old input left place why all r.behind eq r.refused t.told
-not_rewritten remaining old input left place error.InvalidChoiceType why all r eq t = at_place remaining old input left place why all r.behind eq r.refused t.told
-not_rewritten remaining old input left place error.MissingChoiceValues why all r eq t = at_place remaining old input left place why all r.behind eq r.refused t.told
-not_rewritten remaining old input left place error.WrongSize why all r eq t = at_place remaining old input left place why all r.behind eq r.refused t.told
-not_rewritten remaining old input left place error.UnreadMembers why all r eq t = at_place remaining old input left place why all r.behind eq r.refused t.told
-not_rewritten remaining old input left place error.NoElementLeft why all r eq t = at_place remaining old input left place why all r.behind eq r.refused t.told
-not_rewritten remaining old input left place error.FailedReader why all r eq t = at_place remaining old input left place why all r.behind eq r.refused t.told
+-- so many first bytes are followed by something
+pub some_left : (input : List ℕ) (place : ℕ) → IsLeft input (drop place input) → place + length (drop place input) ≡ length input
+some_left input place h =
+    let d = length-drop place input in
+    elim (cases_lt place (length input)) [
+      | inl l ↦ omega arith
+      | inr l ↦ absurd (h.4 (nil_from_length (drop place input) (omega arith)))
+    ]
 
 -- what is left is no longer than the whole
 pub left_fits : (input left : List ℕ) → IsLeft input left → length left ≤ length input
 left_fits input left h = let e = ap length h.2 in let l = length-append h.1 left in omega (arith, e, l)
 
+-- where the input isn't pods one after another, its refusal is told, and nothing is written
+at_place : (Makes : List ℕ → List ℕ → Type 0) (remaining old : Option (List ℕ)) (input left : List ℕ) (place : ℕ) (name : List ℕ)
+    (told : DeserializeError (Bor (List ℕ))) (why : Failure) → IsAllOf remaining input → IsLeft input left → place + length left ≡ length input →
+    ((vs : Trees) → ¬ (AreMembers vs input)) → RefusesFront left told → name ≡ kind_text told → IsRefusalAt place name why →
+    IsUndone Makes remaining old old why
+at_place Makes remaining old input left place name told (Pod p kind) all behind eq refuses front named t = (
+  record {
+    input = input;
+    read = all;
+    left = left;
+    behind = behind;
+    its_place = subst (λ n. n + length left ≡ length input) (sym t.0) eq;
+    refused = refuses;
+    told = told;
+    front = front;
+    its_kind = t.1 ∙ named;
+  },
+  keeps_first old,
+)
+at_place Makes remaining old input left place name told OutOfMemory all behind eq refuses front named t = absurd t
+at_place Makes remaining old input left place name told ReadFailed all behind eq refuses front named t = absurd t
+at_place Makes remaining old input left place name told WriteFailed all behind eq refuses front named t = absurd t
+
+-- the same of any error that may be told, memory's among them
+pub refusal_undone : {I : Type 0} (Makes : List ℕ → List ℕ → Type 0) (remaining old : Option (List ℕ)) (input left : List ℕ) (place : ℕ)
+    (e : DeserializeError I) (told : DeserializeError (Bor (List ℕ))) (why : Failure) → IsAllOf remaining input → IsLeft input left →
+    place + length left ≡ length input → OnFault ((vs : Trees) → ¬ (AreMembers vs input)) e → RefusesFront left told →
+    kind_text e ≡ kind_text told → IsTold place e why → IsUndone Makes remaining old old why
+refusal_undone Makes remaining old input left place error.OutOfMemory told why all behind eq refuses front named t =
+    subst (λ w. IsUndone Makes remaining old old w) (sym t.told) (keeps_first old)
+refusal_undone Makes remaining old input left place (error.Nom f) told why all behind eq refuses front named t =
+    at_place Makes remaining old input left place _ told why all behind eq refuses front named t.told
+refusal_undone Makes remaining old input left place (error.PropertyWrongKey k) told why all behind eq refuses front named t =
+    at_place Makes remaining old input left place _ told why all behind eq refuses front named t.told
+refusal_undone Makes remaining old input left place error.UnsupportedType told why all behind eq refuses front named t =
+    at_place Makes remaining old input left place _ told why all behind eq refuses front named t.told
+refusal_undone Makes remaining old input left place error.InvalidType told why all behind eq refuses front named t =
+    at_place Makes remaining old input left place _ told why all behind eq refuses front named t.told
+refusal_undone Makes remaining old input left place error.PropertyMissing told why all behind eq refuses front named t =
+    at_place Makes remaining old input left place _ told why all behind eq refuses front named t.told
+refusal_undone Makes remaining old input left place error.InvalidChoiceType told why all behind eq refuses front named t =
+    at_place Makes remaining old input left place _ told why all behind eq refuses front named t.told
+refusal_undone Makes remaining old input left place error.MissingChoiceValues told why all behind eq refuses front named t =
+    at_place Makes remaining old input left place _ told why all behind eq refuses front named t.told
+refusal_undone Makes remaining old input left place error.WrongSize told why all behind eq refuses front named t =
+    at_place Makes remaining old input left place _ told why all behind eq refuses front named t.told
+refusal_undone Makes remaining old input left place error.UnreadMembers told why all behind eq refuses front named t =
+    at_place Makes remaining old input left place _ told why all behind eq refuses front named t.told
+refusal_undone Makes remaining old input left place error.NoElementLeft told why all behind eq refuses front named t =
+    at_place Makes remaining old input left place _ told why all behind eq refuses front named t.told
+refusal_undone Makes remaining old input left place error.FailedReader told why all behind eq refuses front named t =
+    at_place Makes remaining old input left place _ told why all behind eq refuses front named t.told
+
 -- what stays after a write was written
-pub rewritings_kept : (remaining old mid new : Option (List ℕ)) → WritesRewritings remaining old mid → Keeps mid new → WritesRewritings remaining old new
-rewritings_kept remaining old mid new w k = record {
+pub writes_kept : (Makes : List ℕ → List ℕ → Type 0) (remaining old mid new : Option (List ℕ)) → Writes Makes remaining old mid → Keeps mid new →
+    Writes Makes remaining old new
+writes_kept Makes remaining old mid new w k = record {
   input = w.input;
   read = w.read;
-  rewritings = w.rewritings;
-  rewritten = w.rewritten;
-  written = appends_keeps old mid new w.rewritings w.written k;
+  out = w.out;
+  made = w.made;
+  written = appends_keeps old mid new w.out w.written k;
 }
 
--- what holds in a refusal
-pub in_refusal : {A E : Type 0} {P : Type 0} (r : Result A E) → P → OnErr r P
-in_refusal (Ok x) p = tt
-in_refusal (Err e) p = p
+-- and where the output fails then, all that had to be written is there
+pub writes_begun : (Makes : List ℕ → List ℕ → Type 0) (remaining old mid new : Option (List ℕ)) → Writes Makes remaining old mid → Keeps mid new →
+    BeginsToWrite Makes remaining old new
+writes_begun Makes remaining old mid new w k = record {
+  input = w.input;
+  read = w.read;
+  out = w.out;
+  made = w.made;
+  count = length w.out;
+  written = subst (Appends old new) (sym (take_all (length w.out) w.out (omega arith))) (appends_keeps old mid new w.out w.written k);
+}
 
-pub refusal_weaker : {A E : Type 0} {P Q : Type 0} (r : Result A E) → (P → Q) → OnErr r P → OnErr r Q
-refusal_weaker (Ok x) f p = tt
-refusal_weaker (Err e) f p = f p
+pub undone_kept : (Makes : List ℕ → List ℕ → Type 0) (remaining old mid new : Option (List ℕ)) (why : Failure) →
+    IsUndone Makes remaining old mid why → Keeps mid new → IsUndone Makes remaining old new why
+undone_kept Makes remaining old mid new (Pod p kind) u k = (u.0, keeps_keeps old mid new u.1 k)
+undone_kept Makes remaining old mid new OutOfMemory u k = keeps_keeps old mid new u k
+undone_kept Makes remaining old mid new ReadFailed u k = keeps_keeps old mid new u k
+undone_kept Makes remaining old mid new WriteFailed u k = record {
+  input = u.input;
+  read = u.read;
+  out = u.out;
+  made = u.made;
+  count = u.count;
+  written = appends_keeps old mid new (take u.count u.out) u.written k;
+}
+
+-- the work's answer, once the output is flushed
+pub answered : {T : Type 0} (Makes : List ℕ → List ℕ → Type 0) (remaining old mid new : Option (List ℕ)) (done : Result T Failure) (answer : Answer) →
+    Keeps mid new → Answers done answer → OnOk done (Writes Makes remaining old mid) → IfErr done (IsUndone Makes remaining old mid) →
+    OnAnswer answer (Writes Makes remaining old new) (IsUndone Makes remaining old new)
+answered Makes remaining old mid new (Ok x) answer k (inl e) w u =
+    subst (λ a. OnAnswer a (Writes Makes remaining old new) (IsUndone Makes remaining old new)) (sym e) (writes_kept Makes remaining old mid new w k)
+answered Makes remaining old mid new (Ok x) answer k (inr e) w u =
+    subst (λ a. OnAnswer a (Writes Makes remaining old new) (IsUndone Makes remaining old new)) (sym e) (writes_begun Makes remaining old mid new w k)
+answered Makes remaining old mid new (Err why) answer k e w u =
+    subst (λ a. OnAnswer a (Writes Makes remaining old new) (IsUndone Makes remaining old new)) (sym e) (undone_kept Makes remaining old mid new why u k)
+
+list_kept : (remaining old mid new : Option (List ℕ)) (why : Failure) → IsNotListed remaining old mid why → Keeps mid new → IsNotListed remaining old new why
+list_kept remaining old mid new (Pod p kind) u k = (u.0, keeps_keeps old mid new u.1 k)
+list_kept remaining old mid new OutOfMemory u k = tt
+list_kept remaining old mid new ReadFailed u k = keeps_keeps old mid new u k
+list_kept remaining old mid new WriteFailed u k = tt
+
+pub answered_list : {T : Type 0} (Makes : List ℕ → List ℕ → Type 0) (remaining old mid new : Option (List ℕ)) (done : Result T Failure) (answer : Answer) →
+    Keeps mid new → Answers done answer → OnOk done (Writes Makes remaining old mid) → IfErr done (IsNotListed remaining old mid) →
+    OnAnswer answer (Writes Makes remaining old new) (IsNotListed remaining old new)
+answered_list Makes remaining old mid new (Ok x) answer k (inl e) w u =
+    subst (λ a. OnAnswer a (Writes Makes remaining old new) (IsNotListed remaining old new)) (sym e) (writes_kept Makes remaining old mid new w k)
+answered_list Makes remaining old mid new (Ok x) answer k (inr e) w u =
+    subst (λ a. OnAnswer a (Writes Makes remaining old new) (IsNotListed remaining old new)) (sym e) tt
+answered_list Makes remaining old mid new (Err why) answer k e w u =
+    subst (λ a. OnAnswer a (Writes Makes remaining old new) (IsNotListed remaining old new)) (sym e) (list_kept remaining old mid new why u k)
+
+pub cut_off : (remaining old new : Option (List ℕ)) (why : Failure) → IsCutOff why → IsNotListed remaining old new why
+cut_off remaining old new why (inl e) = subst (IsNotListed remaining old new) (sym e) tt
+cut_off remaining old new why (inr e) = subst (IsNotListed remaining old new) (sym e) tt
+
+-- a write of what had to be written failed
+pub write_undone : {T : Type 0} (Makes : List ℕ → List ℕ → Type 0) (remaining old new : Option (List ℕ)) (r : Result T Failure) (input out : List ℕ) →
+    IsAllOf remaining input → Makes input out → OnErr r ((n : ℕ) × Appends old new (take n out)) → IfErr r (λ why. why ≡ WriteFailed) →
+    IfErr r (IsUndone Makes remaining old new)
+write_undone Makes remaining old new (Ok x) input out all made begun cause = tt
+write_undone Makes remaining old new (Err e) input out all made begun cause =
+    subst (IsUndone Makes remaining old new) (sym cause)
+    (record { input = input; read = all; out = out; made = made; count = begun.0; written = begun.1 })

@@ -1,41 +1,44 @@
 //! `podtool rewrite|fixate|show`: pods from standard input are rewritten, fixated or listed on standard output.
 #![tactic(auto)]
 
+mod answer;
 #[cfg(test)]
 mod example_pods;
 mod listing;
 mod output;
+mod pods;
 mod run;
 #[cfg(test)]
 mod tests;
 
+use crate::answer::{Answer, Failure};
 use std::alloc::AllocError;
 use std::env;
 use std::io::{self, ErrorKind};
 use std::process::ExitCode;
 
-/// Hands the words behind the program's name and the standard streams to `run`, and answers its status.
+/// Hands the words behind the program's name and the standard streams to `run`, tells what became of that, and answers its
+/// status. Where the line can't be written, nothing changes.
 fn main(rt: HostRuntime) -> ExitCode {
-    let Ok(given) = given_words(&rt) else {
-        let _ = eprintln!(rt; "podtool: out of memory");
-        return ExitCode::FAILURE;
+    let answer = outcome(&rt);
+    let _ = answer::tell(&mut rt.stderr(), &answer);
+    ExitCode::from(answer.status())
+}
+
+/// What became of the run.
+fn outcome(rt: &HostRuntime) -> Answer {
+    let Ok(given) = given_words(rt) else {
+        return Answer::Refused(Failure::OutOfMemory);
     };
     let words: Result<Vec<&str>, AllocError> = given
         .iter()
         .map(|word| word.as_str())
         .collect(rt.alloc());
     let Ok(words) = words else {
-        let _ = eprintln!(rt; "podtool: out of memory");
-        return ExitCode::FAILURE;
+        return Answer::Refused(Failure::OutOfMemory);
     };
-    let (status, _) = run::run(
-        rt.alloc(),
-        words.as_slice(),
-        &mut rt.stdin(),
-        rt.stdout(),
-        &mut rt.stderr(),
-    );
-    ExitCode::from(status)
+    let (answer, _) = run::run(rt.alloc(), words.as_slice(), &mut rt.stdin(), rt.stdout());
+    answer
 }
 
 /// The words behind the program's name. Where one isn't UTF-8, there is one empty word, which is none of the program's.

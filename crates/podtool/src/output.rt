@@ -1,9 +1,9 @@
 //! Where the program's answer goes.
-ghost use Rattle.std.specs.Prelude.{ℕ, Err, IfErr, IsOk, OnErr, OnOk, take, ◌≡◌};
+ghost use Rattle.std.specs.Prelude.{ℕ, IfErr, OnErr, OnOk, take, ◌≡◌};
 ghost use Rattle.std.specs.Io.KnownBytes.{Appends, Keeps};
-ghost use Rattle.podtool.specs.Answers.{held};
+ghost use Rattle.podtool.specs.Answers.{Answers, held};
 
-use crate::run::Failure;
+use crate::answer::{Answer, Failure};
 use spa_device::IoSink;
 use spa_sink::PodSink;
 use std::io::{self, ErrorKind, Write};
@@ -69,20 +69,18 @@ impl<W: Write + Drop> Output<W> {
         self.sink.into_inner().device
     }
 
-    /// The device, and the answer so far; where the work is done, it is flushed and then has all that was written.
-    pub(crate) fn closed(self, done: Result<(), Failure>) -> (Result<(), Failure>, W)
+    /// The device, and the answer; where the work is done, the device is flushed, and then has all that was written.
+    pub(crate) fn answered(self, done: Result<(), Failure>) -> (Answer, W)
         ensures kept { Keeps (held W.contents self) (W.contents result.1) }
-        ensures done { OnOk result.0 (IsOk done) }
-        ensures failed { IfErr done (λ failure. result.0 ≡ Err failure) }
-        ensures cause { OnOk done (IfErr result.0 (λ failure. failure ≡ Failure.WriteFailed)) }
+        ensures answer { Answers done result.0 }
     {
         let mut device = self.sink.into_inner().device;
         match done {
             Ok(()) => match device.flush() {
-                Ok(()) => (Ok(()), device),
-                Err(_) => (Err(Failure::WriteFailed), device),
+                Ok(()) => (Answer::Done, device),
+                Err(_) => (Answer::Refused(Failure::WriteFailed), device),
             },
-            Err(failure) => (Err(failure), device),
+            Err(why) => (Answer::Refused(why), device),
         }
     }
 }

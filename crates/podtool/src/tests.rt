@@ -1,3 +1,4 @@
+use crate::answer::tell;
 use crate::example_pods::EXAMPLES;
 use crate::run::run;
 use spa_spelling::bytes_of;
@@ -111,8 +112,10 @@ fn found(
         limit: rooms.1,
         interrupted: false,
     };
-    let (status, output) = run(alloc, words, &mut source, output, &mut faults);
-    (output.taken, faults.taken, status)
+    let (answer, output) = run(alloc, words, &mut source, output);
+    // Where the line can't be written, nothing changes.
+    let _ = tell(&mut faults, &answer);
+    (output.taken, faults.taken, answer.status())
 }
 
 /// Compares what a run writes, what it says, and its status.

@@ -1,0 +1,19 @@
+//! Values as text with names, and back: strict JSON, which loses nothing.
+#![tactic(auto)]
+
+mod cause;
+mod chosen;
+mod element;
+mod inside;
+pub mod laws;
+mod names;
+mod nest;
+mod numerals;
+mod opening;
+mod reading;
+mod scalars;
+mod tag;
+mod tokens;
+
+pub use cause::Cause;
+pub use reading::{TextError, read};

@@ -1,0 +1,46 @@
+//! What the tables of names say.
+ghost use Rattle.std.specs.Prelude.{◌≡◌, option_map};
+ghost use Rattle.spa_text.specs.Names as spec;
+
+use spa_names::{Expected, Table};
+use spa_utils::SpaTypes;
+
+/// The number of a name.
+#[tactic(auto, unfolding(crate::specs::Names::number_of))]
+pub(crate) fn number_of(table: Table, name: &str) -> Option<u32>
+    ensures { result ≡ spec.number_of table name.now }
+{
+    spa_names::number_of(table, name)
+}
+
+/// The name of a number.
+#[tactic(auto, unfolding(crate::specs::Names::name_of))]
+pub(crate) fn name_of(table: Table, number: u32) -> Option<&'static str>
+    ensures { option_map (λ name. name.now) result ≡ spec.name_of table number }
+{
+    spa_names::name_of(table, number)
+}
+
+/// The table of the keys of objects of this type.
+#[tactic(auto, unfolding(crate::specs::Names::keys_of))]
+pub(crate) fn keys_of(type_: u32) -> Table
+    ensures { result ≡ spec.keys_of type_ }
+{
+    spa_names::keys_of(SpaTypes(type_))
+}
+
+/// The table of the ids of objects of this type.
+#[tactic(auto, unfolding(crate::specs::Names::ids_of))]
+pub(crate) fn ids_of(type_: u32) -> Table
+    ensures { result ≡ spec.ids_of type_ }
+{
+    spa_names::ids_of(SpaTypes(type_))
+}
+
+/// What is expected under a key, by the table of its object's keys.
+#[tactic(auto, unfolding(crate::specs::Names::expected_under))]
+pub(crate) fn expected_under(keys: Table, key: u32) -> Expected
+    ensures { result ≡ spec.expected_under keys key }
+{
+    spa_names::expected_under(keys, key)
+}

@@ -5,7 +5,7 @@ use std::alloc::Global;
 use std::process::Abort;
 
 /// Texts that are refused, and why.
-const REFUSED: [(&str, Cause); 23] = [
+const REFUSED: [(&str, Cause); 25] = [
     ("", Cause::Token),
     ("[", Cause::Token),
     ("[1,]", Cause::Token),
@@ -13,6 +13,11 @@ const REFUSED: [(&str, Cause); 23] = [
     ("1 2", Cause::End),
     ("[]]", Cause::End),
     ("nul", Cause::Token),
+    ("\"a\u{1}b\"", Cause::Token),
+    (
+        "{\"type\":\"No such type\",\"id\":3,\"props\":{}}",
+        Cause::Number,
+    ),
     ("{}", Cause::Token),
     ("{\"other\":1}", Cause::Token),
     ("2147483648", Cause::Number),

@@ -180,11 +180,12 @@ fn structs_and_objects_are_read(rt: HostRuntime) -> Result<(), Fail> {
     members.push(Value::Struct(Vec::new(alloc)))?;
     assert_read(&rt, alloc, "[1,{\"struct\":[]}]", Value::Struct(members));
     let text =
-        "{\"type\":\"Format\",\"id\":\"EnumFormat\",\"props\":{\"format\":\"S16LE\",\"65539\":{\"flags\":3,\"value\":{\"long\":1}},\"rate\":5}}";
+        "{\"type\":\"Format\",\"id\":\"EnumFormat\",\"props\":{\"format\":\"S16LE\",\"65539\":{\"flags\":3,\"value\":{\"long\":1}},\"rate\":5,\"rate\":-6}}";
     let properties = [
         (65537, 0, Value::Id(Id(259))),
         (65539, 3, Value::Long(1)),
         (65539, 0, Value::Int(5)),
+        (65539, 0, Value::Int(-6)),
     ];
     let mut wanted = Vec::new(alloc);
     for (key, flags, value) in properties {

@@ -121,6 +121,65 @@ static void refuse_deep(void) {
 	}
 }
 
+/* Two objects that meet: under one key an Enum and an Int, and one of them has a struct under another one. */
+static const uint32_t ours[] = { 80, 15, 5, 3, 1, 0, 24, 19, 3, 0, 4, 4, 7, 9, 2, 0, 16, 14, 4, 4, 6, 0 };
+static const uint32_t theirs[] = { 32, 15, 5, 7, 1, 0, 4, 4, 9, 0 };
+
+/* The object in which they meet, or to which they are filtered. */
+static int32_t join(bool filters, void *out, size_t cap, size_t *written) {
+	uint32_t told;
+	if (filters)
+		return spav_filter(ours, sizeof ours, theirs, sizeof theirs, out, cap, written, &told);
+	return spav_negotiate(ours, sizeof ours, theirs, sizeof theirs, out, cap, written, &told);
+}
+
+static void refuse_joining(bool filters) {
+	static uint8_t wanted[256], out[256], before[256];
+	size_t len, written;
+	memset(before, 0xee, sizeof before);
+	refuse_at = 0;
+	SEE(join(filters, wanted, sizeof wanted, &len) == 0 && held == 0);
+	for (refuse_at = 1;; refuse_at++) {
+		asked = 0;
+		memset(out, 0xee, sizeof out);
+		int32_t answer = join(filters, out, sizeof out, &written);
+		SEE(held == 0);
+		if (asked < refuse_at) {
+			SEE(answer == 0 && refuse_at > 1);
+			break;
+		}
+		if (answer == 0)
+			SEE(!and_after && written == len && !memcmp(out, wanted, len));
+		else
+			SEE(answer == -ENOMEM && !memcmp(out, before, sizeof out));
+	}
+}
+
+/* A struct with another one and a text in it. */
+static void refuse_building(void) {
+	const struct spav_call calls[] = { spav_push_struct(), spav_push_struct(), spav_add_string(0, 100), spav_pop(2), spav_pop(1) };
+	static uint8_t texts[100], wanted[256], out[256], before[256];
+	size_t len, written, at;
+	memset(texts, 'a', sizeof texts);
+	memset(before, 0xee, sizeof before);
+	refuse_at = 0;
+	SEE(spav_build(calls, 5, texts, sizeof texts, wanted, sizeof wanted, &len, &at) == 0 && held == 0);
+	for (refuse_at = 1;; refuse_at++) {
+		asked = 0;
+		memset(out, 0xee, sizeof out);
+		int32_t answer = spav_build(calls, 5, texts, sizeof texts, out, sizeof out, &written, &at);
+		SEE(held == 0);
+		if (asked < refuse_at) {
+			SEE(answer == 0 && refuse_at > 1);
+			break;
+		}
+		if (answer == 0)
+			SEE(!and_after && written == len && !memcmp(out, wanted, len));
+		else
+			SEE(answer == -ENOMEM && !memcmp(out, before, sizeof out));
+	}
+}
+
 int main(void) {
 	static uint8_t own[1024];
 	size_t written, at;
@@ -129,9 +188,13 @@ int main(void) {
 		and_after = i == 1;
 		refuse_each(noisy, sizeof noisy, true);
 		refuse_each(own, written, false);
+		refuse_each(noisy, 16, false);
 		refuse_in_place(noisy, 16, false);
 		refuse_in_place(noisy, sizeof noisy, true);
 		refuse_deep();
+		refuse_joining(false);
+		refuse_joining(true);
+		refuse_building();
 	}
 	return 0;
 }

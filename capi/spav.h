@@ -1,4 +1,5 @@
-/* spav: pods of PipeWire, rewritten, checked, told apart, read, listed and fixated by proved code. docs/CAPI.md says what each call promises.
+/* spav: pods of PipeWire, rewritten, checked, told apart, read, listed, fixated, negotiated, filtered and built by proved code. docs/CAPI.md
+ * says what each call promises.
  *
  * What a caller keeps to. A region is `n` bytes that may be read, or written where it isn't const, and n is at most PTRDIFF_MAX. NULL
  * is taken where its length is 0. A region that is written overlaps no other argument; a const one may be read by others meanwhile.
@@ -31,7 +32,8 @@ uint32_t spav_abi(void);
  *   0        *written is their length; behind them `out` is as it was
  *   -EINVAL  `in` isn't pods one after another: the refused pod begins at the byte *at
  *   -ENOSPC  `cap` is less than their length, *written
- *   -ENOMEM  memory was asked for and refused; none is asked for where `in` is its own rewriting and nests in 1000 levels at most
+ *   -ENOMEM  memory was asked for and refused; none is asked for where `in` is its own rewriting and nests in 1000 levels at most, nor
+ *            where each rewriting is as long as its pod, these nest so, and `cap` is n or more
  * Where the answer isn't 0, `out` is unchanged. */
 int32_t spav_rewrite(const void *in, size_t n, void *out, size_t cap, size_t *written, size_t *at);
 
@@ -85,6 +87,46 @@ int32_t spav_double(const void *in, size_t n, uint32_t key, uint64_t *bits);
 /* The same of a text: what stands before the first NUL of a string goes to the front of `out`, with one NUL behind it. *len is how
  * long it is without that. -ENOSPC: `cap` isn't more than *len. -EPROTO also says that the string's body doesn't end in NUL. */
 int32_t spav_string(const void *in, size_t n, uint32_t key, char *out, size_t cap, size_t *len);
+
+/* Writes the object in which the objects at the fronts of `a` and `b` meet to the front of `out`, by the rules of docs/NEGOTIATION.md: under
+ * each key of either stands a value that both admit, and no choice but those of the shape None. What follows the two fronts doesn't count.
+ *   0            *written is its length; behind it `out` is as it was
+ *   -ENOSPC      `cap` is less than its length, *written
+ *   -EINVAL      no object is at the front of `a`, where *told is 0, or of `b`, where it is 1
+ *   -EPROTO      they don't meet: they are of two types
+ *   -ENOTSUP     they don't meet: under the key *told stands a choice for which no common value is sought
+ *   -ENODATA     they don't meet: under the key *told no value is admitted by both
+ *   -EOVERFLOW   they meet in an object in which a size is 2^32 or more
+ *   -ENOMEM      memory was asked for and refused
+ * Where the answer isn't 0, `out` is unchanged. However deep the two nest, it goes by loops. */
+int32_t spav_negotiate(const void *a, size_t n, const void *b, size_t m, void *out, size_t cap, size_t *written, uint32_t *told);
+
+/* Writes the object to which the two are filtered in the same way: under each key of both stands what admits exactly what both admit, under a
+ * key of one what stands there. It may still hold choices, so that a third one may be filtered with it; spav_fixate settles it. The answers
+ * are those of spav_negotiate, and
+ *   -ENOENT      they aren't filtered: one has the key *told with the flag MANDATORY, and the other lacks it */
+int32_t spav_filter(const void *a, size_t n, const void *b, size_t m, void *out, size_t cap, size_t *written, uint32_t *told);
+
+/* A call of a builder; the functions of the names spav_add_, spav_push_ and spav_pop below make them. */
+struct spav_call {
+	uint32_t what;   /* the type of the value that is added, or of the pod that is begun; 256 for a key, 257 for a pop */
+	uint32_t first;  /* an Id, a truth value, a Float's bits, a width, a numerator; the type of a pointer or an object, a choice's shape, a key */
+	uint32_t second; /* a height, a denominator, an object's id, the flags of a choice or a property; how many bytes a text has */
+	int32_t number;  /* an Int */
+	int64_t wide;    /* a Long, the number of a file descriptor */
+	uint64_t bits;   /* a Double's bits, an address, the byte of `texts` at which a text begins, a frame */
+};
+
+/* Writes the pods that `count` calls build, one after another, to the front of `out`, by the rules of docs/FORMAT.md, "Making pods call by
+ * call". Strings and bytes are parts of the n bytes `texts`.
+ *   0            *written is their length; behind them `out` is as it was
+ *   -ENOSPC      `cap` is less than their length, *written
+ *   -EINVAL      the call number *at, of which the first has the number 0, can't come there, or is none: a string goes past `texts`, isn't UTF-8 or
+ *                holds NUL, a frame isn't the innermost pod's, .. Where *at is `count`, a pod is begun and not closed
+ *   -EOVERFLOW   by the call number *at the size of a pod is 2^32 or more
+ *   -ENOMEM      memory was asked for and refused
+ * Where the answer isn't 0, `out` is unchanged. */
+int32_t spav_build(const struct spav_call *calls, size_t count, const void *texts, size_t n, void *out, size_t cap, size_t *written, size_t *at);
 
 /* The parent of a pod that stands in no other. */
 #define SPAV_NO_PARENT SIZE_MAX
@@ -164,6 +206,20 @@ static inline int32_t spav_events_some(const void *in, size_t n, struct spav_eve
 	struct spav_event none;
 	return spav_events(spav_some(in), n, out ? out : &none, room, count);
 }
+static inline int32_t spav_negotiate_some(const void *a, size_t n, const void *b, size_t m, void *out, size_t cap, size_t *written, uint32_t *told) {
+	uint8_t none;
+	return spav_negotiate(spav_some(a), n, spav_some(b), m, out ? out : &none, cap, written, told);
+}
+static inline int32_t spav_filter_some(const void *a, size_t n, const void *b, size_t m, void *out, size_t cap, size_t *written, uint32_t *told) {
+	uint8_t none;
+	return spav_filter(spav_some(a), n, spav_some(b), m, out ? out : &none, cap, written, told);
+}
+static inline int32_t spav_build_some(const struct spav_call *calls, size_t count, const void *texts, size_t n, void *out, size_t cap, size_t *written, size_t *at) {
+	uint8_t none;
+	struct spav_call no_call;
+	memset(&no_call, 0, sizeof no_call);
+	return spav_build(calls ? calls : &no_call, count, spav_some(texts), n, out ? out : &none, cap, written, at);
+}
 #define spav_rewrite spav_rewrite_some
 #define spav_rewrite_in_place spav_rewrite_in_place_some
 #define spav_check spav_check_some
@@ -182,6 +238,41 @@ static inline int32_t spav_events_some(const void *in, size_t n, struct spav_eve
 #define spav_double spav_double_some
 #define spav_string spav_string_some
 #define spav_events spav_events_some
+#define spav_negotiate spav_negotiate_some
+#define spav_filter spav_filter_some
+#define spav_build spav_build_some
+
+/* The calls of a builder. A push begins a pod, and spav_pop closes the innermost one, whose frame is how many are begun: 1 for the outermost. */
+static inline struct spav_call spav_call_of(uint32_t what, uint32_t first, uint32_t second, uint64_t bits) {
+	struct spav_call call = { what, first, second, 0, 0, bits };
+	return call;
+}
+static inline struct spav_call spav_call_with(uint32_t what, int32_t number, int64_t wide) {
+	struct spav_call call = { what, 0, 0, number, wide, 0 };
+	return call;
+}
+static inline struct spav_call spav_add_none(void) { return spav_call_of(1, 0, 0, 0); }
+static inline struct spav_call spav_add_bool(bool value) { return spav_call_of(2, value, 0, 0); }
+static inline struct spav_call spav_add_id(uint32_t value) { return spav_call_of(3, value, 0, 0); }
+static inline struct spav_call spav_add_int(int32_t value) { return spav_call_with(4, value, 0); }
+static inline struct spav_call spav_add_long(int64_t value) { return spav_call_with(5, 0, value); }
+/* The bits of the number. */
+static inline struct spav_call spav_add_float(uint32_t bits) { return spav_call_of(6, bits, 0, 0); }
+static inline struct spav_call spav_add_double(uint64_t bits) { return spav_call_of(7, 0, 0, bits); }
+/* So many bytes of `texts` from that one on, without a NUL at the end. */
+static inline struct spav_call spav_add_string(size_t from, uint32_t len) { return spav_call_of(8, 0, len, from); }
+static inline struct spav_call spav_add_bytes(size_t from, uint32_t len) { return spav_call_of(9, 0, len, from); }
+static inline struct spav_call spav_add_rectangle(uint32_t width, uint32_t height) { return spav_call_of(10, width, height, 0); }
+static inline struct spav_call spav_add_fraction(uint32_t num, uint32_t denom) { return spav_call_of(11, num, denom, 0); }
+static inline struct spav_call spav_add_pointer(uint32_t type, uint64_t address) { return spav_call_of(17, type, 0, address); }
+static inline struct spav_call spav_add_fd(int64_t value) { return spav_call_with(18, 0, value); }
+static inline struct spav_call spav_push_array(void) { return spav_call_of(13, 0, 0, 0); }
+static inline struct spav_call spav_push_struct(void) { return spav_call_of(14, 0, 0, 0); }
+static inline struct spav_call spav_push_object(uint32_t type, uint32_t id) { return spav_call_of(15, type, id, 0); }
+static inline struct spav_call spav_push_choice(uint32_t shape, uint32_t flags) { return spav_call_of(19, shape, flags, 0); }
+/* The key and the flags of a property, whose value the next call adds or begins. */
+static inline struct spav_call spav_add_prop(uint32_t key, uint32_t flags) { return spav_call_of(256, key, flags, 0); }
+static inline struct spav_call spav_pop(uint64_t frame) { return spav_call_of(257, 0, 0, frame); }
 
 /* Pods one after another, or properties, that are still to come: an iterator without memory. It stops for good at the first that isn't
  * whole. The bytes stay the caller's. */

@@ -25,7 +25,7 @@ ROUND = 12
 RUNNING, ENDED = set(), threading.Event()
 
 # The head of a function, as `rt fmt` lays it out: its indentation and its name.
-HEAD = re.compile(r"( *)(?:pub(?:\([^)]*\))? )?(?:(?:const|unsafe|final) )*fn (\w+)")
+HEAD = re.compile(r'( *)(?:pub(?:\([^)]*\))? )?(?:(?:const|unsafe|final|extern "C") )*fn (\w+)')
 
 # The head of an impl of no trait, which a check names by its type, whatever file it stands in.
 INHERENT = re.compile(r"(?!.* for )impl(?:<.*?>)? (\w+)\b")
@@ -226,10 +226,12 @@ class Said:
                 in_proofs.append(place)
             elif place:
                 above.append(place)
-        # What is told of a proof names the file, which lies at the function's path.
+        # What is told of a proof names the file, which lies at the function's path; a cycle's file has the goals of several functions,
+        # each named for its own.
         for path, places in self.places.items():
-            folder = "/".join(["proofs", *path.split("::")[1:], ""])
-            places += [it for it in in_proofs if it[1].startswith(folder)]
+            *module, name = ["proofs", *path.split("::")[1:]]
+            folder, cycle = "/".join([*module, name, ""]), "/".join([*module, "+"])
+            places += [it for it in in_proofs if it[1].startswith(folder) or (it[1].startswith(cycle) and f"`{name}-" in it[3])]
 
     def is_answered(self):
         """Whether the prover judged the crate at all."""

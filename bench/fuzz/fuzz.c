@@ -1,8 +1,9 @@
 /* Compares libspav with the second implementation in C (../capi/one_pass.c), and asserts the laws of rewriting: rewriting twice changes
  * nothing; is_canonical exactly where rewriting the front changes nothing; check accepts exactly what rewriting accepts; a refusal
  * changes nothing and says where; an accepted object stays accepted under fixation; the events
- * are those of a walk that calls itself. Inputs and outputs end at pages that can't be touched.
- * With afl-clang-fast in persistent mode, else on the files that are named. */
+ * are those of a walk that calls itself; two objects meet in either order or in none, in their own rewriting; what is built is its own
+ * rewriting. Inputs and outputs end at pages that can't be touched.
+ * With afl-clang-fast in persistent mode, with clang's own fuzzer where LIBFUZZER is defined, else on the files that are named. */
 #include <errno.h>
 #include <stdio.h>
 #include <stdlib.h>
@@ -94,6 +95,53 @@ static void try_events(const uint8_t *in, size_t n) {
 	}
 }
 
+typedef int32_t join(const void *a, size_t n, const void *b, size_t m, void *out, size_t cap, size_t *written, uint32_t *told);
+
+/* Joins the front of the input with what follows it, or with itself where nothing does, in both orders. */
+static int32_t try_joining(join *call, const uint8_t *in, size_t n, uint8_t *out) {
+	uint32_t type, size, told = 0, other = 0;
+	size_t whole = n, len = 0, swapped = 0;
+	spav_front(in, n, &type, &size, &whole);
+	const uint8_t *second = whole < n ? in + whole : in;
+	size_t m = whole < n ? n - whole : n;
+	memset(out, UNTOUCHED, n);
+	int32_t answer = call(in, whole, second, m, out, n, &len, &told);
+	int32_t back = call(second, m, in, whole, again, MOST, &swapped, &other);
+	SEE((answer == 0 || answer == -ENOSPC) == (back == 0) && (answer == -EINVAL) == (back == -EINVAL) && (answer == -EPROTO) == (back == -EPROTO));
+	if (answer == 0 || answer == -ENOSPC)
+		SEE(len == swapped && spav_is_canonical(again, len) == 1);
+	if (answer == 0)
+		SEE(spav_is_canonical(out, len) == 1 && is_untouched(out + len, n - len));
+	else
+		SEE(is_untouched(out, n));
+	if (answer == -EINVAL)
+		SEE(told < 2 && other < 2);
+	return answer;
+}
+
+/* The words of the input as calls, over the input as texts: of those that are accepted the pods are their own rewriting. */
+static void try_building(const uint8_t *in, size_t n, uint8_t *out) {
+	static struct spav_call calls[MOST / 8];
+	size_t count = n / 16, len = 0, at = 0, other = 0;
+	for (size_t i = 0; i < count; i++) {
+		uint32_t words[4];
+		memcpy(words, in + 16 * i, sizeof words);
+		calls[i] = spav_call_of(words[0], words[1], words[2], words[3]);
+		calls[i].number = (int32_t)words[1];
+		calls[i].wide = (int64_t)words[3];
+	}
+	memset(out, UNTOUCHED, n);
+	int32_t answer = spav_build(calls, count, in, n, out, n, &len, &at);
+	if (answer == -EINVAL && at < count) {
+		int32_t before = spav_build(calls, at, in, n, again, MOST, &len, &other);
+		SEE(before == 0 || before == -ENOSPC || (before == -EINVAL && other == at));
+	}
+	if (answer == 0)
+		SEE(spav_rewrite(out, len, again, MOST, &other, &at) == 0 && other == len && !memcmp(again, out, len) && is_untouched(out + len, n - len));
+	else
+		SEE(is_untouched(out, n));
+}
+
 static void try_all(const uint8_t *bytes, size_t n, uint8_t *in_end, uint8_t *out_end) {
 	if (n > MOST)
 		return;
@@ -102,9 +150,23 @@ static void try_all(const uint8_t *bytes, size_t n, uint8_t *in_end, uint8_t *ou
 	try_rewriting(in, n, out);
 	try_front(in, n, out);
 	try_events(in, n);
+	int32_t met = try_joining(spav_negotiate, in, n, out), filtered = try_joining(spav_filter, in, n, out);
+	SEE((met == -EINVAL) == (filtered == -EINVAL) && (met == -EPROTO) == (filtered == -EPROTO));
+	try_building(in, n, out);
 	SEE(!memcmp(in, bytes, n));
 }
 
+#ifdef LIBFUZZER
+int LLVMFuzzerTestOneInput(const uint8_t *bytes, size_t n) {
+	static uint8_t *in, *out;
+	if (!in) {
+		in = end_of_region();
+		out = end_of_region();
+	}
+	try_all(bytes, n, in, out);
+	return 0;
+}
+#else
 #ifdef __AFL_FUZZ_TESTCASE_LEN
 __AFL_FUZZ_INIT();
 #endif
@@ -115,7 +177,7 @@ int main(int argc, char **argv) {
 	(void)argc, (void)argv;
 	__AFL_INIT();
 	const uint8_t *bytes = __AFL_FUZZ_TESTCASE_BUF;
-	while (__AFL_LOOP(10000))
+	while (__AFL_LOOP(1000000))
 		try_all(bytes, __AFL_FUZZ_TESTCASE_LEN, in, out);
 #else
 	static uint8_t bytes[MOST];
@@ -130,3 +192,4 @@ int main(int argc, char **argv) {
 #endif
 	return 0;
 }
+#endif

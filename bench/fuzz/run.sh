@@ -6,8 +6,9 @@ here=$(dirname "$(readlink -f "${BASH_SOURCE[0]}")")
 root=$(readlink -f "$here/../..")
 room=${2:-$root/bench/out/fuzz}
 mkdir -p "$room/in"
-command -v afl-clang-fast > /dev/null || { echo 'run.sh: there is no afl-clang-fast (Debian: afl++)' >&2; exit 2; }
-afl-clang-fast -O2 -g -Wno-everything -I"$root/capi" "$here/fuzz.c" "$root/bench/capi/one_pass.c" "${SPAV_LIB:-$root/capi/out}/libspav.a" -o "$room/fuzz"
+compile=(clang -fsanitize=fuzzer -DLIBFUZZER)
+if command -v afl-clang-fast > /dev/null; then compile=(afl-clang-fast); fi
+"${compile[@]}" -O2 -g -Wno-everything -I"$root/capi" "$here/fuzz.c" "$root/bench/capi/one_pass.c" "${SPAV_LIB:-$root/capi/out}/libspav.a" -o "$room/fuzz"
 cp "$root"/examples/*.pod "$room/in/"
 python3 - "$root" "$room/in" <<'PY'
 import pathlib, sys
@@ -21,8 +22,15 @@ for name, lines in (("lists", 3), ("fixations", 3), ("built", 4)):
         if 0 < len(given) <= 400:
             (room / f"{name}-{i // lines}").write_bytes(given)
 PY
+if [ "${compile[0]}" = clang ]; then
+  mkdir -p "$room/paths"
+  cd "$room" # where a crash is written
+  nice -n 19 ./fuzz -max_len=512 -max_total_time="$1" -print_final_stats=1 paths in > log 2>&1 || { tail -5 log >&2; exit 1; }
+  grep -E '^stat::number_of_executed_units|DONE' log
+  exit
+fi
 begin=$room/in
 [ -d "$room/found" ] && begin=-
 AFL_NO_UI=1 AFL_SKIP_CPUFREQ=1 AFL_I_DONT_CARE_ABOUT_MISSING_CRASHES=1 AFL_NO_AFFINITY=1 \
-  nice -n 19 afl-fuzz -i "$begin" -o "$room/found" -V "$1" -- "$room/fuzz" > "$room/log" 2>&1 || { tail -5 "$room/log" >&2; exit 1; }
+  nice -n 19 afl-fuzz -G 512 -i "$begin" -o "$room/found" -V "$1" -- "$room/fuzz" > "$room/log" 2>&1 || { tail -5 "$room/log" >&2; exit 1; }
 grep -E '^(execs_done|execs_per_sec|corpus_count|saved_crashes|saved_hangs|run_time)' "$room/found/default/fuzzer_stats"

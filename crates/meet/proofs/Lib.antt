@@ -1,0 +1,4 @@
+mod Agreeing
+mod Keeping
+mod Seeking
+mod Running

@@ -1,19 +1,61 @@
-//! `meet`: the object on which two objects from standard input agree, on standard output.
+//! `meet [filter] [FILE FILE]`: the object on which two objects agree, from standard input or from two lists, on standard output.
 #![tactic(auto)]
 
+mod answer;
+mod files;
+mod lists;
+mod output;
+mod pair;
+mod request;
 mod run;
 #[cfg(test)]
 mod tests;
 
+use crate::answer::{Answer, Failure};
+use std::alloc::AllocError;
+use std::env;
+use std::io::{self, ErrorKind};
 use std::process::ExitCode;
 
-/// Hands the standard streams to `run`, and answers its status.
+/// Hands the words behind the program's name and the standard streams to `run`, tells what became of that, and answers its
+/// status. Where the line can't be written, nothing changes.
 fn main(rt: HostRuntime) -> ExitCode {
-    let status = run::run(
+    let answer = outcome(&rt);
+    let _ = answer::tell(&mut rt.stderr(), &answer);
+    ExitCode::from(answer.status())
+}
+
+/// What became of the run.
+fn outcome(rt: &HostRuntime) -> Answer {
+    let Ok(given) = given_words(rt) else {
+        return Answer::Refused(Failure::OutOfMemory);
+    };
+    let words: Result<Vec<&str>, AllocError> = given
+        .iter()
+        .map(|word| word.as_str())
+        .collect(rt.alloc());
+    let Ok(words) = words else {
+        return Answer::Refused(Failure::OutOfMemory);
+    };
+    let (answer, _) = run::run(
         rt.alloc(),
+        words.as_slice(),
         &mut rt.stdin(),
-        &mut rt.stdout(),
-        &mut rt.stderr(),
+        rt,
+        rt.stdout(),
     );
-    ExitCode::from(status)
+    answer
+}
+
+/// The words behind the program's name. Where one isn't UTF-8, there is one empty word, which is none of the program's.
+fn given_words(rt: &HostRuntime) -> io::Result<Vec<String>> {
+    match env::args(rt) {
+        Ok(words) => Ok(words.skip(1).collect(rt.alloc())?),
+        Err(error) if error.kind() == ErrorKind::InvalidData => {
+            let mut words = Vec::new(rt.alloc());
+            words.push(String::new(rt.alloc()))?;
+            Ok(words)
+        }
+        Err(error) => Err(error),
+    }
 }

@@ -1,143 +1,118 @@
 //! The program's work, over a reader and two writers.
-ghost use Rattle.std.specs.Prelude.{◌≡◌, ◌≤◌, IfOk, OnOk};
-ghost use Rattle.std.specs.Io.KnownBytes.{Appends};
-ghost use Rattle.spa_format.specs.Front.{HasFront, rest_of};
-ghost use Rattle.meet.specs.Answers.{IsAllOf, WritesMeeting};
+ghost use Rattle.std.specs.Prelude.{◌≡◌, ◌⊎◌, IfErr, IfOk, Ok, OnOk};
+ghost use Rattle.std.specs.Io.KnownBytes.{Keeps};
+ghost use Rattle.meet.specs.Lists.{ListsGive};
+ghost use Rattle.meet.specs.Answers.{AreFilesRefused, Asks, IsAllOf, IsInputRefused, IsRun, IsUndone, Makes, OfFiles, OfInput, PairIn, Refuses, Writes, held};
+ghost use Rattle.meet.specs.declared.answer.Answer.TheVariants.{Misused};
+ghost use Rattle.meet.specs.declared.answer.Failure as Failure;
+ghost use Rattle.meet.specs.declared.request.Request.{Request};
 
-use libspa::pod::Pod;
-use spa_negotiate::{NegotiateError, Side, negotiate_pods};
+use crate::answer::{Answer, Failure};
+use crate::files::{Sources, read_list};
+use crate::lists::of_lists;
+use crate::output::Output;
+use crate::pair::{Work, of_pair};
+use crate::request::{Request, request_of};
+use spa_filter_pods::Side;
 use std::alloc::Global;
-use std::fmt;
 use std::io::{ErrorKind, Read, Write};
 
-/// The status of a run that wrote an object.
-const DONE: u8 = 0;
-
-/// The status of a run that was refused.
-const REFUSED: u8 = 1;
-
-/// Why a run was refused.
-#[derive(Debug, Drop)]
-pub enum Failure {
-    /// The two objects don't meet.
-    Apart(NegotiateError),
-    /// Bytes follow the second object.
-    More,
-    /// The standard input couldn't be read.
-    ReadFailed,
-    /// The answer couldn't be written.
-    WriteFailed,
-}
-
-/// The word for a side.
-fn word_of(side: Side) -> &'static str {
-    match side {
-        Side::First => "first",
-        Side::Second => "second",
-    }
-}
-
-/// Writes what keeps two objects apart.
-fn write_cause<W: fmt::Write>(f: &mut fmt::Formatter<W>, cause: NegotiateError) -> fmt::Result {
-    match cause {
-        NegotiateError::TypeMismatch => write!(f, "meet: the objects are of two types"),
-        NegotiateError::Unsupported(key) => {
-            write!(
-                f,
-                "meet: no value is looked for in the choices for key {key}"
-            )
-        }
-        NegotiateError::Disjoint(key) => write!(f, "meet: no value for key {key} is in both"),
-        NegotiateError::Unread(side) => write!(f, "meet: the {} object isn't a pod", word_of(side)),
-        NegotiateError::NotObject(side) => {
-            write!(f, "meet: the {} pod isn't an object", word_of(side))
-        }
-        NegotiateError::TooLarge => write!(f, "meet: the object on which they agree is too large"),
-        NegotiateError::OutOfMemory => write!(f, "meet: out of memory"),
-    }
-}
-
-impl fmt::Display for Failure {
-    fn fmt<W: fmt::Write>(&self, f: &mut fmt::Formatter<W>) -> fmt::Result {
-        match self {
-            Failure::Apart(cause) => write_cause(f, *cause),
-            Failure::More => write!(f, "meet: more follows the second object"),
-            Failure::ReadFailed => write!(f, "meet: read failed"),
-            Failure::WriteFailed => write!(f, "meet: write failed"),
-        }
-    }
-}
-
-/// Reads two objects that follow each other, writes the one on which they agree, and answers the program's status: 0 where it
-/// was written, 1 where it was refused.
+/// Does what the arguments ask for: without a word the two objects of the input meet, and by `filter` they are filtered; two
+/// names more, and the same is done with the first pair that agrees of the lists in these files.
 ///
-/// The input is read whole, and nothing is written to the output before the answer is there. A refusal is one line on `faults`;
-/// where that can't be written, nothing changes.
-pub fn run<R: Read, W: Write, E: Write>(
+/// The arguments are settled before anything is read, what is asked for is read whole, and nothing is written to the output
+/// before the answer is there.
+#[tactic(auto, using(crate::proofs::Running::as_asked, crate::proofs::Running::nothing_asked))]
+pub fn run<R: Read, S: Sources, W: Write + Drop>(
     alloc: Global,
+    words: &[&str],
     input: &mut R,
-    output: &mut W,
-    faults: &mut E,
-) -> u8
-    ensures status { result ≤ 1 }
-    // It is 0 only where the input is two objects that meet, and one in which they do was written.
-    ensures met { result ≡ 0 → WritesMeeting (R.remaining input.old) (W.contents output.old) (W.contents output.new) }
+    files: &S,
+    device: W,
+) -> (Answer, W)
+    ensures asked { (request : Request) → Asks words.now request → IsRun result.0 (Makes request (R.remaining input.old) (S.holds files.now))
+        (Refuses request (R.remaining input.old) (S.holds files.now)) (W.contents device) (W.contents result.1) }
+    ensures misuse { ((request : Request) → ¬ (Asks words.now request)) → (result.0 ≡ Misused) × Keeps (W.contents device) (W.contents result.1) }
 {
-    match meet(alloc, input, output) {
-        Ok(()) => DONE,
-        Err(failure) => {
-            let _ = writeln!(faults, "{failure}");
-            REFUSED
-        }
+    let mut output = Output::new(device);
+    let Some(request) = request_of(words) else {
+        return (Answer::Misused, output.into_inner());
+    };
+    let done = write_of(alloc, request, input, files, &mut output);
+    output.answered(done)
+}
+
+/// Writes the object that is asked for.
+#[tactic(auto, using(crate::proofs::Running::refused_as_read, crate::proofs::Keeping::write_undone, crate::proofs::Keeping::write_done))]
+fn write_of<R: Read, S: Sources, W: Write + Drop>(
+    alloc: Global,
+    request: Request<'_>,
+    input: &mut R,
+    files: &S,
+    output: &mut Output<W>,
+) -> Result<(), Failure>
+    ensures done { OnOk result (Writes (Makes request.entry (R.remaining input.old) (S.holds files.now)) (held W.contents output.old) (held W.contents output.new)) }
+    ensures undone { IfErr result (IsUndone (Makes request.entry (R.remaining input.old) (S.holds files.now))
+        (Refuses request.entry (R.remaining input.old) (S.holds files.now)) (held W.contents output.old) (held W.contents output.new)) }
+{
+    match object_of(alloc, request, input, files) {
+        Ok(met) => output.write(met.as_slice()),
+        Err(why) => Err(why),
     }
 }
 
-/// Writes the object on which the two of the input agree.
-fn meet<R: Read, W: Write>(alloc: Global, input: &mut R, output: &mut W) -> Result<(), Failure>
-    ensures { OnOk result (WritesMeeting (R.remaining input.old) (W.contents output.old) (W.contents output.new)) }
+/// The encoding of the object that is asked for.
+fn object_of<R: Read, S: Sources>(
+    alloc: Global,
+    request: Request<'_>,
+    input: &mut R,
+    files: &S,
+) -> Result<Vec<u8>, Failure>
+    ensures made { IfOk result (λ met. Makes request.entry (R.remaining input.old) (S.holds files.now) met.items) }
+    ensures refused { IfErr result (Refuses request.entry (R.remaining input.old) (S.holds files.now)) }
+{
+    match request {
+        Request::OfPair(work) => of_input(alloc, work, input),
+        Request::OfLists(work, ours, theirs) => of_files(alloc, work, files, ours, theirs),
+    }
+}
+
+/// The encoding of the object on which the two of the input agree.
+#[tactic(auto, using(crate::proofs::Running::input_unread, crate::proofs::Running::input_refused))]
+fn of_input<R: Read>(alloc: Global, work: Work, input: &mut R) -> Result<Vec<u8>, Failure>
+    ensures made { IfOk result (λ met. OfInput (R.remaining input.old) (PairIn work met.items)) }
+    ensures refused { IfErr result (IsInputRefused work (R.remaining input.old)) }
 {
     let bytes = read_whole(alloc, input)?;
-    let first = bytes.as_slice();
-    let second = behind_front(first);
-    if !behind_front(second).is_empty() {
-        return Err(Failure::More);
-    }
-    match negotiate_pods(alloc, first, second) {
-        Ok(met) => write_whole(output, met.as_slice()),
-        Err(cause) => Err(Failure::Apart(cause)),
-    }
+    of_pair(alloc, work, bytes.as_slice())
 }
 
-/// What follows the whole pod at the front; nothing where none is there.
-fn behind_front(bytes: &[u8]) -> &[u8]
-    ensures { HasFront bytes.now → result.now ≡ rest_of bytes.now }
+/// The encoding of the object on which the first pair of two lists agrees, which lie in the files of these names.
+#[tactic(auto, using(crate::proofs::Running::files_unread, crate::proofs::Running::files_refused, crate::proofs::Running::files_made))]
+fn of_files<S: Sources>(
+    alloc: Global,
+    work: Work,
+    files: &S,
+    ours: &str,
+    theirs: &str,
+) -> Result<Vec<u8>, Failure>
+    ensures made { IfOk result (λ met. OfFiles (S.holds files.now ours.now) (S.holds files.now theirs.now) (ListsGive work (Ok met.items))) }
+    ensures refused { IfErr result (AreFilesRefused work (S.holds files.now ours.now) (S.holds files.now theirs.now)) }
 {
-    match Pod::from_bytes(bytes) {
-        Some(pod) => &bytes[pod.extent()..],
-        None => &[],
-    }
+    let first = read_list(alloc, files, Side::First, ours)?;
+    let second = read_list(alloc, files, Side::Second, theirs)?;
+    of_lists(alloc, work, first.as_slice(), second.as_slice())
 }
 
 /// All bytes that the reader gives.
 fn read_whole<R: Read>(alloc: Global, input: &mut R) -> Result<Vec<u8>, Failure>
-    ensures { IfOk result (λ bytes. IsAllOf (R.remaining input.old) bytes.items) }
+    ensures all { IfOk result (λ bytes. IsAllOf (R.remaining input.old) bytes.items) }
+    ensures cause { IfErr result (λ failure. (failure ≡ Failure.OutOfMemory) ⊎ (failure ≡ Failure.ReadFailed)) }
 {
     let mut bytes = Vec::new(alloc);
     match input.read_to_end(&mut bytes) {
         Ok(_) => Ok(bytes),
-        Err(error) if error.kind() == ErrorKind::OutOfMemory => {
-            Err(Failure::Apart(NegotiateError::OutOfMemory))
-        }
+        Err(error) if error.kind() == ErrorKind::OutOfMemory => Err(Failure::OutOfMemory),
         Err(_) => Err(Failure::ReadFailed),
     }
-}
-
-/// Writes all bytes.
-fn write_whole<W: Write>(output: &mut W, bytes: &[u8]) -> Result<(), Failure>
-    ensures { OnOk result (Appends (W.contents output.old) (W.contents output.new) bytes.now) }
-{
-    if output.write_all(bytes).is_err() || output.flush().is_err() {
-        return Err(Failure::WriteFailed);
-    }
-    Ok(())
 }

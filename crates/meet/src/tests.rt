@@ -1,19 +1,32 @@
+use crate::answer::tell;
+use crate::files::Sources;
 use crate::run::run;
-use std::alloc::{AllocError, Global};
+use spa_spelling::bytes_of;
+use std::alloc::Global;
 use std::io::{self, Error, ErrorKind, Read, Write};
+use std::process::Abort;
 use std::test::Fail;
 
-/// A device that takes bytes up to a limit, and then refuses.
+/// A device that takes bytes in small pieces, interrupted now and then, up to a limit, and then refuses. With a limit of
+/// `usize::MAX` it refuses to be flushed.
 #[derive(Drop)]
 struct Device {
     taken: Vec<u8>,
     limit: usize,
+    interrupted: bool,
 }
+
+/// The most bytes that a device takes at once.
+const PIECE: usize = 5;
 
 impl Write for Device {
     fn write(&mut self, bytes: &[u8]) -> io::Result<usize> {
+        self.interrupted = !self.interrupted;
+        if self.interrupted {
+            return Err(Error::from(ErrorKind::Interrupted));
+        }
         let room = self.limit.saturating_sub(self.taken.len());
-        let count = bytes.len().min(room);
+        let count = bytes.len().min(room).min(PIECE);
         if count == 0 {
             return Err(Error::from(ErrorKind::WriteZero));
         }
@@ -24,23 +37,33 @@ impl Write for Device {
     }
 
     fn flush(&mut self) -> io::Result<()> {
+        if self.limit == usize::MAX {
+            return Err(Error::from(ErrorKind::Other));
+        }
         Ok(())
     }
 }
 
-/// A source that gives its bytes, and may refuse where they end.
+/// A source that gives its bytes in small pieces, interrupted now and then, and may refuse where its bytes end.
 #[derive(Drop)]
 struct Source<'a> {
     left: &'a [u8],
-    breaks: bool,
+    refusal: Option<ErrorKind>,
+    interrupted: bool,
 }
 
 impl Read for Source<'_> {
     fn read(&mut self, buffer: &mut [u8]) -> io::Result<usize> {
-        if self.breaks && self.left.is_empty() {
-            return Err(Error::from(ErrorKind::Other));
+        self.interrupted = !self.interrupted;
+        if self.interrupted {
+            return Err(Error::from(ErrorKind::Interrupted));
         }
-        let count = self.left.len().min(buffer.len());
+        if let Some(refusal) = self.refusal
+            && self.left.is_empty()
+        {
+            return Err(Error::from(refusal));
+        }
+        let count = self.left.len().min(buffer.len()).min(PIECE);
         let (first, rest) = self.left.split_at(count);
         buffer[..count].copy_from_slice(first);
         self.left = rest;
@@ -48,30 +71,116 @@ impl Read for Source<'_> {
     }
 }
 
-/// The bytes of these words, least byte first.
-fn bytes_of(alloc: Global, words: &[u32]) -> Result<Vec<u8>, AllocError> {
-    let mut bytes = Vec::new(alloc);
-    for word in words {
-        bytes.extend_from_slice(&word.to_le_bytes())?;
+/// A source that gives all of these bytes.
+fn whole(bytes: &[u8]) -> Source<'_> {
+    Source {
+        left: bytes,
+        refusal: None,
+        interrupted: false,
     }
-    Ok(bytes)
 }
 
-/// Room for all that these tests write.
-const AMPLE: usize = 1_000_000;
+/// A source that refuses behind these bytes.
+fn broken(bytes: &[u8], refusal: ErrorKind) -> Source<'_> {
+    Source {
+        left: bytes,
+        refusal: Some(refusal),
+        interrupted: false,
+    }
+}
+
+/// Two files, of these bytes, named `ours` and `theirs`; one of the name `broken` gives this refusal.
+#[derive(Drop)]
+struct Folder<'a> {
+    ours: &'a [u8],
+    theirs: &'a [u8],
+    refusal: ErrorKind,
+}
+
+impl Sources for Folder<'_> {
+    ghost use Rattle.std.specs.Prelude.{None};
+
+    ghost holds = { λ _ _. None };
+
+    fn read_file(&self, alloc: Global, name: &str) -> io::Result<Vec<u8>> {
+        let bytes = match name {
+            "ours" => self.ours,
+            "theirs" => self.theirs,
+            "broken" => return Err(Error::from(self.refusal)),
+            _ => return Err(Error::from(ErrorKind::NotFound)),
+        };
+        let mut copy = Vec::new(alloc);
+        copy.extend_from_slice(bytes)?;
+        Ok(copy)
+    }
+}
+
+/// A folder that gives nothing but refusals.
+const EMPTY: Folder<'static> = Folder {
+    ours: &[],
+    theirs: &[],
+    refusal: ErrorKind::Other,
+};
+
+/// Room for what is written, and for what is said.
+type Rooms = (usize, usize);
+
+/// Room for all that these tests write and say.
+const AMPLE: Rooms = (1_000_000, 1_000_000);
 
 /// What a run wrote, what it said, and its status.
-fn found(alloc: Global, mut source: Source<'_>, room: usize) -> (Vec<u8>, Vec<u8>, u8) {
-    let mut output = Device {
+fn found(
+    alloc: Global,
+    words: &[&str],
+    mut source: Source<'_>,
+    folder: &Folder<'_>,
+    rooms: Rooms,
+) -> (Vec<u8>, Vec<u8>, u8) {
+    let output = Device {
         taken: Vec::new(alloc),
-        limit: room,
+        limit: rooms.0,
+        interrupted: false,
     };
     let mut faults = Device {
         taken: Vec::new(alloc),
-        limit: AMPLE,
+        limit: rooms.1,
+        interrupted: false,
     };
-    let status = run(alloc, &mut source, &mut output, &mut faults);
-    (output.taken, faults.taken, status)
+    let (answer, output) = run(alloc, words, &mut source, folder, output);
+    // Where the line can't be written, nothing changes.
+    let _ = tell(&mut faults, &answer);
+    (output.taken, faults.taken, answer.status())
+}
+
+/// Compares what a run writes, what it says, and its status.
+fn assert_run(
+    rt: &impl Abort,
+    alloc: Global,
+    words: &[&str],
+    source: Source<'_>,
+    rooms: Rooms,
+    wanted: (&[u8], &str, u8),
+) {
+    let input = source.left;
+    let got = found(alloc, words, source, &EMPTY, rooms);
+    assert_same(rt, words, input, &got, wanted);
+}
+
+/// Compares what a run on this input wrote, what it said, and its status.
+fn assert_same(
+    rt: &impl Abort,
+    words: &[&str],
+    input: &[u8],
+    got: &(Vec<u8>, Vec<u8>, u8),
+    wanted: (&[u8], &str, u8),
+) {
+    assert_eq!(rt; got.0.as_slice(), wanted.0, "{words:?} at {input:?}");
+    assert_eq!(rt;
+        got.1.as_slice(),
+        wanted.1.as_bytes(),
+        "{words:?} at {input:?}"
+    );
+    assert_eq!(rt; got.2, wanted.2, "{words:?} at {input:?}");
 }
 
 /// The words of an input, of what is written, what is said, and the status.
@@ -79,7 +188,7 @@ type Row = (&'static [u32], &'static [u32], &'static str, u8);
 
 /// Key 1 of an object of type 5: a Range of Ints from 2 to 10, with the default 5. Behind it other objects of that type, and what
 /// isn't one.
-const ROWS: [Row; 10] = [
+const MEETINGS: [Row; 10] = [
     (
         &[
             56, 15, 5, 3, 1, 0, 28, 19, 1, 0, 4, 4, 5, 2, 10, 0, 56, 15, 5, 7, 1, 0, 28, 19, 3, 0,
@@ -146,67 +255,391 @@ const ROWS: [Row; 10] = [
     ),
 ];
 
-/// Whether a run writes this, says this, and has this status.
-fn is_run(
-    alloc: Global,
-    source: Source<'_>,
-    room: usize,
-    written: &[u8],
-    said: &str,
-    status: u8,
-) -> bool {
-    let run = found(alloc, source, room);
-    run.0.as_slice() == written && run.1.as_slice() == said.as_bytes() && run.2 == status
-}
-
-/// Whether the run of a row does as it says.
-fn is_row(alloc: Global, row: Row) -> Result<bool, AllocError> {
-    let bytes = bytes_of(alloc, row.0)?;
+/// The run of a row, by these words, does as it says.
+fn assert_row(rt: &impl Abort, alloc: Global, words: &[&str], row: Row) -> Result<(), Fail> {
+    let input = bytes_of(alloc, row.0)?;
     let wanted = bytes_of(alloc, row.1)?;
-    let source = Source {
-        left: bytes.as_slice(),
-        breaks: false,
-    };
-    Ok(is_run(alloc, source, AMPLE, wanted.as_slice(), row.2, row.3))
+    let wanted = (wanted.as_slice(), row.2, row.3);
+    assert_run(rt, alloc, words, whole(input.as_slice()), AMPLE, wanted);
+    Ok(())
 }
 
 #[test]
 fn two_objects_meet(rt: HostRuntime) -> Result<(), Fail> {
-    for row in ROWS {
-        let holds = is_row(rt.alloc(), row)?;
-        assert!(rt; holds, "{}", row.2);
+    for row in MEETINGS {
+        assert_row(&rt, rt.alloc(), &[], row)?;
     }
     Ok(())
 }
 
-/// Two objects without properties.
-const TWO: &[u32] = &[8, 15, 5, 3, 8, 15, 5, 7];
+/// The same Range, and what it is filtered with.
+const FILTERS: [Row; 11] = [
+    (
+        &[
+            56, 15, 5, 3, 1, 0, 28, 19, 1, 0, 4, 4, 5, 2, 10, 0, 56, 15, 5, 7, 1, 0, 28, 19, 1, 0,
+            4, 4, 20, 8, 20, 0,
+        ],
+        &[56, 15, 5, 3, 1, 0, 28, 19, 1, 0, 4, 4, 8, 8, 10, 0],
+        "",
+        0,
+    ),
+    (
+        &[
+            56, 15, 5, 3, 65539, 8, 28, 19, 1, 0, 4, 4, 5, 2, 10, 0, 8, 15, 5, 7,
+        ],
+        &[],
+        "meet: key 65539 is mandatory in one object, and the other lacks it\n",
+        1,
+    ),
+    (
+        &[
+            8, 15, 5, 7, 56, 15, 5, 3, 65539, 8, 28, 19, 1, 0, 4, 4, 5, 2, 10, 0,
+        ],
+        &[],
+        "meet: key 65539 is mandatory in one object, and the other lacks it\n",
+        1,
+    ),
+    (
+        &[
+            56, 15, 5, 3, 65539, 0, 28, 19, 1, 0, 4, 4, 5, 2, 10, 0, 48, 15, 5, 7, 65539, 0, 20,
+            19, 3, 0, 4, 4, 12, 0,
+        ],
+        &[],
+        "meet: no value for key 65539 is in both\n",
+        1,
+    ),
+    (
+        &[
+            56, 15, 5, 3, 1, 0, 28, 19, 1, 0, 4, 4, 5, 2, 10, 0, 56, 15, 5, 7, 1, 0, 32, 19, 2, 0,
+            4, 4, 5, 2, 10, 1,
+        ],
+        &[56, 15, 5, 3, 1, 0, 32, 19, 2, 0, 4, 4, 5, 2, 10, 1],
+        "",
+        0,
+    ),
+    (
+        &[
+            56, 15, 5, 3, 1, 0, 28, 19, 1, 0, 4, 3, 5, 2, 10, 0, 56, 15, 5, 7, 1, 0, 32, 19, 2, 0,
+            4, 3, 5, 2, 10, 1,
+        ],
+        &[],
+        "meet: no value is looked for in the choices for key 1\n",
+        1,
+    ),
+    (
+        &[8, 15, 5, 3, 8, 15, 6, 7],
+        &[],
+        "meet: the objects are of two types\n",
+        1,
+    ),
+    (
+        &[8, 15, 5, 3, 0, 14],
+        &[],
+        "meet: the second pod isn't an object\n",
+        1,
+    ),
+    (
+        &[0, 14, 8, 15, 5, 3],
+        &[],
+        "meet: the first pod isn't an object\n",
+        1,
+    ),
+    (
+        &[8, 15, 5, 3],
+        &[],
+        "meet: the second object isn't a pod\n",
+        1,
+    ),
+    (
+        &[8, 15, 5, 3, 8, 15, 5, 7, 0, 1],
+        &[],
+        "meet: more follows the second object\n",
+        1,
+    ),
+];
 
-/// Whether a source that breaks off behind two objects is refused.
-fn is_read_refused(alloc: Global) -> Result<bool, AllocError> {
-    let bytes = bytes_of(alloc, TWO)?;
-    let source = Source {
-        left: bytes.as_slice(),
-        breaks: true,
-    };
-    Ok(is_run(alloc, source, AMPLE, &[], "meet: read failed\n", 1))
+#[test]
+fn two_objects_are_filtered(rt: HostRuntime) -> Result<(), Fail> {
+    for row in FILTERS {
+        assert_row(&rt, rt.alloc(), &["filter"], row)?;
+    }
+    Ok(())
 }
 
-/// Whether a device without room is refused.
-fn is_write_refused(alloc: Global) -> Result<bool, AllocError> {
-    let bytes = bytes_of(alloc, TWO)?;
-    let source = Source {
-        left: bytes.as_slice(),
-        breaks: false,
-    };
-    Ok(is_run(alloc, source, 0, &[], "meet: write failed\n", 1))
+/// What is said where the words are none of the program's.
+const USAGE: &str = "usage: meet [filter] [FILE FILE]\n";
+
+#[test]
+fn other_words_are_misuse(rt: HostRuntime) {
+    let rows: [&[&str]; 7] = [
+        &[""],
+        &["Filter"],
+        &["meet"],
+        &["filter", "ours"],
+        &["filter", "filter"],
+        &["ours", "theirs", "filter"],
+        &["filter", "ours", "theirs", "theirs"],
+    ];
+    for words in rows {
+        // The words are settled before anything is read: this source would refuse.
+        assert_run(
+            &rt,
+            rt.alloc(),
+            words,
+            broken(&[], ErrorKind::UnexpectedEof),
+            AMPLE,
+            (&[], USAGE, 2),
+        );
+    }
+}
+
+/// Two objects without properties.
+const TWO: [u32; 8] = [8, 15, 5, 3, 8, 15, 5, 7];
+
+/// Each of the program's words, alone.
+const WORDS: [&[&str]; 2] = [&[], &["filter"]];
+
+#[test]
+fn sources_break_off(rt: HostRuntime) -> Result<(), Fail> {
+    let input = bytes_of(rt.alloc(), &TWO)?;
+    let rows = [
+        (ErrorKind::UnexpectedEof, "meet: read failed\n"),
+        (ErrorKind::OutOfMemory, "meet: out of memory\n"),
+    ];
+    for words in WORDS {
+        for (refusal, line) in rows {
+            let source = broken(input.as_slice(), refusal);
+            assert_run(&rt, rt.alloc(), words, source, AMPLE, (&[], line, 1));
+        }
+    }
+    Ok(())
+}
+
+/// With this room for what is written, the room is filled and then the write is refused.
+fn assert_full(rt: &impl Abort, alloc: Global, words: &[&str], source: Source<'_>, room: usize) {
+    let (written, said, status) = found(alloc, words, source, &EMPTY, (room, AMPLE.1));
+    assert_eq!(rt; written.len(), room, "{words:?}");
+    assert_eq!(rt;
+        said.as_slice(),
+        "meet: write failed\n".as_bytes(),
+        "{words:?} with room for {room}"
+    );
+    assert_eq!(rt; status, 1, "{words:?} with room for {room}");
 }
 
 #[test]
-fn streams_that_fail(rt: HostRuntime) -> Result<(), Fail> {
-    let reads = is_read_refused(rt.alloc())?;
-    let writes = is_write_refused(rt.alloc())?;
-    assert!(rt; reads);
-    assert!(rt; writes);
+fn outputs_are_full(rt: HostRuntime) -> Result<(), Fail> {
+    let input = bytes_of(rt.alloc(), &TWO)?;
+    for words in WORDS {
+        for room in 0..6 {
+            assert_full(&rt, rt.alloc(), words, whole(input.as_slice()), room);
+        }
+    }
+    Ok(())
+}
+
+#[test]
+fn outputs_are_not_flushed(rt: HostRuntime) -> Result<(), Fail> {
+    let input = bytes_of(rt.alloc(), &TWO)?;
+    let wanted = bytes_of(rt.alloc(), &TWO[..4])?;
+    for words in WORDS {
+        let wanted = (wanted.as_slice(), "meet: write failed\n", 1);
+        let rooms = (usize::MAX, AMPLE.1);
+        assert_run(
+            &rt,
+            rt.alloc(),
+            words,
+            whole(input.as_slice()),
+            rooms,
+            wanted,
+        );
+    }
+    Ok(())
+}
+
+#[test]
+fn refusals_that_cannot_be_said_change_nothing(rt: HostRuntime) {
+    let rooms = (AMPLE.0, 3);
+    for words in WORDS {
+        assert_run(&rt, rt.alloc(), words, whole(&[1]), rooms, (&[], "mee", 1));
+    }
+}
+
+/// The words, those of two files, and what is written, said and answered.
+type Lists = (
+    &'static [&'static str],
+    &'static [u32],
+    &'static [u32],
+    &'static [u32],
+    &'static str,
+    u8,
+);
+
+/// What the words are where two lists meet, and where they are filtered.
+const MEET: &[&str] = &["ours", "theirs"];
+
+const FILTER: &[&str] = &["filter", "ours", "theirs"];
+
+/// Objects of type 5 and ids of their own, with Ints or choices of Ints under key 1, where they have any.
+const LISTS: [Lists; 14] = [
+    // The first of ours meets none of theirs; the second meets the second and the third.
+    (
+        MEET,
+        &[
+            32, 15, 5, 1, 1, 0, 4, 4, 7, 0, 56, 15, 5, 2, 1, 0, 28, 19, 1, 0, 4, 4, 5, 2, 10, 0,
+            32, 15, 5, 3, 1, 0, 4, 4, 20, 0,
+        ],
+        &[
+            32, 15, 5, 4, 1, 0, 4, 4, 20, 0, 32, 15, 5, 5, 1, 0, 4, 4, 9, 0, 32, 15, 5, 6, 1, 0, 4,
+            4, 3, 0,
+        ],
+        &[32, 15, 5, 2, 1, 0, 4, 4, 9, 0],
+        "",
+        0,
+    ),
+    // What is asked for first counts, not what comes first of theirs.
+    (
+        MEET,
+        &[
+            32, 15, 5, 1, 1, 0, 4, 4, 3, 0, 32, 15, 5, 2, 1, 0, 4, 4, 9, 0,
+        ],
+        &[
+            32, 15, 5, 4, 1, 0, 4, 4, 9, 0, 32, 15, 5, 5, 1, 0, 4, 4, 3, 0,
+        ],
+        &[32, 15, 5, 1, 1, 0, 4, 4, 3, 0],
+        "",
+        0,
+    ),
+    // To filter, the choice stays one.
+    (
+        FILTER,
+        &[
+            32, 15, 5, 1, 1, 0, 4, 4, 1, 0, 56, 15, 5, 2, 1, 0, 28, 19, 1, 0, 4, 4, 5, 2, 10, 0,
+        ],
+        &[
+            8, 15, 6, 4, 56, 15, 5, 5, 1, 0, 28, 19, 1, 0, 4, 4, 20, 8, 20, 0,
+        ],
+        &[56, 15, 5, 2, 1, 0, 28, 19, 1, 0, 4, 4, 8, 8, 10, 0],
+        "",
+        0,
+    ),
+    // What is mandatory and lacks keeps the first pair apart.
+    (
+        FILTER,
+        &[32, 15, 5, 1, 1, 8, 4, 4, 3, 0, 8, 15, 5, 2],
+        &[8, 15, 5, 4],
+        &[8, 15, 5, 2],
+        "",
+        0,
+    ),
+    // A choice in which no value is looked for keeps a pair apart as well.
+    (
+        MEET,
+        &[
+            56, 15, 5, 1, 1, 0, 32, 19, 2, 0, 4, 4, 5, 2, 10, 1, 32, 15, 5, 2, 1, 0, 4, 4, 3, 0,
+        ],
+        &[32, 15, 5, 4, 1, 0, 4, 4, 3, 0],
+        &[32, 15, 5, 2, 1, 0, 4, 4, 3, 0],
+        "",
+        0,
+    ),
+    (
+        MEET,
+        &[32, 15, 5, 1, 1, 0, 4, 4, 3, 0, 8, 15, 7, 2],
+        &[32, 15, 5, 4, 1, 0, 4, 4, 9, 0, 8, 15, 6, 5],
+        &[],
+        "meet: no two of the objects agree\n",
+        1,
+    ),
+    (
+        MEET,
+        &[],
+        &[8, 15, 5, 4],
+        &[],
+        "meet: no two of the objects agree\n",
+        1,
+    ),
+    (
+        FILTER,
+        &[8, 15, 5, 1],
+        &[],
+        &[],
+        "meet: no two of the objects agree\n",
+        1,
+    ),
+    // Each list is looked at whole, before any pair, and the first one before the second.
+    (
+        MEET,
+        &[8, 15, 5, 1, 8, 15, 5],
+        &[8, 15, 5, 4, 0, 14],
+        &[],
+        "meet: first file, byte 16: no pod\n",
+        1,
+    ),
+    (
+        MEET,
+        &[8, 15, 5, 1, 8, 15, 5, 2, 0, 14],
+        &[0],
+        &[],
+        "meet: first file, byte 32: no object\n",
+        1,
+    ),
+    (
+        FILTER,
+        &[8, 15, 5, 1],
+        &[8, 15, 5, 4, 4, 2, 1, 0],
+        &[],
+        "meet: second file, byte 16: no object\n",
+        1,
+    ),
+    (
+        FILTER,
+        &[8, 15, 5, 1],
+        &[8, 15, 5, 4, 8, 15, 5, 2, 1],
+        &[],
+        "meet: second file, byte 32: no pod\n",
+        1,
+    ),
+    (
+        &["ours", "nowhere"],
+        &[8, 15, 5, 1],
+        &[8, 15, 5, 4],
+        &[],
+        "meet: second file: read failed\n",
+        1,
+    ),
+    (
+        &["filter", "broken", "nowhere"],
+        &[],
+        &[],
+        &[],
+        "meet: out of memory\n",
+        1,
+    ),
+];
+
+/// The run of a row of two lists does as it says.
+fn assert_lists(rt: &impl Abort, alloc: Global, row: Lists) -> Result<(), Fail> {
+    let ours = bytes_of(alloc, row.1)?;
+    let theirs = bytes_of(alloc, row.2)?;
+    let wanted = bytes_of(alloc, row.3)?;
+    let folder = Folder {
+        ours: ours.as_slice(),
+        theirs: theirs.as_slice(),
+        refusal: ErrorKind::OutOfMemory,
+    };
+    // The standard input isn't read: this source would refuse.
+    let source = broken(&[], ErrorKind::UnexpectedEof);
+    let got = found(alloc, row.0, source, &folder, AMPLE);
+    let wanted = (wanted.as_slice(), row.4, row.5);
+    assert_same(rt, row.0, ours.as_slice(), &got, wanted);
+    Ok(())
+}
+
+#[test]
+fn the_first_pair_is_taken(rt: HostRuntime) -> Result<(), Fail> {
+    for row in LISTS {
+        assert_lists(&rt, rt.alloc(), row)?;
+    }
     Ok(())
 }

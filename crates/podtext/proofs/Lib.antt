@@ -1,0 +1,3 @@
+mod Saying
+pub mod PrintedPods
+pub mod ReadLines

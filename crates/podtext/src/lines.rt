@@ -1,9 +1,9 @@
 //! The lines of `podtext show`, without their ends.
 use crate::inside::Label;
 use crate::parts::{Parts, Scalar, Shown};
-use crate::run::Failure;
 use ryu::Buffer;
 use spa_names::{Table, ids_of, name_of, path_of};
+use std::alloc::AllocError;
 use std::fmt::Write;
 use std::num::{f32_from_bits_with_nan, f64_from_bits_with_nan};
 
@@ -29,7 +29,7 @@ fn path_or_unknown(table: Table, number: u32) -> &'static str {
 }
 
 /// Begins a line inside so many values.
-pub(crate) fn put_indent(text: &mut String, depth: usize) -> Result<(), Failure> {
+pub(crate) fn put_indent(text: &mut String, depth: usize) -> Result<(), AllocError> {
     for _ in 0..depth.min(DEEPEST) {
         text.push_str("  ")?;
     }
@@ -40,7 +40,7 @@ pub(crate) fn put_indent(text: &mut String, depth: usize) -> Result<(), Failure>
 }
 
 /// Writes the key of a property, or the offset and type of a control.
-pub(crate) fn put_label(text: &mut String, label: Label) -> Result<(), Failure> {
+pub(crate) fn put_label(text: &mut String, label: Label) -> Result<(), AllocError> {
     match label {
         Label::Bare => {}
         Label::Property { keys, key, flags } => write!(
@@ -62,7 +62,7 @@ pub(crate) fn put_value(
     text: &mut String,
     value: Shown<'_>,
     parts: Parts<'_>,
-) -> Result<(), Failure> {
+) -> Result<(), AllocError> {
     let size = value.body.len();
     match parts {
         Parts::Scalar(scalar) => return put_scalar(text, scalar),
@@ -103,7 +103,7 @@ pub(crate) fn put_value(
 }
 
 /// Writes what a value without others inside says.
-fn put_scalar(text: &mut String, scalar: Scalar<'_>) -> Result<(), Failure> {
+fn put_scalar(text: &mut String, scalar: Scalar<'_>) -> Result<(), AllocError> {
     match scalar {
         Scalar::Bool(value) => write!(text, "Bool {value}")?,
         Scalar::Id(number, names) => {
@@ -127,7 +127,7 @@ fn put_scalar(text: &mut String, scalar: Scalar<'_>) -> Result<(), Failure> {
 }
 
 /// Writes a float by its shortest digits, one that is no number by its bits.
-fn put_float(text: &mut String, bits: u32) -> Result<(), Failure> {
+fn put_float(text: &mut String, bits: u32) -> Result<(), AllocError> {
     if bits & FLOAT_MAGNITUDE > FLOAT_INFINITY {
         write!(text, "Float nan ({bits:#x})")?;
         return Ok(());
@@ -138,7 +138,7 @@ fn put_float(text: &mut String, bits: u32) -> Result<(), Failure> {
 }
 
 /// Writes a double by its shortest digits, one that is no number by its bits.
-fn put_double(text: &mut String, bits: u64) -> Result<(), Failure> {
+fn put_double(text: &mut String, bits: u64) -> Result<(), AllocError> {
     if bits & DOUBLE_MAGNITUDE > DOUBLE_INFINITY {
         write!(text, "Double nan ({bits:#x})")?;
         return Ok(());
@@ -150,7 +150,7 @@ fn put_double(text: &mut String, bits: u64) -> Result<(), Failure> {
 
 /// Writes a text without the NUL behind it. What could move a terminal is written by its number, and so are the bytes of what is
 /// no UTF-8.
-fn put_text(text: &mut String, body: &[u8]) -> Result<(), Failure> {
+fn put_text(text: &mut String, body: &[u8]) -> Result<(), AllocError> {
     let shown = match body {
         [shown @ .., 0] => shown,
         _ => body,
@@ -173,7 +173,7 @@ fn put_text(text: &mut String, body: &[u8]) -> Result<(), Failure> {
 }
 
 /// Writes a letter of a text.
-fn put_letter(text: &mut String, letter: char) -> Result<(), Failure> {
+fn put_letter(text: &mut String, letter: char) -> Result<(), AllocError> {
     match letter {
         '"' => text.push_str("\\\"")?,
         '\\' => text.push_str("\\\\")?,
@@ -184,7 +184,7 @@ fn put_letter(text: &mut String, letter: char) -> Result<(), Failure> {
 }
 
 /// Writes a byte of what is no UTF-8.
-fn put_byte(text: &mut String, byte: u8) -> Result<(), Failure> {
+fn put_byte(text: &mut String, byte: u8) -> Result<(), AllocError> {
     if byte.is_ascii() {
         return put_letter(text, byte as char);
     }
@@ -193,7 +193,7 @@ fn put_byte(text: &mut String, byte: u8) -> Result<(), Failure> {
 }
 
 /// Writes a row of a dump: the place of its first byte, and its bytes.
-pub(crate) fn put_row(text: &mut String, place: usize, row: &[u8]) -> Result<(), Failure> {
+pub(crate) fn put_row(text: &mut String, place: usize, row: &[u8]) -> Result<(), AllocError> {
     write!(text, "{place:08x}:")?;
     for byte in row {
         write!(text, " {byte:02x}")?;

@@ -1,41 +1,46 @@
-//! `podtext show`: pods from standard input are shown with names on standard output.
+//! `podtext print|read|show`: pods from standard input are printed as text, read from it, or shown with names, on standard output.
 #![tactic(auto)]
 
+mod answer;
 mod inside;
 mod lines;
 mod listing;
+mod page;
 mod parts;
+mod printing;
+mod reading;
 mod run;
 #[cfg(test)]
 mod tests;
 
+use crate::answer::{Answer, Failure};
 use std::alloc::AllocError;
 use std::env;
 use std::io::{self, ErrorKind};
 use std::process::ExitCode;
 
-/// Hands the words behind the program's name and the standard streams to `run`, and answers its status.
+/// Hands the words behind the program's name and the standard streams to `run`, tells what became of that, and answers its
+/// status. Where the line can't be written, nothing changes.
 fn main(rt: HostRuntime) -> ExitCode {
-    let Ok(given) = given_words(&rt) else {
-        let _ = eprintln!(rt; "podtext: out of memory");
-        return ExitCode::FAILURE;
+    let answer = outcome(&rt);
+    let _ = answer::tell(&mut rt.stderr(), &answer);
+    ExitCode::from(answer.status())
+}
+
+/// What became of the run.
+fn outcome(rt: &HostRuntime) -> Answer {
+    let Ok(given) = given_words(rt) else {
+        return Answer::Refused(Failure::OutOfMemory);
     };
     let words: Result<Vec<&str>, AllocError> = given
         .iter()
         .map(|word| word.as_str())
         .collect(rt.alloc());
     let Ok(words) = words else {
-        let _ = eprintln!(rt; "podtext: out of memory");
-        return ExitCode::FAILURE;
+        return Answer::Refused(Failure::OutOfMemory);
     };
-    let status = run::run(
-        rt.alloc(),
-        words.as_slice(),
-        &mut rt.stdin(),
-        &mut rt.stdout(),
-        &mut rt.stderr(),
-    );
-    ExitCode::from(status)
+    let (answer, _) = run::run(rt.alloc(), words.as_slice(), &mut rt.stdin(), rt.stdout());
+    answer
 }
 
 /// The words behind the program's name. Where one isn't UTF-8, there is one empty word, which is none of the program's.

@@ -1,3 +1,4 @@
+use crate::answer::tell;
 use crate::run::run;
 use spa_names::laws::{names_come_back, numbers_are_named};
 use spa_names::{Table, expected_under, ids_of, keys_of, name_of, number_of, path_of};
@@ -70,7 +71,7 @@ fn found(
     mut source: Source<'_>,
     room: usize,
 ) -> (Vec<u8>, Vec<u8>, u8) {
-    let mut output = Device {
+    let output = Device {
         taken: Vec::new(alloc),
         limit: room,
     };
@@ -78,8 +79,10 @@ fn found(
         taken: Vec::new(alloc),
         limit: AMPLE,
     };
-    let status = run(alloc, words, &mut source, &mut output, &mut faults);
-    (output.taken, faults.taken, status)
+    let (answer, output) = run(alloc, words, &mut source, output);
+    // Where the line can't be written, nothing changes.
+    let _ = tell(&mut faults, &answer);
+    (output.taken, faults.taken, answer.status())
 }
 
 /// Whether a run wrote this, said this, and had this status.
@@ -155,7 +158,22 @@ fn refused_pods_are_shown(rt: HostRuntime) -> Result<(), Fail> {
 }
 
 /// Runs: the words, the input, what is written, what is said, and the status.
-const RUNS: [(&[&str], &[u32], &str, &str, u8); 3] = [
+const RUNS: [(&[&str], &[u32], &str, &str, u8); 6] = [
+    (&["print"], &[4, 4, 5, 0, 0, 1], "5\nnull\n", "", 0),
+    (
+        &["print"],
+        &[4, 4, 5, 0, 7],
+        "",
+        "podtext: byte 16: Short\n",
+        1,
+    ),
+    (
+        &["print"],
+        &[4, 4, 5, 0, 0, 99],
+        "",
+        "podtext: byte 16: InvalidType\n",
+        1,
+    ),
     (
         &["show"],
         &[4, 4, 5, 0, 7],
@@ -163,12 +181,12 @@ const RUNS: [(&[&str], &[u32], &str, &str, u8); 3] = [
         "podtext: byte 16: Short\n",
         1,
     ),
-    (&[], &[], "", "usage: podtext show\n", 2),
+    (&[], &[], "", "usage: podtext print|read|show\n", 2),
     (
         &["show", "all"],
         &[4, 4, 5, 0],
         "",
-        "usage: podtext show\n",
+        "usage: podtext print|read|show\n",
         2,
     ),
 ];
@@ -191,6 +209,38 @@ fn words_and_rests_are_refused(rt: HostRuntime) -> Result<(), Fail> {
     for row in RUNS {
         let holds = is_row(rt.alloc(), row)?;
         assert!(rt; holds, "{} {}", row.2, row.3);
+    }
+    Ok(())
+}
+
+/// Texts read as pods: the lines, the words of the pods, what is said, and the status.
+const TEXTS: [(&str, &[u32], &str, u8); 6] = [
+    ("5\nnull\n", &[4, 4, 5, 0, 0, 1], "", 0),
+    ("", &[], "", 0),
+    ("5", &[], "podtext: byte 0: Short\n", 1),
+    ("5\n[1,]\n", &[], "podtext: byte 2: Token\n", 1),
+    ("5\n\"a\\u0000b\"\n", &[], "podtext: byte 2: NulInText\n", 1),
+    ("5\n\n", &[], "podtext: byte 2: Token\n", 1),
+];
+
+/// Whether a text is read as its row says.
+fn is_text_row(alloc: Global, row: (&str, &[u32], &str, u8)) -> Result<bool, AllocError> {
+    let bytes = bytes_of(alloc, row.1)?;
+    Ok(is_run(
+        alloc,
+        &["read"],
+        row.0.as_bytes(),
+        bytes.as_slice(),
+        row.2,
+        row.3,
+    ))
+}
+
+#[test]
+fn texts_are_read(rt: HostRuntime) -> Result<(), Fail> {
+    for row in TEXTS {
+        let holds = is_text_row(rt.alloc(), row)?;
+        assert!(rt; holds, "{}", row.0);
     }
     Ok(())
 }

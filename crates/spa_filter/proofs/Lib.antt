@@ -18,3 +18,5 @@ pub mod Contents
 pub mod Passing
 pub mod Settled
 pub mod Masks
+pub mod Stepping
+pub mod StepKinds

@@ -7,8 +7,8 @@ use Rattle.spa_format.specs.Tree.{Shape, none_choice, range_choice, step_choice,
 use Rattle.spa_fixed.specs.Choices.{choice_enum_tree}
 use Rattle.spa_utils.specs.declared.choice.ChoiceEnum.{ChoiceEnum}
 use Rattle.spa_utils.specs.declared.choice.ChoiceEnum.TheVariants as E
-use Rattle.spa_filter.specs.Admits.{Admits, IsCommon, HasCommon, AreSayable, is_flags, is_range}
-use Rattle.spa_filter.specs.Offers.{IsContent, IsOffer, AreOffersSayable, is_masked, is_between}
+use Rattle.spa_filter.specs.Admits.{Admits, IsCommon, HasCommon, AreSayable, is_flags, is_bounded}
+use Rattle.spa_filter.specs.Offers.{IsContent, IsOffer, AreOffersSayable, is_masked, has_bounds}
 use Rattle.spa_filter.specs.declared.offer.Offer.{Offer}
 use Rattle.spa_filter.proofs.Order.{kind_of-ordered}
 use Rattle.spa_filter.proofs.Masks.{kind_of-among}
@@ -32,7 +32,7 @@ pub kind_of-admitted : {T : Type 0} (k : Kind) (f : T → Fixed) (same : (x : T)
     (n : ℕ) (e : ChoiceEnum T) (x : Fixed) → Admits (choice_enum_tree k f n e) (fixed x) → kind_of x ≡ k
 kind_of-admitted k f same n (E.None y) x h = ap kind_of h ∙ same y
 kind_of-admitted k f same n (E.Range y a b) x h = sym (kind_of-ordered (f a) x h.0) ∙ same a
-kind_of-admitted k f same n (E.Step y a b s) x h = absurd h
+kind_of-admitted k f same n (E.Step y a b s) x h = sym (kind_of-ordered (f a) x h.0.0) ∙ same a
 kind_of-admitted k f same n (E.Enum y ys) x h =
     let Is : Fixed → Type 0 = λ z. kind_of z ≡ k in
     let others = All-map Is f ys.items (λ i z l. same (get_or ys.items i z)) in
@@ -56,6 +56,6 @@ both_false p q a b e f h = ap (λ x. x && q) e ∙ ap (λ x. a && x) f ∙ h
 
 -- a choice can say what two offers admit where it can say what their values admit
 pub AreOffersSayable-values : {T : Type 0} (a b : Offer T) (v w : Tree) → is_masked a ≡ is_flags v →
-    is_between a ≡ is_range v → is_masked b ≡ is_flags w → is_between b ≡ is_range w → AreSayable v w →
+    has_bounds a ≡ is_bounded v → is_masked b ≡ is_flags w → has_bounds b ≡ is_bounded w → AreSayable v w →
     AreOffersSayable a b
 AreOffersSayable-values a b v w p q r s h = (both_false _ _ _ _ p s h.0, both_false _ _ _ _ q r h.1)

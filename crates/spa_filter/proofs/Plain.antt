@@ -8,7 +8,7 @@ use Rattle.spa_value.specs.declared.value.Value.{Value}
 use Rattle.spa_value.specs.declared.value.Value.TheVariants as V
 use Rattle.spa_value.specs.View.{view, array_view}
 use Rattle.spa_filter.specs.Admits.{plain_of, choice_flags_of}
-use Rattle.spa_filter.specs.Admits.{Admits, IsSupported, HasCommon, IsMeeting, is_flags, is_range}
+use Rattle.spa_filter.specs.Admits.{Admits, IsSupported, HasCommon, IsMeeting, is_flags, is_bounded}
 use Rattle.spa_filter.specs.Offers.{IsPlainView}
 
 -- a value of another variant than a choice
@@ -23,18 +23,18 @@ pub record IsPlainTree (t : Tree) : Type 0 where
   pub alone : (x : Tree) → Admits t x → x ≡ t
   pub itself : Admits t t
   pub unflagged : is_flags t ≡ false
-  pub unranged : is_range t ≡ false
+  pub unbounded : is_bounded t ≡ false
   pub no_flags : choice_flags_of t ≡ 0
 
 plain_array : (a : ValueArray) → IsPlainTree (array_view a)
-plain_array (A.None xs) = record { supported = tt; own = refl; alone = λ x h. h; itself = refl; unflagged = refl; unranged = refl; no_flags = refl }
-plain_array _ = record { supported = tt; own = refl; alone = λ x h. h; itself = refl; unflagged = refl; unranged = refl; no_flags = refl }
+plain_array (A.None xs) = record { supported = tt; own = refl; alone = λ x h. h; itself = refl; unflagged = refl; unbounded = refl; no_flags = refl }
+plain_array _ = record { supported = tt; own = refl; alone = λ x h. h; itself = refl; unflagged = refl; unbounded = refl; no_flags = refl }
 
 pub IsPlainTree-view : (v : Value) → IsPlainView v → IsPlainTree (view v)
 IsPlainTree-view (V.Choice c) h = absurd h
 IsPlainTree-view (V.ValueArray a) h = plain_array a
-IsPlainTree-view (V.Object (Object' t n s ps)) h = record { supported = tt; own = refl; alone = λ x h. h; itself = refl; unflagged = refl; unranged = refl; no_flags = refl }
-IsPlainTree-view _ h = record { supported = tt; own = refl; alone = λ x h. h; itself = refl; unflagged = refl; unranged = refl; no_flags = refl }
+IsPlainTree-view (V.Object (Object' t n s ps)) h = record { supported = tt; own = refl; alone = λ x h. h; itself = refl; unflagged = refl; unbounded = refl; no_flags = refl }
+IsPlainTree-view _ h = record { supported = tt; own = refl; alone = λ x h. h; itself = refl; unflagged = refl; unbounded = refl; no_flags = refl }
 
 -- two plain values meet where they are the same,
 IsMeeting-itself : (v : Tree) → IsPlainTree v → IsMeeting v v v

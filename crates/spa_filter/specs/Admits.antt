@@ -5,6 +5,7 @@ use Rattle.spa_format.specs.Kind.{Kind, Fixed}
 use Rattle.spa_format.specs.Tree.{Shape, none_choice, range_choice, step_choice, enum_choice, flags_choice, Tree, fixed, choice}
 use Rattle.spa_filter.specs.Order.{IsAtMost, IsOrderedKind}
 use Rattle.spa_filter.specs.Flags.{AreAmong, IsFlagKind}
+use Rattle.spa_filter.specs.Steps.{IsMultipleOf, IsStepKind}
 
 -- the value isn't a choice
 abbrev pub IsPlain : Tree → Type 0
@@ -25,13 +26,19 @@ choice_flags_of _ = 0
 abbrev pub IsWithin : (low high x : Fixed) → Type 0
 IsWithin low high x = IsAtMost low x × IsAtMost x high
 
+-- x lies from low to high, and is a multiple of the step
+abbrev pub IsInSteps : (low high step x : Fixed) → Type 0
+IsInSteps low high step x = IsWithin low high x × IsMultipleOf x step
+
 -- The content x is admitted by a choice of this shape, default and further values: by a None choice the
 -- default; by an Enum the default and its alternatives; by a Range what lies from its minimum to its maximum,
--- wherever the default lies; by Flags bits of the default, and not none.
+-- wherever the default lies; by a Step the multiples of its step that do; by Flags bits of the default, and not
+-- none.
 abbrev pub AdmitsContent : Shape → Fixed → List Fixed → Fixed → Type 0
 AdmitsContent none_choice default values x = x ≡ default
 AdmitsContent enum_choice default values x = Contains (default ∷ values) x
 AdmitsContent range_choice default (low ∷ high ∷ values) x = IsWithin low high x
+AdmitsContent step_choice default (low ∷ high ∷ step ∷ values) x = IsInSteps low high step x
 AdmitsContent flags_choice default values x = AreAmong x default
 AdmitsContent _ default values x = ⊥
 
@@ -41,13 +48,14 @@ Admits (choice shape flags kind default values) (fixed x) = AdmitsContent shape 
 Admits (choice shape flags kind default values) x = ⊥
 Admits value x = x ≡ value
 
--- a plain value, a None choice, an Enum, a Range over an ordered kind, or Flags over a kind of flags
+-- a plain value, a None choice, an Enum, a Range over an ordered kind, a Step over a kind that has steps, or
+-- Flags over a kind of flags
 abbrev pub IsSupported : Tree → Type 0
 IsSupported (choice none_choice flags kind default values) = ⊤
 IsSupported (choice enum_choice flags kind default values) = ⊤
 IsSupported (choice range_choice flags kind default values) = IsOrderedKind kind
+IsSupported (choice step_choice flags kind default values) = IsStepKind kind
 IsSupported (choice flags_choice flags kind default values) = IsFlagKind kind
-IsSupported (choice _ flags kind default values) = ⊥
 IsSupported _ = ⊤
 
 -- the value is Flags
@@ -55,14 +63,15 @@ abbrev pub is_flags : Tree → Bool
 is_flags (choice flags_choice flags kind default values) = true
 is_flags _ = false
 
--- the value is a Range
-abbrev pub is_range : Tree → Bool
-is_range (choice range_choice flags kind default values) = true
-is_range _ = false
+-- the value is a Range or a Step
+abbrev pub is_bounded : Tree → Bool
+is_bounded (choice range_choice flags kind default values) = true
+is_bounded (choice step_choice flags kind default values) = true
+is_bounded _ = false
 
--- a choice can say what both admit: not of Flags and a Range
+-- a choice can say what both admit: not of Flags and a Range or a Step
 abbrev pub AreSayable : Tree → Tree → Type 0
-AreSayable v w = ((is_flags v && is_range w) ≡ false) × ((is_range v && is_flags w) ≡ false)
+AreSayable v w = ((is_flags v && is_bounded w) ≡ false) × ((is_bounded v && is_flags w) ≡ false)
 
 -- both values are supported, and side by side
 abbrev pub AreSupported : Tree → Tree → Type 0

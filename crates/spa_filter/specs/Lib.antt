@@ -9,3 +9,4 @@ pub mod Laws
 pub mod Numbering
 pub mod Offers
 pub mod PropertyLists
+pub mod Steps

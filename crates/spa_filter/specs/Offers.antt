@@ -1,5 +1,5 @@
 -- What a value offers of the contents of one type, as the search for a common one sees it.
-use Rattle.std.specs.Prelude.{⊤, ◌≡◌, ◌↔◌, ◌⊎◌, List, ◌∷◌, map, Contains, Option, Some, None, Bool, true, false, ◌&&◌}
+use Rattle.std.specs.Prelude.{⊤, ◌≡◌, ◌↔◌, ◌⊎◌, ℕ, ◌≤◌, List, ◌∷◌, map, Contains, Option, Some, None, Bool, true, false, ◌&&◌}
 use Rattle.std.specs.BTreeSet.{BTreeSet}
 use Rattle.spa_format.specs.Kind.{Kind, rectangle_kind, Fixed}
 use Rattle.spa_format.specs.Tree.{Tree, fixed}
@@ -9,11 +9,14 @@ use Rattle.spa_value.specs.declared.value.Value.TheVariants as V
 use Rattle.spa_filter.specs.Admits.{plain_of, choice_flags_of}
 use Rattle.spa_filter.specs.Order.{IsAtMost}
 use Rattle.spa_filter.specs.Flags.{AreAmong}
-use Rattle.spa_filter.specs.Admits.{IsWithin, Admits, HasCommon, IsMeeting}
+use Rattle.spa_multiples.specs.Multiples.{IsMultiple}
+use Rattle.spa_filter.specs.Steps.{IsMultipleOf}
+use Rattle.spa_filter.specs.Admits.{IsWithin, IsInSteps, Admits, HasCommon, IsMeeting}
+use Rattle.spa_filter.specs.declared.stepped.Steps.{Steps}
 use Rattle.spa_filter.specs.Numbering.{HasAll}
 use Rattle.spa_filter.specs.declared.numbers.Numbers.{Numbers}
 use Rattle.spa_filter.specs.declared.offer.Offer.{Offer}
-use Rattle.spa_filter.specs.declared.offer.Offer.TheVariants.{Only, Among, Between, Masked, Nothing}
+use Rattle.spa_filter.specs.declared.offer.Offer.TheVariants.{Only, Among, Between, Stepped, Masked}
 
 -- the tree is that of a content
 abbrev pub IsContent : Tree → Type 0
@@ -33,35 +36,40 @@ abbrev pub IsChain : Kind → Type 0
 IsChain rectangle_kind = ⊥
 IsChain _ = ⊤
 
+-- x is one of these multiples, where a value of the type says a content
+abbrev pub IsInStepsOf : {T : Type 0} → (T → Fixed) → Steps T → Fixed → Type 0
+IsInStepsOf f steps x = IsInSteps (f steps.low) (f steps.high) (f steps.step) x
+
 -- the content x is admitted by the offer, where a value of the type says this content
 abbrev pub OfferAdmits : {T : Type 0} → (T → Fixed) → Offer T → Fixed → Type 0
 OfferAdmits f (Only default) x = x ≡ f default
 OfferAdmits f (Among default others) x = Contains (f default ∷ map f others.now) x
 OfferAdmits f (Between default low high) x = IsWithin (f low) (f high) x
+OfferAdmits f (Stepped default steps) x = IsInStepsOf f steps x
 OfferAdmits f (Masked default) x = AreAmong x (f default)
-OfferAdmits f (Nothing default) x = ⊥
 
 -- the offer is that of Flags
 abbrev pub is_masked : {T : Type 0} → Offer T → Bool
 is_masked (Masked default) = true
 is_masked _ = false
 
--- the offer is that of a Range
-abbrev pub is_between : {T : Type 0} → Offer T → Bool
-is_between (Between default low high) = true
-is_between _ = false
+-- the offer is that of a Range or a Step
+abbrev pub has_bounds : {T : Type 0} → Offer T → Bool
+has_bounds (Between default low high) = true
+has_bounds (Stepped default steps) = true
+has_bounds _ = false
 
 -- a choice can say what both offers admit
 abbrev pub AreOffersSayable : {T : Type 0} → Offer T → Offer T → Type 0
-AreOffersSayable a b = ((is_masked a && is_between b) ≡ false) × ((is_between a && is_masked b) ≡ false)
+AreOffersSayable a b = ((is_masked a && has_bounds b) ≡ false) × ((has_bounds a && is_masked b) ≡ false)
 
 -- the default of the offer
 abbrev pub default_of : {T : Type 0} → (T → Fixed) → Offer T → Fixed
 default_of f (Only default) = f default
 default_of f (Among default others) = f default
 default_of f (Between default low high) = f default
+default_of f (Stepped default steps) = f default
 default_of f (Masked default) = f default
-default_of f (Nothing default) = f default
 
 -- a value with this tree admits these contents and nothing else, and has this default
 pub record IsOffer (value : Tree) (Admitted : Fixed → Type 0) (default : Fixed) : Type 0 where
@@ -125,6 +133,42 @@ pub record AreKept {T : Type 0} (f : T → Fixed) (a b : Offer T) (contents : Li
 -- both offers admit what lies from low to high
 pub record AreBetween {T : Type 0} (f : T → Fixed) (a b : Offer T) (low high : Fixed) : Type 0 where
   pub each : (x : Fixed) → IsWithin low high x ↔ (OfferAdmits f a x × OfferAdmits f b x)
+
+-- both offers admit these multiples
+pub record AreStepped {T : Type 0} (f : T → Fixed) (a b : Offer T) (steps : Steps T) : Type 0 where
+  pub each : (x : Fixed) → IsInStepsOf f steps x ↔ (OfferAdmits f a x × OfferAdmits f b x)
+
+-- of these multiples, those that are multiples of another step too
+pub record AreNarrowed {T : Type 0} (f : T → Fixed) (steps : Steps T) (other : T) (narrowed : Steps T) : Type 0 where
+  pub each : (x : Fixed) → IsInStepsOf f narrowed x ↔ (IsInStepsOf f steps x × IsMultipleOf x (f other))
+
+-- of these multiples, those that lie from low to high
+pub record AreInBoth {T : Type 0} (f : T → Fixed) (steps : Steps T) (low high : Fixed) (within : Steps T) : Type 0 where
+  pub each : (x : Fixed) → IsInStepsOf f within x ↔ (IsInStepsOf f steps x × IsWithin low high x)
+
+-- the multiples that both have
+pub record AreOfBoth {T : Type 0} (f : T → Fixed) (steps others both : Steps T) : Type 0 where
+  pub each : (x : Fixed) → IsInStepsOf f both x ↔ (IsInStepsOf f steps x × IsInStepsOf f others x)
+
+-- the number is one of these multiples
+abbrev pub IsSide : Steps ℕ → ℕ → Type 0
+IsSide steps n = (steps.low ≤ n) × (n ≤ steps.high) × IsMultiple n steps.step
+
+-- of these multiples, those that are multiples of another step too
+pub record AreSidesNarrowed (steps : Steps ℕ) (other : ℕ) (narrowed : Steps ℕ) : Type 0 where
+  pub each : (n : ℕ) → IsSide narrowed n ↔ (IsSide steps n × IsMultiple n other)
+
+-- the first of these multiples, which is no greater than any; none where there are none
+abbrev pub IsFirst : {T : Type 0} → (T → Fixed) → Steps T → Option T → Type 0
+IsFirst f steps (Some y) =
+    IsInStepsOf f steps (f y) × ((x : Fixed) → IsInStepsOf f steps x → IsAtMost (f y) x)
+IsFirst f steps None = (x : Fixed) → ¬ (IsInStepsOf f steps x)
+
+-- the offer isn't one of a plain value or a None choice, nor of an Enum
+abbrev pub IsWide : {T : Type 0} → Offer T → Type 0
+IsWide (Only default) = ⊥
+IsWide (Among default others) = ⊥
+IsWide _ = ⊤
 
 -- the value is of another variant than a choice
 abbrev pub IsPlainView : Value → Type 0

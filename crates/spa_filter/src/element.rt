@@ -10,12 +10,12 @@ ghost use Rattle.spa_filter.specs.Offers.{IsJoin, IsMeet, IsShared};
 ghost use Rattle.spa_filter.specs.Flags.{AreAmong, IsFlagKind};
 
 use crate::numbers::Numbers;
-use crate::ordered::Ordered;
+use crate::stepped::Stepped;
 use spa_utils::{Choice, ChoiceEnum};
 use spa_value::{ChoiceValue, Value};
 
 /// One of the nine types over which there are choices.
-pub(crate) trait Element: Ordered {
+pub(crate) trait Element: Stepped {
     /// The greater of two elements: of rectangles the one that has the greater sides of both. Where one of them is in no
     /// order, so is the answer.
     fn greater(&self, other: &Self) -> Self

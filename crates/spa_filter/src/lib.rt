@@ -14,6 +14,7 @@ mod numbers;
 mod offer;
 mod ordered;
 mod settling;
+mod stepped;
 mod values;
 
 pub use error::{FilterError, Side};

@@ -1,17 +1,18 @@
 //! Two offers of one type meet.
 ghost use Rattle.std.specs.Prelude.{◌↔◌, IfOk, map};
 ghost use Rattle.spa_format.specs.Kind.{Fixed};
-ghost use Rattle.spa_filter.specs.Offers.{AreBetween, AreKept, AreOffersSayable, IsOnly, IsSharedMask, MaskedMeet, OffersMeet};
+ghost use Rattle.spa_filter.specs.Offers.{AreBetween, AreKept, AreOffersSayable, AreStepped, IsOnly, IsSharedMask, IsWide, MaskedMeet, OffersMeet};
 
 use crate::element::Element;
 use crate::kept::kept;
 use crate::offer::{Offer, admits, common_default};
+use crate::stepped::{Steps, multiples_of_both, within};
 use spa_utils::ChoiceEnum;
 use spa_value::Value;
 use std::alloc::{AllocError, Global};
 
 /// What admits exactly the elements that both offers admit, where there is one: a plain value where one of them is one, else an
-/// Enum where one of them is one, else a Range or Flags.
+/// Enum where one of them is one, else a Range, a Step or Flags.
 pub(crate) fn meet<T: Element>(
     alloc: Global,
     a: &Offer<'_, T>,
@@ -29,31 +30,44 @@ pub(crate) fn meet<T: Element>(
                 Ok(meet_among(a, b, values))
             }
         },
-        Offer::Between(_, low, high) => match b {
+        _ => match b {
             Offer::Only(y) => Ok(meet_only(a, b, y)),
             Offer::Among(first, others) => {
                 let values = kept(alloc, first, others, a)?;
                 Ok(meet_among(a, b, values))
             }
+            _ => Ok(meet_wide(alloc, a, b)),
+        },
+    }
+}
+
+/// The same of two offers other than an element and an Enum: a Range of two Ranges, Flags of two Flags, else a Step.
+fn meet_wide<T: Element>(alloc: Global, a: &Offer<'_, T>, b: &Offer<'_, T>) -> Option<Value>
+    requires sayable { AreOffersSayable a.now b.now }
+    requires first { IsWide a.now }
+    requires second { IsWide b.now }
+    ensures { OffersMeet T.fixed a.now b.now result }
+{
+    match a {
+        Offer::Between(_, low, high) => match b {
             Offer::Between(_, least, greatest) => {
                 let low = low.greater(least);
                 let high = high.lesser(greatest);
-                Ok(meet_between(a, b, &low, &high))
+                meet_between(a, b, &low, &high)
             }
-            Offer::Masked(_) => unreachable!(),
-            Offer::Nothing(_) => Ok(None),
+            Offer::Stepped(_, steps) => meet_stepped(a, b, &within(steps, low, high)),
+            _ => unreachable!(),
+        },
+        Offer::Stepped(_, steps) => match b {
+            Offer::Between(_, low, high) => meet_stepped(a, b, &within(steps, low, high)),
+            Offer::Stepped(_, others) => meet_stepped(a, b, &multiples_of_both(steps, others)),
+            _ => unreachable!(),
         },
         Offer::Masked(mask) => match b {
-            Offer::Only(y) => Ok(meet_only(a, b, y)),
-            Offer::Among(first, others) => {
-                let values = kept(alloc, first, others, a)?;
-                Ok(meet_among(a, b, values))
-            }
-            Offer::Between(_, _, _) => unreachable!(),
-            Offer::Masked(other) => Ok(meet_masked(alloc, mask, other)),
-            Offer::Nothing(_) => Ok(None),
+            Offer::Masked(other) => meet_masked(alloc, mask, other),
+            _ => unreachable!(),
         },
-        Offer::Nothing(_) => Ok(None),
+        _ => unreachable!(),
     }
 }
 
@@ -96,6 +110,23 @@ fn meet_between<T: Element>(a: &Offer<'_, T>, b: &Offer<'_, T>, low: &T, high: &
         default,
         min: *low,
         max: *high,
+    }))
+}
+
+/// A Step of the elements that both offers admit.
+fn meet_stepped<T: Element>(a: &Offer<'_, T>, b: &Offer<'_, T>, steps: &Steps<T>) -> Option<Value>
+    requires { AreStepped T.fixed a.now b.now steps.now }
+    ensures { OffersMeet T.fixed a.now b.now result }
+{
+    let Some(first) = T::first(steps) else {
+        return None;
+    };
+    let default = common_default(a, b, &first);
+    Some(T::choice(ChoiceEnum::Step {
+        default,
+        min: steps.low,
+        max: steps.high,
+        step: steps.step,
     }))
 }
 

@@ -1,10 +1,11 @@
 //! What a value offers of the elements of one type.
 ghost use Rattle.std.specs.Prelude.{◌≡◌, ◌↔◌, ◌∷◌, ℕ, Contains, IsTrue, map};
 ghost use Rattle.spa_fixed.specs.Choices.{choice_enum_tree};
-ghost use Rattle.spa_filter.specs.Admits.{is_flags, is_range};
-ghost use Rattle.spa_filter.specs.Offers.{IsDefault, IsOfferOf, OfferAdmits, default_of, is_between, is_masked};
+ghost use Rattle.spa_filter.specs.Admits.{is_bounded, is_flags};
+ghost use Rattle.spa_filter.specs.Offers.{IsDefault, IsOfferOf, OfferAdmits, default_of, has_bounds, is_masked};
 
 use crate::element::Element;
+use crate::stepped::{Steps, is_in_steps};
 use spa_utils::ChoiceEnum;
 
 /// What a value offers of the elements of one type: its default first.
@@ -16,22 +17,34 @@ pub(crate) enum Offer<'a, T> {
     Among(T, &'a [T]),
     /// Each element from the second to the third.
     Between(T, T, T),
+    /// Each of these multiples.
+    Stepped(T, Steps<T>),
     /// Each element that has bits, and none but those of this one.
     Masked(T),
-    /// No element.
-    Nothing(T),
 }
 
 /// What a choice offers, whatever its flags are.
 pub(crate) fn offer_of<T: Element>(choice: &ChoiceEnum<T>) -> Offer<'_, T>
     ensures offer { (flags : ℕ) → IsOfferOf T.fixed (choice_enum_tree T.kind T.fixed flags choice.now) result }
     ensures masked { (flags : ℕ) → is_masked result ≡ is_flags (choice_enum_tree T.kind T.fixed flags choice.now) }
-    ensures between { (flags : ℕ) → is_between result ≡ is_range (choice_enum_tree T.kind T.fixed flags choice.now) }
+    ensures bounded { (flags : ℕ) → has_bounds result ≡ is_bounded (choice_enum_tree T.kind T.fixed flags choice.now) }
 {
     match choice {
         ChoiceEnum::None(default) => Offer::Only(*default),
         ChoiceEnum::Range { default, min, max } => Offer::Between(*default, *min, *max),
-        ChoiceEnum::Step { default, .. } => Offer::Nothing(*default),
+        ChoiceEnum::Step {
+            default,
+            min,
+            max,
+            step,
+        } => Offer::Stepped(
+            *default,
+            Steps {
+                low: *min,
+                high: *max,
+                step: *step,
+            },
+        ),
         ChoiceEnum::Enum {
             default,
             alternatives,
@@ -48,8 +61,8 @@ pub(crate) fn default_of<T: Element>(offer: &Offer<'_, T>) -> T
         Offer::Only(default) => *default,
         Offer::Among(default, _) => *default,
         Offer::Between(default, _, _) => *default,
+        Offer::Stepped(default, _) => *default,
         Offer::Masked(default) => *default,
-        Offer::Nothing(default) => *default,
     }
 }
 
@@ -90,8 +103,8 @@ pub(crate) fn admits<T: Element>(offer: &Offer<'_, T>, x: &T) -> bool
         Offer::Only(default) => is_same(x, default),
         Offer::Among(default, others) => is_one_of(x, default, others),
         Offer::Between(_, low, high) => low.is_at_most(x) && x.is_at_most(high),
+        Offer::Stepped(_, steps) => is_in_steps(steps, x),
         Offer::Masked(mask) => x.are_among(mask),
-        Offer::Nothing(_) => false,
     }
 }
 

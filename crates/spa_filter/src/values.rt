@@ -3,7 +3,7 @@ ghost use Rattle.std.specs.Prelude.{◌&&◌, ◌≡◌, ◌↔◌, IfErr, IfOk,
 ghost use Rattle.spa_format.specs.Tree.{fixed};
 ghost use Rattle.spa_fixed.specs.Choices.{choice_enum_tree, choice_tree};
 ghost use Rattle.spa_value.specs.View.{choice_view, view};
-ghost use Rattle.spa_filter.specs.Admits.{AreSayable, AreSupported, IsMeeting, IsSupported, is_flags, is_range};
+ghost use Rattle.spa_filter.specs.Admits.{AreSayable, AreSupported, IsMeeting, IsSupported, is_bounded, is_flags};
 ghost use Rattle.spa_filter.specs.Offers.{IsPlainView, ValuesMeet};
 ghost use Rattle.spa_filter.specs.Refusals.{IsValueRefusal};
 
@@ -66,13 +66,13 @@ fn is_shape_supported<T: Element>(choice: &Choice<T>) -> bool
     match &choice.1 {
         ChoiceEnum::None(_) => true,
         ChoiceEnum::Range { .. } => T::is_ordered(),
-        ChoiceEnum::Step { .. } => false,
+        ChoiceEnum::Step { .. } => T::has_steps(),
         ChoiceEnum::Enum { .. } => true,
         ChoiceEnum::Flags { .. } => T::is_flags(),
     }
 }
 
-/// Whether a choice can say what both admit: not of Flags and a Range.
+/// Whether a choice can say what both admit: not of Flags and a Range or a Step.
 fn are_sayable(a: &Value, b: &Value) -> bool
     ensures { IsTrue result ↔ AreSayable (view a.now) (view b.now) }
 {
@@ -94,10 +94,10 @@ fn are_both(first: bool, second: bool) -> bool
     first && second
 }
 
-/// Whether a value is Flags, and whether it is a Range.
+/// Whether a value is Flags, and whether it is a Range or a Step.
 fn shapes(value: &Value) -> (bool, bool)
     ensures flags { result.0 ≡ is_flags (view value.now) }
-    ensures range { result.1 ≡ is_range (view value.now) }
+    ensures bounded { result.1 ≡ is_bounded (view value.now) }
 {
     match value {
         Value::Choice(choice) => choice_shapes(choice),
@@ -108,7 +108,7 @@ fn shapes(value: &Value) -> (bool, bool)
 /// The same of a choice.
 fn choice_shapes(choice: &ChoiceValue) -> (bool, bool)
     ensures flags { result.0 ≡ is_flags (choice_view choice.now) }
-    ensures range { result.1 ≡ is_range (choice_view choice.now) }
+    ensures bounded { result.1 ≡ is_bounded (choice_view choice.now) }
 {
     match choice {
         ChoiceValue::Bool(choice) => typed_shapes(choice),
@@ -126,12 +126,12 @@ fn choice_shapes(choice: &ChoiceValue) -> (bool, bool)
 /// The same of a choice over one type.
 fn typed_shapes<T: Element>(choice: &Choice<T>) -> (bool, bool)
     ensures flags { result.0 ≡ is_flags (choice_tree T.kind T.fixed choice.now) }
-    ensures range { result.1 ≡ is_range (choice_tree T.kind T.fixed choice.now) }
+    ensures bounded { result.1 ≡ is_bounded (choice_tree T.kind T.fixed choice.now) }
 {
     match &choice.1 {
         ChoiceEnum::None(_) => (false, false),
         ChoiceEnum::Range { .. } => (false, true),
-        ChoiceEnum::Step { .. } => (false, false),
+        ChoiceEnum::Step { .. } => (false, true),
         ChoiceEnum::Enum { .. } => (false, false),
         ChoiceEnum::Flags { .. } => (true, false),
     }

@@ -1,8 +1,7 @@
 //! Formats as PipeWire's own builder makes them, and what their pairs filter to.
 //!
 //! The settled answers are those of `spa_pod_filter` and fixation of PipeWire 0.3.65, each choice of its answers at its default. Where it
-//! refuses a pair, it says so by one number: the cause here is made from the definitions by hand, as are the refusals of six pairs that it
-//! answers, in which a Step stands.
+//! refuses a pair, it says so by one number: the cause here is made from the definitions by hand.
 
 const AUDIO_DSP_ENUMFORMAT: &[u32] = &[
     80, 15, 262147, 3, 1, 0, 4, 3, 1, 0, 2, 0, 4, 3, 2, 0, 65537, 0, 4, 3, 518, 0,
@@ -135,7 +134,7 @@ pub(crate) const ANSWERS: &[&str] = &[
     ".ssssss.ssssttttttttt",
     "s.sffsssss..ttttttttt",
     "ss.sssss.sssttttttttt",
-    "sfscfsssssf.ttttttttt",
+    "sfs.fsssssf.ttttttttt",
     "sfsf.sssssf.ttttttttt",
     "sssss.ssssssttttttttt",
     "ssssss.sssssttttttttt",
@@ -145,10 +144,10 @@ pub(crate) const ANSWERS: &[&str] = &[
     "s.sffsssss..ttttttttt",
     "s.s..sssss..ttttttttt",
     "tttttttttttt.tttttttt",
-    "ttttttttttttt.vz.sssv",
+    "ttttttttttttt.v..sssv",
     "tttttttttttttv.mvsssv",
-    "tttttttttttttzzzzsssz",
-    "ttttttttttttt.vz.sssv",
+    "ttttttttttttt.m..sssz",
+    "ttttttttttttt.v..sssv",
     "tttttttttttttssss.sss",
     "tttttttttttttsssss.ss",
     "tttttttttttttssssss.s",
@@ -209,6 +208,14 @@ pub(crate) const AUDIO: &[(usize, usize, &[u32])] = &[
         &[
             104, 15, 262147, 3, 1, 0, 4, 3, 1, 0, 2, 0, 4, 3, 3, 0, 65542, 0, 4, 3, 3, 0, 65539, 0,
             4, 4, 48000, 0,
+        ],
+    ),
+    (
+        3,
+        3,
+        &[
+            128, 15, 262147, 3, 1, 0, 4, 3, 1, 0, 2, 0, 4, 3, 1, 0, 65537, 0, 4, 3, 516, 0, 65539,
+            0, 4, 4, 48000, 0, 65540, 0, 4, 4, 2, 0,
         ],
     ),
     (
@@ -371,6 +378,14 @@ pub(crate) const VIDEO: &[(usize, usize, &[u32])] = &[
     ),
     (
         13,
+        15,
+        &[
+            128, 15, 262147, 3, 1, 0, 4, 3, 2, 0, 2, 0, 4, 3, 1, 0, 131073, 0, 4, 3, 15, 0, 131075,
+            0, 8, 10, 320, 240, 131076, 0, 8, 11, 25, 1,
+        ],
+    ),
+    (
+        13,
         16,
         &[
             128, 15, 262147, 3, 1, 0, 4, 3, 2, 0, 2, 0, 4, 3, 1, 0, 131073, 0, 4, 3, 4, 0, 131075,
@@ -387,8 +402,39 @@ pub(crate) const VIDEO: &[(usize, usize, &[u32])] = &[
         ],
     ),
     (
+        15,
+        13,
+        &[
+            128, 15, 262147, 3, 1, 0, 4, 3, 2, 0, 2, 0, 4, 3, 1, 0, 131075, 0, 8, 10, 640, 480,
+            131073, 0, 4, 3, 15, 0, 131076, 0, 8, 11, 25, 1,
+        ],
+    ),
+    (
+        15,
+        15,
+        &[
+            80, 15, 262147, 3, 1, 0, 4, 3, 2, 0, 2, 0, 4, 3, 1, 0, 131075, 0, 8, 10, 640, 480,
+        ],
+    ),
+    (
+        15,
+        16,
+        &[
+            128, 15, 262147, 3, 1, 0, 4, 3, 2, 0, 2, 0, 4, 3, 1, 0, 131075, 0, 8, 10, 1280, 720,
+            131073, 0, 4, 3, 4, 0, 131076, 0, 8, 11, 30, 1,
+        ],
+    ),
+    (
         16,
         13,
+        &[
+            128, 15, 262147, 3, 1, 0, 4, 3, 2, 0, 2, 0, 4, 3, 1, 0, 131073, 0, 4, 3, 4, 0, 131075,
+            0, 8, 10, 1280, 720, 131076, 0, 8, 11, 30, 1,
+        ],
+    ),
+    (
+        16,
+        15,
         &[
             128, 15, 262147, 3, 1, 0, 4, 3, 2, 0, 2, 0, 4, 3, 1, 0, 131073, 0, 4, 3, 4, 0, 131075,
             0, 8, 10, 1280, 720, 131076, 0, 8, 11, 30, 1,

@@ -10,7 +10,7 @@ ghost use Rattle.spa_filter_pods.specs.Fronts.{AreFrontsRefused, BeginBoth, Filt
 
 use libspa::pod::deserialize::{DeserializeError, PodDeserializer};
 use libspa::pod::laws::{pods_have_one_value, readings_are_normal};
-use libspa::pod::serialize::{GenError, PodSerializer};
+use libspa::pod::serialize::{GenError, write_value};
 use libspa::pod::value_laws::{objects_are_their_fields, trees_have_their_types};
 use libspa::pod::{Held, Object, Value};
 use spa_filter::{FilterError, Side, filter};
@@ -99,8 +99,9 @@ fn encoded(alloc: Global, object: Object) -> Result<Vec<u8>, FilterError>
     ensures cause { IfErr result (IsWriteRefused (object_view object)) }
 {
     let value = Held::from(Value::Object(object));
-    match PodSerializer::serialize(Vec::new(alloc), &*value) {
-        Ok((bytes, _len)) => Ok(bytes),
+    let mut bytes = Vec::new(alloc);
+    match write_value(alloc, &mut bytes, &*value) {
+        Ok(_len) => Ok(bytes),
         Err(GenError::TooLarge) => Err(FilterError::TooLarge),
         Err(GenError::OutOfMemory) => Err(FilterError::OutOfMemory),
         Err(_) => unreachable!(),

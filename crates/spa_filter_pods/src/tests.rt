@@ -60,7 +60,14 @@ const ROWS: &[Row] = &[
     Row {
         case: "a Step",
         a: RANGE,
-        b: &[56, 15, 5, 7, 1, 0, 32, 19, 2, 0, 4, 4, 5, 2, 10, 1],
+        b: &[56, 15, 5, 7, 1, 0, 32, 19, 2, 0, 4, 4, 8, 4, 20, 4],
+        answer: Words(&[56, 15, 5, 3, 1, 0, 32, 19, 2, 0, 4, 4, 8, 4, 10, 4]),
+        swapped: Words(&[56, 15, 5, 7, 1, 0, 32, 19, 2, 0, 4, 4, 8, 4, 10, 4]),
+    },
+    Row {
+        case: "a Step of ids",
+        a: RANGE,
+        b: &[56, 15, 5, 7, 1, 0, 32, 19, 2, 0, 4, 3, 5, 2, 10, 1],
         answer: Refused(Unsupported(1)),
         swapped: Refused(Unsupported(1)),
     },
@@ -185,8 +192,7 @@ fn letter_of(answer: &Result<Vec<u8>, FilterError>) -> u8 {
         Err(Disjoint(2)) => b's',
         Err(Disjoint(65537)) => b'f',
         Err(Disjoint(131_073)) => b'v',
-        Err(Unsupported(131_075)) => b'z',
-        Err(Unsupported(65540)) => b'c',
+        Err(Disjoint(131_075)) => b'z',
         Err(Missing(131_074)) => b'm',
         Err(_) => b'?',
     }

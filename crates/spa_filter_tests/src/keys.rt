@@ -1,7 +1,7 @@
 //! Keys of one side and of both, flags, and the order of refusals.
 use crate::answers::Answer::{Met, Refused};
 use crate::answers::{Row, assert_rows};
-use crate::objects::Kind::{Int, Long};
+use crate::objects::Kind::{Id, Int, Long};
 use crate::objects::Shape::{Enum, Plain, Range, Step};
 use spa_filter::FilterError::{Disjoint, Missing, Unsupported};
 use std::test::Fail;
@@ -96,17 +96,17 @@ const KEYS: &[Row] = &[
     },
     Row {
         case: "unsupported before disjoint",
-        ours: &[(1, 0, Int, Step, &[5, 0, 10, 1])],
+        ours: &[(1, 0, Id, Step, &[5, 0, 10, 1])],
         theirs: &[(1, 0, Long, Plain, &[5])],
         answer: Refused(Unsupported(1)),
         swapped: Refused(Unsupported(1)),
     },
     Row {
         case: "an unsupported value under a key of one",
-        ours: &[(1, 0, Int, Step, &[5, 0, 10, 1])],
+        ours: &[(1, 0, Id, Step, &[5, 0, 10, 1])],
         theirs: &[(2, 0, Int, Plain, &[1])],
-        answer: Met(&[(1, 0, Int, Step, &[5, 0, 10, 1]), (2, 0, Int, Plain, &[1])]),
-        swapped: Met(&[(2, 0, Int, Plain, &[1]), (1, 0, Int, Step, &[5, 0, 10, 1])]),
+        answer: Met(&[(1, 0, Id, Step, &[5, 0, 10, 1]), (2, 0, Int, Plain, &[1])]),
+        swapped: Met(&[(2, 0, Int, Plain, &[1]), (1, 0, Id, Step, &[5, 0, 10, 1])]),
     },
 ];
 

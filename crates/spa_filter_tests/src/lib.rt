@@ -12,4 +12,6 @@ mod pairs;
 #[cfg(test)]
 mod settling;
 #[cfg(test)]
+mod steps;
+#[cfg(test)]
 mod values;

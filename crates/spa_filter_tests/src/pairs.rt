@@ -18,11 +18,12 @@ const SIDE: i64 = 4;
 /// The least int of the domain.
 const LEAST: i64 = -5;
 
-/// What a side offers: its default first, then the bounds of a Range or the alternatives of an Enum.
+/// What a side offers: its default first, then the bounds of a Range or a Step or the alternatives of an Enum, and a step.
 #[derive(Clone, Copy)]
 struct Sample {
     shape: Shape,
     numbers: [i64; 3],
+    step: i64,
 }
 
 /// The next number of a sequence that looks random (Knuth's multiplier, of MMIX).
@@ -38,12 +39,13 @@ fn number(seed: u64) -> i64 {
 
 /// A shape, by the seed's upper bits.
 fn shape(seed: u64) -> Shape {
-    match (seed >> 40) % 8 {
+    match (seed >> 40) % 10 {
         0 => Shape::Plain,
         1 => Shape::None,
         2 | 3 => Shape::Enum,
         4 => Shape::Flags,
-        _ => Shape::Range,
+        5 | 6 | 7 => Shape::Range,
+        _ => Shape::Step,
     }
 }
 
@@ -55,6 +57,7 @@ fn drawn(seed: u64) -> Sample {
     Sample {
         shape: shape(third),
         numbers: [number(first), number(second), number(third)],
+        step: number(after(third)),
     }
 }
 
@@ -79,12 +82,30 @@ fn are_among(x: i64, mask: i64) -> bool {
     int(x) != 0 && int(x) & int(mask) == int(x)
 }
 
+/// Whether one number is a multiple of another. No number is one of 0.
+fn divides(step: i64, x: i64) -> bool {
+    x.checked_rem(step) == Some(0)
+}
+
+/// Whether x, a number of the domain, is a multiple of another one.
+fn is_multiple(kind: Kind, x: i64, step: i64) -> bool {
+    match kind {
+        Kind::Int => divides(int(step), int(x)),
+        _ => divides(step / SIDE, x / SIDE) && divides(step % SIDE, x % SIDE),
+    }
+}
+
 /// Whether what was drawn admits a number of the domain.
 fn admits(kind: Kind, drawn: Sample, x: i64) -> bool {
     let [default, low, high] = drawn.numbers;
     match drawn.shape {
         Shape::Enum => x == default || x == low || x == high,
         Shape::Range => is_at_most(kind, low, x) && is_at_most(kind, x, high),
+        Shape::Step => {
+            is_at_most(kind, low, x)
+                && is_at_most(kind, x, high)
+                && is_multiple(kind, x, drawn.step)
+        }
         Shape::Flags => are_among(x, default),
         _ => x == default,
     }
@@ -102,6 +123,7 @@ fn given_number(kind: Kind, x: i64) -> i64 {
 fn given_count(shape: Shape) -> usize {
     match shape {
         Shape::Enum | Shape::Range => 3,
+        Shape::Step => 4,
         _ => 1,
     }
 }
@@ -113,6 +135,7 @@ fn object_of(alloc: Global, kind: Kind, drawn: Sample) -> Result<Object, AllocEr
         given_number(kind, default),
         given_number(kind, low),
         given_number(kind, high),
+        given_number(kind, drawn.step),
     ];
     let count = given_count(drawn.shape);
     let some = numbers.get(..count).unwrap_or(&[]);
@@ -122,11 +145,18 @@ fn object_of(alloc: Global, kind: Kind, drawn: Sample) -> Result<Object, AllocEr
 /// An element as a number of the domain, and a number that is in no domain for any other.
 trait Numbered: Copy + Drop {
     fn number(&self) -> i64;
+
+    /// Whether a number of the domain is a multiple of this element.
+    fn steps_to(&self, x: i64) -> bool;
 }
 
 impl Numbered for i32 {
     fn number(&self) -> i64 {
         i64::from(*self).wrapping_sub(LEAST)
+    }
+
+    fn steps_to(&self, x: i64) -> bool {
+        divides(i64::from(*self), int(x))
     }
 }
 
@@ -141,11 +171,20 @@ impl Numbered for Rectangle {
     fn number(&self) -> i64 {
         pair(self.width, self.height)
     }
+
+    fn steps_to(&self, x: i64) -> bool {
+        divides(i64::from(self.width), x / SIDE) && divides(i64::from(self.height), x % SIDE)
+    }
 }
 
 impl Numbered for Fraction {
     fn number(&self) -> i64 {
         pair(self.num, self.denom)
+    }
+
+    fn steps_to(&self, x: i64) -> bool {
+        let _x = x;
+        false
     }
 }
 
@@ -166,7 +205,11 @@ fn choice_admits<T: Numbered>(kind: Kind, choice: &ChoiceEnum<T>, x: i64) -> boo
             alternatives,
         } => default.number() == x || is_among(alternatives.as_slice(), x),
         ChoiceEnum::Flags { default, .. } => are_among(x, default.number()),
-        ChoiceEnum::Step { .. } => false,
+        ChoiceEnum::Step { min, max, step, .. } => {
+            is_at_most(kind, min.number(), x)
+                && is_at_most(kind, x, max.number())
+                && step.steps_to(x)
+        }
     }
 }
 
@@ -211,10 +254,12 @@ fn share_nothing(kind: Kind, a: Sample, b: Sample) -> bool {
     true
 }
 
-/// Whether two are Flags, of another type than ints or beside a Range.
+/// Whether one is Flags, of another type than ints or beside a Range or a Step, or a Step of fractions.
 fn is_unsought(kind: Kind, a: Sample, b: Sample) -> bool {
     match (a.shape, b.shape, kind) {
-        (Shape::Flags, Shape::Range, _) | (Shape::Range, Shape::Flags, _) => true,
+        (Shape::Flags, Shape::Range | Shape::Step, _) => true,
+        (Shape::Range | Shape::Step, Shape::Flags, _) => true,
+        (Shape::Step, _, Kind::Fraction) | (_, Shape::Step, Kind::Fraction) => true,
         (Shape::Flags, _, Kind::Int) | (_, Shape::Flags, Kind::Int) => false,
         (Shape::Flags, _, _) | (_, Shape::Flags, _) => true,
         _ => false,

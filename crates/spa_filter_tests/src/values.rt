@@ -718,8 +718,8 @@ const FLAGS: &[Row] = &[
         case: "a Step",
         ours: &[(1, 0, Int, Step, &[4, 0, 8, 2])],
         theirs: &[(1, 0, Int, Plain, &[4])],
-        answer: Refused(Unsupported(1)),
-        swapped: Refused(Unsupported(1)),
+        answer: Met(&[(1, 0, Int, Plain, &[4])]),
+        swapped: Met(&[(1, 0, Int, Plain, &[4])]),
     },
 ];
 

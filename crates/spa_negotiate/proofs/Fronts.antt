@@ -100,3 +100,9 @@ pub settled-written : (v w x : Tree) → Meet v w x → WalksFindProperties → 
 settled-written v w x met walks settled (Ok bytes) p =
     settled-met walks settled v w x bytes.items met p
 settled-written v w x met walks settled (Err why) p = tt
+
+-- The same of bytes in which the objects at two fronts meet.
+pub settled-both : (a b bytes : List ℕ) → WalksFindProperties → SettledAreSettled → BeginBoth a b (MeetIn bytes) →
+    IsTrue (all_settled (property_walk (properties_of bytes)))
+settled-both a b bytes walks settled m =
+    settled-met walks settled m.ours m.theirs m.holds.met bytes m.holds.meet m.holds.pod

@@ -16,7 +16,7 @@ without j ks = filter (λ i. not (i == j)) ks
 test-self : (n : ℕ) → (n == n) ≡ true
 test-self n = (unsigned_Decides n n).1 refl
 
-test-true : (m n : ℕ) → (m == n) ≡ true → m ≡ n
+pub test-true : (m n : ℕ) → (m == n) ≡ true → m ≡ n
 test-true m n = (unsigned_Decides m n).0
 
 test-flipped_by : (m n : ℕ) (b : Bool) → (n == m) ≡ b → (m == n) ≡ false → (n == m) ≡ false

@@ -21,7 +21,7 @@ pub join_properties-none : (ps : Properties) → join_properties ps no_propertie
 join_properties-none no_properties = refl
 join_properties-none (property k f v ps) = ap (property k f v) (join_properties-none ps)
 
-join_properties-assoc : (ps qs rs : Properties) →
+pub join_properties-assoc : (ps qs rs : Properties) →
     join_properties (join_properties ps qs) rs ≡ join_properties ps (join_properties qs rs)
 join_properties-assoc no_properties qs rs = refl
 join_properties-assoc (property k f v ps) qs rs =

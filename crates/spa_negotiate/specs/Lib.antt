@@ -1,4 +1,6 @@
 pub mod Admits
+pub mod Written
+pub mod Offering
 pub mod Keys
 pub mod Meeting
 pub mod Refusals

@@ -7,8 +7,11 @@ mod error;
 mod keyed;
 mod negotiation;
 mod numbers;
+mod object_view;
 mod offer;
+mod offer_view;
 mod pods;
+mod short;
 
 pub use error::{NegotiateError, Side};
 pub use negotiation::negotiate;

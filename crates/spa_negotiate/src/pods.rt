@@ -12,6 +12,7 @@ ghost use Rattle.spa_negotiate.specs.Refusals.{AreRefused, OnDisagreement};
 
 use crate::error::{NegotiateError, Side};
 use crate::negotiation::negotiate;
+use crate::short::meet_short;
 use libspa::pod::deserialize::{DeserializeError, PodDeserializer};
 use libspa::pod::laws::{pods_have_one_value, readings_are_normal};
 use libspa::pod::serialize::{GenError, PodSerializer};
@@ -43,6 +44,9 @@ pub fn negotiate_pods(alloc: Global, a: &[u8], b: &[u8]) -> Result<Vec<u8>, Nego
     pods_have_one_value();
     walks_find_members();
     settled_properties_are_settled();
+    if let Some(bytes) = meet_short(alloc, a, b) {
+        return Ok(bytes);
+    }
     let first = object_at(alloc, a, Side::First)?;
     let second = object_at(alloc, b, Side::Second)?;
     let met = meeting(alloc, &*first, &*second)?;

@@ -1,6 +1,6 @@
 -- The bodies of arrays and choices, part by part.
 use Rattle.std.proofs.Common.{◌≡◌, ◌≢◌, ℕ, suc, zero, ◌+◌, ◌*◌, ◌/◌, ◌%◌, ◌<◌, ◌≤◌, inl, inr, List, [], ◌∷◌, ◌++◌, length, drop, take, refl, sym, ap, ◌∙◌, subst, arith, append_assoc, length-append, length-drop, Option, Some, None, Result, Err}
-use Rattle.std.specs.Prelude.{IfErr, IfSome}
+use Rattle.std.specs.Prelude.{IfErr, IfNone, IfSome}
 use Rattle.std.specs.Borrow.{Bor}
 use Rattle.std.proofs.lemmas.List.{drop-take, length-take-le, nil_from_length, take-take, take_all}
 use Rattle.std.proofs.lemmas.Result.{IfErr-at_err, IfErr-weaker}
@@ -8,11 +8,12 @@ use Rattle.spa_format.specs.Words.{header_size, padding, word_at, word_bytes}
 use Rattle.spa_format.specs.Kind.{Kind, Fixed, IsFixedBody, body_size, bool_kind, content, type_number}
 use Rattle.spa_format.specs.Tree.{Shape, none_choice, range_choice, step_choice, enum_choice, flags_choice, shape_number, array, array_type, choice, choice_type}
 use Rattle.spa_format.specs.Normal.{kept_flags}
-use Rattle.spa_format.specs.Pod.{AreElements, IsArray, least_count, values_taken}
+use Rattle.spa_format.specs.Pod.{AreElements, IsArray, IsChoice, least_count, values_taken}
 use Rattle.spa_format.specs.Encoding.{array_body, fixed_bodies, framed}
 use Rattle.spa_format.specs.Typed.{IsBytes}
 use Rattle.spa_format.specs.Faults.{choice_header_size}
-use Rattle.spa_format.proofs.Elements.{array_length, elements_length, same_array_length, same_elements}
+use Rattle.spa_format.proofs.Choices.{same_shape}
+use Rattle.spa_format.proofs.Elements.{array_length, elements_length, length_of_elements, same_array_length, same_elements}
 use Rattle.spa_format.proofs.FixedKinds.{same_kind}
 use Rattle.spa_format.proofs.WordLemmas.{length-word_bytes, word_at-drop}
 use Rattle.spa_fixed.specs.Reading.{AreWhole}
@@ -21,6 +22,7 @@ use Rattle.spa_fixed.specs.declared.fault.Refusal.TheVariants as refusal
 use Rattle.spa_sink.specs.declared.gen_error.GenError.{GenError}
 use Rattle.spa_sink.specs.declared.gen_error.GenError.TheVariants.{OutOfMemory}
 use Rattle.std.proofs.lemmas.Bool.{cases_lt}
+use Rattle.std.proofs.Math.Nat.{mul-mod_left}
 use Rattle.spa_scan.specs.Canonical.{AreCanonicalElements, IsFixedLen}
 use Rattle.spa_scan.proofs.Parts.{no_elements, whole_elements}
 use Rattle.spa_rewrite.specs.Elements.{AreOfNumber, HasElements, HasValues, IsBeginning, LacksMemory, TakesElements, TakesParts}
@@ -224,6 +226,69 @@ pub flags_kept : (r : Option (Bor (List ℕ))) (body inner elements : List ℕ) 
     IfSome r (λ kept. IsBeginning kept.now elements (length elements)) → IfSome r (λ kept. HasValues body kept.now)
 flags_kept r body inner elements size o h =
     if_some r _ _ (λ kept b. all_values body inner elements kept.now size flags_choice o refl (λ xs. refl) b) h
+
+-- an array's elements are whole
+pub elements_counted : (k : Kind) (xs : List Fixed) (body elements : List ℕ) → IsArray k xs body → elements ≡ drop header_size body →
+    length elements ≡ length xs * body_size k
+elements_counted k xs body elements h e = ap length e ∙ length_of_elements k xs (drop header_size body) h.elements
+
+pub elements_even : (k : Kind) (xs : List Fixed) (body elements : List ℕ) (size : ℕ) → IsArray k xs body → elements ≡ drop header_size body →
+    size ≡ word_at body 0 → length elements % size ≡ 0
+elements_even k xs body elements size h e z =
+    ap (λ n. n % size) (elements_counted k xs body elements h e)
+    ∙ ap (λ s. (length xs * s) % size) (sym (z ∙ h.child_size)) ∙ mul-mod_left (length xs) size
+
+-- the body of no choice
+abbrev pub IsNoChoice : List ℕ → Type 0
+IsNoChoice body = (s : Shape) (f : ℕ) (k : Kind) (x : Fixed) (xs : List Fixed) → ¬ (IsChoice s f k x xs body)
+
+if_none : {X : Type 0} (o : Option X) (P Q : Type 0) → (P → Q) → IfNone o P → IfNone o Q
+if_none None P Q f h = f h
+if_none (Some x) P Q f h = h
+
+-- the values of a choice of this shape take so many bytes, and more than none
+least_bytes : (s t : Shape) (f : ℕ) (k : Kind) (x : Fixed) (xs : List Fixed) (body inner elements : List ℕ) (size number : ℕ) →
+    IsChoice s f k x xs body → inner ≡ drop header_size body → elements ≡ drop header_size inner → size ≡ word_at inner 0 →
+    number ≡ word_at body 0 → number ≡ shape_number t → (0 < size) × (least_count t * size ≤ length elements)
+least_bytes s t f k x xs body inner elements size number h i e z w n =
+    let a : IsArray k (x ∷ h.all) inner = subst (IsArray k (x ∷ h.all)) (sym i) h.values in
+    let same : s ≡ t = same_shape s t (sym h.shape ∙ sym w ∙ n) in
+    let c = elements_counted k (x ∷ h.all) inner elements a e in
+    let sized : size ≡ body_size k = z ∙ a.child_size in
+    let p : 0 < body_size k = a.elements.0 in
+    let l : least_count t ≤ length (x ∷ h.all) = subst (λ u. least_count u ≤ length (x ∷ h.all)) same h.enough in
+    (omega arith, grind arith)
+
+least_some : (t : Shape) → 0 < least_count t
+least_some none_choice = omega arith
+least_some range_choice = omega arith
+least_some step_choice = omega arith
+least_some enum_choice = omega arith
+least_some flags_choice = omega arith
+
+pub first_missed : (r : Option (Bor (List ℕ))) (body inner elements : List ℕ) (size number : ℕ) (t : Shape) (n : ℕ) →
+    inner ≡ drop header_size body → HasElements inner elements → size ≡ word_at inner 0 → number ≡ word_at body 0 → number ≡ shape_number t →
+    n ≡ least_count t * size → IfNone r (0 < n → length elements < n) → IfNone r (IsNoChoice body)
+first_missed r body inner elements size number t n i e z w m q c =
+    if_none r (0 < n → length elements < n) (IsNoChoice body) (λ few s f k x xs h.
+    let l = least_bytes s t f k x xs body inner elements size number h i e.behind z w m in
+    let p = l.0 in
+    let least = least_some t in
+    let some : 0 < n = grind arith in
+    let short = few some in
+    let room = l.1 in
+    omega arith) c
+
+pub all_missed : (r : Option (Bor (List ℕ))) (body inner elements : List ℕ) (size number : ℕ) (t : Shape) →
+    inner ≡ drop header_size body → HasElements inner elements → size ≡ word_at inner 0 → number ≡ word_at body 0 → number ≡ shape_number t →
+    least_count t ≡ 1 → IfNone r (length elements ≡ 0) → IfNone r (IsNoChoice body)
+all_missed r body inner elements size number t i e z w m c d =
+    if_none r (length elements ≡ 0) (IsNoChoice body) (λ none s f k x xs h.
+    let l = least_bytes s t f k x xs body inner elements size number h i e.behind z w m in
+    let p = l.0 in
+    let room = l.1 in
+    let one : least_count t * size ≡ size = ap (λ a. a * size) c ∙ omega arith in
+    omega arith) d
 
 -- the flags that are written
 pub no_flags : (s : Shape) (f n : ℕ) → n ≡ 0 → n ≡ shape_number s → 0 ≡ kept_flags s f

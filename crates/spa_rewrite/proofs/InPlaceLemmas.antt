@@ -1,8 +1,8 @@
 -- Rewritings that are put where their pods lay.
-use Rattle.std.proofs.Common.{◌≡◌, ℕ, ◌+◌, ◌-◌, ◌≤◌, List, [], ◌++◌, length, take, drop, refl, sym, ap, ◌∙◌, subst, arith, append_assoc, length-append}
+use Rattle.std.proofs.Common.{◌≡◌, ℕ, ◌+◌, ◌-◌, ◌≤◌, List, [], ◌++◌, length, take, drop, refl, sym, ap, ◌∙◌, subst, arith, append-nil, append_assoc, length-append}
 use Rattle.std.specs.Borrow.{Bor}
 use Rattle.std.specs.Prelude.{⊤}
-use Rattle.std.proofs.lemmas.List.{drop_at, take_at}
+use Rattle.std.proofs.lemmas.List.{drop_at, nil_from_length, take_at}
 use Rattle.spa_format.proofs.Short.{short_members}
 use Rattle.spa_fixed.specs.declared.fault.DeserializeError.{DeserializeError}
 use Rattle.spa_fixed.specs.declared.fault.DeserializeError.TheVariants as error
@@ -20,6 +20,7 @@ use Rattle.spa_rewrite.specs.Rewriting.{AreRewritten, AreRewrittenInParts, IsLef
 use Rattle.spa_rewrite.specs.Steady.{ArePatched, AreSteady}
 use Rattle.spa_rewrite.proofs.Patches.{length_put}
 use Rattle.spa_rewrite.proofs.Stretches.{both_rewritten, list_refused, member_encodings-join}
+use Rattle.spa_rewrite.proofs.TailLemmas.{written_behind}
 
 -- two parts of a rewriting take no more than the pods
 pub parts_fit : (input first out : List ℕ) → AreRewritten input [] (first ++ out) → length first + length out ≤ length input
@@ -256,3 +257,15 @@ placed_room input first rest steady others patched kept written l i r w len e =
     let n : length first + length steady - length first ≡ length steady = omega arith in
     let same = length_put (length first) (length first + length steady - length first) input patched (omega arith) (long ∙ sym n) in
     omega arith
+
+-- pods that are all their own rewritings or became them
+pub across_rewritten : (input first rest steady others all patched : List ℕ) (at k : ℕ) → all ≡ input → input ≡ first ++ rest → AreCanonical first →
+    rest ≡ steady ++ others → AreSteady steady → length others ≡ 0 → at ≡ length first → k ≡ length all - at →
+    length patched ≡ length (take k (drop at all)) → ArePatched false (take k (drop at all)) patched →
+    AreRewritten input [] (take at all ++ (patched ++ drop k (drop at all)))
+across_rewritten input first rest steady others all patched at k e i c r s o n m l p =
+    let w = written_behind first rest patched all at k n (e ∙ i) m l in
+    let same : rest ≡ steady = r ∙ ap (λ x. steady ++ x) (nil_from_length others o) ∙ append-nil steady in
+    let q : ArePatched false steady patched = subst (λ x. ArePatched false x patched) (w.slice ∙ same) p in
+    subst (AreRewritten input []) (sym w.same)
+    (both_rewritten input first rest patched i c (s.values, subst (AreMembers s.values) (sym same) s.members, q s.values s.members s.long))

@@ -10,6 +10,7 @@ pub mod Bodies
 pub mod Truths
 pub mod InPlaceLemmas
 pub mod SteadyLemmas
+pub mod SteadyFound
 pub mod Patches
 pub mod PatchSteps
 pub mod PatchedBodies

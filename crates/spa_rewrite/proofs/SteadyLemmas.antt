@@ -157,31 +157,36 @@ steady_array body elements h =
       | inr z ↦ of_values [] (nil_from_length elements (let e : length elements ≡ 0 = grind arith in e))
     ]
 
+choice_length : (s : Shape) (f : ℕ) (k : Kind) (x : Fixed) (xs : List Fixed) →
+    length (encoded_body (choice s f k x xs)) ≡ 16 + length (fixed_bodies (x ∷ xs))
+choice_length s f k x xs =
+    let l0 = length-append (word_bytes (shape_number s)) (word_bytes f ++ array_body k (x ∷ xs)) in
+    let l1 = length-append (word_bytes f) (array_body k (x ∷ xs)) in
+    let l2 = length-word_bytes (shape_number s) in
+    let l3 = length-word_bytes f in
+    let l4 = array_length k (x ∷ xs) in
+    omega arith
+
+-- the encoding of the choice that takes these values
+pub kept_length : (body kept : List ℕ) (h : HasValues body kept) →
+    length (encoded_body (choice h.shape (kept_flags h.shape (word_at body 4)) h.kind h.default h.values)) ≡ 16 + length kept
+kept_length body kept h =
+    choice_length h.shape (kept_flags h.shape (word_at body 4)) h.kind h.default h.values
+    ∙ ap (λ n. 16 + n) (elements_length h.kind (h.default ∷ h.values) kept h.its_values)
+
 pub steady_choice : (body kept : List ℕ) → HasValues body kept →
     (16 + length kept + 7) / 8 ≡ (length body + 7) / 8 → IsSteadyBody choice_type body
 steady_choice body kept h e =
     let k = h.kind in
     let s = h.shape in
     let f = kept_flags s (word_at body 4) in
-    let xs = h.default ∷ h.values in
-    let l5 = elements_length k xs kept h.its_values in
-    let size : length (encoded_body (choice s f k h.default h.values)) ≡ 16 + length kept = choice_length s f k h.default h.values ∙ ap (λ n. 16 + n) l5 in
+    let size : length (encoded_body (choice s f k h.default h.values)) ≡ 16 + length kept = kept_length body kept h in
     record {
       value = choice s f k h.default h.values;
       its_type = refl;
       its_body = h.its_choice;
       long = ap padded_size size ∙ ap (λ n. n * 8) e;
     }
-  where
-    choice_length : (s : Shape) (f : ℕ) (k : Kind) (x : Fixed) (xs : List Fixed) →
-        length (encoded_body (choice s f k x xs)) ≡ 16 + length (fixed_bodies (x ∷ xs))
-    choice_length s f k x xs =
-        let l0 = length-append (word_bytes (shape_number s)) (word_bytes f ++ array_body k (x ∷ xs)) in
-        let l1 = length-append (word_bytes f) (array_body k (x ∷ xs)) in
-        let l2 = length-word_bytes (shape_number s) in
-        let l3 = length-word_bytes f in
-        let l4 = array_length k (x ∷ xs) in
-        omega arith
 
 pub steady_pointer : (body : List ℕ) → (length body ≡ 16) ⊎ (length body ≡ 12) → IsSteadyBody pointer_type body
 steady_pointer body l =

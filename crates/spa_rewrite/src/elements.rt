@@ -1,8 +1,10 @@
 //! The bodies of arrays and choices, rewritten as they lie: only truth values, surplus values and the flags of a choice without
 //! alternatives change in them.
-ghost use Rattle.std.specs.Prelude.{◌≡◌, ◌*◌, ◌<◌, ◌≤◌, ◌++◌, IfErr, IfSome, OnOk, length, take};
+ghost use Rattle.std.specs.Prelude.{◌≡◌, ◌*◌, ◌<◌, ◌≤◌, ◌++◌, IfErr, IfNone, IfSome, List, OnOk, length, take, ℕ};
 ghost use Rattle.spa_fixed.specs.Reading.{AreWhole};
+ghost use Rattle.spa_format.specs.Kind.{Fixed, Kind};
 ghost use Rattle.spa_format.specs.Normal.{kept_flags};
+ghost use Rattle.spa_format.specs.Pod.{IsArray, IsChoice};
 ghost use Rattle.spa_format.specs.Tree.{Shape, array_type, choice_type, shape_number};
 ghost use Rattle.spa_format.specs.Words.{size_limit};
 ghost use Rattle.spa_rewrite.specs.Elements.{AreOfNumber, AreTruths, HasElements, HasValues, IsBeginning, LacksMemory, TakesElements, TakesParts, TakesTruths};
@@ -22,7 +24,8 @@ const WIDE_LEN: u32 = 8;
 
 /// The bodies of the elements in the body of an array, where the sizes in it are right.
 pub(crate) fn elements_of(body: &[u8]) -> Option<&[u8]>
-    ensures { IfSome result (λ elements. HasElements body.now elements.now) }
+    ensures there { IfSome result (λ elements. HasElements body.now elements.now) }
+    ensures missed { IfNone result ((k : Kind) (xs : List Fixed) → ¬ (IsArray k xs body.now)) }
 {
     if body.len() < HEADER_LEN {
         return None;
@@ -49,7 +52,8 @@ pub(crate) fn elements_of(body: &[u8]) -> Option<&[u8]>
 
 /// The bodies of a choice's default and of the further values that it takes, where the body is one of a choice.
 pub(crate) fn values_of(body: &[u8]) -> Option<&[u8]>
-    ensures { IfSome result (λ kept. HasValues body.now kept.now) }
+    ensures there { IfSome result (λ kept. HasValues body.now kept.now) }
+    ensures missed { IfNone result ((s : Shape) (f : ℕ) (k : Kind) (x : Fixed) (xs : List Fixed) → ¬ (IsChoice s f k x xs body.now)) }
 {
     if body.len() < 2 * HEADER_LEN {
         return None;
@@ -69,7 +73,8 @@ pub(crate) fn values_of(body: &[u8]) -> Option<&[u8]>
 
 /// The first bytes, where there are so many and more than none.
 fn first_values(elements: &[u8], size: usize) -> Option<&[u8]>
-    ensures { IfSome result (λ kept. IsBeginning kept.now elements.now size) }
+    ensures there { IfSome result (λ kept. IsBeginning kept.now elements.now size) }
+    ensures missed { IfNone result (0 < size → length elements.now < size) }
 {
     if size == 0 {
         return None;
@@ -82,7 +87,8 @@ fn first_values(elements: &[u8], size: usize) -> Option<&[u8]>
 
 /// All of them, where there are some.
 fn all_values(elements: &[u8]) -> Option<&[u8]>
-    ensures { IfSome result (λ kept. IsBeginning kept.now elements.now (length elements.now)) }
+    ensures there { IfSome result (λ kept. IsBeginning kept.now elements.now (length elements.now)) }
+    ensures missed { IfNone result (length elements.now ≡ 0) }
 {
     if elements.is_empty() {
         return None;

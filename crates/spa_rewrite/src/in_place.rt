@@ -1,8 +1,10 @@
 //! Rewriting where the input lies.
-ghost use Rattle.std.specs.Prelude.{◌≡◌, ◌≤◌, [], IfErr, IfOk, OnErr, drop, length, take};
+ghost use Rattle.std.specs.Prelude.{◌≡◌, ◌≤◌, [], IfErr, IfOk, OnErr, drop, false, length, take, true};
 ghost use Rattle.spa_fixed.specs.declared.fault.DeserializeError.TheVariants as refused;
 ghost use Rattle.spa_rewrite.specs.InPlace.{IsFaultOf, RefusesListAt};
 ghost use Rattle.spa_rewrite.specs.Rewriting.{AreRewritten};
+ghost use Rattle.spa_rewrite.specs.Steady.{AreSteadyWithin};
+ghost use Rattle.spa_scan.specs.Depth.{levels_looked_into};
 
 use crate::patch::patch;
 use crate::rewriting::rewrite_in_parts;
@@ -44,6 +46,28 @@ pub fn rewrite_in_place(
     let end = start + written.len();
     bytes[start..end].copy_from_slice(written.as_slice());
     Ok(end)
+}
+
+/// Puts the rewritings of all pods that the input is into an output of the same length, and answers true, where each of them is found to
+/// be as long as its pod and the output is as long as the input: else it writes nothing and answers false. It takes no memory.
+///
+/// None is found as long whose structs and objects stand more than `LEVELS` deep in one another, but where the last of each stand there.
+pub fn rewrite_across(input: &[u8], out: &mut [u8]) -> bool
+    ensures rewritten { result ≡ true → AreRewritten input.now [] out.new }
+    ensures unchanged { result ≡ false → out.new ≡ out.old }
+    ensures found { AreSteadyWithin levels_looked_into input.now → length out.old ≡ length input.now → result ≡ true }
+{
+    if out.len() != input.len() {
+        return false;
+    }
+    let (first, rest) = canonical_stretch(input);
+    let (_, others) = steady_stretch(rest);
+    if !others.is_empty() {
+        return false;
+    }
+    out.copy_from_slice(input);
+    patch(false, &mut out[first.len()..]);
+    true
 }
 
 /// The same refusal, without a place.

@@ -1,7 +1,10 @@
 //! Pods whose rewritings are as long as they are: a look that writes nothing and takes no memory.
-ghost use Rattle.std.specs.Prelude.{◌≡◌, ◌+◌, ◌≤◌, ◌++◌, IfSome, length, true};
-ghost use Rattle.spa_format.specs.Tree.{array_type, choice_type};
-ghost use Rattle.spa_rewrite.specs.Steady.{AreSteady, AreSteadyInside, AreSteadyProperties, BeginsSteady, IsBehindKey, IsInside, IsSteadyBody};
+ghost use Rattle.std.specs.Prelude.{◌≡◌, ◌≢◌, ◌+◌, ◌<◌, ◌≤◌, ◌++◌, IfNone, IfSome, List, [], length, true, ℕ};
+ghost use Rattle.spa_format.specs.Kind.{Kind, body_size, type_number};
+ghost use Rattle.spa_format.specs.Tree.{array_type, choice_type, object_type, struct_type};
+ghost use Rattle.spa_format.specs.Words.{header_size};
+ghost use Rattle.spa_rewrite.specs.Steady.{AreSteady, AreSteadyInside, AreSteadyInsideWithin, AreSteadyProperties, AreSteadyPropertiesWithin, AreSteadyWithin, BeginsSteady, IsBehindKey, IsInside, IsSteadyBody};
+ghost use Rattle.spa_scan.specs.Depth.{depth_of, levels_looked_into};
 
 use crate::elements::{elements_of, values_of};
 use spa_bytes::{HEADER_LEN, POINTER_LEN, SECOND_WORD, SHORT_POINTER_LEN, open, u32_at};
@@ -31,6 +34,8 @@ pub(crate) struct Inside<'a> {
 pub(crate) fn steady_stretch(input: &[u8]) -> (&[u8], &[u8])
     ensures parts { input.now ≡ result.0.now ++ result.1.now }
     ensures steady { AreSteady result.0.now }
+    // Nothing follows where the input is such pods that nest no deeper.
+    ensures all { AreSteadyWithin levels_looked_into input.now → result.1.now ≡ [] }
 {
     let mut left = input;
     while let Some(rest) = steady_front(left) {
@@ -43,6 +48,7 @@ pub(crate) fn steady_stretch(input: &[u8]) -> (&[u8], &[u8])
 fn steady_front(input: &[u8]) -> Option<&[u8]>
     ensures taken { IfSome result (λ rest. BeginsSteady input.now rest.now) }
     ensures shorter { IfSome result (λ rest. length rest.now + 8 ≤ length input.now) }
+    ensures missed { IfNone result ((rest : List ℕ) (c : BeginsSteady input.now rest) → levels_looked_into < depth_of c.value) }
 {
     let Some(front) = open(input) else {
         return None;
@@ -57,7 +63,8 @@ fn steady_front(input: &[u8]) -> Option<&[u8]>
 /// Whether the bytes are pods one after another whose rewritings are as long as they are, with key and flags before each where
 /// `keyed` is set.
 fn are_steady(keyed: bool, body: &[u8], levels: u32) -> bool
-    ensures { result ≡ true → AreSteadyInside keyed body.now }
+    ensures steady { result ≡ true → AreSteadyInside keyed body.now }
+    ensures found { AreSteadyInsideWithin levels keyed body.now → result ≡ true }
 {
     let mut properties = keyed;
     let mut left = body;
@@ -95,7 +102,8 @@ fn are_steady(keyed: bool, body: &[u8], levels: u32) -> bool
 /// What is left of properties without the first key and flags, where these are there, and of pods all.
 #[inline(always)]
 fn behind_key(keyed: bool, left: &[u8]) -> Option<&[u8]>
-    ensures { IfSome result (λ here. IsBehindKey keyed left.now here.now) }
+    ensures there { IfSome result (λ here. IsBehindKey keyed left.now here.now) }
+    ensures short { IfNone result ((keyed ≡ true) × (length left.now < header_size)) }
 {
     if !keyed {
         return Some(left);
@@ -132,6 +140,7 @@ fn short_front(input: &[u8]) -> Option<&[u8]>
 #[inline(always)]
 fn behind_short(keyed: bool, pods: &[u8]) -> &[u8]
     ensures steady { AreSteadyInside keyed result.now → AreSteadyInside keyed pods.now }
+    ensures left { (levels : ℕ) → AreSteadyInsideWithin levels keyed pods.now → AreSteadyInsideWithin levels keyed result.now }
     ensures within { length result.now ≤ length pods.now }
 {
     if keyed {
@@ -148,6 +157,7 @@ fn behind_short(keyed: bool, pods: &[u8]) -> &[u8]
 #[inline(always)]
 fn behind_short_properties(pods: &[u8]) -> &[u8]
     ensures steady { AreSteadyProperties result.now → AreSteadyProperties pods.now }
+    ensures left { (levels : ℕ) → AreSteadyPropertiesWithin levels pods.now → AreSteadyPropertiesWithin levels result.now }
     ensures within { length result.now ≤ length pods.now }
 {
     let mut left = pods;
@@ -161,6 +171,7 @@ fn behind_short_properties(pods: &[u8]) -> &[u8]
 #[inline(always)]
 fn short_property(input: &[u8]) -> Option<&[u8]>
     ensures steady { IfSome result (λ rest. AreSteadyProperties rest.now → AreSteadyProperties input.now) }
+    ensures left { IfSome result (λ rest. (levels : ℕ) → AreSteadyPropertiesWithin levels input.now → AreSteadyPropertiesWithin levels rest.now) }
     ensures shorter { IfSome result (λ rest. length rest.now + 24 ≤ length input.now) }
 {
     if input.len() < HEADER_LEN {
@@ -176,7 +187,9 @@ fn short_property(input: &[u8]) -> Option<&[u8]>
 /// What stands in the body of a struct or of an object; None for other types, and where an object's type and id aren't there.
 #[inline(always)]
 fn inside_of(type_: u32, body: &[u8]) -> Option<Inside<'_>>
-    ensures { IfSome result (λ inside. IsInside type_ body.now inside.keyed inside.pods.now) }
+    ensures there { IfSome result (λ inside. IsInside type_ body.now inside.keyed inside.pods.now) }
+    ensures other { IfNone result (type_ ≢ struct_type) }
+    ensures short { IfNone result (type_ ≡ object_type → length body.now < header_size) }
 {
     if type_ == SpaTypes::Struct.0 {
         return Some(Inside {
@@ -194,7 +207,8 @@ fn inside_of(type_: u32, body: &[u8]) -> Option<Inside<'_>>
 /// Whether a body of this type is that of a value without members whose encoding is as long as the pod.
 #[inline(always)]
 fn is_steady_leaf(type_: u32, body: &[u8]) -> bool
-    ensures { result ≡ true → IsSteadyBody type_ body.now }
+    ensures steady { result ≡ true → IsSteadyBody type_ body.now }
+    ensures found { (s : IsSteadyBody type_ body.now) → depth_of s.value ≡ 0 → result ≡ true }
 {
     match SpaTypes(type_) {
         SpaTypes::Choice => is_steady_choice(body),
@@ -209,7 +223,8 @@ fn is_steady_leaf(type_: u32, body: &[u8]) -> bool
 
 /// The same of the kinds of fixed size.
 fn is_steady_fixed(type_: u32, body: &[u8]) -> bool
-    ensures { result ≡ true → IsSteadyBody type_ body.now }
+    ensures steady { result ≡ true → IsSteadyBody type_ body.now }
+    ensures found { (k : Kind) → type_ ≡ type_number k → length body.now ≡ body_size k → result ≡ true }
 {
     let len = fixed_len(type_);
     len <= TWO_WORDS && body.len() == len as usize
@@ -217,7 +232,8 @@ fn is_steady_fixed(type_: u32, body: &[u8]) -> bool
 
 /// The same of arrays.
 fn is_steady_array(body: &[u8]) -> bool
-    ensures { result ≡ true → IsSteadyBody array_type body.now }
+    ensures steady { result ≡ true → IsSteadyBody array_type body.now }
+    ensures found { IsSteadyBody array_type body.now → result ≡ true }
 {
     match elements_of(body) {
         Some(_) => true,
@@ -227,7 +243,8 @@ fn is_steady_array(body: &[u8]) -> bool
 
 /// The same of choices: what they hold beyond the values that they take is within the padding.
 fn is_steady_choice(body: &[u8]) -> bool
-    ensures { result ≡ true → IsSteadyBody choice_type body.now }
+    ensures steady { result ≡ true → IsSteadyBody choice_type body.now }
+    ensures found { IsSteadyBody choice_type body.now → result ≡ true }
 {
     match values_of(body) {
         Some(kept) => {

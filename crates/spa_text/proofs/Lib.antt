@@ -4,3 +4,9 @@ pub mod Soundness
 pub mod ViewLaws
 pub mod Nexts
 pub mod Nesting
+pub mod Numbers
+pub mod Appending
+pub mod Leaf
+pub mod Listed
+pub mod Continuing
+pub mod Counting

@@ -7,3 +7,5 @@ pub mod Steps
 pub mod Laws
 pub mod Seen
 pub mod Begun
+pub mod Written
+pub mod Left

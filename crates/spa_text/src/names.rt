@@ -1,7 +1,8 @@
 //! What the tables of names say.
-ghost use Rattle.std.specs.Prelude.{◌≡◌, option_map};
+ghost use Rattle.std.specs.Prelude.{◌≡◌, IfSome, Some, option_map};
 ghost use Rattle.spa_text.specs.Names as spec;
 
+use spa_names::laws::names_come_back;
 use spa_names::{Expected, Table};
 use spa_utils::SpaTypes;
 
@@ -14,10 +15,12 @@ pub(crate) fn number_of(table: Table, name: &str) -> Option<u32>
 }
 
 /// The name of a number.
-#[tactic(auto, unfolding(crate::specs::Names::name_of))]
+#[tactic(auto, unfolding(crate::specs::Names::name_of, crate::specs::Names::number_of))]
 pub(crate) fn name_of(table: Table, number: u32) -> Option<&'static str>
-    ensures { option_map (λ name. name.now) result ≡ spec.name_of table number }
+    ensures name { option_map (λ name. name.now) result ≡ spec.name_of table number }
+    ensures back { IfSome result (λ name. spec.number_of table name.now ≡ Some number) }
 {
+    names_come_back();
     spa_names::name_of(table, number)
 }
 

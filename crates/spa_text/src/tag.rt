@@ -3,7 +3,7 @@ ghost use Rattle.std.specs.Prelude.{◌≡◌};
 ghost use Rattle.spa_text.specs.Grammar.{tag_named};
 
 /// A type whose values are numbers in a text.
-#[derive(Clone, Copy)]
+#[derive(Clone, Copy, PartialEq, Eq)]
 pub(crate) enum Scalar {
     Id,
     Int,

@@ -1,5 +1,5 @@
 //! Texts that nest deep.
-use spa_text::read;
+use spa_text::{print, read};
 use spa_value::{Held, Value, same};
 use std::alloc::{AllocError, Global};
 use std::process::Abort;
@@ -51,6 +51,16 @@ fn deep_texts_are_read(rt: HostRuntime) -> Result<(), Fail> {
     Ok(())
 }
 
-fn assert_holds(rt: &impl Abort, is_read: bool) {
-    assert!(rt; is_read, "read as another value, or refused");
+#[test]
+fn deep_values_are_printed(rt: HostRuntime) -> Result<(), Fail> {
+    let value = nested_structs(rt.alloc())?;
+    let wanted = nested_text(rt.alloc())?;
+    let mut bytes = Vec::new(rt.alloc());
+    print(rt.alloc(), &*value, &mut bytes)?;
+    assert_holds(&rt, bytes.as_slice() == wanted.as_bytes());
+    Ok(())
+}
+
+fn assert_holds(rt: &impl Abort, holds: bool) {
+    assert!(rt; holds, "another value or text, or refused");
 }

@@ -4,6 +4,10 @@
 #[cfg(test)]
 mod depth;
 #[cfg(test)]
+mod hostile;
+#[cfg(test)]
 mod refused;
+#[cfg(test)]
+mod rows;
 #[cfg(test)]
 mod values;

@@ -1,24 +1,42 @@
-//! Texts, and the values that they are read as.
+//! Texts, and the values that they are read as, printed again.
 use bitflags::Flags;
-use spa_text::read;
+use spa_text::{print, read};
 use spa_utils::{Choice, ChoiceEnum, ChoiceFlags, Fd, Float32, Float64, Fraction, Id, Rectangle};
 use spa_value::{ChoiceValue, Object, Property, PropertyFlags, Value, ValueArray, discard};
 use std::alloc::{AllocError, Global};
 use std::process::Abort;
 use std::test::Fail;
 
-/// The text is read as this value.
+/// The text is read as this value, and what is printed of the value too.
 fn assert_read(rt: &impl Abort, alloc: Global, text: &str, wanted: Value) {
+    let printed = print_alone(alloc, &wanted);
+    if let Some(again) = &printed {
+        assert_reads(rt, alloc, again.as_str(), &wanted);
+    } else {
+        assert!(rt; false, "what {text} is read as isn't printed");
+    }
+    assert_reads(rt, alloc, text, &wanted);
+    discard(wanted);
+}
+
+fn print_alone(alloc: Global, value: &Value) -> Option<String> {
+    let mut bytes = Vec::new(alloc);
+    match print(alloc, value, &mut bytes) {
+        Ok(()) => String::from_utf8(bytes).ok(),
+        Err(_) => None,
+    }
+}
+
+fn assert_reads(rt: &impl Abort, alloc: Global, text: &str, wanted: &Value) {
     match read(alloc, text) {
         Ok(value) => {
-            assert!(rt; value == wanted, "{text} is read as another value");
+            assert!(rt; value == *wanted, "{text} is read as another value");
             discard(value);
         }
         Err(_) => {
             assert!(rt; false, "{text} is refused");
         }
     }
-    discard(wanted);
 }
 
 fn text_of(alloc: Global, text: &str) -> Result<Value, AllocError> {

@@ -1,5 +1,5 @@
 -- What no control is read from.
-use Rattle.std.proofs.Common.{◌≡◌, ◌≢◌, ◌==◌, ◌++◌, ◌∷◌, ℕ, List, refl, sym, ap, ◌∙◌, subst}
+use Rattle.std.proofs.Common.{◌≡◌, ◌≢◌, ◌++◌, ◌∷◌, ℕ, List, refl, sym, ◌∙◌, subst}
 use Rattle.std.specs.Borrow.{Bor}
 use Rattle.std.specs.List.{All}
 use Rattle.spa_fixed.specs.declared.fault.DeserializeError.{DeserializeError}
@@ -9,20 +9,13 @@ use Rattle.spa_sink.specs.declared.gen_error.GenError.TheVariants as gen_error
 use Rattle.spa_sink.specs.Writing.{RefusedFor}
 use Rattle.libspa.specs.Front.{Begins}
 use Rattle.libspa.specs.Kind.{float}
-use Rattle.libspa.specs.Members.{AtEnd, ObjectReader}
-use Rattle.libspa.specs.Pod.{AreProperties}
 use Rattle.libspa.specs.Reading.{OnFault}
-use Rattle.libspa.specs.Tree.{Tree, Properties, fixed, object, join_properties, property}
+use Rattle.libspa.specs.Tree.{Tree, fixed, object}
 use Rattle.libspa.specs.View.{view}
-use Rattle.libspa.specs.Visiting.{RefusesObject}
-use Rattle.libspa.specs.Visiting as visiting
 use Rattle.libspa.specs.Writable.{HasNul, IsTooLarge, IsWritable}
 use Rattle.spa_value.specs.Views.{property_views}
 use Rattle.spa_value.specs.declared.object.Property.{Property}
-use Rattle.spa_typed_read.specs.ExactlyLaws.{fault_to}
-use Rattle.spa_typed_read.proofs.Exactly.{none_opened, opened_object}
-use Rattle.spa_uses.specs.Control.{BeginsNoControl, DeclinesControl, IsControl, IsNoControl, IsObject, control_tree, volume_key}
-use Rattle.spa_uses.specs.declared.control.Control.{Control}
+use Rattle.spa_uses.specs.Control.{BeginsNoControl, IsControl, IsNoControl, IsObject, volume_key}
 use Rattle.spa_uses.proofs.Lists.{key_there, same_first}
 
 -- what is no object
@@ -33,7 +26,7 @@ of_no_object v n c r = n (subst IsObject (sym r.tree) tt)
 pub without_volume : (v : Tree) (t i : ℕ) (ps : List Property) → v ≡ object t i (property_views ps) →
     All (λ (q : Property). q.key ≢ volume_key) ps → IsNoControl v
 without_volume v t i ps e none c r =
-    key_there volume_key c.flags.0 (fixed (float c.volume.0)) ps (property_views c.before.items) (property_views c.behind.items)
+    key_there volume_key c.flags.0 (fixed (float c.volume.0)) ps (property_views c.before.properties.items) (property_views c.behind.properties.items)
     (cc (sym e ∙ r.tree)) none
 
 -- one whose first volume isn't a Float
@@ -41,33 +34,12 @@ pub of_other_volume : (v : Tree) (t i : ℕ) (ps qs : List Property) (p : Proper
     All (λ (q : Property). q.key ≢ volume_key) ps → p.key ≡ volume_key → ((n : ℕ) → view p.value ≢ fixed (float n)) → IsNoControl v
 of_other_volume v t i ps qs p e none k other c r =
     other c.volume.0
-    (same_first volume_key c.flags.0 (fixed (float c.volume.0)) ps c.before.items p qs (property_views c.behind.items)
+    (same_first volume_key c.flags.0 (fixed (float c.volume.0)) ps c.before.properties.items p qs (property_views c.behind.properties.items)
     (cc (sym e ∙ r.tree)) k none r.first)
 
--- all properties of a control
-abbrev properties_of : Control → Properties
-properties_of c =
-    join_properties (property_views c.before.items)
-    (property volume_key c.flags.0 (fixed (float c.volume.0)) (property_views c.behind.items))
-
--- the read of an object at the front is refused
-pub front_refused : (b : List ℕ) (e : DeserializeError (Bor (List ℕ))) →
-    RefusesObject (λ lent now f. DeclinesControl lent f) (λ lent now. AtEnd now.reader) b e → OnFault (BeginsNoControl b) e
-front_refused b e (visiting.no_object l) =
-    fault_to ((t i : ℕ) (ps : Properties) → ¬ (Begins b (object t i ps))) (BeginsNoControl b) e
-    (λ n v g c r. n c.type_ c.id (properties_of c) (subst (Begins b) r.tree g)) (none_opened b e l)
-front_refused b e (visiting.declined_object lent now o f d) =
-    fault_to ((ps : Properties) → AreProperties ps lent.reader.left → IsNoControl (object lent.type lent.id ps)) (BeginsNoControl b) e
-    (λ n v g c r.
-    let ps = properties_of c in
-    let w = opened_object b lent c.type_ c.id ps o (subst (Begins b) r.tree g) in
-    n ps w.2 c (record {
-      tree = sym (ap (λ t. object t c.id ps) w.0 ∙ ap (λ i. object lent.type i ps) w.1);
-      first = r.first;
-    }))
-    (d o.good)
-front_refused b e (visiting.failed_object lent now o left failed x) = absurd (cc (failed, left.good))
-front_refused b e (visiting.unread_object lent now o a left some x) = absurd (some left.none_left)
+-- the one value of a front is read as no control
+pub front_refused : (b : List ℕ) (v : Tree) → ((w : Tree) → Begins b w → w ≡ v) → IsNoControl v → BeginsNoControl b
+front_refused b v one n w g c r = n c (subst (IsControl c) (one w g) r)
 
 -- a refusal that isn't for memory
 pub not_for_memory : (A : Type 0) (e : DeserializeError (Bor (List ℕ))) → OnFault A e → e ≢ error.OutOfMemory → A

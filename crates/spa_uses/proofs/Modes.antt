@@ -1,12 +1,12 @@
 -- A mode's value: how long its encoding is, that it can be written, and what is read as one.
-use Rattle.std.proofs.Common.{◌≡◌, ℕ, ℤ, ◌+◌, ◌<◌, ◌≤◌, List, length, refl, sym, ap, ◌∙◌, subst, arith, ⊎_elim}
+use Rattle.std.proofs.Common.{◌≡◌, ℕ, ℤ, List, length, refl, ap, ◌∙◌, arith, ⊎_elim}
 use Rattle.std.specs.Borrow.{Bor}
 use Rattle.libspa.specs.Encoding.{encoding_of}
 use Rattle.libspa.specs.Front.{HasFront, Begins}
 use Rattle.libspa.specs.Kind.{int, long}
-use Rattle.libspa.specs.Tree.{Tree, Trees, fixed, member, no_trees, struct}
+use Rattle.libspa.specs.Tree.{Tree, fixed, member, no_trees, struct}
 use Rattle.libspa.specs.Words.{word_bytes, wide_bytes}
-use Rattle.libspa.specs.Writable.{HasNul, IsTooLarge, IsWritable}
+use Rattle.libspa.specs.Writable.{IsWritable}
 use Rattle.libspa.specs.Exactly.{IsUnread, ReadsFirst, ReadsStruct, RefusesExactly}
 use Rattle.libspa.specs.Reading.{OnFault, OnMemory}
 use Rattle.spa_fixed.specs.declared.fault.DeserializeError.{DeserializeError}

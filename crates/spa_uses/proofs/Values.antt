@@ -1,5 +1,5 @@
 -- What a value is that isn't an object, or isn't a Float.
-use Rattle.std.proofs.Common.{◌≡◌, ◌≢◌, ◌∙◌, ℕ, refl, sym, ap, subst, arith}
+use Rattle.std.proofs.Common.{◌≡◌, ◌≢◌, ◌∙◌, ℕ, refl, sym, subst, arith}
 use Rattle.libspa.specs.Kind.{float, float_kind, type_number}
 use Rattle.libspa.specs.Tree.{Tree, fixed, object, type_of, array_type, choice_type, object_type}
 use Rattle.spa_value.specs.declared.array.ValueArray.{ValueArray}

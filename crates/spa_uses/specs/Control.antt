@@ -1,16 +1,11 @@
 -- An object of which one property is known.
-use Rattle.std.specs.Prelude.{◌≡◌, ◌≢◌, ◌⊎◌, ℕ, List, false}
-use Rattle.std.specs.Borrow.{Bor}
+use Rattle.std.specs.Prelude.{◌≡◌, ◌≢◌, ℕ, List}
 use Rattle.std.specs.List.{All}
 use Rattle.libspa.specs.Kind as kind
 use Rattle.libspa.specs.Encoding.{encoding_of}
 use Rattle.libspa.specs.Front.{Begins}
-use Rattle.libspa.specs.Members.{ObjectReader}
-use Rattle.libspa.specs.Pod.{AreProperties}
-use Rattle.libspa.specs.Reading.{OnFault}
-use Rattle.libspa.specs.Tree.{Tree, Properties, fixed, object, join_properties, property}
+use Rattle.libspa.specs.Tree.{Tree, fixed, object, join_properties, property}
 use Rattle.libspa.specs.Writable.{IsWritable}
-use Rattle.spa_fixed.specs.declared.fault.DeserializeError.{DeserializeError}
 use Rattle.spa_value.specs.Views.{property_views}
 use Rattle.spa_uses.specs.declared.control.Control.{Control}
 
@@ -22,8 +17,8 @@ volume_key = 65539
 abbrev pub tree_with : Control → ℕ → Tree
 tree_with c volume =
     object c.type_ c.id
-    (join_properties (property_views c.before.items)
-    (property volume_key c.flags.0 (fixed (kind.float volume)) (property_views c.behind.items)))
+    (join_properties (property_views c.before.properties.items)
+    (property volume_key c.flags.0 (fixed (kind.float volume)) (property_views c.behind.properties.items)))
 
 -- with its own
 abbrev pub control_tree : Control → Tree
@@ -32,7 +27,7 @@ control_tree c = tree_with c c.volume.0
 -- a value is read as this control: it is the control's object, and none of the properties before is a volume
 pub record IsControl (c : Control) (v : Tree) : Type 0 where
   pub tree : v ≡ control_tree c
-  pub first : All (λ p. p.key ≢ volume_key) c.before.items
+  pub first : All (λ p. p.key ≢ volume_key) c.before.properties.items
 
 -- the value is an object
 abbrev pub IsObject : Tree → Type 0
@@ -45,11 +40,6 @@ IsNoControl v = (c : Control) → ¬ (IsControl c v)
 
 abbrev pub BeginsNoControl : List ℕ → Type 0
 BeginsNoControl b = (v : Tree) → Begins b v → IsNoControl v
-
--- Of an object it declines, but for memory, only one that no control is read from.
-abbrev pub DeclinesControl : ObjectReader → DeserializeError (Bor (List ℕ)) → Type 0
-DeclinesControl lent e = lent.reader.failed ≡ false →
-    OnFault ((ps : Properties) → AreProperties ps lent.reader.left → IsNoControl (object lent.type lent.id ps)) e
 
 -- an input begins with a control, which with this volume is written as these bytes
 pub record IsChanged (input : List ℕ) (volume : ℕ) (bytes : List ℕ) : Type 0 where

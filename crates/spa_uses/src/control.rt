@@ -1,27 +1,51 @@
 //! An object of which one property is known, and all others are kept.
 ghost use Rattle.std.specs.Prelude.{⊤, ◌≡◌, ◌≢◌, ◌==◌, ◌⊎◌, ℕ, IfErr, IfNone, IfOk, IfSome, position};
 ghost use Rattle.libspa.specs.Kind as kind;
-ghost use Rattle.libspa.specs.Members.{AtEnd};
 ghost use Rattle.libspa.specs.Reading.{OnFault};
 ghost use Rattle.libspa.specs.Tree.{Tree, fixed, object};
 ghost use Rattle.libspa.specs.View.{object_view, view};
-ghost use Rattle.spa_uses.specs.Control.{BeginsNoControl, DeclinesControl, IsChanged, IsControl, IsNoControl, IsUnwritable, control_tree, volume_key};
+ghost use Rattle.spa_uses.specs.Control.{BeginsNoControl, IsChanged, IsControl, IsNoControl, IsUnwritable, control_tree, volume_key};
 ghost use Rattle.spa_uses.specs.declared.control.Control.{Control};
 
 use libspa::pod::deserialize::{
-    DeserializeError, DeserializeSuccess, Never, ObjectPodDeserializer, PodDeserialize,
-    PodDeserializer, StructPodDeserializer, ValueVisitor, Visit, Visitor,
+    DeserializeError, DeserializeSuccess, PodDeserialize, PodDeserializer,
 };
 use libspa::pod::serialize::{GenError, laws};
 use libspa::pod::value_laws::{
     objects_are_their_fields, property_lists_are_in_order, trees_have_their_types,
 };
-use libspa::pod::{Held, Object, Property, PropertyFlags, Value};
+use libspa::pod::{Held, Object, Property, PropertyFlags, Value, discard};
 use libspa::utils::Float32;
 use std::alloc::{AllocError, Global};
 
 /// The key of a volume, which PipeWire calls `SPA_PROP_volume`.
 const VOLUME: u32 = 65539;
+
+/// Properties that are kept as they are. What they hold may be nested deep, so they are let go by a loop.
+pub struct Kept {
+    pub properties: Vec<Property>,
+}
+
+impl Kept {
+    /// The properties, of which the caller disposes.
+    pub fn into_properties(self) -> Vec<Property>
+        ensures { result.items ≡ self.properties.items }
+    {
+        let Kept { properties } = self;
+        properties
+    }
+}
+
+impl Drop for Kept {
+    fn drop(self) {
+        let Kept { properties } = self;
+        discard(Value::Object(Object {
+            type_: 0,
+            id: 0,
+            properties,
+        }));
+    }
+}
 
 /// A volume, and all else that its object says.
 #[derive(Drop)]
@@ -31,13 +55,13 @@ pub struct Control {
     /// The object's id.
     pub id: u32,
     /// The properties before the volume's, in order.
-    pub before: Vec<Property>,
+    pub before: Kept,
     /// The volume: 1 leaves a sound as it is.
     pub volume: Float32,
     /// The flags of its property.
     pub flags: PropertyFlags,
     /// The properties behind it, in order.
-    pub behind: Vec<Property>,
+    pub behind: Kept,
 }
 
 impl Control {
@@ -50,71 +74,22 @@ impl Control {
         let Control {
             type_,
             id,
-            before: mut properties,
+            mut before,
             volume,
             flags,
             mut behind,
         } = self;
-        properties.push(Property {
+        before.properties.push(Property {
             key: VOLUME,
             flags,
             value: Value::Float(volume),
         })?;
-        properties.append(&mut behind)?;
+        before.properties.append(&mut behind.properties)?;
         Ok(Object {
             type_,
             id,
-            properties,
+            properties: before.into_properties(),
         })
-    }
-}
-
-/// Reads a control.
-#[derive(Drop)]
-struct ControlVisitor;
-
-impl<'de> Visitor<'de> for ControlVisitor {
-    type Value = Control;
-
-    type ArrayElem = Never;
-
-    ghost visits = { λ _ _ _. ⊥ };
-
-    ghost visits_struct = { λ _ _ _. ⊥ };
-
-    ghost visits_object = { λ _ type id properties control. IsControl control (object type id properties) };
-
-    ghost declines_object = { λ _ lent _ e. DeclinesControl lent e };
-
-    ghost leaves_object = { λ _ _ now. AtEnd now.reader };
-
-    fn visit(&self, given: Visit<'de, Never>) -> Result<Control, DeserializeError<&'de [u8]>>
-        ensures made { IfOk result (λ _. ⊥) }
-        ensures declined { IfErr result (λ _. ⊤) }
-    {
-        drop(given);
-        Err(DeserializeError::UnsupportedType)
-    }
-
-    #[tactic(auto, using(spa_typed_read::proofs::Stepping::further_same))]
-    fn visit_struct(
-        &self,
-        _reader: &mut StructPodDeserializer<'de>,
-    ) -> Result<Control, DeserializeError<&'de [u8]>> {
-        Err(DeserializeError::UnsupportedType)
-    }
-
-    fn visit_object(
-        &self,
-        reader: &mut ObjectPodDeserializer<'de>,
-    ) -> Result<Control, DeserializeError<&'de [u8]>> {
-        let visitor = ValueVisitor {
-            alloc: reader.allocator(),
-        };
-        match visitor.visit_object(reader) {
-            Ok(value) => control_in(value),
-            Err(e) => Err(e),
-        }
     }
 }
 
@@ -128,7 +103,11 @@ impl<'de> PodDeserialize<'de> for Control {
     fn deserialize(
         deserializer: PodDeserializer<'de>,
     ) -> Result<(Control, DeserializeSuccess<'de>), DeserializeError<&'de [u8]>> {
-        deserializer.deserialize_object(ControlVisitor)
+        let (value, success) = deserializer.deserialize_any()?;
+        match control_in(value) {
+            Ok(control) => Ok((control, success)),
+            Err(e) => Err(e),
+        }
     }
 }
 
@@ -141,7 +120,7 @@ fn control_in<'de>(value: Value) -> Result<Control, DeserializeError<&'de [u8]>>
     match value {
         Value::Object(object) => control_of(object),
         other => {
-            drop(other);
+            discard(other);
             Err(DeserializeError::UnsupportedType)
         }
     }
@@ -158,15 +137,17 @@ fn control_of<'de>(object: Object) -> Result<Control, DeserializeError<&'de [u8]
     let Object {
         type_,
         id,
-        properties: mut before,
+        properties,
     } = object;
-    let Some(place) = volume_place(before.as_slice()) else {
+    let mut before = Kept { properties };
+    let Some(place) = volume_place(before.properties.as_slice()) else {
         return Err(DeserializeError::PropertyMissing);
     };
-    let mut behind = before.split_off(place)?;
-    let Property { flags, value, .. } = behind.remove(0);
+    let tail = before.properties.split_off(place)?;
+    let mut behind = Kept { properties: tail };
+    let Property { flags, value, .. } = behind.properties.remove(0);
     let found = float_of(&value);
-    drop(value);
+    discard(value);
     let Some(volume) = found else {
         return Err(DeserializeError::UnsupportedType);
     };

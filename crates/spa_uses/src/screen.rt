@@ -1,15 +1,11 @@
 //! Objects.
-ghost use Rattle.std.specs.Prelude.{⊤, ◌≡◌, ℕ, IfErr, IfOk};
 ghost use Rattle.libspa.specs.Kind as kind;
 ghost use Rattle.libspa.specs.Tree.{fixed, no_properties, object, property, string};
 
 use crate::mode::Mode;
 use bitflags::Flags;
 use libspa::pod::PropertyFlags;
-use libspa::pod::deserialize::{
-    DeserializeError, DeserializeSuccess, Never, ObjectPodDeserializer, PodDeserialize,
-    PodDeserializer, StructPodDeserializer, Visit, Visitor,
-};
+use libspa::pod::deserialize::{DeserializeAs, ObjectOf, Required};
 use libspa::pod::serialize::{
     GenError, PodOutput, PodSerialize, PodSerializer, SerializeAs, SerializeSuccess, write_object,
 };
@@ -34,6 +30,20 @@ pub struct Device<'a> {
     pub volume: Float32,
 }
 
+/// Read as an object of this type and id with these properties in any order, and refused exactly where no such object is there.
+impl<'a> DeserializeAs for Device<'a> {
+    type Content = ObjectOf<5, 3, (Required<1, &'a str>, (Required<2, Float32>, ()))>;
+
+    ghost content = { λ device. record { 0 = (record { 0 = device.name }, (record { 0 = device.volume }, tt)) } };
+
+    fn of_content(ObjectOf((name, (volume, ()))): Self::Content) -> Device<'a> {
+        Device {
+            name: name.0,
+            volume: volume.0,
+        }
+    }
+}
+
 impl SerializeAs for Device<'_> {
     ghost says = { λ device. object 5 3 (property 1 0 (string device.name.now) (property 2 0 (fixed (kind.float device.volume.0)) no_properties)) };
 
@@ -48,63 +58,21 @@ impl SerializeAs for Device<'_> {
     }
 }
 
-/// Reads a device.
-#[derive(Drop)]
-struct DeviceVisitor;
-
-impl<'de> Visitor<'de> for DeviceVisitor {
-    type Value = Device<'de>;
-
-    type ArrayElem = Never;
-
-    ghost visits = { λ _ _ _. ⊥ };
-
-    ghost visits_struct = { λ _ _ _. ⊥ };
-
-    ghost visits_object = { λ _ _ _ properties device. (f : ℕ) × (g : ℕ) × (properties ≡ property 1 f (string device.name.now) (property 2 g (fixed (kind.float device.volume.0)) no_properties)) };
-
-    fn visit(&self, given: Visit<'de, Never>) -> Result<Device<'de>, DeserializeError<&'de [u8]>>
-        ensures made { IfOk result (λ _. ⊥) }
-        ensures declined { IfErr result (λ _. ⊤) }
-    {
-        drop(given);
-        Err(DeserializeError::UnsupportedType)
-    }
-
-    #[tactic(auto, using(spa_typed_read::proofs::Stepping::further_same))]
-    fn visit_struct(
-        &self,
-        _reader: &mut StructPodDeserializer<'de>,
-    ) -> Result<Device<'de>, DeserializeError<&'de [u8]>> {
-        Err(DeserializeError::UnsupportedType)
-    }
-
-    #[tactic(auto, using(spa_typed_read::proofs::Stepping::further_in_trans))]
-    fn visit_object(
-        &self,
-        reader: &mut ObjectPodDeserializer<'de>,
-    ) -> Result<Device<'de>, DeserializeError<&'de [u8]>> {
-        let (name, _) = reader.deserialize_property_key::<&str>(FIRST_KEY)?;
-        let (volume, _) = reader.deserialize_property_key::<Float32>(SECOND_KEY)?;
-        Ok(Device { name, volume })
-    }
-}
-
-/// An object of any type and id, its two properties with any flags.
-impl<'de> PodDeserialize<'de> for Device<'de> {
-    ghost reads = { λ value device. (t : ℕ) × (i : ℕ) × (f : ℕ) × (g : ℕ) × (value ≡ object t i (property 1 f (string device.name.now) (property 2 g (fixed (kind.float device.volume.0)) no_properties))) };
-
-    fn deserialize(
-        deserializer: PodDeserializer<'de>,
-    ) -> Result<(Device<'de>, DeserializeSuccess<'de>), DeserializeError<&'de [u8]>> {
-        deserializer.deserialize_object(DeviceVisitor)
-    }
-}
-
 /// A screen with a mode, whatever type that is, written as an object.
 #[derive(Drop)]
 pub struct Screen<M: PodSerialize + Drop> {
     pub mode: M,
+}
+
+/// Read as an object of this type and id with this property, and refused exactly where no such object is there.
+impl DeserializeAs for Screen<Mode> {
+    type Content = ObjectOf<5, 3, (Required<1, Mode>, ())>;
+
+    ghost content = { λ screen. record { 0 = (record { 0 = screen.mode }, tt) } };
+
+    fn of_content(ObjectOf((mode, ())): Self::Content) -> Screen<Mode> {
+        Screen { mode: mode.0 }
+    }
 }
 
 impl<M: PodSerialize + Drop> PodSerialize for Screen<M> {
@@ -117,56 +85,5 @@ impl<M: PodSerialize + Drop> PodSerialize for Screen<M> {
         let mut properties = serializer.serialize_object(OBJECT_TYPE, OBJECT_ID)?;
         properties.serialize_property(FIRST_KEY, &self.mode, PropertyFlags::empty())?;
         properties.end()
-    }
-}
-
-/// Reads a screen with a mode.
-#[derive(Drop)]
-struct ScreenVisitor;
-
-impl<'de> Visitor<'de> for ScreenVisitor {
-    type Value = Screen<Mode>;
-
-    type ArrayElem = Never;
-
-    ghost visits = { λ _ _ _. ⊥ };
-
-    ghost visits_struct = { λ _ _ _. ⊥ };
-
-    ghost visits_object = { λ _ _ _ properties screen. (f : ℕ) × (properties ≡ property 1 f (⟦<Mode as SerializeAs>⟧.says screen.mode) no_properties) };
-
-    fn visit(&self, given: Visit<'de, Never>) -> Result<Screen<Mode>, DeserializeError<&'de [u8]>>
-        ensures made { IfOk result (λ _. ⊥) }
-        ensures declined { IfErr result (λ _. ⊤) }
-    {
-        drop(given);
-        Err(DeserializeError::UnsupportedType)
-    }
-
-    #[tactic(auto, using(spa_typed_read::proofs::Stepping::further_same))]
-    fn visit_struct(
-        &self,
-        _reader: &mut StructPodDeserializer<'de>,
-    ) -> Result<Screen<Mode>, DeserializeError<&'de [u8]>> {
-        Err(DeserializeError::UnsupportedType)
-    }
-
-    fn visit_object(
-        &self,
-        reader: &mut ObjectPodDeserializer<'de>,
-    ) -> Result<Screen<Mode>, DeserializeError<&'de [u8]>> {
-        let (mode, _) = reader.deserialize_property_key::<Mode>(FIRST_KEY)?;
-        Ok(Screen { mode })
-    }
-}
-
-/// An object of any type and id, its property with any flags.
-impl<'de> PodDeserialize<'de> for Screen<Mode> {
-    ghost reads = { λ value screen. (t : ℕ) × (i : ℕ) × (f : ℕ) × (value ≡ object t i (property 1 f (⟦<Mode as SerializeAs>⟧.says screen.mode) no_properties)) };
-
-    fn deserialize(
-        deserializer: PodDeserializer<'de>,
-    ) -> Result<(Screen<Mode>, DeserializeSuccess<'de>), DeserializeError<&'de [u8]>> {
-        deserializer.deserialize_object(ScreenVisitor)
     }
 }

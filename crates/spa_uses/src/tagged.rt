@@ -4,21 +4,21 @@ ghost use Rattle.libspa.specs.Kind as kind;
 ghost use Rattle.libspa.specs.Tree.{fixed, member, no_trees, struct};
 ghost use Rattle.libspa.specs.View.{view};
 
-use libspa::pod::Value;
 use libspa::pod::deserialize::{DeserializeAs, StructOf};
 use libspa::pod::serialize::{GenError, PodOutput, SerializeAs, write_struct};
+use libspa::pod::{Held, Value};
 use libspa::utils::Id;
 
-/// A value under an id.
+/// A value under an id. It may be nested as deep as the bytes of others say, so it is let go by a loop.
 #[derive(Drop)]
 pub struct Tagged {
     pub id: Id,
-    pub value: Value,
+    pub value: Held,
 }
 
 /// Read as a struct of these two, and refused exactly where no such struct is there.
 impl DeserializeAs for Tagged {
-    type Content = StructOf<(Id, (Value, ()))>;
+    type Content = StructOf<(Id, (Held, ()))>;
 
     ghost content = { λ t. record { 0 = (t.id, (t.value, tt)) } };
 
@@ -42,7 +42,7 @@ pub fn tagged_number(id: Id, number: i32) -> Tagged
 {
     Tagged {
         id,
-        value: Value::Int(number),
+        value: Held::from(Value::Int(number)),
     }
 }
 

@@ -14,6 +14,14 @@ pub(crate) fn is_nested(value: &Value) -> bool {
     matches!(value, Value::Struct(_) | Value::Object(_))
 }
 
+/// How many values a struct or an object may consist of for the calls that write it to cost less than a list of what is open and a copy.
+const FEW: usize = 64;
+
+/// Does a value consist of no more values than these, itself among them? So it nests no deeper.
+pub(crate) fn is_small(value: &Value) -> bool {
+    left_of(value, FEW).is_some()
+}
+
 /// Whether a value's encoding has more bytes than there is room for, as the number of its values tells: each has eight at least.
 /// No call in it is nested deeper than an eighth of the room.
 pub(crate) fn is_beyond(room: Option<usize>, value: &Value) -> bool

@@ -11,7 +11,7 @@ ghost use Rattle.spa_write.specs.Measured.{ArePropertiesPut, ArePut, PropertiesA
 ghost use Rattle.spa_leaf.specs.Written.{IsLeaf, IsPut, Stops};
 ghost use Rattle.spa_format.specs.Words.{header_size, size_limit, word_bytes};
 
-use crate::count::{is_beyond, is_nested};
+use crate::count::{is_beyond, is_nested, is_small};
 use crate::largest::{largest_member, largest_property};
 use crate::nested::write_by_loop;
 use crate::short::short_encoding;
@@ -28,10 +28,11 @@ use std::alloc::Global;
 /// 4294967296 or more are refused before a byte is appended. Where the sink refuses it, the sink has taken a beginning of
 /// the encoding.
 ///
-/// Where the sink names an allocator, the encoding of a struct or of an object is put together in memory of that one by a
-/// loop, and appended at once. Into any other sink it is written by functions that call themselves for each level of
-/// nesting, and takes no memory. Where such a sink knows how much room it has, no call is nested deeper than an eighth of it:
-/// a value that consists of more values than that is refused as `Full` before anything else is looked at.
+/// Where the sink names an allocator, the encoding of a struct or of an object that consists of more than 64 values is put
+/// together in memory of that one by a loop, and appended at once. A smaller one, and any into another sink, is written by
+/// functions that call themselves for each level of nesting, and takes no memory. Where such a sink knows how much room it
+/// has, no call is nested deeper than an eighth of it: a value that consists of more values than that is refused as `Full`
+/// before anything else is looked at.
 pub fn write_sized<S: PodSink>(sink: &mut S, value: &Value) -> Result<u64, GenError>
     ensures put { OnOk result (IsPut S.appends sink.old (view value.now) sink.new) }
     ensures count { IfOk result (λ n. n ≡ length (encoding_of (view value.now))) }
@@ -42,6 +43,9 @@ pub fn write_sized<S: PodSink>(sink: &mut S, value: &Value) -> Result<u64, GenEr
         return write_measured(sink, value);
     }
     if let Some(alloc) = sink.own_allocator() {
+        if is_small(value) {
+            return write_measured(sink, value);
+        }
         return write_value(alloc, sink, value);
     }
     if is_beyond(sink.room(), value) {

@@ -1,2 +1,3 @@
 mod Refusals
+mod Runs
 mod Written

@@ -68,3 +68,39 @@ IsRead answer = IsDone answer ⊎ IsOther answer ⊎ IsUnfound answer
 -- what a read of a text answers
 abbrev pub IsTextRead : ℤ → Type 0
 IsTextRead answer = IsNoRoom answer ⊎ IsRead answer
+
+-- -ENOTSUP
+abbrev pub IsUnsupported : ℤ → Type 0
+IsUnsupported answer = IsFailure 95 answer
+
+-- -ENODATA
+abbrev pub IsDisjoint : ℤ → Type 0
+IsDisjoint answer = IsFailure 61 answer
+
+-- -EOVERFLOW
+abbrev pub IsPast : ℤ → Type 0
+IsPast answer = IsFailure 75 answer
+
+-- that two inputs don't meet
+abbrev pub IsApart : ℤ → Type 0
+IsApart answer = IsInvalid answer ⊎ IsOther answer ⊎ IsUnsupported answer ⊎ IsDisjoint answer
+
+-- what a negotiation answers
+abbrev pub IsMet : ℤ → Type 0
+IsMet answer = IsDone answer ⊎ IsNoRoom answer ⊎ IsNoMemory answer ⊎ IsPast answer ⊎ IsApart answer
+
+-- that two inputs aren't filtered
+abbrev pub IsUnfiltered : ℤ → Type 0
+IsUnfiltered answer = IsMissing answer ⊎ IsApart answer
+
+-- what a filtering answers
+abbrev pub IsFiltered : ℤ → Type 0
+IsFiltered answer = IsDone answer ⊎ IsNoRoom answer ⊎ IsNoMemory answer ⊎ IsPast answer ⊎ IsUnfiltered answer
+
+-- what a list of calls answers that isn't made to its end
+abbrev pub IsStopped : ℤ → Type 0
+IsStopped answer = IsInvalid answer ⊎ IsPast answer ⊎ IsNoMemory answer
+
+-- what a list of calls answers
+abbrev pub IsBuilt : ℤ → Type 0
+IsBuilt answer = IsDone answer ⊎ IsNoRoom answer ⊎ IsStopped answer

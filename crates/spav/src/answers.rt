@@ -20,3 +20,18 @@ pub(crate) const MISSING: i32 = -2;
 
 /// The value under the key is of another type: `-EPROTO`.
 pub(crate) const OTHER: i32 = -71;
+
+/// No common value is sought for what stands there: `-ENOTSUP`.
+pub(crate) const UNSUPPORTED: i32 = -95;
+
+/// No value is admitted by both: `-ENODATA`.
+pub(crate) const DISJOINT: i32 = -61;
+
+/// A size of the answer is 2^32 or more: `-EOVERFLOW`.
+pub(crate) const PAST: i32 = -75;
+
+/// The number of the first of two inputs.
+pub(crate) const FIRST: u32 = 0;
+
+/// The number of the second.
+pub(crate) const SECOND: u32 = 1;

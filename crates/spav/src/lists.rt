@@ -1,14 +1,15 @@
 //! Lists of pods, rewritten into the caller's memory and checked.
-ghost use Rattle.std.specs.Prelude.{◌≡◌, ◌<◌, ◌++◌, drop, length};
+ghost use Rattle.std.specs.Prelude.{◌≡◌, ◌<◌, ◌≤◌, ◌++◌, drop, false, length, true};
 ghost use Rattle.spa_format.specs.Pod.{AreMembers};
 ghost use Rattle.spa_format.specs.Tree.{Trees};
+ghost use Rattle.spa_rewrite.specs.Steady.{AreSteadyWithin};
 ghost use Rattle.spa_scan.specs.Depth.{AreShallow, levels_looked_into};
 ghost use Rattle.spav.specs.Answers.{IsChecked, IsDone, IsInvalid, IsNoMemory, IsNoRoom, IsPut, IsRewritten};
 ghost use Rattle.spav.specs.Lists.{ListIsRefused, ListIsWritten, ListLacksRoom};
 
 use crate::answers::{DONE, INVALID, NO_MEMORY, NO_ROOM};
 use spa_fixed::DeserializeError;
-use spa_rewrite::{accept_all, rewrite_all};
+use spa_rewrite::{accept_all, rewrite_across, rewrite_all};
 use spa_scan::canonical_stretch;
 use std::alloc::Global;
 
@@ -16,8 +17,8 @@ use std::alloc::Global;
 ///
 /// 0: `written` is their length, and what is behind them is as it was. -EINVAL: the input isn't pods one after another; the pod
 /// that begins at the byte `at` is refused. -ENOSPC: it is, and `written`, the length of the rewritings, is more than `out` has.
-/// -ENOMEM: memory was asked for and refused, which isn't asked for where the input is its own rewriting. Where the answer
-/// isn't 0, `out` is unchanged.
+/// -ENOMEM: memory was asked for and refused, which isn't asked for where the input is its own rewriting, nor where each rewriting
+/// is as long as its pod and `out` as the input. Where the answer isn't 0, `out` is unchanged.
 #[unsafe(no_mangle)]
 pub extern "C" fn spav_rewrite(
     alloc: Global,
@@ -30,9 +31,13 @@ pub extern "C" fn spav_rewrite(
     ensures refused { IsInvalid result → ListIsRefused input.now at.new }
     ensures room { IsNoRoom result → ListLacksRoom input.now written.new out.old }
     ensures memory { IsNoMemory result → ¬ (AreShallow levels_looked_into input.now) }
+    ensures across { IsNoMemory result → length input.now ≤ length out.old → ¬ (AreSteadyWithin levels_looked_into input.now) }
     ensures answers { IsRewritten result }
     ensures unchanged { ¬ (IsDone result) → out.new ≡ out.old }
 {
+    if put_across(input, out, written) {
+        return DONE;
+    }
     let (_, others) = canonical_stretch(input);
     if others.is_empty() {
         return put_front(input, out, written);
@@ -46,6 +51,21 @@ pub extern "C" fn spav_rewrite(
             INVALID
         }
     }
+}
+
+/// Puts the rewritings at the front of the output and says how many bytes they are, where each of them is found to be as long as its pod
+/// and all fit.
+fn put_across(input: &[u8], out: &mut [u8], written: &mut usize) -> bool
+    ensures done { result ≡ true → ListIsWritten input.now written.new out.old out.new }
+    ensures unchanged { result ≡ false → out.new ≡ out.old }
+    ensures found { AreSteadyWithin levels_looked_into input.now → length input.now ≤ length out.old → result ≡ true }
+{
+    let len = input.len();
+    if out.len() < len || !rewrite_across(input, &mut out[..len]) {
+        return false;
+    }
+    *written = len;
+    true
 }
 
 /// Whether the input is pods one after another.
@@ -74,7 +94,7 @@ pub extern "C" fn spav_check(alloc: Global, input: &[u8], at: &mut usize) -> i32
 }
 
 /// Puts bytes at the front of the output, where they fit, and says how many they are.
-fn put_front(bytes: &[u8], out: &mut [u8], written: &mut usize) -> i32
+pub(crate) fn put_front(bytes: &[u8], out: &mut [u8], written: &mut usize) -> i32
     ensures done { IsDone result → out.new ≡ bytes.now ++ drop (length bytes.now) out.old }
     ensures counted { written.new ≡ length bytes.now }
     ensures room { IsNoRoom result → length out.old < length bytes.now }

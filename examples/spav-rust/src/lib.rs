@@ -22,6 +22,18 @@ mod raw {
         pub fn spav_fraction(input: *const u8, n: usize, key: u32, num: *mut u32, denom: *mut u32) -> i32;
         pub fn spav_events(input: *const u8, n: usize, out: *mut super::Event, room: usize, count: *mut usize) -> i32;
         pub fn spav_string(input: *const u8, n: usize, key: u32, out: *mut u8, cap: usize, len: *mut usize) -> i32;
+        pub fn spav_negotiate(a: *const u8, n: usize, b: *const u8, m: usize, out: *mut u8, cap: usize, written: *mut usize, told: *mut u32) -> i32;
+        pub fn spav_filter(a: *const u8, n: usize, b: *const u8, m: usize, out: *mut u8, cap: usize, written: *mut usize, told: *mut u32) -> i32;
+        pub fn spav_build(
+            calls: *const super::RawCall,
+            count: usize,
+            texts: *const u8,
+            n: usize,
+            out: *mut u8,
+            cap: usize,
+            written: *mut usize,
+            at: *mut usize,
+        ) -> i32;
     }
 }
 
@@ -201,6 +213,193 @@ pub fn text<'a>(input: &[u8], key: u32, out: &'a mut [u8]) -> Result<&'a [u8], E
     let answer = unsafe { raw::spav_string(input.as_ptr(), input.len(), key, out.as_mut_ptr(), out.len(), &mut len) };
     read(answer, len + 1)?;
     Ok(&out[..len])
+}
+
+/// Why two objects don't meet, or aren't filtered.
+#[derive(Clone, Copy, PartialEq, Eq, Debug)]
+pub enum Apart {
+    /// No object is at the front of the first input, which has the number 0, or of the second.
+    NoObject(u32),
+    /// They are of two types.
+    Types,
+    /// To filter: one has this key as MANDATORY, and the other lacks it.
+    Missing(u32),
+    /// Under this key stands a choice for which no common value is sought.
+    Unsupported(u32),
+    /// Under this key no value is admitted by both.
+    Disjoint(u32),
+    /// The answer is too large for a pod.
+    TooLarge,
+    /// The output is shorter than this many bytes.
+    NoRoom(usize),
+    /// Memory was asked for and refused.
+    OutOfMemory,
+}
+
+impl fmt::Display for Apart {
+    fn fmt(&self, to: &mut fmt::Formatter<'_>) -> fmt::Result {
+        match self {
+            Apart::NoObject(side) => write!(to, "no object at the front of input {side}"),
+            Apart::Types => write!(to, "objects of two types"),
+            Apart::Missing(key) => write!(to, "key {key} is in one alone, as mandatory"),
+            Apart::Unsupported(key) => write!(to, "no value is sought in the choices for key {key}"),
+            Apart::Disjoint(key) => write!(to, "no value for key {key} is in both"),
+            Apart::TooLarge => write!(to, "too large for a pod"),
+            Apart::NoRoom(needed) => write!(to, "{needed} bytes are needed"),
+            Apart::OutOfMemory => write!(to, "out of memory"),
+        }
+    }
+}
+
+impl std::error::Error for Apart {}
+
+fn joined(answer: i32, out: &mut [u8], written: usize, told: u32) -> Result<&mut [u8], Apart> {
+    match answer {
+        0 => Ok(&mut out[..written]),
+        -2 => Err(Apart::Missing(told)),
+        -22 => Err(Apart::NoObject(told)),
+        -28 => Err(Apart::NoRoom(written)),
+        -61 => Err(Apart::Disjoint(told)),
+        -71 => Err(Apart::Types),
+        -75 => Err(Apart::TooLarge),
+        -95 => Err(Apart::Unsupported(told)),
+        _ => Err(Apart::OutOfMemory),
+    }
+}
+
+/// Writes the object in which the objects at the fronts of two inputs meet to the front of `out`, and gives it.
+pub fn negotiate_into<'a>(a: &[u8], b: &[u8], out: &'a mut [u8]) -> Result<&'a mut [u8], Apart> {
+    let (mut written, mut told) = (0, 0);
+    let (to, cap) = (out.as_mut_ptr(), out.len());
+    let answer = unsafe { raw::spav_negotiate(a.as_ptr(), a.len(), b.as_ptr(), b.len(), to, cap, &mut written, &mut told) };
+    joined(answer, out, written, told)
+}
+
+/// Writes the object to which the objects at the fronts of two inputs are filtered to the front of `out`, and gives it: it may still
+/// hold choices.
+pub fn filter_into<'a>(a: &[u8], b: &[u8], out: &'a mut [u8]) -> Result<&'a mut [u8], Apart> {
+    let (mut written, mut told) = (0, 0);
+    let (to, cap) = (out.as_mut_ptr(), out.len());
+    let answer = unsafe { raw::spav_filter(a.as_ptr(), a.len(), b.as_ptr(), b.len(), to, cap, &mut written, &mut told) };
+    joined(answer, out, written, told)
+}
+
+/// A call of a builder: a value is added, a pod is begun or closed, or the key and the flags of a property are said.
+#[derive(Clone, Copy, PartialEq, Debug)]
+pub enum Call<'a> {
+    None,
+    Bool(bool),
+    Id(u32),
+    Int(i32),
+    Long(i64),
+    Float(f32),
+    Double(f64),
+    String(&'a str),
+    Bytes(&'a [u8]),
+    /// Width and height.
+    Rectangle(u32, u32),
+    /// Numerator and denominator.
+    Fraction(u32, u32),
+    /// A type number and an address.
+    Pointer(u32, u64),
+    Fd(i64),
+    /// A key and flags. The next call adds or begins the value.
+    Prop(u32, u32),
+    PushArray,
+    /// A shape and flags.
+    PushChoice(u32, u32),
+    PushStruct,
+    /// A type and an id.
+    PushObject(u32, u32),
+    /// The innermost pod that is begun is closed, which has this frame: how many are begun.
+    Pop(u64),
+}
+
+/// A call as the library takes it.
+#[repr(C)]
+#[derive(Clone, Copy, Default)]
+struct RawCall {
+    what: u32,
+    first: u32,
+    second: u32,
+    number: i32,
+    wide: i64,
+    bits: u64,
+}
+
+/// The call, whose text is put behind the others.
+fn raw_call(call: &Call, texts: &mut Vec<u8>) -> RawCall {
+    let words = |what, first, second, bits| RawCall { what, first, second, bits, ..RawCall::default() };
+    let mut text = |what, bytes: &[u8]| {
+        let from = texts.len();
+        texts.extend_from_slice(bytes);
+        match u32::try_from(bytes.len()) {
+            Ok(len) => words(what, 0, len, from as u64),
+            Err(_) => words(what, 0, 1, u64::MAX), // past the texts: refused
+        }
+    };
+    match *call {
+        Call::None => words(1, 0, 0, 0),
+        Call::Bool(value) => words(2, value.into(), 0, 0),
+        Call::Id(value) => words(3, value, 0, 0),
+        Call::Int(number) => RawCall { what: 4, number, ..RawCall::default() },
+        Call::Long(wide) => RawCall { what: 5, wide, ..RawCall::default() },
+        Call::Float(value) => words(6, value.to_bits(), 0, 0),
+        Call::Double(value) => words(7, 0, 0, value.to_bits()),
+        Call::String(value) => text(8, value.as_bytes()),
+        Call::Bytes(value) => text(9, value),
+        Call::Rectangle(width, height) => words(10, width, height, 0),
+        Call::Fraction(num, denom) => words(11, num, denom, 0),
+        Call::PushArray => words(13, 0, 0, 0),
+        Call::PushStruct => words(14, 0, 0, 0),
+        Call::PushObject(type_, id) => words(15, type_, id, 0),
+        Call::Pointer(type_, address) => words(17, type_, 0, address),
+        Call::Fd(wide) => RawCall { what: 18, wide, ..RawCall::default() },
+        Call::PushChoice(shape, flags) => words(19, shape, flags, 0),
+        Call::Prop(key, flags) => words(256, key, flags, 0),
+        Call::Pop(frame) => words(257, 0, 0, frame),
+    }
+}
+
+/// Why calls build nothing.
+#[derive(Clone, Copy, PartialEq, Eq, Debug)]
+pub enum BuildError {
+    /// The call of this number can't come there; behind the last call, a pod isn't closed.
+    Refused(usize),
+    /// By the call of this number the size of a pod is 4294967296 or more.
+    TooLarge(usize),
+    /// The output is shorter than this many bytes.
+    NoRoom(usize),
+    /// Memory was asked for and refused.
+    OutOfMemory,
+}
+
+impl fmt::Display for BuildError {
+    fn fmt(&self, to: &mut fmt::Formatter<'_>) -> fmt::Result {
+        match self {
+            BuildError::Refused(at) => write!(to, "call {at}: can't come there"),
+            BuildError::TooLarge(at) => write!(to, "call {at}: too large for a pod"),
+            BuildError::NoRoom(needed) => write!(to, "{needed} bytes are needed"),
+            BuildError::OutOfMemory => write!(to, "out of memory"),
+        }
+    }
+}
+
+impl std::error::Error for BuildError {}
+
+/// Writes the pods that the calls build to the front of `out`, and gives them.
+pub fn build_into<'a>(calls: &[Call], out: &'a mut [u8]) -> Result<&'a mut [u8], BuildError> {
+    let mut texts = Vec::new();
+    let raw: Vec<RawCall> = calls.iter().map(|call| raw_call(call, &mut texts)).collect();
+    let (mut written, mut at) = (0, 0);
+    let (to, cap) = (out.as_mut_ptr(), out.len());
+    match unsafe { raw::spav_build(raw.as_ptr(), raw.len(), texts.as_ptr(), texts.len(), to, cap, &mut written, &mut at) } {
+        0 => Ok(&mut out[..written]),
+        -22 => Err(BuildError::Refused(at)),
+        -28 => Err(BuildError::NoRoom(written)),
+        -75 => Err(BuildError::TooLarge(at)),
+        _ => Err(BuildError::OutOfMemory),
+    }
 }
 
 /// A pod as it lies in bytes.
@@ -418,6 +617,15 @@ mod tests {
     }
 
     #[test]
+    fn what_stays_as_long_is_written_at_once() {
+        let noisy = bytes(&[4, 2, 1, 0, 4, 2, 7, 9]);
+        let mut out = [9; 40];
+        assert_eq!(rewrite_into(&noisy, &mut out), Ok(&mut bytes(&[4, 2, 1, 0, 4, 2, 1, 0])[..]));
+        assert_eq!(out[32..], [9; 8]);
+        assert_eq!(rewrite_into(&noisy, &mut out[..31]), Err(Error::NoRoom(32)));
+    }
+
+    #[test]
     fn refusals_say_where() {
         let mut two = object();
         two.extend(bytes(&[4, 5, 0, 0]));
@@ -435,6 +643,91 @@ mod tests {
         assert_eq!(inside, [(Some((1, 0)), 4, 4), (Some((2, 0)), 19, 28), (Some((3, 0)), 8, 3)]);
         assert!(nests_within(pod.bytes, 1) && !nests_within(pod.bytes, 0));
         assert!(pod.inside().next().unwrap().inside().next().is_none());
+    }
+
+    /// An object of type 5: under 1 a Range of Ints from 2 to 10.
+    fn range() -> Vec<u8> {
+        bytes(&[56, 15, 5, 3, 1, 0, 28, 19, 1, 0, 4, 4, 5, 2, 10, 0])
+    }
+
+    #[test]
+    fn objects_meet() {
+        let (ours, mut out) = (range(), [9; 64]);
+        let theirs = bytes(&[56, 15, 5, 7, 1, 0, 28, 19, 3, 0, 4, 4, 12, 12, 4, 0]);
+        let met = bytes(&[32, 15, 5, 3, 1, 0, 4, 4, 4, 0]);
+        assert_eq!(negotiate_into(&ours, &theirs, &mut out), Ok(&mut met.clone()[..]));
+        assert_eq!(out[40..], [9; 24]);
+        assert_eq!(negotiate_into(&ours, &theirs, &mut out[..39]), Err(Apart::NoRoom(40)));
+        assert_eq!(negotiate_into(&ours, &bytes(&[8, 15, 6, 7]), &mut out), Err(Apart::Types));
+        assert_eq!(negotiate_into(&ours, &bytes(&[0, 14]), &mut out), Err(Apart::NoObject(1)));
+        let twelve = bytes(&[32, 15, 5, 7, 1, 0, 4, 4, 12, 0]);
+        assert_eq!(negotiate_into(&ours, &twelve, &mut out), Err(Apart::Disjoint(1)));
+        let step = bytes(&[56, 15, 5, 7, 1, 0, 32, 19, 2, 0, 4, 4, 5, 2, 10, 1]);
+        assert_eq!(negotiate_into(&ours, &step, &mut out), Err(Apart::Unsupported(1)));
+    }
+
+    #[test]
+    fn objects_are_filtered() {
+        let (ours, mut out) = (range(), [9; 64]);
+        let theirs = bytes(&[56, 15, 5, 7, 1, 0, 28, 19, 1, 0, 4, 4, 20, 8, 20, 0]);
+        let both = bytes(&[56, 15, 5, 3, 1, 0, 28, 19, 1, 0, 4, 4, 8, 8, 10, 0]);
+        assert_eq!(filter_into(&ours, &theirs, &mut out), Ok(&mut both.clone()[..]));
+        assert_eq!(filter_into(&ours, &theirs, &mut out[..63]), Err(Apart::NoRoom(64)));
+        let mandatory = bytes(&[32, 15, 5, 7, 2, 8, 4, 4, 6, 0]);
+        assert_eq!(filter_into(&ours, &mandatory, &mut out), Err(Apart::Missing(2)));
+        assert_eq!(filter_into(&[], &ours, &mut out), Err(Apart::NoObject(0)));
+    }
+
+    #[test]
+    fn pods_are_built() {
+        let calls = [
+            Call::PushObject(5, 3),
+            Call::Prop(1, 0),
+            Call::Int(9),
+            Call::Prop(2, 0),
+            Call::PushChoice(1, 0),
+            Call::Int(5),
+            Call::Int(2),
+            Call::Int(10),
+            Call::Pop(2),
+            Call::Prop(3, 0),
+            Call::String("ab"),
+            Call::Pop(1),
+        ];
+        let mut out = [9; 120];
+        assert_eq!(build_into(&calls, &mut out), Ok(&mut object()[..]));
+        assert_eq!(out[112..], [9; 8]);
+        assert_eq!(build_into(&calls, &mut out[..111]), Err(BuildError::NoRoom(112)));
+        assert_eq!(build_into(&calls[..11], &mut out), Err(BuildError::Refused(11)));
+        assert_eq!(build_into(&[Call::PushStruct, Call::Pop(2)], &mut out), Err(BuildError::Refused(1)));
+    }
+
+    #[test]
+    fn each_kind_is_built() {
+        let calls = [
+            Call::PushStruct,
+            Call::None,
+            Call::Bool(true),
+            Call::Id(77),
+            Call::Long(0x1_0000_0001),
+            Call::Float(1.5),
+            Call::Double(1.5),
+            Call::Bytes(b"ab"),
+            Call::Rectangle(320, 240),
+            Call::Fraction(30, 1),
+            Call::Pointer(7, 0x1_0000_0002),
+            Call::Fd(17),
+            Call::PushArray,
+            Call::Int(3),
+            Call::Int(4),
+            Call::Pop(2),
+            Call::Pop(1),
+        ];
+        let wanted = bytes(&[
+            200, 14, 0, 1, 4, 2, 1, 0, 4, 3, 77, 0, 8, 5, 1, 1, 4, 6, 0x3fc0_0000, 0, 8, 7, 0, 0x3ff8_0000, 2, 9, 0x6261, 0, 8, 10, 320,
+            240, 8, 11, 30, 1, 16, 17, 7, 0, 2, 1, 8, 18, 17, 0, 16, 13, 4, 4, 3, 4,
+        ]);
+        assert_eq!(build_into(&calls, &mut [0; 208]), Ok(&mut wanted.clone()[..]));
     }
 
     #[test]

@@ -1,7 +1,8 @@
 //! What negotiation answers, as plain as the tests compare it: a test needs no clause of the library's.
 use crate::negotiation::objects::{Given, object};
-use libspa::pod::Object;
-use spa_negotiate::{NegotiateError, negotiate};
+use libspa::pod::serialize::PodSerializer;
+use libspa::pod::{Object, Value};
+use spa_negotiate::{NegotiateError, negotiate, negotiate_pods};
 use std::alloc::{AllocError, Global};
 use std::process::Abort;
 use std::test::Fail;
@@ -85,13 +86,46 @@ fn is_answer(
     }
 }
 
-/// Whether the row's answer comes, and whether it does in the other order.
+/// The encoding of an object.
+fn pod_of(alloc: Global, object: Object) -> Result<Vec<u8>, AllocError> {
+    match PodSerializer::serialize(Vec::new(alloc), &Value::Object(object)) {
+        Ok((bytes, _len)) => Ok(bytes),
+        Err(_) => Err(AllocError),
+    }
+}
+
+/// Whether this is the answer for the encodings of an object of the first side and of one of the second.
+fn is_pod_answer(
+    alloc: Global,
+    first: (Side, &[Given]),
+    second: (Side, &[Given]),
+    wanted: Answer,
+) -> Result<bool, AllocError> {
+    let a = pod_of(alloc, side(alloc, first.0, first.1)?)?;
+    let b = pod_of(alloc, side(alloc, second.0, second.1)?)?;
+    match (negotiate_pods(alloc, a.as_slice(), b.as_slice()), wanted) {
+        (Ok(met), Answer::Met(properties)) => {
+            let id = first.0.0;
+            let pod = pod_of(alloc, object(alloc, TYPE, id, 0, properties)?)?;
+            Ok(met.as_slice() == pod.as_slice())
+        }
+        (Err(NegotiateError::OutOfMemory), _) => Err(AllocError),
+        (Err(found), Answer::Refused(refusal)) => Ok(found == refusal),
+        _ => Ok(false),
+    }
+}
+
+/// Whether the row's answer comes, and whether it does in the other order: of the objects, and of their encodings.
 fn found(alloc: Global, row: Row) -> Result<(bool, bool), AllocError> {
     let ours = side(alloc, OURS, row.ours)?;
     let theirs = side(alloc, THEIRS, row.theirs)?;
     let answered = is_answer(alloc, &ours, &theirs, OURS.0, row.answer)?;
     let swapped = is_answer(alloc, &theirs, &ours, THEIRS.0, row.swapped)?;
-    Ok((answered, swapped))
+    let first = (OURS, row.ours);
+    let second = (THEIRS, row.theirs);
+    let written = is_pod_answer(alloc, first, second, row.answer)?;
+    let written_swapped = is_pod_answer(alloc, second, first, row.swapped)?;
+    Ok((answered && written, swapped && written_swapped))
 }
 
 /// The same, once more where memory ran out for the objects themselves.

@@ -5,4 +5,4 @@ use Rattle.spa_filter.proofs.values.shapes.Goals as goal
 pub returns-in_default : goal.returns-in_default
 returns-in_default c =
     let plain = IsPlainTree-view c.args.value.now (IsPlainView-other c.args.value.now c.in_default.not-Choice) in
-    record { flags = sym plain.unflagged; range = sym plain.unranged }
+    record { flags = sym plain.unflagged; bounded = sym plain.unbounded }

@@ -36,4 +36,4 @@ meet-requires g c =
     let second = c.offer_of-in-Some.ensures in
     let sayable = subst (AreSayable (choice_tree k f choice)) c.in-Some.ensures c.requires in
     AreOffersSayable-values c.offer_of.result c.offer_of-in-Some.result (choice_tree k f choice) (choice_tree k f other)
-    (first.masked choice.0.0) (first.between choice.0.0) (second.masked other.0.0) (second.between other.0.0) sayable
+    (first.masked choice.0.0) (first.bounded choice.0.0) (second.masked other.0.0) (second.bounded other.0.0) sayable

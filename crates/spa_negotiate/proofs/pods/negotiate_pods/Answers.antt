@@ -2,9 +2,15 @@ use Rattle.std.proofs.Common.{ap, subst}
 use Rattle.spa_value.specs.View.{object_view, view}
 use Rattle.spa_negotiate.specs.Fronts.{BeginsObject}
 use Rattle.spa_negotiate.specs.Meeting.{Meet}
-use Rattle.spa_negotiate.proofs.Fronts.{second_refused, ReadsBack-met, MeetIn-written, settled-written}
+use Rattle.spa_negotiate.proofs.Fronts.{second_refused, ReadsBack-met, MeetIn-written, settled-both, settled-written}
 use Rattle.spa_negotiate.proofs.Passing.{passed_on}
 use Rattle.spa_negotiate.proofs.pods.negotiate_pods.Goals as goal
+
+pub returns-in-Some-clause-fixated : goal.returns-in-Some-clause-fixated
+returns-in-Some-clause-fixated c =
+    let walks = c.walks_find_members.ensures.of_object in
+    let settled = c.settled_properties_are_settled.ensures in
+    settled-both c.args.a.now c.args.b.now c.in-Some.bytes.items walks settled c.in-Some.ensures.value
 
 pub returns-in_err-second-clause-cause : goal.returns-in_err-second-clause-cause
 returns-in_err-second-clause-cause c =

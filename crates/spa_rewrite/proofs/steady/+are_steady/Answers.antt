@@ -1,35 +1,92 @@
 use Rattle.std.proofs.Common.{sym, ◌∙◌, arith}
-use Rattle.std.proofs.lemmas.Bool.{eqb-true}
+use Rattle.std.proofs.lemmas.Bool.{eqb-false, eqb-true}
+use Rattle.spa_rewrite.proofs.SteadyFound.{body_depth, first_body, inside_within, last_within, steady_first, steady_key, steady_left}
 use Rattle.spa_rewrite.proofs.SteadyLemmas.{steady_inside, steady_last, steady_none, steady_opened, steady_step, left_shorter}
 use Rattle.spa_rewrite.proofs.steady.+are_steady.Goals as goal
+use Rattle.spa_rewrite.proofs.steady.+are_steady.Goals.{then-levels-eq0-via-then-levels-eq0, then-levels-eq0-via-else-levels-eq0+then-not-are_steady}
+
+pub loop-left-init : goal.loop-left-init
+loop-left-init t c = (λ s. s, λ w. w)
 
 pub loop-left-preserved-in-Some-short_front : goal.loop-left-preserved-in-Some-short_front
-loop-left-preserved-in-Some-short_front t c = λ s.
-    c.loop-left.invariant (steady_step _ _ _ _ c.in-Some.ensures c.in-Some-short_front.ensures.taken (c.behind_short-left.ensures.steady s))
+loop-left-preserved-in-Some-short_front t c =
+    let some = eqb-false _ 0 (sym c.is_empty.ensures ∙ c.loop-left-test.true) in (
+      λ s.
+          c.loop-left.invariant.0
+          (steady_step _ _ _ _ c.in-Some.ensures.there c.in-Some-short_front.ensures.taken (c.behind_short-left.ensures.steady s)),
+      λ w.
+          c.behind_short-left.ensures.left _
+          (steady_left _ _ _ _ _ c.in-Some.ensures.there c.in-Some-short_front.ensures.taken.begins.follows (omega (arith, some)) (c.loop-left.invariant.1 w)),
+    )
 
 pub loop-left-preserved-then-is_empty : goal.loop-left-preserved-then-is_empty
-loop-left-preserved-then-is_empty t c = λ s.
-    c.loop-left.invariant
-    (steady_last _ _ _ _ _ _ _ _ c.in-Some.ensures c.in-Some-open.ensures.there
-    (eqb-true _ _ (sym c.is_empty-in-Some-inside_of.ensures ∙ c.if-is_empty.true)) c.in-Some-inside_of.ensures s)
+loop-left-preserved-then-is_empty t c =
+    let some = eqb-false _ 0 (sym c.is_empty.ensures ∙ c.loop-left-test.true) in (
+      λ s.
+          c.loop-left.invariant.0
+          (steady_last _ _ _ _ _ _ _ _ c.in-Some.ensures.there c.in-Some-open.ensures.there
+          (eqb-true _ _ (sym c.is_empty-in-Some-inside_of.ensures ∙ c.if-is_empty.true)) c.in-Some-inside_of.ensures.there s),
+      λ w.
+          last_within _ _ _ _ _ _ _ _ _ c.in-Some.ensures.there c.in-Some-open.ensures.there (omega (arith, some))
+          c.in-Some-inside_of.ensures.there (c.loop-left.invariant.1 w),
+    )
 
 pub loop-left-preserved-else-is_empty : goal.loop-left-preserved-else-is_empty
-loop-left-preserved-else-is_empty t c = λ s.
-    c.loop-left.invariant
-    (steady_step _ _ _ _ c.in-Some.ensures
-    (steady_opened _ _ _ _ c.in-Some-open.ensures.there (steady_inside _ _ _ _ c.in-Some-inside_of.ensures (c.are_steady.ensures c.if-not-are_steady.false))) s)
+loop-left-preserved-else-is_empty t c =
+    let some = eqb-false _ 0 (sym c.is_empty.ensures ∙ c.loop-left-test.true) in (
+      λ s.
+          c.loop-left.invariant.0
+          (steady_step _ _ _ _ c.in-Some.ensures.there
+          (steady_opened _ _ _ _ c.in-Some-open.ensures.there
+          (steady_inside _ _ _ _ c.in-Some-inside_of.ensures.there (c.are_steady.ensures.steady c.if-not-are_steady.false))) s),
+      λ w.
+          steady_left _ _ _ _ _ c.in-Some.ensures.there c.in-Some-open.ensures.there.its_rest (omega (arith, some)) (c.loop-left.invariant.1 w),
+    )
 
 pub loop-left-smaller : goal.loop-left-smaller
 loop-left-smaller t c =
-    let e = left_shorter _ _ _ _ _ _ c.in-Some.ensures c.in-Some-open.ensures.there in
+    let e = left_shorter _ _ _ _ _ _ c.in-Some.ensures.there c.in-Some-open.ensures.there in
     omega arith
 
 pub loop-left-preserved : goal.loop-left-preserved
-loop-left-preserved t c = λ s.
-    c.loop-left.invariant
-    (steady_step _ _ _ _ c.in-Some.ensures
-    (steady_opened _ _ _ _ c.in-Some-open.ensures.there (c.is_steady_leaf.ensures c.if-not-is_steady_leaf.false)) s)
+loop-left-preserved t c =
+    let some = eqb-false _ 0 (sym c.is_empty.ensures ∙ c.loop-left-test.true) in (
+      λ s.
+          c.loop-left.invariant.0
+          (steady_step _ _ _ _ c.in-Some.ensures.there
+          (steady_opened _ _ _ _ c.in-Some-open.ensures.there (c.is_steady_leaf.ensures.steady c.if-not-is_steady_leaf.false)) s),
+      λ w.
+          steady_left _ _ _ _ _ c.in-Some.ensures.there c.in-Some-open.ensures.there.its_rest (omega (arith, some)) (c.loop-left.invariant.1 w),
+    )
 
-pub returns : goal.returns
-returns t c = λ _.
-    c.loop-left.invariant (steady_none _ _ (eqb-true _ _ (sym c.is_empty.ensures ∙ c.loop-left-test.false)))
+pub returns-clause-steady : goal.returns-clause-steady
+returns-clause-steady t c = λ _.
+    c.loop-left.invariant.0 (steady_none _ _ (eqb-true _ _ (sym c.is_empty.ensures ∙ c.loop-left-test.false)))
+
+pub returns-in_default-clause-found : goal.returns-in_default-clause-found
+returns-in_default-clause-found t c = λ w.
+    let some = eqb-false _ 0 (sym c.is_empty.ensures ∙ c.loop-left-test.true) in
+    let short = c.in_default.ensures.short in
+    absurd (steady_key _ _ _ short.0 short.1 (omega (arith, some)) (c.loop-left.invariant.1 w))
+
+pub returns-in_default-open-clause-found : goal.returns-in_default-open-clause-found
+returns-in_default-open-clause-found t c = λ w.
+    let some = eqb-false _ 0 (sym c.is_empty.ensures ∙ c.loop-left-test.true) in
+    absurd (c.in_default-open.ensures.short (steady_first _ _ _ _ c.in-Some.ensures.there (omega (arith, some)) (c.loop-left.invariant.1 w)).there)
+
+pub returns-then-levels-eq0-clause-found : goal.returns-then-levels-eq0-clause-found
+returns-then-levels-eq0-clause-found t c = λ w.
+    let some = eqb-false _ 0 (sym c.is_empty.ensures ∙ c.loop-left-test.true) in
+    let body = first_body _ _ _ _ _ _ _ c.in-Some.ensures.there (omega (arith, some)) (c.loop-left.invariant.1 w) c.in-Some-open.ensures.there in
+    let within = inside_within _ _ _ _ _ c.in-Some-inside_of.ensures.there body in
+    elim c.then-levels-eq0.branch [
+      | then-levels-eq0-via-then-levels-eq0 v ↦ absurd (let l = within.0 in let z = v.if-levels-eq0.true in omega arith)
+      | then-levels-eq0-via-else-levels-eq0+then-not-are_steady v ↦ sym v.if-not-are_steady.true ∙ v.are_steady.ensures.found within.1
+    ]
+
+pub returns-then-not-is_steady_leaf-clause-found : goal.returns-then-not-is_steady_leaf-clause-found
+returns-then-not-is_steady_leaf-clause-found t c = λ w.
+    let some = eqb-false _ 0 (sym c.is_empty.ensures ∙ c.loop-left-test.true) in
+    let body = first_body _ _ _ _ _ _ _ c.in-Some.ensures.there (omega (arith, some)) (c.loop-left.invariant.1 w) c.in-Some-open.ensures.there in
+    let other = c.in_default-inside_of.ensures in
+    sym c.if-not-is_steady_leaf.true ∙ c.is_steady_leaf.ensures.found body.its (body_depth _ _ other.other other.short body.its)

@@ -1,12 +1,35 @@
-use Rattle.std.proofs.Common.{refl}
+use Rattle.std.proofs.Common.{◌≡◌, ◌-◌, ◌∙◌, arith, inl, inr, length, refl}
+use Rattle.std.specs.Prelude.{false}
+use Rattle.std.proofs.lemmas.Bool.{cases_lt}
+use Rattle.std.proofs.lemmas.List.{drop_all}
+use Rattle.spa_scan.specs.Depth.{levels_looked_into}
+use Rattle.spa_rewrite.proofs.SteadyFound.{none_missed, steady_left}
 use Rattle.spa_rewrite.proofs.SteadyLemmas.{more_steady, no_steady, steady_parts}
 use Rattle.spa_rewrite.proofs.steady.steady_stretch.Goals as goal
 
 pub loop-rest-init : goal.loop-rest-init
-loop-rest-init c = no_steady _
+loop-rest-init c = (no_steady _, λ s. s)
 
 pub loop-rest-preserved : goal.loop-rest-preserved
-loop-rest-preserved c = more_steady _ _ _ c.loop-rest.invariant c.in-Some.ensures.taken
+loop-rest-preserved c =
+    let shorter = c.in-Some.ensures.shorter in
+    let taken = c.in-Some.ensures.taken in (
+      more_steady _ _ _ c.loop-rest.invariant.0 taken,
+      λ s.
+          steady_left levels_looked_into false _ _ _ refl taken.begins.follows (omega arith) (c.loop-rest.invariant.1 s),
+    )
 
 pub returns-clause-steady : goal.returns-clause-steady
-returns-clause-steady c = steady_parts _ _ _ _ c.loop-rest.invariant refl c.split_at.ensures.front
+returns-clause-steady c = steady_parts _ _ _ _ c.loop-rest.invariant.0 refl c.split_at.ensures.front
+
+pub returns-clause-all : goal.returns-clause-all
+returns-clause-all c = λ s.
+    let left = c.loop-rest.left.now in
+    let empty : length left ≡ 0 =
+    elim (cases_lt 0 (length left)) [
+      | inl some ↦
+          absurd (none_missed levels_looked_into left some (c.loop-rest.invariant.1 s) c.in_default.ensures.missed)
+      | inr none ↦ omega arith
+    ] in
+    c.split_at.ensures.back
+    ∙ drop_all (length c.args.input.now - length left) c.args.input.now (omega arith)

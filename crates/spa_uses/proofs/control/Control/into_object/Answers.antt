@@ -8,4 +8,4 @@ pub returns : goal.returns
 returns c =
     let all = put_back _ _ _ _ _ c.in_ok-push.ensures.items c.in_ok-append.ensures.items in
     c.objects_are_their_fields.ensures.made _ _ _
-    ∙ ap (object c.args.self.type_ c.args.self.id) (ap property_views all ∙ c.property_lists_are_in_order.ensures.joined _ _)
+    ∙ ap (object c.args.self.type_ c.args.self.id) (ap property_views (c.into_properties.ensures ∙ all) ∙ c.property_lists_are_in_order.ensures.joined _ _)

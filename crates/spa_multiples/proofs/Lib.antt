@@ -1,0 +1,4 @@
+pub mod Ratios
+pub mod Firsts
+pub mod Signed
+pub mod Narrowing

@@ -1,0 +1,300 @@
+-- Pods whose rewritings are as long as they are: what a look at them can't miss.
+use Rattle.std.proofs.Common.{◌≡◌, ◌≢◌, ℕ, ◌+◌, ◌/◌, ◌-◌, ◌<◌, ◌≤◌, inl, inr, List, ◌++◌, length, drop, refl, sym, ap, ◌∙◌, subst, arith, append_assoc, length-append, length-drop}
+use Rattle.std.specs.Prelude.{◌⊎◌, Bool, true, false, max}
+use Rattle.std.proofs.lemmas.List.{length-take-le}
+use Rattle.spa_format.specs.Words.{extent, header_size, padded_size, word_at, word_bytes}
+use Rattle.spa_format.specs.Kind.{Fixed, Kind, body_size, kind_of, type_number}
+use Rattle.spa_format.specs.Tree.{Shape, Tree, fixed, string, bytes, bitmap, array, choice, pointer, struct, object, Trees, no_trees, member, Properties, no_properties, property, array_type, bitmap_type, bytes_type, choice_type, object_type, pointer_type, string_type, struct_type, type_of}
+use Rattle.spa_format.specs.Normal.{kept_flags}
+use Rattle.spa_format.specs.Pod.{AreMembers, AreProperties, IsArray, IsBody, IsChoice, IsPod}
+use Rattle.spa_format.specs.Encoding.{encoded_body, encoding_of, member_encodings, property_encodings}
+use Rattle.spa_format.specs.Front.{HasFront, front_of, rest_of}
+use Rattle.spa_format.proofs.Choices.{same_choice}
+use Rattle.spa_format.proofs.Encodings.{length-property_encoding, length-word_bytes, whole_members, whole_properties}
+use Rattle.spa_format.proofs.Fronts.{front_of_whole, length-body_of, of_whole_front}
+use Rattle.spa_format.proofs.Shapes.{array_only, choice_only, object_only, pointer_only, string_only, struct_only}
+use Rattle.spa_format.proofs.Short.{length-framed, short_members, short_props, shortest}
+use Rattle.spa_bytes.specs.Opening.{Opens}
+use Rattle.spa_scan.specs.Canonical.{IsCanonicalText}
+use Rattle.spa_scan.specs.Depth.{AreShallow, depth_of, member_depth, property_depth}
+use Rattle.spa_rewrite.specs.Elements.{HasValues}
+use Rattle.spa_rewrite.specs.Steady.{AreSteadyInsideWithin, AreSteadyPropertiesWithin, AreSteadyWithin, BeginsSteady, IsBehindKey, IsInside, IsSteadyBody}
+use Rattle.spa_rewrite.proofs.SteadyLemmas.{kept_length}
+
+-- the first of such pods, behind its key and flags where it has any, and the others
+pub record FirstIsSteady (levels : ℕ) (keyed : Bool) (here : List ℕ) : Type 0 where
+  pub there : HasFront here
+  pub value : Tree
+  pub pod : IsPod (front_of here) value
+  pub long : length (encoding_of value) ≡ length (front_of here)
+  pub shallow : depth_of value ≤ levels
+  pub others : AreSteadyInsideWithin levels keyed (rest_of here)
+
+pub steady_first : (levels : ℕ) (keyed : Bool) (left here : List ℕ) → IsBehindKey keyed left here → 0 < length left →
+    AreSteadyInsideWithin levels keyed left → FirstIsSteady levels keyed here
+steady_first levels false left here k l s =
+    subst (FirstIsSteady levels false) (sym k) (of_members s.pods.values s.pods.members s.pods.long s.shallow)
+  where
+    of_members : (vs : Trees) → AreMembers vs left → length (member_encodings vs) ≡ length left → member_depth vs ≤ levels → FirstIsSteady levels false left
+    of_members no_trees m e d = absurd (let z = ap length m in omega arith)
+    of_members (member v vs) m e d =
+        let f = front_of_whole left m.0 m.1 (type_of v) (IsBody v) m.2 m.3 in
+        let a = shortest m.0 v m.3 in
+        let b = short_members vs m.1 m.4 in
+        let c = length-append (encoding_of v) (member_encodings vs) in
+        let g = ap length m.2 ∙ length-append m.0 m.1 in
+        let n : max (depth_of v) (member_depth vs) ≤ levels = d in
+        let same : length (encoding_of v) ≡ length m.0 = omega arith in
+        let more : length (member_encodings vs) ≡ length m.1 = omega arith in
+        let behind : AreSteadyWithin levels (rest_of left) = record {
+          pods = record { values = vs; members = subst (AreMembers vs) f.2 m.4; long = more ∙ ap length f.2 };
+          shallow = omega arith;
+        } in
+        record {
+          there = f.0;
+          value = v;
+          pod = subst (λ b. IsPod b v) f.1 m.3;
+          long = same ∙ ap length f.1;
+          shallow = omega arith;
+          others = behind;
+        }
+steady_first levels true left here k l s =
+    subst (FirstIsSteady levels true) (sym k.1) (of_properties s.properties.values s.properties.properties s.properties.long s.shallow)
+  where
+    of_properties : (ps : Properties) → AreProperties ps left → length (property_encodings ps) ≡ length left → property_depth ps ≤ levels →
+        FirstIsSteady levels true (drop header_size left)
+    of_properties no_properties m e d = absurd (let z = ap length m in omega arith)
+    of_properties (property key flags v ps) m e d =
+        let behind = drop header_size left in
+        let f = front_of_whole behind m.3 m.4 (type_of v) (IsBody v) m.5 m.6 in
+        let a = shortest m.3 v m.6 in
+        let b = short_props ps m.4 m.7 in
+        let c = length-property_encoding key flags v ps in
+        let g = ap length m.5 ∙ length-append m.3 m.4 in
+        let h = length-drop 8 left in
+        let r = m.0 in
+        let n : max (depth_of v) (property_depth ps) ≤ levels = d in
+        let same : length (encoding_of v) ≡ length m.3 = omega arith in
+        let more : length (property_encodings ps) ≡ length m.4 = omega arith in
+        let others : AreSteadyPropertiesWithin levels (rest_of behind) = record {
+          properties = record { values = ps; properties = subst (AreProperties ps) f.2 m.7; long = more ∙ ap length f.2 };
+          shallow = omega arith;
+        } in
+        record {
+          there = f.0;
+          value = v;
+          pod = subst (λ b. IsPod b v) f.1 m.6;
+          long = same ∙ ap length f.1;
+          shallow = omega arith;
+          others = others;
+        }
+
+-- so the first of them isn't missed
+pub none_missed : (levels : ℕ) (left : List ℕ) → 0 < length left → AreSteadyWithin levels left →
+    ((rest : List ℕ) (c : BeginsSteady left rest) → levels < depth_of c.value) → ⊥
+none_missed levels left l s m =
+    let f = steady_first levels false left left refl l s in
+    let shallow = f.shallow in
+    let deep = m (rest_of left) (record { value = f.value; begins = record { begins = record { there = f.there; pod = f.pod }; follows = refl }; long = f.long }) in
+    omega arith
+
+pub never : (b : Bool) → b ≡ true → b ≡ false → ⊥
+never b t f = let e : true ≡ false = sym t ∙ f in cc
+
+-- what is left has a key and flags, if any have
+pub steady_key : (levels : ℕ) (keyed : Bool) (left : List ℕ) → keyed ≡ true → length left < header_size → 0 < length left →
+    AreSteadyInsideWithin levels keyed left → ⊥
+steady_key levels false left e s l a = never false e refl
+steady_key levels true left e s l a = of_properties a.properties.values a.properties.properties
+  where
+    of_properties : (ps : Properties) → AreProperties ps left → ⊥
+    of_properties no_properties m = let z = ap length m in omega arith
+    of_properties (property key flags v ps) m = let r = m.0 in omega arith
+
+-- what is left behind the first
+pub steady_left : (levels : ℕ) (keyed : Bool) (left here rest : List ℕ) → IsBehindKey keyed left here → rest ≡ rest_of here → 0 < length left →
+    AreSteadyInsideWithin levels keyed left → AreSteadyInsideWithin levels keyed rest
+steady_left levels keyed left here rest k e l s =
+    subst (AreSteadyInsideWithin levels keyed) (sym e) (steady_first levels keyed left here k l s).others
+
+-- where it is known which of both stand there
+pub inside_left : (keyed inner : Bool) (pods left : List ℕ) → keyed ≡ inner →
+    ((levels : ℕ) → AreSteadyInsideWithin levels inner pods → AreSteadyInsideWithin levels inner left) → (levels : ℕ) →
+    AreSteadyInsideWithin levels keyed pods → AreSteadyInsideWithin levels keyed left
+inside_left keyed inner pods left e f levels s =
+    subst (λ k. AreSteadyInsideWithin levels k left) (sym e) (f levels (subst (λ k. AreSteadyInsideWithin levels k pods) e s))
+
+-- the body of such a pod, whose value nests in so many levels at most
+pub record IsSteadyBodyWithin (levels type : ℕ) (body : List ℕ) : Type 0 where
+  pub its : IsSteadyBody type body
+  pub shallow : depth_of its.value ≤ levels
+
+pub body_of_value : (levels : ℕ) (here body rest : List ℕ) (type : ℕ) (v : Tree) → IsPod (front_of here) v →
+    length (encoding_of v) ≡ length (front_of here) → depth_of v ≤ levels → Opens here type body rest → IsSteadyBodyWithin levels type body
+body_of_value levels here body rest type v p l d o =
+    let q = of_whole_front here (type_of v) (IsBody v) p in
+    let size : length body ≡ word_at here 0 = ap length o.its_body ∙ length-body_of here o.there in
+    let a = length-framed (type_of v) (encoded_body v) in
+    let b = length-take-le (extent (word_at here 0)) here o.there.whole in
+    let c = ap padded_size size in
+    let whole : IsSteadyBody type body = record {
+      value = v;
+      its_type = sym q.0 ∙ sym o.its_type;
+      its_body = subst (IsBody v) (sym o.its_body) q.1;
+      long = omega arith;
+    } in
+    record { its = whole; shallow = d }
+
+pub first_body : (levels : ℕ) (keyed : Bool) (left here body rest : List ℕ) (type : ℕ) → IsBehindKey keyed left here → 0 < length left →
+    AreSteadyInsideWithin levels keyed left → Opens here type body rest → IsSteadyBodyWithin levels type body
+first_body levels keyed left here body rest type k l s o =
+    let f = steady_first levels keyed left here k l s in
+    body_of_value levels here body rest type f.value f.pod f.long f.shallow o
+
+-- what stands in the body of a struct or of an object
+pub inside_within : (levels type : ℕ) (body inside : List ℕ) (keyed : Bool) → IsInside type body keyed inside →
+    IsSteadyBodyWithin levels type body → (0 < levels) × AreSteadyInsideWithin (levels - 1) keyed inside
+inside_within levels type body inside false i s =
+    let o = struct_only s.its.value (s.its.its_type ∙ i.0) in
+    let b : AreMembers o.0 body = subst (λ x. IsBody x body) o.1 s.its.its_body in
+    let v = ap depth_of o.1 in
+    let d = s.shallow in
+    let e = ap (λ x. padded_size (length (encoded_body x))) o.1 in
+    let l = s.its.long in
+    let n = short_members o.0 body b in
+    let w = whole_members o.0 in
+    let same : length (member_encodings o.0) ≡ length body = omega arith in
+    let some : 0 < levels = omega arith in (
+      some,
+      record {
+        pods = record { values = o.0; members = subst (AreMembers o.0) (sym i.1) b; long = same ∙ ap length (sym i.1) };
+        shallow = omega arith;
+      },
+    )
+inside_within levels type body inside true i s =
+    let o = object_only s.its.value (s.its.its_type ∙ i.0) in
+    let ps = o.2 in
+    let b = subst (λ x. IsBody x body) o.3 s.its.its_body in
+    let p : AreProperties ps (drop 8 body) = b.3 in
+    let v = ap depth_of o.3 in
+    let d = s.shallow in
+    let e = ap (λ x. padded_size (length (encoded_body x))) o.3 in
+    let l = s.its.long in
+    let e0 = length-append (word_bytes o.0) (word_bytes o.1 ++ property_encodings ps) in
+    let e1 = length-append (word_bytes o.1) (property_encodings ps) in
+    let e2 = length-word_bytes o.0 in
+    let e3 = length-word_bytes o.1 in
+    let n = short_props ps (drop 8 body) p in
+    let w = whole_properties ps in
+    let h = length-drop 8 body in
+    let long = i.1 in
+    let same : length (property_encodings ps) ≡ length (drop 8 body) = omega arith in
+    let some : 0 < levels = omega arith in (
+      some,
+      record {
+        properties = record { values = ps; properties = subst (AreProperties ps) (sym i.2) p; long = same ∙ ap length (sym i.2) };
+        shallow = omega arith;
+      },
+    )
+
+-- what nests in fewer levels nests in so many
+pub within_more : (fewer levels : ℕ) (keyed : Bool) (body : List ℕ) → fewer ≤ levels → AreSteadyInsideWithin fewer keyed body →
+    AreSteadyInsideWithin levels keyed body
+within_more fewer levels false body l s = let d = s.shallow in record { pods = s.pods; shallow = omega arith }
+within_more fewer levels true body l s = let d = s.shallow in record { properties = s.properties; shallow = omega arith }
+
+-- the members of a struct, or the properties of an object, that nothing follows
+pub last_within : (levels : ℕ) (keyed inner : Bool) (left here body rest inside : List ℕ) (type : ℕ) → IsBehindKey keyed left here →
+    Opens here type body rest → 0 < length left → IsInside type body inner inside → AreSteadyInsideWithin levels keyed left →
+    AreSteadyInsideWithin levels inner inside
+last_within levels keyed inner left here body rest inside type k o l i s =
+    let b = first_body levels keyed left here body rest type k l s o in
+    within_more (levels - 1) levels inner inside (omega arith) (inside_within levels type body inside inner i b).1
+
+-- no struct or object stands in a value of another type
+leaf_depth : (v : Tree) (body : List ℕ) → type_of v ≢ struct_type → (type_of v ≡ object_type → length body < header_size) → IsBody v body → depth_of v ≡ 0
+leaf_depth (struct vs) body n s b = absurd (n refl)
+leaf_depth (object t i ps) body n s b = absurd (let l = s refl in let r = b.0 in omega arith)
+leaf_depth (fixed x) body n s b = refl
+leaf_depth (string x) body n s b = refl
+leaf_depth (bytes x) body n s b = refl
+leaf_depth (bitmap x) body n s b = refl
+leaf_depth (array k xs) body n s b = refl
+leaf_depth (choice c f k x xs) body n s b = refl
+leaf_depth (pointer t a) body n s b = refl
+
+pub body_depth : (type : ℕ) (body : List ℕ) → type ≢ struct_type → (type ≡ object_type → length body < header_size) → (s : IsSteadyBody type body) →
+    depth_of s.value ≡ 0
+body_depth type body n l s = leaf_depth s.value body (λ e. n (sym s.its_type ∙ e)) (λ e. l (sym s.its_type ∙ e)) s.its_body
+
+-- what the bodies of each type hold
+pub text_of_body : (body : List ℕ) → IsSteadyBody string_type body → IsCanonicalText body
+text_of_body body s =
+    let o = string_only s.value s.its_type in
+    let b = subst (λ x. IsBody x body) o.1 s.its_body in
+    (o.0, b.0, b.1)
+
+pub pointer_sizes : (body : List ℕ) → IsSteadyBody pointer_type body → (length body ≡ 16) ⊎ (length body ≡ 12)
+pointer_sizes body s =
+    let o = pointer_only s.value s.its_type in
+    let b = subst (λ x. IsBody x body) o.2 s.its_body in
+    elim b.1 [
+      | inl e ↦ inr e.0
+      | inr e ↦ inl e.0
+    ]
+
+pub array_of_body : (body : List ℕ) → IsSteadyBody array_type body → ((k : Kind) (xs : List Fixed) → ¬ (IsArray k xs body)) → ⊥
+array_of_body body s n =
+    let o = array_only s.value s.its_type in
+    n o.0 o.1 (subst (λ x. IsBody x body) o.2 s.its_body)
+
+pub choice_of_body : (body : List ℕ) → IsSteadyBody choice_type body →
+    ((s : Shape) (f : ℕ) (k : Kind) (x : Fixed) (xs : List Fixed) → ¬ (IsChoice s f k x xs body)) → ⊥
+choice_of_body body s n =
+    let o = choice_only s.value s.its_type in
+    n o.0 o.1 o.2 o.3 o.4 (subst (λ x. IsBody x body) o.5 s.its_body)
+
+pub choice_sizes : (body kept : List ℕ) → HasValues body kept → IsSteadyBody choice_type body →
+    (16 + length kept + 7) / 8 ≡ (length body + 7) / 8
+choice_sizes body kept h s =
+    let o = choice_only s.value s.its_type in
+    let c : IsChoice o.0 o.1 o.2 o.3 o.4 body = subst (λ x. IsBody x body) o.5 s.its_body in
+    let same = same_choice o.0 h.shape o.1 (kept_flags h.shape (word_at body 4)) o.2 h.kind o.3 h.default o.4 h.values body c h.its_choice in
+    let e = ap (λ x. length (encoded_body x)) (o.5 ∙ same) ∙ kept_length body kept h in
+    let l = sym (ap padded_size e) ∙ s.long in
+    omega arith
+
+pub fixed_of_body : (type : ℕ) (body : List ℕ) (s : IsSteadyBody type body) → depth_of s.value ≡ 0 → type ≢ string_type → type ≢ bytes_type →
+    type ≢ bitmap_type → type ≢ array_type → type ≢ pointer_type → type ≢ choice_type →
+    (k : Kind) × (type ≡ type_number k) × (length body ≡ body_size k)
+fixed_of_body type body s d n8 n9 n12 n13 n17 n19 = of_value s.value s.its_type s.its_body d
+  where
+    of_value : (v : Tree) → type_of v ≡ type → IsBody v body → depth_of v ≡ 0 → (k : Kind) × (type ≡ type_number k) × (length body ≡ body_size k)
+    of_value (fixed x) e b z = (kind_of x, sym e, b.whole)
+    of_value (string x) e b z = absurd (n8 (sym e))
+    of_value (bytes x) e b z = absurd (n9 (sym e))
+    of_value (bitmap x) e b z = absurd (n12 (sym e))
+    of_value (array k xs) e b z = absurd (n13 (sym e))
+    of_value (choice c f k x xs) e b z = absurd (n19 (sym e))
+    of_value (pointer t a) e b z = absurd (n17 (sym e))
+    of_value (struct vs) e b z = absurd (omega arith)
+    of_value (object t i ps) e b z = absurd (omega arith)
+
+-- pods behind others of such pods
+pub steady_behind : (vs : Trees) (first rest : List ℕ) (levels : ℕ) → AreMembers vs first → AreSteadyWithin levels (first ++ rest) →
+    AreSteadyWithin levels rest
+steady_behind no_trees first rest levels m s = subst (AreSteadyWithin levels) (ap (λ x. x ++ rest) m) s
+steady_behind (member v vs) first rest levels m s =
+    let all = first ++ rest in
+    let e : all ≡ m.0 ++ (m.1 ++ rest) = ap (λ x. x ++ rest) m.2 ∙ append_assoc m.0 m.1 rest in
+    let f = front_of_whole all m.0 (m.1 ++ rest) (type_of v) (IsBody v) e m.3 in
+    let h = f.0.header in
+    let behind = steady_left levels false all all (m.1 ++ rest) refl f.2 (omega arith) s in
+    steady_behind vs m.1 rest levels m.4 behind
+
+-- pods that are their own rewritings are as long
+pub shallow_steady : (levels : ℕ) (body : List ℕ) → AreShallow levels body → AreSteadyWithin levels body
+shallow_steady levels body s = record {
+  pods = record { values = s.pods.values; members = s.pods.members; long = sym (ap length s.pods.same) };
+  shallow = s.shallow;
+}

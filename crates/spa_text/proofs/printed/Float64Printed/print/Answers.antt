@@ -1,0 +1,8 @@
+use Rattle.spa_text.proofs.Leaf.{double_printed, on_ok}
+use Rattle.spa_text.proofs.printed.Float64Printed.print.Goals as goal
+
+pub returns : goal.returns
+returns c =
+    on_ok c.end_braced.result
+    (double_printed c.args.expected c.in_ok-braced.braced c.args.self.0 _ _ _ _ c.in_ok-braced.ensures c.in_ok-print_double.ensures)
+    c.end_braced.ensures

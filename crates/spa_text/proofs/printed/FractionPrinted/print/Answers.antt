@@ -1,0 +1,8 @@
+use Rattle.std.proofs.Common.{arith, rules}
+use Rattle.spa_text.proofs.Leaf.{fraction_printed, on_ok}
+use Rattle.spa_text.proofs.printed.FractionPrinted.print.Goals as goal
+
+pub returns : goal.returns
+returns c =
+    on_ok c.print_two.result (fraction_printed c.args._expected c.args.self.num c.args.self.denom _ _ (search rules) (search rules))
+    c.print_two.ensures

@@ -1,0 +1,8 @@
+use Rattle.spa_text.proofs.Leaf.{id_printed, on_ok}
+use Rattle.spa_text.proofs.printed.IdPrinted.print.Goals as goal
+
+pub returns : goal.returns
+returns c =
+    on_ok c.end_braced.result
+    (id_printed c.args.expected c.in_ok-braced.braced c.args.self.0 _ _ _ _ c.in_ok-braced.ensures c.in_ok-print_name.ensures)
+    c.end_braced.ensures

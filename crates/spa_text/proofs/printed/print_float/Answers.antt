@@ -1,0 +1,32 @@
+use Rattle.std.proofs.Common.{◌≡◌, ◌∙◌, ◌++◌, ◌<◌, ◌^◌, ℕ, List, ap, sym}
+use Rattle.std.specs.Prelude.{Some, codes, option_map}
+use Rattle.std.specs.Int.{w32, to_be_bytes}
+use Rattle.hex.specs.Hex.{encode_lower}
+use Rattle.spa_text.specs.Numerals.{word_bits}
+use Rattle.std.proofs.lemmas.Float.{not_nan_f32_bits}
+use Rattle.spa_format.specs.Kind.{float}
+use Rattle.spa_text.proofs.Leaf.{on_ok}
+use Rattle.spa_text.proofs.Numbers.{float_digits-bits, word_bits-text}
+use Rattle.spa_text.proofs.printed.print_float.Goals as goal
+
+pub float_from_bits-float : goal.float_from_bits-float
+float_from_bits-float c = not_nan_f32_bits _ c.if-bits-le2139095040.true
+
+pub returns-then-is_finite : goal.returns-then-is_finite
+returns-then-is_finite c =
+    on_ok c.float.result
+    (λ p. record {
+      token = _;
+      appended = p.1;
+      said = ap (option_map (λ n. float n)) (float_digits-bits p.0 c.args.bits c.ranges.bits.fits p.2 (sym c.is_finite.ensures.value ∙ c.if-is_finite.true));
+    })
+    c.float.ensures
+
+digits : (bs : List ℕ) (n : ℕ) → bs ≡ to_be_bytes w32 n → n < 2 ^ 32 → word_bits (codes "0x" ++ encode_lower bs) ≡ Some n
+digits bs n e h = ap (λ l. word_bits (codes "0x" ++ encode_lower l)) e ∙ word_bits-text n h
+
+pub returns : goal.returns
+returns c =
+    on_ok c.print_bits.result
+    (λ e. record { token = _; appended = e; said = ap (option_map (λ n. float n)) (digits c.to_be_bytes.result c.args.bits c.to_be_bytes.ensures c.ranges.bits.fits) })
+    c.print_bits.ensures

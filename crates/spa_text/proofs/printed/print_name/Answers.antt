@@ -1,0 +1,8 @@
+use Rattle.std.proofs.Common.{arith, rules}
+use Rattle.spa_text.proofs.Numbers.{unsigned-decimal}
+use Rattle.spa_text.proofs.Leaf.{on_ok}
+use Rattle.spa_text.proofs.printed.print_name.Goals as goal
+
+pub returns-in-None : goal.returns-in-None
+returns-in-None c =
+    on_ok c.u64.result (λ e. record { token = _; appended = e; said = unsigned-decimal c.args.number c.ranges.number.fits }) c.u64.ensures.ok

@@ -1,0 +1,274 @@
+//! Values printed as text.
+ghost use Rattle.std.specs.Prelude.{◌≡◌, ◌+◌, ◌≤◌, ◌++◌, [], List, ℕ, IfOk, IsOk, OnErr, OnOk, IfSome, MatchOption, Some, None};
+ghost use Rattle.std.specs.Str.{IsUtf8};
+ghost use Rattle.json.specs.Lex.{tokens};
+ghost use Rattle.spa_format.specs.Tree.{member_node_count, node_count, struct};
+ghost use Rattle.spa_text.specs.Grammar.{ReadsAs, an_object, key_number, nothing};
+ghost use Rattle.spa_text.specs.Left.{Continues, IsLeft, IsLess, PrintsNext, PrintsOrBegins, left_count};
+ghost use Rattle.spa_text.specs.Written.{BeginsProperty, Opens, Prints, PutsKey};
+ghost use Rattle.spa_text.specs.declared.printing.Left.TheVariants as left;
+ghost use Rattle.spa_value.specs.View.{object_view, view};
+ghost use Rattle.spa_value.specs.Views.{property_views, views};
+
+use crate::leaves::{
+    print_array, print_bitmap, print_bytes, print_choice, print_pointer, print_text,
+};
+use crate::names::{expected_under, ids_of, keys_of, name_of};
+use crate::numerals::unsigned;
+use crate::out::Out;
+use crate::printed::{Printed, begin, end_braced, print_name};
+use bitflags::Flags;
+use spa_names::{Expected, Table};
+use spa_value::{Object, Property, Value};
+use std::alloc::{AllocError, Global};
+
+/// What is left of a struct or of an object that is begun.
+#[derive(Clone, Copy)]
+enum Left<'a> {
+    Members(&'a [Value]),
+    Properties(&'a [Property], Table),
+}
+
+/// A struct or an object that is begun, and whether a brace follows the value in it that is printed.
+#[derive(Clone, Copy)]
+struct Begun<'a> {
+    left: Left<'a>,
+    braced: bool,
+}
+
+/// What is printed next of a struct or of an object.
+#[derive(Clone, Copy)]
+enum Next<'a> {
+    /// Its end.
+    Ended,
+    /// A value, and this is left.
+    Printed(Begun<'a>),
+    /// What stands before the members of a value, and this is left around it and in it.
+    Begun(Begun<'a>, Begun<'a>),
+}
+
+/// Prints a value behind what is in `out`: one line of JSON, without the line feed, as docs/TEXT.md says.
+///
+/// It is refused only where memory runs out, and then leaves `out` as it was. A value that is nested deep is printed too, by a loop.
+pub fn print(alloc: Global, value: &Value, out: &mut Vec<u8>) -> Result<(), AllocError>
+    ensures printed { OnOk result ((text : List ℕ) × (out.new.items ≡ out.old.items ++ text) × IsUtf8 text × ReadsAs nothing (view value.now) (tokens text) []) }
+    ensures kept { OnErr result (out.new.items ≡ out.old.items) }
+{
+    let mut own = Out::new(alloc);
+    print_value(alloc, &mut own, value)?;
+    let text = own.into_bytes();
+    out.extend_from_slice(text.as_slice())
+}
+
+/// Prints a value: also one that is nested deep, since what is begun is kept in a list.
+fn print_value(alloc: Global, out: &mut Out, value: &Value) -> Result<(), AllocError>
+    ensures { OnOk result (Prints nothing (view value.now) out.old.tokens out.new.tokens) }
+{
+    let Some(first) = print_or_begin(alloc, out, value, Expected::NOTHING)? else {
+        return Ok(());
+    };
+    let mut inner = first;
+    let mut outer = Vec::new(alloc);
+    loop {
+        match print_next(alloc, out, inner.left)? {
+            Next::Ended => {
+                let Some(around) = outer.pop() else {
+                    return Ok(());
+                };
+                inner = around;
+                end_braced(out, inner.braced)?;
+            }
+            Next::Printed(rest) => {
+                inner = rest;
+            }
+            Next::Begun(rest, begun) => {
+                outer.reserve(1)?;
+                outer.push_reserved(rest);
+                inner = begun;
+            }
+        }
+    }
+}
+
+/// Nothing is begun where the value is printed.
+fn ended<'a>(printed: Result<(), AllocError>) -> Result<Option<Begun<'a>>, AllocError>
+    ensures ok { OnOk printed (IfOk result (λ begun. begun ≡ None)) }
+    ensures err { IfOk result (λ _. IsOk printed) }
+{
+    match printed {
+        Ok(()) => Ok(None),
+        Err(refused) => Err(refused),
+    }
+}
+
+/// Prints a value that has no members, or begins one that has.
+#[tactic(auto, using(crate::proofs::Counting::some_node, crate::proofs::Counting::struct_nodes))]
+fn print_or_begin<'a>(
+    alloc: Global,
+    out: &mut Out,
+    value: &'a Value,
+    expected: Expected,
+) -> Result<Option<Begun<'a>>, AllocError>
+    ensures written { IfOk result (λ begun. PrintsOrBegins expected (view value.now) begun out.old.tokens out.new.tokens) }
+    ensures fewer { IfOk result (λ begun. MatchOption begun (1 ≤ node_count (view value.now)) (λ b. left_count b.left + 1 ≡ node_count (view value.now))) }
+{
+    match value {
+        Value::Struct(members) => Ok(Some(begin_struct(out, members.as_slice())?)),
+        Value::Object(object) => Ok(Some(begin_object(out, object)?)),
+        Value::None => ended(().print(alloc, out, expected)),
+        Value::Bool(x) => ended(x.print(alloc, out, expected)),
+        Value::Id(x) => ended(x.print(alloc, out, expected)),
+        Value::Int(x) => ended(x.print(alloc, out, expected)),
+        Value::Long(x) => ended(x.print(alloc, out, expected)),
+        Value::Float(x) => ended(x.print(alloc, out, expected)),
+        Value::Double(x) => ended(x.print(alloc, out, expected)),
+        Value::Rectangle(x) => ended(x.print(alloc, out, expected)),
+        Value::Fraction(x) => ended(x.print(alloc, out, expected)),
+        Value::Fd(x) => ended(x.print(alloc, out, expected)),
+        Value::String(text) => ended(print_text(out, text.as_str(), expected)),
+        Value::Bytes(bytes) => ended(print_bytes(alloc, out, bytes.as_slice(), expected)),
+        Value::Bitmap(bytes) => ended(print_bitmap(alloc, out, bytes.as_slice(), expected)),
+        Value::Pointer(type_, at) => ended(print_pointer(alloc, out, *type_, *at, expected)),
+        Value::ValueArray(array) => ended(print_array(alloc, out, array, expected)),
+        Value::Choice(choice) => ended(print_choice(alloc, out, choice, expected)),
+    }
+}
+
+/// Prints a struct up to its members.
+fn begin_struct<'a>(out: &mut Out, members: &'a [Value]) -> Result<Begun<'a>, AllocError>
+    ensures written { IfOk result (λ b. (expected : Expected) → Continues (IsLeft b.left) (ReadsAs expected (struct (views members.now))) out.old.tokens out.new.tokens) }
+    ensures fewer { IfOk result (λ b. left_count b.left ≡ member_node_count (views members.now)) }
+{
+    out.begin_array()?;
+    Ok(Begun {
+        left: Left::Members(members),
+        braced: false,
+    })
+}
+
+/// Prints an object up to its properties.
+#[tactic(auto, using(crate::proofs::Counting::object_nodes))]
+fn begin_object<'a>(out: &mut Out, object: &'a Object) -> Result<Begun<'a>, AllocError>
+    ensures written { IfOk result (λ b. (expected : Expected) → Continues (IsLeft b.left) (ReadsAs expected (object_view object.now)) out.old.tokens out.new.tokens) }
+    ensures fewer { IfOk result (λ b. left_count b.left + 1 ≡ node_count (object_view object.now)) }
+{
+    open_object(out, object.type_, object.id)?;
+    Ok(Begun {
+        left: Left::Properties(object.properties.as_slice(), keys_of(object.type_)),
+        braced: false,
+    })
+}
+
+/// Prints an object of this type and id up to its properties.
+fn open_object(out: &mut Out, type_: u32, id: u32) -> Result<(), AllocError>
+    ensures { OnOk result ((expected : Expected) → Opens expected (an_object type_ id) out.old.tokens out.new.tokens) }
+{
+    begin(out, "type")?;
+    print_name(out, Table::Types, type_)?;
+    out.key("id")?;
+    print_name(out, ids_of(type_), id)?;
+    out.key("props")?;
+    out.begin_object()
+}
+
+/// Prints the next value of a struct or of an object, or begins it, or prints the end.
+fn print_next<'a>(alloc: Global, out: &mut Out, left: Left<'a>) -> Result<Next<'a>, AllocError>
+    ensures written { IfOk result (λ next. PrintsNext left.entry next out.old.tokens out.new.tokens) }
+    ensures less { IfOk result (λ next. IsLess left.entry next) }
+{
+    match left {
+        Left::Members(members) => next_member(alloc, out, members),
+        Left::Properties(properties, keys) => next_property(alloc, out, properties, keys),
+    }
+}
+
+/// Prints the next member of a struct, or begins it, or prints the end.
+fn next_member<'a>(
+    alloc: Global,
+    out: &mut Out,
+    members: &'a [Value],
+) -> Result<Next<'a>, AllocError>
+    ensures written { IfOk result (λ next. PrintsNext (left.Members members.entry) next out.old.tokens out.new.tokens) }
+    ensures less { IfOk result (λ next. IsLess (left.Members members.entry) next) }
+{
+    let Some((member, behind)) = members.split_first() else {
+        out.end_array()?;
+        return Ok(Next::Ended);
+    };
+    let rest = Begun {
+        left: Left::Members(behind),
+        braced: false,
+    };
+    match print_or_begin(alloc, out, member, Expected::NOTHING)? {
+        Some(begun) => Ok(Next::Begun(rest, begun)),
+        None => Ok(Next::Printed(rest)),
+    }
+}
+
+/// Prints the next property of an object, or begins it, or prints the end.
+fn next_property<'a>(
+    alloc: Global,
+    out: &mut Out,
+    properties: &'a [Property],
+    keys: Table,
+) -> Result<Next<'a>, AllocError>
+    ensures written { IfOk result (λ next. PrintsNext (left.Properties properties.entry keys) next out.old.tokens out.new.tokens) }
+    ensures less { IfOk result (λ next. IsLess (left.Properties properties.entry keys) next) }
+{
+    let Some((property, behind)) = properties.split_first() else {
+        out.end_object()?;
+        out.end_object()?;
+        return Ok(Next::Ended);
+    };
+    let braced = begin_property(out, keys, property.key, property.flags.bits())?;
+    let rest = Begun {
+        left: Left::Properties(behind, keys),
+        braced,
+    };
+    let expected = expected_under(keys, property.key);
+    match print_or_begin(alloc, out, &property.value, expected)? {
+        Some(begun) => Ok(Next::Begun(rest, begun)),
+        None => {
+            end_braced(out, braced)?;
+            Ok(Next::Printed(rest))
+        }
+    }
+}
+
+/// The name that is printed for a key: none that would be read as a number.
+fn key_name(keys: Table, key: u32) -> Option<&'static str>
+    ensures { IfSome result (λ name. key_number keys name.now ≡ Some key) }
+{
+    let name = name_of(keys, key)?;
+    match unsigned(name) {
+        Some(_) => None,
+        None => Some(name),
+    }
+}
+
+/// Prints a key, by its name where the table has one.
+fn print_key(out: &mut Out, keys: Table, key: u32) -> Result<(), AllocError>
+    ensures { OnOk result (PutsKey keys key out.old.tokens out.new.tokens) }
+{
+    match key_name(keys, key) {
+        Some(name) => out.key(name),
+        None => {
+            let mut buffer = itoa::Buffer::new();
+            out.key(buffer.format(key))
+        }
+    }
+}
+
+/// Prints a property's key and its flags, where it has any. Whether a brace follows its value.
+fn begin_property(out: &mut Out, keys: Table, key: u32, flags: u32) -> Result<bool, AllocError>
+    ensures { IfOk result (λ braced. BeginsProperty braced keys key flags out.old.tokens out.new.tokens) }
+{
+    print_key(out, keys, key)?;
+    if flags == 0 {
+        return Ok(false);
+    }
+    begin(out, "flags")?;
+    out.u64(flags as u64)?;
+    out.key("value")?;
+    Ok(true)
+}

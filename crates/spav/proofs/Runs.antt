@@ -1,0 +1,153 @@
+-- A list of calls of a builder, one call longer.
+use Rattle.std.proofs.Common.{◌≡◌, ◌≢◌, ℕ, ◌+◌, ◌<◌, ◌≤◌, List, [], ◌∷◌, ◌++◌, length, take, get_or, refl, sym, ap, ◌∙◌, subst, arith, Bool, true, false, Ok, Err}
+use Rattle.std.specs.Prelude.{if◌then◌else◌, IsUtf8, Option, Some, None, Result}
+use Rattle.std.specs.Option.{option_map}
+use Rattle.std.specs.Str.{is_utf8}
+use Rattle.std.proofs.lemmas.List.{take_all, take_more}
+use Rattle.std.proofs.lemmas.Str.{IsUtf8-from_is_utf8}
+use Rattle.spa_format.specs.Tree.{string, string_type}
+use Rattle.spa_builder.specs.State.{State, start}
+use Rattle.spa_builder.specs.Step as builder
+use Rattle.spa_builder.specs.Step.{Outcome, Accepts, Inval, Nospc, add}
+use Rattle.spa_builder.specs.Held.{Held, IsAt}
+use Rattle.spa_builder.specs.Answers.{Makes}
+use Rattle.spa_builder.specs.Replay.{IsAnswered}
+use Rattle.spa_utils.specs.declared.errno.Errno.{Errno}
+use Rattle.spa_utils.specs.declared.errno.TheConstants.Errno.{NOMEM, INVAL, NOSPC}
+use Rattle.spav.specs.Building.{StopsAt, outcome_in, outcome_of, part_of, said_by, spelled_from, text_of}
+use Rattle.spav.specs.declared.building.Call.{Call}
+
+added_text : (p : Option (List ℕ)) → (elim (option_map string p) as (λ _. Option builder.Call) [ Some v ↦ Some (add v) | None ↦ None ]) ≡
+    option_map (λ t. add (string t)) p
+added_text None = refl
+added_text (Some t) = refl
+
+-- what a call of a text says, by the part of the texts
+pub text_made : {A : Type 0} (texts : List ℕ) (c : Call) (s : State) (p : Option (List ℕ)) (old new : Held) (r : Result A Errno) →
+    part_of texts c.bits c.second ≡ p → Makes (outcome_of s (option_map (λ t. add (string t)) (text_of p))) old new r →
+    Makes (outcome_of s (said_by string_type texts c)) old new r
+text_made texts c s p old new r e m =
+    subst (λ q. Makes (outcome_of s q) old new r) (sym (added_text (text_of (part_of texts c.bits c.second))))
+    (subst (λ q. Makes (outcome_of s (option_map (λ t. add (string t)) (text_of q))) old new r) (sym e) m)
+
+decide : (b : Bool) → (b ≡ true → ⊥) → b ≡ false
+decide true n = absurd (n refl)
+decide false n = refl
+
+pub no_text : (t : List ℕ) → ¬ (IsUtf8 t) → is_utf8 t ≡ false
+no_text t n = decide (is_utf8 t) (λ e. n (IsUtf8-from_is_utf8 t e))
+
+-- a text is added where it is UTF-8, and refused where it isn't
+pub tested_made : {A : Type 0} (t : List ℕ) (b : Bool) (s : State) (old new : Held) (r : Result A Errno) → is_utf8 t ≡ b →
+    Makes (outcome_of s (option_map (λ u. add (string u)) (if b then Some t else None))) old new r →
+    Makes (outcome_of s (option_map (λ u. add (string u)) (text_of (Some t)))) old new r
+tested_made t b s old new r e m =
+    subst (λ d. Makes (outcome_of s (option_map (λ u. add (string u)) (if d then Some t else None))) old new r) (sym e) m
+
+-- what is accepted, and why what is refused is
+pub accepts : {A : Type 0} (o : Outcome) (old new : Held) (x : A) → Makes o old new (Ok x) → (t : State) × (o ≡ Accepts t) × IsAt new t
+accepts (Accepts t) old new x m = (t, refl, m)
+accepts Inval old new x m = absurd m
+accepts Nospc old new x m = absurd m
+
+pub refuses : (A : Type 0) (o : Outcome) (old new : Held) (e : Errno) → Makes {A = A} o old new (Err e) → IsAnswered o (Err e)
+refuses A (Accepts t) old new e m = m.0
+refuses A Inval old new e m = m.0
+refuses A Nospc old new e m = m.0
+
+goes_on : (texts : List ℕ) (cs : List Call) (o : Outcome) (t : State) → o ≡ Accepts t →
+    (elim o as (λ _. Option State) [ Accepts u ↦ spelled_from texts u cs | Inval ↦ None | Nospc ↦ None ]) ≡ spelled_from texts t cs
+goes_on texts cs o t e = ap (λ p. elim p as (λ _. Option State) [ Accepts u ↦ spelled_from texts u cs | Inval ↦ None | Nospc ↦ None ]) e
+
+more_from : (texts : List ℕ) (o : Outcome) (cs : List Call) (c : Call) (s t : State)
+    (more : (u : State) → spelled_from texts u cs ≡ Some s → spelled_from texts u (cs ++ c ∷ []) ≡ Some t) →
+    (elim o as (λ _. Option State) [ Accepts u ↦ spelled_from texts u cs | Inval ↦ None | Nospc ↦ None ]) ≡ Some s →
+    (elim o as (λ _. Option State) [ Accepts u ↦ spelled_from texts u (cs ++ c ∷ []) | Inval ↦ None | Nospc ↦ None ]) ≡ Some t
+more_from texts (Accepts u) cs c s t more e = more u e
+more_from texts Inval cs c s t more e = absurd (cc)
+more_from texts Nospc cs c s t more e = absurd (cc)
+
+same_state : {A : Type 0} (x y : A) → Some x ≡ Some y → x ≡ y
+same_state x y e = cc
+
+-- one call more is accepted
+pub one_more : (texts : List ℕ) (u : State) (cs : List Call) (c : Call) (s t : State) → spelled_from texts u cs ≡ Some s →
+    outcome_in texts s c ≡ Accepts t → spelled_from texts u (cs ++ c ∷ []) ≡ Some t
+one_more texts u [] c s t e a = goes_on texts [] (outcome_in texts u c) t (ap (λ v. outcome_in texts v c) (same_state u s e) ∙ a)
+one_more texts u (d ∷ cs) c s t e a = more_from texts (outcome_in texts u d) cs c s t (λ v f. one_more texts v cs c s t f a) e
+
+-- errors with other numbers are others
+differ : (e f : Errno) → e.0 ≢ f.0 → e ≡ f → ⊥
+differ e f n h = n (ap (λ g. g.0) h)
+
+-- what the outcome was, by what was answered
+pub was_invalid : (o : Outcome) → IsAnswered o (Err INVAL) → o ≡ Inval
+was_invalid (Accepts t) e = absurd (differ INVAL NOMEM (λ h. omega (arith, h)) e)
+was_invalid Inval e = refl
+was_invalid Nospc e = absurd (differ INVAL NOSPC (λ h. omega (arith, h)) e)
+
+pub was_large : (o : Outcome) → IsAnswered o (Err NOSPC) → o ≡ Nospc
+was_large (Accepts t) e = absurd (differ NOSPC NOMEM (λ h. omega (arith, h)) e)
+was_large Inval e = absurd (differ NOSPC INVAL (λ h. omega (arith, h)) e)
+was_large Nospc e = refl
+
+pub was_accepted : (o : Outcome) (e : Errno) → e ≢ INVAL → e ≢ NOSPC → IsAnswered o (Err e) → (t : State) × (o ≡ Accepts t)
+was_accepted (Accepts t) e n m a = (t, refl)
+was_accepted Inval e n m a = absurd (n a)
+was_accepted Nospc e n m a = absurd (m a)
+
+-- the same of the place at which a list stops
+pub stops_as : (texts : List ℕ) (calls : List Call) (at : ℕ) (P Q : Outcome → Type 0) → ((o : Outcome) → P o → Q o) →
+    StopsAt texts calls at P → StopsAt texts calls at Q
+stops_as texts calls at P Q f h = record {
+  state = h.state;
+  before = h.before;
+  call = h.call;
+  here = h.here;
+  comes = f _ h.comes;
+}
+
+-- the next call of a list is accepted
+pub goes_further : {A : Type 0} (texts : List ℕ) (calls : List Call) (at : ℕ) (d : Call) (old new : Held) (x : A) → at < length calls →
+    (s : State) × (spelled_from texts start (take at calls) ≡ Some s) × IsAt old s →
+    ((s : State) → IsAt old s → Makes (outcome_in texts s (get_or calls at d)) old new (Ok x)) →
+    (s : State) × (spelled_from texts start (take (at + 1) calls) ≡ Some s) × IsAt new s
+goes_further texts calls at d old new x l h m =
+    let c = get_or calls at d in
+    let a = accepts (outcome_in texts h.0 c) old new x (m h.0 h.2) in
+    (a.0, ap (spelled_from texts start) (take_more calls at d l) ∙ one_more texts start (take at calls) c h.0 a.0 h.1 a.1, a.2)
+
+-- the next call of a list isn't accepted
+pub stops_here : (A : Type 0) (texts : List ℕ) (calls : List Call) (at : ℕ) (d : Call) (old new : Held) (e : Errno) → at < length calls →
+    (s : State) × (spelled_from texts start (take at calls) ≡ Some s) × IsAt old s →
+    ((s : State) → IsAt old s → Makes {A = A} (outcome_in texts s (get_or calls at d)) old new (Err e)) →
+    StopsAt texts calls at (λ o. IsAnswered o (Err e))
+stops_here A texts calls at d old new e l h m = record {
+  state = h.0;
+  before = h.1;
+  call = get_or calls at d;
+  here = take_more calls at d l;
+  comes = refuses A (outcome_in texts h.0 (get_or calls at d)) old new e (m h.0 h.2);
+}
+
+-- all calls of a list are accepted
+pub ends : (texts : List ℕ) (calls : List Call) (at : ℕ) (now : Held) → length calls ≤ at →
+    (s : State) × (spelled_from texts start (take at calls) ≡ Some s) × IsAt now s →
+    (s : State) × (spelled_from texts start calls ≡ Some s) × IsAt now s
+ends texts calls at now l h = (h.0, ap (spelled_from texts start) (sym (take_all at calls l)) ∙ h.1, h.2)
+
+-- why a list stopped, by the error
+pub stopped_invalid : (texts : List ℕ) (calls : List Call) (at : ℕ) (e : Errno) → StopsAt texts calls at (λ o. IsAnswered o (Err e)) → e ≡ INVAL →
+    StopsAt texts calls at (λ o. o ≡ Inval)
+stopped_invalid texts calls at e h i =
+    stops_as texts calls at (λ o. IsAnswered o (Err e)) (λ o. o ≡ Inval) (λ o a. was_invalid o (subst (λ f. IsAnswered o (Err f)) i a)) h
+
+pub stopped_large : (texts : List ℕ) (calls : List Call) (at : ℕ) (e : Errno) → StopsAt texts calls at (λ o. IsAnswered o (Err e)) → e ≡ NOSPC →
+    StopsAt texts calls at (λ o. o ≡ Nospc)
+stopped_large texts calls at e h i =
+    stops_as texts calls at (λ o. IsAnswered o (Err e)) (λ o. o ≡ Nospc) (λ o a. was_large o (subst (λ f. IsAnswered o (Err f)) i a)) h
+
+pub stopped_wanting : (texts : List ℕ) (calls : List Call) (at : ℕ) (e : Errno) → StopsAt texts calls at (λ o. IsAnswered o (Err e)) →
+    (e ≢ INVAL) × (e ≢ NOSPC) → StopsAt texts calls at (λ o. (s : State) × (o ≡ Accepts s))
+stopped_wanting texts calls at e h n =
+    stops_as texts calls at (λ o. IsAnswered o (Err e)) (λ o. (s : State) × (o ≡ Accepts s)) (λ o a. was_accepted o e n.0 n.1 a) h

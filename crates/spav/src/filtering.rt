@@ -1,0 +1,86 @@
+//! Filtering in the caller's memory.
+ghost use Rattle.std.specs.Prelude.{◌≡◌, ◌<◌, List, length, ℕ};
+ghost use Rattle.spa_filter.specs.Filtering.{CanFilter};
+ghost use Rattle.spa_filter.specs.Refusals.{AreRefused};
+ghost use Rattle.spa_filter.specs.declared.error.FilterError.TheVariants.{Disjoint, Missing, OutOfMemory, TypeMismatch, Unsupported};
+ghost use Rattle.spa_filter_pods.specs.Fronts.{AreFrontsRefused, BeginBoth, FilterIn, FilterTooLarge};
+ghost use Rattle.spav.specs.Answers.{IsDisjoint, IsDone, IsFiltered, IsInvalid, IsMissing, IsNoMemory, IsNoRoom, IsOther, IsPast, IsUnfiltered, IsUnsupported};
+ghost use Rattle.spav.specs.Filtering.{HasNoObject, number_of};
+ghost use Rattle.spav.specs.Lists.{IsWritten};
+
+use crate::answers::{
+    DISJOINT, FIRST, INVALID, MISSING, NO_MEMORY, OTHER, PAST, SECOND, UNSUPPORTED,
+};
+use crate::lists::put_front;
+use spa_filter_pods::{FilterError, Side, filter_pods};
+use std::alloc::Global;
+
+/// Writes the object to which the objects at the fronts of two inputs are filtered to the front of `out`: it admits exactly what both
+/// admit, and may still hold choices. What follows the two fronts doesn't count.
+///
+/// 0: `written` is its length, and what is behind it is as it was. -ENOSPC: they are filtered to one whose length, `written`, is more
+/// than `out` has. -EINVAL: no object is at the front of the first input, where `told` is 0, or of the second, where it is 1. They
+/// aren't filtered: -EPROTO, they are of two types; -ENOENT, one has the key `told` as MANDATORY, and the other lacks it; -ENOTSUP, under
+/// the key `told` stands a choice for which no common value is sought; -ENODATA, under the key `told` no value is admitted by both.
+/// -EOVERFLOW: they are filtered to one that is too large for a pod. -ENOMEM: memory was asked for and refused. Where the answer isn't
+/// 0, `out` is unchanged.
+#[unsafe(no_mangle)]
+pub extern "C" fn spav_filter(
+    alloc: Global,
+    a: &[u8],
+    b: &[u8],
+    out: &mut [u8],
+    written: &mut usize,
+    told: &mut u32,
+) -> i32
+    ensures done { IsDone result → (bytes : List ℕ) × BeginBoth a.now b.now (FilterIn bytes) × IsWritten bytes written.new out.old out.new }
+    ensures room { IsNoRoom result → (bytes : List ℕ) × BeginBoth a.now b.now (FilterIn bytes) × (written.new ≡ length bytes) × (length out.old < length bytes) }
+    // Memory aside, and what is too large, they can't be filtered exactly where one of these is answered, and what it says stands.
+    ensures apart { IsUnfiltered result → ¬ (BeginBoth a.now b.now CanFilter) }
+    ensures front { IsInvalid result → HasNoObject a.now b.now told.new }
+    ensures types { IsOther result → BeginBoth a.now b.now (λ v w. AreRefused v w TypeMismatch) }
+    ensures missing { IsMissing result → BeginBoth a.now b.now (λ v w. AreRefused v w (Missing told.new)) }
+    ensures unsupported { IsUnsupported result → BeginBoth a.now b.now (λ v w. AreRefused v w (Unsupported told.new)) }
+    ensures disjoint { IsDisjoint result → BeginBoth a.now b.now (λ v w. AreRefused v w (Disjoint told.new)) }
+    ensures past { IsPast result → BeginBoth a.now b.now FilterTooLarge }
+    ensures memory { IsNoMemory result → AreFrontsRefused a.now b.now OutOfMemory }
+    ensures answers { IsFiltered result }
+    ensures unchanged { ¬ (IsDone result) → out.new ≡ out.old }
+{
+    match filter_pods(alloc, a, b) {
+        Ok(met) => put_front(met.as_slice(), out, written),
+        Err(FilterError::TypeMismatch) => OTHER,
+        Err(FilterError::Missing(key)) => {
+            *told = key;
+            MISSING
+        }
+        Err(FilterError::Unsupported(key)) => {
+            *told = key;
+            UNSUPPORTED
+        }
+        Err(FilterError::Disjoint(key)) => {
+            *told = key;
+            DISJOINT
+        }
+        Err(FilterError::Unread(side)) => {
+            *told = number_of(side);
+            INVALID
+        }
+        Err(FilterError::NotObject(side)) => {
+            *told = number_of(side);
+            INVALID
+        }
+        Err(FilterError::TooLarge) => PAST,
+        Err(FilterError::OutOfMemory) => NO_MEMORY,
+    }
+}
+
+/// The number of an input.
+fn number_of(side: Side) -> u32
+    ensures { result ≡ number_of side }
+{
+    match side {
+        Side::First => FIRST,
+        Side::Second => SECOND,
+    }
+}

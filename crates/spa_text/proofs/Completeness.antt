@@ -11,8 +11,8 @@ use Rattle.spa_names.specs.declared.entry.Expected.{Expected}
 use Rattle.spa_names.specs.declared.table.Table.{Table}
 use Rattle.spa_text.specs.Names.{keys_of, expected_under}
 use Rattle.spa_text.specs.Options.{◌>>=◌, and_then}
-use Rattle.spa_text.specs.Tokens.{after_end_object, head}
-use Rattle.spa_text.specs.Grammar.{opens, leaf, begun, an_array, a_choice, a_struct, an_object, close, choice_of, element, nothing, key_number, property_at, Reads, ReadsAs, AreElements, AreMembers, AreProperties}
+use Rattle.spa_text.specs.Tokens.{after_end_object}
+use Rattle.spa_text.specs.Grammar.{opens, close, element, nothing, property_at, Reads, ReadsAs, AreElements, AreMembers, AreProperties}
 use Rattle.spa_text.specs.Steps.{Frame, in_struct, in_array, in_choice, in_object, Runs, stops, finishes, goes_on, Step, refused, done, goes, Follows, step, Next, ended, wants, expects, ends, value_of, next, next_item, next_property, give, give_ended, after_next, after_opening, after_put, put, started, ComesTo}
 
 -- one list of members behind another

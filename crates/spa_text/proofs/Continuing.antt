@@ -1,11 +1,10 @@
 -- Values with others in them, read from what is printed of them.
-use Rattle.std.proofs.Common.{◌≡◌, ℕ, length, zero, suc, ◌+◌, ◌<◌, ◌≤◌, ◌^◌, List, [], ◌∷◌, ◌++◌, Bool, true, false, refl, sym, ap, subst, ◌∙◌, append-nil, append_assoc, arith, true≢false}
+use Rattle.std.proofs.Common.{◌≡◌, ℕ, length, ◌<◌, ◌^◌, List, [], ◌∷◌, ◌++◌, Bool, true, false, refl, sym, ap, subst, ◌∙◌, append-nil, append_assoc, arith, true≢false}
 use Rattle.std.specs.Prelude.{Option, Some, None, Result, Ok, Err, IfOk, OnOk, IsOk, codes, decimal, if◌then◌else◌, reverse}
 use Rattle.std.specs.Str.{bytes_eq}
 use Rattle.std.proofs.lemmas.List.{reverse-append}
-use Rattle.json.specs.Json.{after_end_array, read_key}
 use Rattle.json.specs.Token.{Token}
-use Rattle.spa_format.specs.Tree.{Tree, Trees, no_trees, member, Properties, no_properties, property, fixed, string, bytes, bitmap, array, choice, pointer, struct, object}
+use Rattle.spa_format.specs.Tree.{Tree, Trees, Properties, property, fixed, string, bytes, bitmap, array, choice, pointer, struct, object}
 use Rattle.spa_value.specs.declared.value.Value.{Value}
 use Rattle.spa_value.specs.declared.object.Property.{Property}
 use Rattle.spa_value.specs.View.{view}
@@ -13,20 +12,15 @@ use Rattle.spa_value.specs.Views.{property_views, views}
 use Rattle.spa_names.specs.declared.entry.Expected.{Expected}
 use Rattle.spa_names.specs.declared.table.Table.{Table}
 use Rattle.spa_names.specs.declared.table.Table.TheVariants.{Types}
-use Rattle.spa_text.specs.Grammar.{AreMembers, AreProperties, Opened, Opening, Reads, ReadsAs, a_struct, an_object, begun, close, flagged_at, is_flags, key_number, nothing, opens, or_else, property_at, tag_named, tagged_at}
+use Rattle.spa_text.specs.Grammar.{AreMembers, AreProperties, Opened, Reads, ReadsAs, an_object, close, flagged_at, is_flags, key_number, nothing, opens, or_else, tag_named, tagged_at}
 use Rattle.spa_text.specs.Names.{expected_under, ids_of, keys_of, number_of}
 use Rattle.spa_text.specs.Numerals.{unsigned}
 use Rattle.spa_text.specs.Options.{◌>>=◌}
 use Rattle.std.proofs.lemmas.Slice.Eq.{bytes_eq-Decides}
-use Rattle.spa_text.specs.Tokens.{after_end_object, head, number_by_name}
-use Rattle.spa_text.specs.Left.{AreAround, Continues, IsLeft, IsWithin, PrintsNext, PrintsOrBegins}
+use Rattle.spa_text.specs.Tokens.{after_end_object, number_by_name}
+use Rattle.spa_text.specs.Left.{AreAround, Continues, IsLeft, IsWithin, PrintsOrBegins}
 use Rattle.spa_text.specs.Written.{BeginsProperty, Opens, Prints, Puts, PutsKey, closing}
 use Rattle.spa_text.specs.declared.printing.Begun.{Begun}
-use Rattle.spa_text.specs.declared.printing.Left.{Left}
-use Rattle.spa_text.specs.declared.printing.Left.TheVariants as left
-use Rattle.spa_text.specs.declared.printing.Next.{Next}
-use Rattle.spa_text.specs.declared.printing.Next.TheVariants as next
-use Rattle.spa_text.specs.declared.tag.Tag.TheVariants as tag
 use Rattle.spa_text.proofs.Appending.{append_on}
 use Rattle.spa_text.proofs.Listed.{not_ended}
 use Rattle.spa_text.proofs.Numbers.{unsigned-decimal}

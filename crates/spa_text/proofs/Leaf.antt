@@ -1,6 +1,6 @@
 -- Values without members, read from what is printed of them.
 use Rattle.std.proofs.Common.{◌≡◌, ◌⊎◌, inl, inr, ℕ, ◌<◌, ◌^◌, List, [], ◌∷◌, ◌++◌, Bool, true, false, ◌||◌, ◌==◌, refl, sym, ap, subst, ◌∙◌, arith, append-nil}
-use Rattle.std.specs.Prelude.{ℤ, Option, Some, None, OnOk, Result, Ok, Err, codes, decimal, if◌then◌else◌, option_map}
+use Rattle.std.specs.Prelude.{ℤ, Option, Some, None, OnOk, Result, Ok, Err, codes, if◌then◌else◌, option_map}
 use Rattle.std.specs.Fmt.{signed_decimal}
 use Rattle.std.specs.Int.{w32, w64, to_be_bytes}
 use Rattle.std.specs.Int.Signed.{mag}
@@ -9,17 +9,16 @@ use Rattle.std.proofs.lemmas.Int.{to_z-of_z}
 use Rattle.hex.specs.Hex.{IsBytes, encode_lower}
 use Rattle.json.specs.Token.{Token}
 use Rattle.spa_format.specs.Kind.{Fixed, id, int, long, float, double, rectangle, fraction, fd, none, bool}
-use Rattle.spa_format.specs.Tree.{Tree, fixed, string, bytes, bitmap, pointer}
+use Rattle.spa_format.specs.Tree.{fixed, string, bytes, bitmap, pointer}
 use Rattle.spa_names.specs.declared.entry.Expected.{Expected}
 use Rattle.spa_names.specs.declared.table.Table.{Table}
 use Rattle.spa_names.specs.declared.table.Table.TheVariants.{Types}
-use Rattle.spa_text.specs.Grammar.{Leaf, Opened, a_number, a_text, bare, ending, leaf, opens, scalar_of, tag_named, tagged_at, takes_text, int_of, wide_of, float_of, double_of, some_bytes, a_bitmap, a_pointer}
-use Rattle.spa_text.specs.Options.{◌>>=◌, and_then}
+use Rattle.spa_text.specs.Grammar.{a_number, a_text, bare, ending, leaf, opens, scalar_of, tag_named, tagged_at, takes_text, wide_of, float_of, double_of, some_bytes, a_bitmap}
+use Rattle.spa_text.specs.Options.{and_then}
 use Rattle.spa_text.specs.Tokens.{head, number_by_name}
 use Rattle.spa_text.specs.Written.{BeginsNumber, Prints, Puts, closing, two_tokens}
 use Rattle.spa_text.specs.declared.tag.Scalar.{Scalar}
 use Rattle.spa_text.specs.declared.tag.Scalar.TheVariants as scalar
-use Rattle.spa_text.specs.declared.tag.Tag.{Tag}
 use Rattle.spa_text.specs.declared.tag.Tag.TheVariants as tag
 use Rattle.spa_text.proofs.Appending.{append_on}
 use Rattle.spa_text.proofs.Numbers.{hex-bytes, signed-decimal, unsigned-decimal, wide_bits-text}

@@ -10,3 +10,5 @@ pub mod Leaf
 pub mod Listed
 pub mod Continuing
 pub mod Counting
+pub mod Lines
+pub mod Relaid

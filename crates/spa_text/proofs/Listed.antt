@@ -1,10 +1,10 @@
 -- Arrays and choices, read from what is printed of them.
-use Rattle.std.proofs.Common.{◌≡◌, ◌⊎◌, inl, inr, ℕ, zero, suc, ◌<◌, ◌^◌, List, [], ◌∷◌, ◌++◌, Bool, true, false, refl, sym, ap, subst, ◌∙◌, append-nil, append_assoc, arith}
-use Rattle.std.specs.Prelude.{Option, Some, None, codes, decimal, map, if◌then◌else◌}
+use Rattle.std.proofs.Common.{◌≡◌, inl, inr, ℕ, zero, suc, ◌<◌, ◌^◌, List, [], ◌∷◌, ◌++◌, true, false, refl, sym, ap, subst, ◌∙◌, append-nil, append_assoc, arith}
+use Rattle.std.specs.Prelude.{Some, None, codes, decimal, map, if◌then◌else◌}
 use Rattle.json.specs.Token.{Token}
 use Rattle.json.specs.Json.{after_end_array}
 use Rattle.spa_format.specs.Kind.{Kind, Fixed, body_size, kind_of, type_number, none_kind, bool_kind, id_kind, int_kind, long_kind, float_kind, double_kind, rectangle_kind, fraction_kind, fd_kind}
-use Rattle.spa_format.specs.Tree.{Shape, Tree, fixed, array, choice, none_choice, range_choice, step_choice, enum_choice, flags_choice}
+use Rattle.spa_format.specs.Tree.{Shape, fixed, array, choice, none_choice, range_choice, step_choice, enum_choice, flags_choice}
 use Rattle.spa_fixed.specs.Choices.{choice_enum_tree}
 use Rattle.spa_utils.specs.declared.choice.ChoiceEnum.{ChoiceEnum}
 use Rattle.spa_utils.specs.declared.choice.ChoiceEnum.TheVariants as E
@@ -12,7 +12,7 @@ use Rattle.spa_value.specs.Equality.{kind_eq}
 use Rattle.spa_names.specs.declared.entry.Expected.{Expected}
 use Rattle.spa_names.specs.declared.table.Table.{Table}
 use Rattle.spa_names.specs.declared.table.Table.TheVariants.{Types}
-use Rattle.spa_text.specs.Grammar.{AreElements, Opening, a_choice, an_array, a_number, array_at, begun, choice_at, choice_of, chosen, element, leaf, opens, shape_named, type_kind}
+use Rattle.spa_text.specs.Grammar.{AreElements, a_choice, an_array, chosen, element, opens, shape_named, type_kind}
 use Rattle.spa_text.specs.Tokens.{head, number_by_name}
 use Rattle.spa_text.specs.Written.{Lists, Opens, Prints, Puts, PutsType, flag_tokens, shape_in, values_in}
 use Rattle.spa_text.proofs.Appending.{append_on}

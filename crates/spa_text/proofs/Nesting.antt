@@ -9,8 +9,8 @@ use Rattle.spa_value.specs.declared.value.Value.{Value}
 use Rattle.spa_value.specs.View.{view}
 use Rattle.spa_names.specs.declared.entry.Expected.{Expected}
 use Rattle.spa_text.specs.Tokens.{head}
-use Rattle.spa_text.specs.Grammar.{Opened, Opening, leaf, begun, opens, nothing, tree, ReadsAs}
-use Rattle.spa_text.specs.Steps.{Frame, Next, Step, refused, done, goes, Follows, Runs, ComesTo, started, ended, wants, frame, next, value_of, put, give, give_ended, after_put, after_opening, after_next, step}
+use Rattle.spa_text.specs.Grammar.{Opened, leaf, begun, opens, nothing, tree, ReadsAs}
+use Rattle.spa_text.specs.Steps.{Frame, Next, refused, done, goes, Follows, Runs, ComesTo, started, ended, wants, next, value_of, put, give, give_ended, after_put, after_opening, after_next, step}
 use Rattle.spa_text.specs.Seen.{KeepsAtEnd, frame_of, leaf_of, next_of, opening_of, IsFresh}
 use Rattle.spa_text.specs.declared.inside.Next as Inner
 use Rattle.spa_text.specs.declared.inside.Next.TheVariants as inner
@@ -21,7 +21,6 @@ use Rattle.spa_text.specs.declared.nest.Nest.{Nest}
 use Rattle.spa_text.specs.declared.inside.Inside.{Inside}
 use Rattle.spa_text.proofs.ViewLaws.{map_one}
 use Rattle.spa_text.proofs.Completeness.{comes_to, from_step, same_follows}
-use Rattle.spa_text.proofs.Soundness.{reads_as}
 
 -- one more around the innermost
 pub stack_one : (outer : List Inside) (i : Inside) → stack_of (outer ++ i ∷ []) ≡ frame_of i ∷ stack_of outer

@@ -1,12 +1,12 @@
 -- What is next in a frame, by what stands at the front.
-use Rattle.std.proofs.Common.{◌≡◌, List, [], ◌∷◌, ◌++◌, Bool, refl, sym, ap, ◌∙◌, subst}
-use Rattle.std.specs.Prelude.{Some, None, option_map, reverse, map}
+use Rattle.std.proofs.Common.{◌≡◌, List, Bool, ap, ◌∙◌}
+use Rattle.std.specs.Prelude.{Some, None, option_map}
 use Rattle.json.specs.Token.{Token}
 use Rattle.json.specs.Json.{after_end_array}
 use Rattle.spa_names.specs.declared.entry.Expected.{Expected}
 use Rattle.spa_text.specs.Tokens.{head}
 use Rattle.spa_text.specs.Grammar.{close}
-use Rattle.spa_text.specs.Steps.{Frame, ended, wants, ends, expects, next_item}
+use Rattle.spa_text.specs.Steps.{Frame, ended, wants, expects, next_item}
 use Rattle.spa_text.specs.Seen.{IsListed}
 
 pub item_ended : (f : Frame) (b : Bool) (c : Expected) (ts mid us : List Token) → IsListed f b c → after_end_array ts ≡ Some mid → close b mid ≡ Some us →

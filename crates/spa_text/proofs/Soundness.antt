@@ -1,19 +1,19 @@
 -- What the steps come to is what the tokens read as.
-use Rattle.std.proofs.Common.{◌≡◌, ℕ, List, [], ◌∷◌, ◌++◌, Bool, true, false, refl, sym, ap, ◌∙◌, subst, append_assoc, true≢false}
+use Rattle.std.proofs.Common.{◌≡◌, ℕ, List, [], ◌∷◌, ◌++◌, Bool, true, false, refl, sym, ap, ◌∙◌, subst, append_assoc}
 use Rattle.std.proofs.lemmas.List.{append-nil}
 use Rattle.std.specs.Prelude.{Option, Some, None, option_map, if◌then◌else◌}
 use Rattle.json.specs.Token.{Token}
 use Rattle.json.specs.Json.{after_end_array, read_key}
 use Rattle.spa_format.specs.Kind.{Kind, none_kind, Fixed, kind_of}
-use Rattle.spa_format.specs.Tree.{Shape, none_choice, range_choice, step_choice, enum_choice, flags_choice, Tree, fixed, array, choice, struct, object, bytes, bitmap, pointer, Trees, no_trees, member, Properties, no_properties, property, join_members, join_properties}
+use Rattle.spa_format.specs.Tree.{Shape, none_choice, range_choice, step_choice, enum_choice, flags_choice, Tree, fixed, array, choice, struct, object, Trees, no_trees, member, Properties, no_properties, property, join_members, join_properties}
 use Rattle.spa_value.specs.Equality.{kind_eq}
 use Rattle.spa_names.specs.declared.entry.Expected.{Expected}
 use Rattle.spa_names.specs.declared.table.Table.{Table}
 use Rattle.spa_text.specs.Names.{keys_of, expected_under}
 use Rattle.spa_text.specs.Options.{◌>>=◌, and_then}
 use Rattle.spa_text.specs.Tokens.{after_end_object, head}
-use Rattle.spa_text.specs.Grammar.{Leaf, a_number, a_text, some_bytes, a_bitmap, a_pointer, tree, Opening, Opened, opens, leaf, begun, an_array, a_choice, a_struct, an_object, close, choice_of, chosen, element, nothing, key_number, property_at, Reads, ReadsAs, AreElements, AreMembers, AreProperties}
-use Rattle.spa_text.specs.Steps.{Frame, in_struct, in_array, in_choice, in_object, frame, Runs, stops, finishes, goes_on, Step, refused, done, goes, Follows, step, Next, ended, wants, expects, ends, value_of, element_of, next, next_item, next_property, at_end, give, give_ended, after_next, after_opening, after_put, put, started, ComesTo}
+use Rattle.spa_text.specs.Grammar.{Leaf, a_number, a_text, some_bytes, a_bitmap, a_pointer, tree, Opening, Opened, opens, leaf, begun, an_array, a_choice, a_struct, an_object, close, choice_of, chosen, element, key_number, property_at, Reads, ReadsAs, AreElements, AreMembers, AreProperties}
+use Rattle.spa_text.specs.Steps.{Frame, in_struct, in_array, in_choice, in_object, frame, Runs, stops, finishes, goes_on, Step, refused, done, goes, Follows, step, Next, ended, wants, expects, ends, value_of, element_of, next, next_item, next_property, give, give_ended, after_next, after_opening, after_put, put, started, ComesTo}
 use Rattle.spa_text.proofs.Completeness.{join_none, join_no_properties, join_one, join_one_property}
 
 -- ---- Options

@@ -1,5 +1,5 @@
 -- Steps of the reader over the values that are begun. Only the crate's private clauses cite it.
-use Rattle.std.specs.Prelude.{◌≡◌, Bool, true, false, List, [], ◌∷◌, reverse, map, Option, Some, None}
+use Rattle.std.specs.Prelude.{◌≡◌, Bool, true, false, List, [], ◌∷◌, reverse, map}
 use Rattle.json.specs.Token.{Token}
 use Rattle.spa_names.specs.declared.entry.Expected.{Expected}
 use Rattle.spa_text.specs.Grammar.{opens}

@@ -5,6 +5,7 @@ pub mod Tokens
 pub mod Grammar
 pub mod Steps
 pub mod Laws
+pub mod Line
 pub mod Seen
 pub mod Begun
 pub mod Written

@@ -1,6 +1,5 @@
 -- What the tables of names say. No proof here looks into a table.
 use Rattle.std.specs.Prelude.{ℕ, List, Option}
-use Rattle.spa_utils.specs.declared.types.SpaTypes.{SpaTypes}
 use Rattle.spa_names.specs.declared.entry.Expected.{Expected}
 use Rattle.spa_names.specs.declared.table.Table.{Table}
 use Rattle.spa_names.specs.Lookup as names

@@ -1,5 +1,5 @@
 -- Steps of a reading, each of which gives a value or none.
-use Rattle.std.specs.Prelude.{Option, Some, None, List, ◌∷◌, []}
+use Rattle.std.specs.Prelude.{Option, Some, None, List}
 use Rattle.json.specs.Token.{Token}
 
 -- the second step, where the first gave a value

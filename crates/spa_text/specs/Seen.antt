@@ -1,5 +1,5 @@
 -- The frames and values of the grammar that the reader's own types stand for. Only the crate's private clauses cite it.
-use Rattle.std.specs.Prelude.{◌≡◌, ℕ, List, [], map, Bool, Option, Some, None, ⊤}
+use Rattle.std.specs.Prelude.{◌≡◌, List, map, Bool, Option, Some, None, ⊤}
 use Rattle.spa_format.specs.Kind.{Kind, none_kind, bool_kind, id_kind, int_kind, long_kind, float_kind, double_kind, rectangle_kind, fraction_kind, fd_kind, Fixed, none, bool, id, int, long, float, double, rectangle, fraction, fd}
 use Rattle.spa_format.specs.Tree as format
 use Rattle.spa_format.specs.Tree.{Tree, fixed, bytes, bitmap, array, choice, pointer, struct, object}

@@ -1,5 +1,5 @@
 -- How values with members are read: by steps over those that are begun, the innermost first. Only the crate's private clauses cite it.
-use Rattle.std.specs.Prelude.{◌≡◌, ℕ, List, [], ◌∷◌, ◌++◌, Bool, true, if◌then◌else◌, Option, Some, None, option_map}
+use Rattle.std.specs.Prelude.{◌≡◌, ℕ, List, [], ◌∷◌, ◌++◌, Bool, if◌then◌else◌, Option, Some, None, option_map}
 use Rattle.json.specs.Token.{Token}
 use Rattle.json.specs.Json.{after_end_array, read_key}
 use Rattle.spa_format.specs.Kind.{Kind, Fixed, kind_of}

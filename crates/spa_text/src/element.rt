@@ -57,47 +57,18 @@ pub(crate) fn put_element(values: &mut ValueArray, element: Element) -> Result<(
     ensures kind { OnOk result (kind_in values.new ≡ kind_in values.old) }
     ensures refused { IfErr result (λ e. e ≢ Cause.OutOfMemory → of_kind (kind_in values.old) (said_by element) ≡ None) }
 {
-    match values {
-        ValueArray::None(values) => match element {
-            Element::None => push(values, ()),
-            _ => Err(Cause::Type),
-        },
-        ValueArray::Bool(values) => match element {
-            Element::Bool(x) => push(values, x),
-            _ => Err(Cause::Type),
-        },
-        ValueArray::Id(values) => match element {
-            Element::Id(x) => push(values, x),
-            _ => Err(Cause::Type),
-        },
-        ValueArray::Int(values) => match element {
-            Element::Int(x) => push(values, x),
-            _ => Err(Cause::Type),
-        },
-        ValueArray::Long(values) => match element {
-            Element::Long(x) => push(values, x),
-            _ => Err(Cause::Type),
-        },
-        ValueArray::Float(values) => match element {
-            Element::Float(x) => push(values, x),
-            _ => Err(Cause::Type),
-        },
-        ValueArray::Double(values) => match element {
-            Element::Double(x) => push(values, x),
-            _ => Err(Cause::Type),
-        },
-        ValueArray::Rectangle(values) => match element {
-            Element::Rectangle(x) => push(values, x),
-            _ => Err(Cause::Type),
-        },
-        ValueArray::Fraction(values) => match element {
-            Element::Fraction(x) => push(values, x),
-            _ => Err(Cause::Type),
-        },
-        ValueArray::Fd(values) => match element {
-            Element::Fd(x) => push(values, x),
-            _ => Err(Cause::Type),
-        },
+    match (values, element) {
+        (ValueArray::None(values), Element::None) => push(values, ()),
+        (ValueArray::Bool(values), Element::Bool(x)) => push(values, x),
+        (ValueArray::Id(values), Element::Id(x)) => push(values, x),
+        (ValueArray::Int(values), Element::Int(x)) => push(values, x),
+        (ValueArray::Long(values), Element::Long(x)) => push(values, x),
+        (ValueArray::Float(values), Element::Float(x)) => push(values, x),
+        (ValueArray::Double(values), Element::Double(x)) => push(values, x),
+        (ValueArray::Rectangle(values), Element::Rectangle(x)) => push(values, x),
+        (ValueArray::Fraction(values), Element::Fraction(x)) => push(values, x),
+        (ValueArray::Fd(values), Element::Fd(x)) => push(values, x),
+        _ => Err(Cause::Type),
     }
 }
 

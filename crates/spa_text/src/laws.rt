@@ -1,9 +1,14 @@
 //! The laws of the text, as contracts of functions.
-ghost use Rattle.std.specs.Prelude.{◌≡◌, IfOk};
+ghost use Rattle.std.specs.Prelude.{◌≡◌, [], IfOk};
+ghost use Rattle.std.specs.Str.{IsUtf8};
+ghost use Rattle.json.specs.Lex.{tokens};
+ghost use Rattle.spa_format.specs.Tree.{Tree};
+ghost use Rattle.spa_text.specs.Grammar.{ReadsAs, nothing};
 ghost use Rattle.spa_text.specs.Laws.{ReadsOneValue};
 ghost use Rattle.spa_value.specs.View.{view};
 
 use crate::cause::Cause;
+use crate::pretty::print_pretty;
 use crate::printing::print;
 use crate::reading::read;
 use spa_value::Value;
@@ -20,6 +25,23 @@ pub fn print_then_read(alloc: Global, value: &Value) -> Result<Value, AllocError
 {
     let mut bytes = Vec::new(alloc);
     print(alloc, value, &mut bytes)?;
+    read_again(alloc, bytes)
+}
+
+/// The same of a value that is printed on lines of its own.
+pub fn print_pretty_then_read(alloc: Global, value: &Value) -> Result<Value, AllocError>
+    ensures { IfOk result (λ again. view again ≡ view value.now) }
+{
+    let mut bytes = Vec::new(alloc);
+    print_pretty(alloc, value, &mut bytes)?;
+    read_again(alloc, bytes)
+}
+
+/// The value of a text that is one's.
+fn read_again(alloc: Global, bytes: Vec<u8>) -> Result<Value, AllocError>
+    requires { IsUtf8 bytes.items × ((v : Tree) × ReadsAs nothing v (tokens bytes.items) []) }
+    ensures { (v : Tree) → ReadsAs nothing v (tokens bytes.items) [] → IfOk result (λ again. view again ≡ v) }
+{
     let Ok(text) = String::from_utf8(bytes) else {
         unreachable!()
     };

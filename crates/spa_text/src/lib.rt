@@ -12,6 +12,7 @@ mod nest;
 mod numerals;
 mod opening;
 mod out;
+mod pretty;
 mod printed;
 mod printing;
 mod reading;
@@ -20,5 +21,6 @@ mod tag;
 mod tokens;
 
 pub use cause::Cause;
+pub use pretty::print_pretty;
 pub use printing::print;
 pub use reading::{TextError, read};

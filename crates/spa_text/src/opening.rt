@@ -3,6 +3,8 @@ ghost use Rattle.std.specs.Prelude.{◌≡◌, ◌≢◌, ◌≤◌, IfErr, IfOk
 ghost use Rattle.json.specs.Reads.{token_of};
 ghost use Rattle.spa_utils.specs.declared.types.SpaTypes as types;
 ghost use Rattle.spa_text.specs.Grammar as grammar;
+ghost use Rattle.spa_text.specs.Tokens.{after_end_object};
+ghost use Rattle.spa_text.specs.declared.inside.Opened.TheVariants.{Leaf};
 ghost use Rattle.spa_text.specs.Seen.{IsFresh, IsNumber, IsOpened, kind_in, items_in, number_in, opened_of, opening_of, shape_of};
 
 use crate::cause::Cause;
@@ -18,7 +20,7 @@ use bitflags::Flags;
 use json::{Reader, Token};
 use spa_names::{Expected, Table};
 use spa_utils::{Fraction, Rectangle};
-use spa_value::{PropertyFlags, Value, ValueArray};
+use spa_value::{PropertyFlags, Value, ValueArray, discard};
 use std::alloc::Global;
 
 /// Reads what begins with this token: a whole value, or a value with others in it up to these.
@@ -86,41 +88,41 @@ fn open_tagged(
         Tag::Scalar(scalar) => {
             let token = any_token(reader).ok_or(Cause::Token)?;
             let value = scalar_of(scalar, expected.ids, token).ok_or(Cause::Number)?;
-            end_object(reader).ok_or(Cause::Token)?;
-            Ok(Opened::Leaf(value))
+            end_leaf(value, reader)
         }
         Tag::String => {
             let text = any_text(reader).ok_or(Cause::Token)?;
-            let text = String::from_str(alloc, text)?;
-            end_object(reader).ok_or(Cause::Token)?;
-            Ok(Opened::Leaf(Value::String(text)))
+            end_leaf(Value::String(String::from_str(alloc, text)?), reader)
         }
-        Tag::Bytes => {
-            let bytes = hex_bytes(alloc, reader)?;
-            end_object(reader).ok_or(Cause::Token)?;
-            Ok(Opened::Leaf(Value::Bytes(bytes)))
-        }
-        Tag::Bitmap => {
-            let bytes = hex_bytes(alloc, reader)?;
-            end_object(reader).ok_or(Cause::Token)?;
-            Ok(Opened::Leaf(Value::Bitmap(bytes)))
-        }
+        Tag::Bytes => end_leaf(Value::Bytes(hex_bytes(alloc, reader)?), reader),
+        Tag::Bitmap => end_leaf(Value::Bitmap(hex_bytes(alloc, reader)?), reader),
         Tag::Width => {
             let (width, height) = two_words(reader, "height").ok_or(Cause::Number)?;
-            end_object(reader).ok_or(Cause::Token)?;
-            Ok(Opened::Leaf(Value::Rectangle(Rectangle { width, height })))
+            end_leaf(Value::Rectangle(Rectangle { width, height }), reader)
         }
         Tag::Num => {
             let (num, denom) = two_words(reader, "denom").ok_or(Cause::Number)?;
-            end_object(reader).ok_or(Cause::Token)?;
-            Ok(Opened::Leaf(Value::Fraction(Fraction { num, denom })))
+            end_leaf(Value::Fraction(Fraction { num, denom }), reader)
         }
         Tag::Pointer => {
             let (type_, address) = pointer_at(reader).ok_or(Cause::Number)?;
-            end_object(reader).ok_or(Cause::Token)?;
-            Ok(Opened::Leaf(Value::Pointer(type_, address)))
+            end_leaf(Value::Pointer(type_, address), reader)
         }
         Tag::Other => Err(Cause::Token),
+    }
+}
+
+/// Takes the brace behind a value without members.
+fn end_leaf(value: Value, reader: &mut Reader<'_>) -> Result<Opened, Cause>
+    ensures ended { MatchResult result (λ o. (o ≡ Leaf value) × (after_end_object reader.old ≡ Some reader.new)) (λ e. (e ≡ Cause.Token) × (after_end_object reader.old ≡ None)) }
+    ensures no_more { length reader.new ≤ length reader.old }
+{
+    match end_object(reader) {
+        Some(()) => Ok(Opened::Leaf(value)),
+        None => {
+            discard(value);
+            Err(Cause::Token)
+        }
     }
 }
 

@@ -8,6 +8,7 @@ ghost use Rattle.json.specs.Lex as lex;
 ghost use Rattle.json.specs.Print as json;
 ghost use Rattle.json.specs.Token.{begin_array, begin_object, boolean, end_array, end_object, key, null, number, string};
 ghost use Rattle.json.specs.Written.{Writes};
+ghost use Rattle.spa_text.specs.Line.{AreGood, HasNoEnd};
 
 use json::Writer;
 use ryu::Float;
@@ -23,6 +24,7 @@ pub(crate) struct Out {
 impl Model for Out {
     ghost use Rattle.std.specs.Prelude.{◌≡◌, []};
     ghost use Rattle.json.specs.Written.{Written, written_code};
+    ghost use Rattle.spa_text.specs.Line.{AreGood};
 
     ghost Value = { Written };
 
@@ -30,7 +32,7 @@ impl Model for Out {
 
     ghost view = { λ o. o.writer };
 
-    ghost invariant = { λ o. o.writer.before ≡ [] };
+    ghost invariant = { λ o. (o.writer.before ≡ []) × AreGood o.writer.tokens };
 }
 
 impl Out {
@@ -48,12 +50,15 @@ impl Out {
         ensures items { result.items ≡ json.print self.tokens }
         ensures reads_back { lex.tokens result.items ≡ self.tokens }
         ensures utf8 { IsUtf8 result.items }
+        ensures line { HasNoEnd result.items }
+        ensures good { AreGood self.tokens }
     {
         let Out { writer } = self;
         writer.into_inner()
     }
 
     /// The brace that opens an object.
+    #[tactic(auto, using(crate::proofs::Relaid::kept_good))]
     pub(crate) fn begin_object(&mut self) -> Result<(), AllocError>
         ensures { Writes result self.old self.new begin_object }
     {
@@ -61,6 +66,7 @@ impl Out {
     }
 
     /// The brace that closes it.
+    #[tactic(auto, using(crate::proofs::Relaid::kept_good))]
     pub(crate) fn end_object(&mut self) -> Result<(), AllocError>
         ensures { Writes result self.old self.new end_object }
     {
@@ -68,6 +74,7 @@ impl Out {
     }
 
     /// The bracket that opens an array.
+    #[tactic(auto, using(crate::proofs::Relaid::kept_good))]
     pub(crate) fn begin_array(&mut self) -> Result<(), AllocError>
         ensures { Writes result self.old self.new begin_array }
     {
@@ -75,6 +82,7 @@ impl Out {
     }
 
     /// The bracket that closes it.
+    #[tactic(auto, using(crate::proofs::Relaid::kept_good))]
     pub(crate) fn end_array(&mut self) -> Result<(), AllocError>
         ensures { Writes result self.old self.new end_array }
     {
@@ -82,6 +90,7 @@ impl Out {
     }
 
     /// A key.
+    #[tactic(auto, using(crate::proofs::Relaid::kept_good))]
     pub(crate) fn key(&mut self, name: &str) -> Result<(), AllocError>
         ensures { Writes result self.old self.new (key name.now) }
     {
@@ -89,6 +98,7 @@ impl Out {
     }
 
     /// A text.
+    #[tactic(auto, using(crate::proofs::Relaid::kept_good))]
     pub(crate) fn string(&mut self, text: &str) -> Result<(), AllocError>
         ensures { Writes result self.old self.new (string text.now) }
     {
@@ -96,6 +106,7 @@ impl Out {
     }
 
     /// A number without a sign.
+    #[tactic(auto, using(crate::proofs::Relaid::kept_good))]
     pub(crate) fn u64(&mut self, n: u64) -> Result<(), AllocError>
         ensures { Writes result self.old self.new (number (decimal n)) }
     {
@@ -103,6 +114,7 @@ impl Out {
     }
 
     /// A number.
+    #[tactic(auto, using(crate::proofs::Relaid::kept_good))]
     pub(crate) fn i64(&mut self, n: i64) -> Result<(), AllocError>
         ensures { Writes result self.old self.new (number (signed_decimal n)) }
     {
@@ -118,6 +130,7 @@ impl Out {
     }
 
     /// True or false.
+    #[tactic(auto, using(crate::proofs::Relaid::kept_good))]
     pub(crate) fn boolean(&mut self, flag: bool) -> Result<(), AllocError>
         ensures { Writes result self.old self.new (boolean flag) }
     {
@@ -125,6 +138,7 @@ impl Out {
     }
 
     /// Null.
+    #[tactic(auto, using(crate::proofs::Relaid::kept_good))]
     pub(crate) fn null(&mut self) -> Result<(), AllocError>
         ensures { Writes result self.old self.new null }
     {

@@ -4,6 +4,7 @@ ghost use Rattle.std.specs.Str.{IsUtf8};
 ghost use Rattle.json.specs.Lex.{tokens};
 ghost use Rattle.spa_format.specs.Tree.{member_node_count, node_count, struct};
 ghost use Rattle.spa_text.specs.Grammar.{ReadsAs, an_object, key_number, nothing};
+ghost use Rattle.spa_text.specs.Line.{AreGood, HasNoEnd};
 ghost use Rattle.spa_text.specs.Left.{Continues, IsLeft, IsLess, PrintsNext, PrintsOrBegins, left_count};
 ghost use Rattle.spa_text.specs.Written.{BeginsProperty, Opens, Prints, PutsKey};
 ghost use Rattle.spa_text.specs.declared.printing.Left.TheVariants as left;
@@ -51,13 +52,23 @@ enum Next<'a> {
 ///
 /// It is refused only where memory runs out, and then leaves `out` as it was. A value that is nested deep is printed too, by a loop.
 pub fn print(alloc: Global, value: &Value, out: &mut Vec<u8>) -> Result<(), AllocError>
-    ensures printed { OnOk result ((text : List ℕ) × (out.new.items ≡ out.old.items ++ text) × IsUtf8 text × ReadsAs nothing (view value.now) (tokens text) []) }
+    ensures printed { OnOk result ((text : List ℕ) × (out.new.items ≡ out.old.items ++ text) × IsUtf8 text × ReadsAs nothing (view value.now) (tokens text) [] × HasNoEnd text) }
     ensures kept { OnErr result (out.new.items ≡ out.old.items) }
 {
-    let mut own = Out::new(alloc);
-    print_value(alloc, &mut own, value)?;
-    let text = own.into_bytes();
-    out.extend_from_slice(text.as_slice())
+    let line = line_of(alloc, value)?;
+    out.extend_from_slice(line.as_slice())
+}
+
+/// The line of a value.
+pub(crate) fn line_of(alloc: Global, value: &Value) -> Result<Vec<u8>, AllocError>
+    ensures reads { IfOk result (λ line. ReadsAs nothing (view value.now) (tokens line.items) []) }
+    ensures utf8 { IfOk result (λ line. IsUtf8 line.items) }
+    ensures no_end { IfOk result (λ line. HasNoEnd line.items) }
+    ensures good { IfOk result (λ line. AreGood (tokens line.items)) }
+{
+    let mut out = Out::new(alloc);
+    print_value(alloc, &mut out, value)?;
+    Ok(out.into_bytes())
 }
 
 /// Prints a value: also one that is nested deep, since what is begun is kept in a list.

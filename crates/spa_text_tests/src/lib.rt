@@ -6,6 +6,8 @@ mod depth;
 #[cfg(test)]
 mod hostile;
 #[cfg(test)]
+mod pretty;
+#[cfg(test)]
 mod refused;
 #[cfg(test)]
 mod rows;

@@ -1,4 +1,3 @@
-use Rattle.std.proofs.Common.{arith, rules}
 use Rattle.spa_text.proofs.Numbers.{unsigned-decimal}
 use Rattle.spa_text.proofs.Leaf.{on_ok}
 use Rattle.spa_text.proofs.printed.print_name.Goals as goal

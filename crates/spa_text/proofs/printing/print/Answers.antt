@@ -5,17 +5,18 @@ use Rattle.json.specs.Lex.{tokens}
 use Rattle.spa_format.specs.Tree.{Tree}
 use Rattle.spa_value.specs.View.{view}
 use Rattle.spa_text.specs.Grammar.{ReadsAs, nothing}
-use Rattle.spa_text.proofs.Continuing.{whole_printed}
+use Rattle.spa_text.specs.Line.{HasNoEnd}
 use Rattle.spa_text.proofs.printing.print.Goals as goal
 
 appended : {A E : Type 0} (r : Result A E) (v : Tree) (old new text : List ℕ) → new ≡ (if is_ok r then old ++ text else old) → IsUtf8 text →
-    ReadsAs nothing v (tokens text) [] → OnOk r ((x : List ℕ) × (new ≡ old ++ x) × IsUtf8 x × ReadsAs nothing v (tokens x) [])
-appended (Ok x) v old new text e u r = (text, e, u, r)
-appended (Err x) v old new text e u r = tt
+    ReadsAs nothing v (tokens text) [] → HasNoEnd text →
+    OnOk r ((x : List ℕ) × (new ≡ old ++ x) × IsUtf8 x × ReadsAs nothing v (tokens x) [] × HasNoEnd x)
+appended (Ok x) v old new text e u r h = (text, e, u, r, h)
+appended (Err x) v old new text e u r h = tt
 
 pub returns-clause-printed : goal.returns-clause-printed
 returns-clause-printed c =
-    let read = whole_printed (view c.args.value.now) _ _ _ c.new-own.ensures c.in_ok-print_value.ensures c.into_bytes-text.ensures.reads_back in
     let old = c.args.out.now.items in
+    let line = c.in_ok-line.ensures in
     let items = c.extend_from_slice.ensures.items ∙ ap (λ t. if is_ok c.extend_from_slice.result then old ++ t else old) c.as_slice.ensures.value in
-    appended c.extend_from_slice.result (view c.args.value.now) old _ c.into_bytes-text.result.items items c.into_bytes-text.ensures.utf8 read
+    appended c.extend_from_slice.result (view c.args.value.now) old _ c.in_ok-line.line.items items line.utf8 line.reads line.no_end

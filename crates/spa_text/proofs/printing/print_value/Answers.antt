@@ -2,8 +2,7 @@ use Rattle.std.proofs.Common.{[], ◌∷◌, ◌++◌, ap, subst, sym, ◌∙◌
 use Rattle.spa_value.specs.View.{view}
 use Rattle.spa_text.specs.Grammar.{nothing}
 use Rattle.spa_text.specs.Left.{PrintsNext, PrintsOrBegins}
-use Rattle.spa_text.proofs.Continuing.{empty, first_printed, first_within, last_ended, one_begun, one_ended, one_printed}
-use Rattle.spa_text.proofs.Counting.{begun_less, ended_less, printed_less}
+use Rattle.spa_text.proofs.Continuing.{empty, first_within, last_ended, one_begun, one_ended, one_printed}
 use Rattle.spa_text.proofs.printing.print_value.Goals as goal
 
 pub loop-outer-init : goal.loop-outer-init

@@ -1,4 +1,4 @@
-use Rattle.std.proofs.Common.{sym, ap, subst, ◌≡◌, ◌∙◌}
+use Rattle.std.proofs.Common.{sym, ap, ◌∙◌}
 use Rattle.std.specs.Prelude.{Some}
 use Rattle.spa_value.proofs.ViewLaws.{view-object, view-struct}
 use Rattle.spa_text.specs.Seen.{frame_of}

@@ -1,4 +1,4 @@
-use Rattle.std.proofs.Common.{arith, rules}
+use Rattle.std.proofs.Common.{rules}
 use Rattle.spa_text.proofs.Leaf.{fraction_printed, on_ok}
 use Rattle.spa_text.proofs.printed.FractionPrinted.print.Goals as goal
 

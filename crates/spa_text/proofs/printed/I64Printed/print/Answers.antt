@@ -1,4 +1,3 @@
-use Rattle.std.proofs.Common.{arith, rules}
 use Rattle.spa_text.proofs.Leaf.{long_printed, on_ok}
 use Rattle.spa_text.proofs.printed.I64Printed.print.Goals as goal
 

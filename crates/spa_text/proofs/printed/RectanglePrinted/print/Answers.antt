@@ -1,4 +1,4 @@
-use Rattle.std.proofs.Common.{arith, rules}
+use Rattle.std.proofs.Common.{rules}
 use Rattle.spa_text.proofs.Leaf.{rectangle_printed, on_ok}
 use Rattle.spa_text.proofs.printed.RectanglePrinted.print.Goals as goal
 

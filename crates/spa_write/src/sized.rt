@@ -28,11 +28,11 @@ use std::alloc::Global;
 /// 4294967296 or more are refused before a byte is appended. Where the sink refuses it, the sink has taken a beginning of
 /// the encoding.
 ///
-/// Where the sink names an allocator, the encoding of a struct or of an object that consists of more than 64 values is put
-/// together in memory of that one by a loop, and appended at once. A smaller one, and any into another sink, is written by
-/// functions that call themselves for each level of nesting, and takes no memory. Where such a sink knows how much room it
-/// has, no call is nested deeper than an eighth of it: a value that consists of more values than that is refused as `Full`
-/// before anything else is looked at.
+/// Where the sink names an allocator, the encoding of a struct or of an object in which more than 64 values lie is put
+/// together in memory of that one by a loop, and appended at once; structs that are the only member of another one aren't
+/// counted. A smaller one, and any into another sink, is written by functions that call themselves for each level of nesting
+/// but that of such structs, and takes no memory. Where such a sink knows how much room it has, no call is nested deeper than
+/// an eighth of it: a value that consists of more values than that is refused as `Full` before anything else is looked at.
 pub fn write_sized<S: PodSink>(sink: &mut S, value: &Value) -> Result<u64, GenError>
     ensures put { OnOk result (IsPut S.appends sink.old (view value.now) sink.new) }
     ensures count { IfOk result (λ n. n ≡ length (encoding_of (view value.now))) }

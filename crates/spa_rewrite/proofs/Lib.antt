@@ -14,3 +14,7 @@ pub mod SteadyFound
 pub mod Patches
 pub mod PatchSteps
 pub mod PatchedBodies
+pub mod Places
+pub mod ShorterLemmas
+pub mod PlacedBodies
+pub mod WrittenAcross

@@ -11,7 +11,7 @@ use Rattle.spa_format.specs.Words.{padded_size, padding, wide_at, wide_bytes, wo
 use Rattle.spa_format.specs.Kind.{Fixed, IsFixedBody, Kind, body_size, bool, bool_kind, content, fixed_body, kind_of, type_number}
 use Rattle.spa_format.specs.Tree.{Shape, none_choice, range_choice, step_choice, enum_choice, flags_choice, Tree, array, array_type, bitmap, bytes, choice, choice_type, fixed, object, object_type, pointer, pointer_type, shape_number, string, struct, struct_type, type_of}
 use Rattle.spa_format.specs.Normal.{kept_flags}
-use Rattle.spa_format.specs.Pod.{AreElements, IsArray, IsBody, IsChoice, IsPointer, least_count, values_taken}
+use Rattle.spa_format.specs.Pod.{AreElements, IsArray, IsBody, IsChoice, IsPod, IsPointer, least_count, values_taken}
 use Rattle.spa_format.specs.Encoding.{array_body, encoded_body, encoding_of, fixed_bodies, framed}
 use Rattle.spa_format.specs.Typed.{IsBytes}
 use Rattle.spa_format.proofs.Choices.{same_pointer}
@@ -221,7 +221,7 @@ taken_first s k x all b m n h e c =
     subst (λ l. AreElements k (x ∷ l) (take n b)) (sym e)
     (subst (λ i. AreElements k (x ∷ take m all) (take i b)) (sym c) (first_elements k (suc m) (x ∷ all) b h))
 
-taken_elements : (s : Shape) (k : Kind) (x : Fixed) (all : List Fixed) (b : List ℕ) → AreElements k (x ∷ all) b →
+pub taken_elements : (s : Shape) (k : Kind) (x : Fixed) (all : List Fixed) (b : List ℕ) → AreElements k (x ∷ all) b →
     AreElements k (x ∷ values_taken s all) (take (bytes_taken s (body_size k) (length b)) b)
 taken_elements none_choice k x all b h = taken_first none_choice k x all b 0 (body_size k) h refl (omega arith)
 taken_elements range_choice k x all b h = taken_first range_choice k x all b 2 (3 * body_size k) h refl (omega arith)
@@ -364,8 +364,8 @@ no_array pod size p n = λ v pd long.
     let l = b.long in
     absurd (omega arith)
 
-pub short_choice : (pod : List ℕ) (size : ℕ) → IsPodOf pod choice_type size → size < 16 → IsPatched pod pod
-short_choice pod size p n = λ v pd long.
+pub no_short_choice : (pod : List ℕ) (size : ℕ) → IsPodOf pod choice_type size → size < 16 → (v : Tree) → ¬ (IsPod pod v)
+no_short_choice pod size p n v pd =
     let b = says_body pod choice_type size v p pd in
     let o = choice_only v b.its_type in
     let its : IsChoice o.0 o.1 o.2 o.3 o.4 (take size (drop 8 pod)) = subst (λ x. IsBody x (take size (drop 8 pod))) o.5 b.its_body in
@@ -374,9 +374,12 @@ short_choice pod size p n = λ v pd long.
     let l = b.long in
     absurd (omega arith)
 
-pub few_values : (pod : List ℕ) (size n shape child : ℕ) → IsPodOf pod choice_type size → 16 ≤ size → shape ≡ word_at pod 8 →
-    child ≡ word_at pod 16 → ((s : Shape) → shape ≡ shape_number s → n ≡ bytes_taken s child (size - 16)) → size - 16 < n → IsPatched pod pod
-few_values pod size n shape child p big w8 w16 taken less = λ v pd long.
+pub short_choice : (pod : List ℕ) (size : ℕ) → IsPodOf pod choice_type size → size < 16 → IsPatched pod pod
+short_choice pod size p n = λ v pd long. absurd (no_short_choice pod size p n v pd)
+
+pub no_few_values : (pod : List ℕ) (size n shape child : ℕ) → IsPodOf pod choice_type size → 16 ≤ size → shape ≡ word_at pod 8 →
+    child ≡ word_at pod 16 → ((s : Shape) → shape ≡ shape_number s → n ≡ bytes_taken s child (size - 16)) → size - 16 < n → (v : Tree) → ¬ (IsPod pod v)
+no_few_values pod size n shape child p big w8 w16 taken less v pd =
     let b = says_body pod choice_type size v p pd in
     let o = choice_only v b.its_type in
     let body = take size (drop 8 pod) in
@@ -401,6 +404,10 @@ few_values pod size n shape child p big w8 w16 taken less = λ v pd long.
     enough_room step_choice n all child c many t e f r less = let m = mul-le-mul_right c f in omega arith
     enough_room enum_choice n all child c many t e f r less = omega arith
     enough_room flags_choice n all child c many t e f r less = omega arith
+
+pub few_values : (pod : List ℕ) (size n shape child : ℕ) → IsPodOf pod choice_type size → 16 ≤ size → shape ≡ word_at pod 8 →
+    child ≡ word_at pod 16 → ((s : Shape) → shape ≡ shape_number s → n ≡ bytes_taken s child (size - 16)) → size - 16 < n → IsPatched pod pod
+few_values pod size n shape child p big w8 w16 taken less = λ v pd long. absurd (no_few_values pod size n shape child p big w8 w16 taken less v pd)
 
 -- what a pod says of an address
 pub short_address : (pod : List ℕ) (a size : ℕ) → IsPodOf pod pointer_type size → size ≡ 12 → a ≡ word_at pod 16 →

@@ -212,7 +212,7 @@ last_within levels keyed inner left here body rest inside type k o l i s =
     within_more (levels - 1) levels inner inside (omega arith) (inside_within levels type body inside inner i b).1
 
 -- no struct or object stands in a value of another type
-leaf_depth : (v : Tree) (body : List ℕ) → type_of v ≢ struct_type → (type_of v ≡ object_type → length body < header_size) → IsBody v body → depth_of v ≡ 0
+pub leaf_depth : (v : Tree) (body : List ℕ) → type_of v ≢ struct_type → (type_of v ≡ object_type → length body < header_size) → IsBody v body → depth_of v ≡ 0
 leaf_depth (struct vs) body n s b = absurd (n refl)
 leaf_depth (object t i ps) body n s b = absurd (let l = s refl in let r = b.0 in omega arith)
 leaf_depth (fixed x) body n s b = refl

@@ -157,7 +157,7 @@ steady_array body elements h =
       | inr z ↦ of_values [] (nil_from_length elements (let e : length elements ≡ 0 = grind arith in e))
     ]
 
-choice_length : (s : Shape) (f : ℕ) (k : Kind) (x : Fixed) (xs : List Fixed) →
+pub choice_length : (s : Shape) (f : ℕ) (k : Kind) (x : Fixed) (xs : List Fixed) →
     length (encoded_body (choice s f k x xs)) ≡ 16 + length (fixed_bodies (x ∷ xs))
 choice_length s f k x xs =
     let l0 = length-append (word_bytes (shape_number s)) (word_bytes f ++ array_body k (x ∷ xs)) in

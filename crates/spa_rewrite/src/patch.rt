@@ -2,7 +2,7 @@
 ghost use Rattle.std.specs.Prelude.{Bool, List, true, ℕ, ◌≡◌, ◌≢◌, ◌+◌, ◌-◌, ◌^◌, ◌<◌, ◌≤◌, ◌++◌, ◌*◌, IfNone, IfSome, drop, length, replicate, take};
 ghost use Rattle.spa_fixed.specs.Reading.{AreWhole};
 ghost use Rattle.spa_format.specs.Pod.{IsPointer};
-ghost use Rattle.spa_format.specs.Tree.{Shape, array_type, choice_type, pointer_type, shape_number};
+ghost use Rattle.spa_format.specs.Tree.{Shape, array_type, choice_type, object_type, pointer_type, shape_number, struct_type};
 ghost use Rattle.spa_format.specs.Kind.{bool_kind, type_number};
 ghost use Rattle.spa_rewrite.specs.Elements.{AreTruths};
 ghost use Rattle.spa_format.specs.Words.{header_size, size_limit, word_at};
@@ -17,11 +17,11 @@ use spa_fixed::{CanonicalFixedSizedPod, NONE_SHAPE, RANGE_SHAPE, STEP_SHAPE};
 use spa_utils::SpaTypes;
 
 /// The length in bytes of a word.
-const WORD_LEN: usize = 4;
+pub(crate) const WORD_LEN: usize = 4;
 
 /// The length in bytes of a whole pod whose body is one or two words; also where the second header in a pod ends: an object's
 /// type and id, an array's child header, or a choice's shape and flags.
-const SECOND_HEADER: usize = 16;
+pub(crate) const SECOND_HEADER: usize = 16;
 
 /// Where the child header of a choice ends, and its values begin.
 const VALUES_AT: usize = 24;
@@ -181,6 +181,18 @@ fn patch_pod(type_: u32, size: usize, pod: &mut [u8])
                 patch(true, &mut pod[SECOND_HEADER..]);
             }
         }
+        _ => patch_leaf(type_, size, pod),
+    }
+}
+
+/// The same of a pod that holds no others.
+pub(crate) fn patch_leaf(type_: u32, size: usize, pod: &mut [u8])
+    requires pod { IsPodOf pod.old type_ size }
+    requires no_struct { type_ ≢ struct_type }
+    requires no_object { type_ ≢ object_type }
+    ensures { IsPatched pod.old pod.new }
+{
+    match SpaTypes(type_) {
         SpaTypes::Bool => patch_bool(size, pod),
         SpaTypes::Pointer => patch_pointer(size, pod),
         SpaTypes::Array => patch_array(size, pod),
@@ -242,7 +254,7 @@ fn patch_array(size: usize, pod: &mut [u8])
 }
 
 /// The same of a choice: what it holds beyond the values that it takes is padding, and so are the flags of a None choice.
-fn patch_choice(size: usize, pod: &mut [u8])
+pub(crate) fn patch_choice(size: usize, pod: &mut [u8])
     requires { IsPodOf pod.old choice_type size }
     ensures { IsPatched pod.old pod.new }
 {
@@ -264,7 +276,7 @@ fn patch_choice(size: usize, pod: &mut [u8])
 }
 
 /// How many bytes of values a choice of this shape takes, of all that it holds.
-fn taken_len(shape: u32, size: usize, all: usize) -> usize
+pub(crate) fn taken_len(shape: u32, size: usize, all: usize) -> usize
     requires { size < size_limit }
     ensures { (s : Shape) → shape ≡ shape_number s → result ≡ bytes_taken s size all }
 {

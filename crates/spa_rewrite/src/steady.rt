@@ -18,15 +18,15 @@ const TWO_WORDS: u32 = 8;
 const SHORT_POD: usize = 16;
 
 /// The length in bytes of the four words before the values of a choice.
-const CHOICE_HEADER: usize = 16;
+pub(crate) const CHOICE_HEADER: usize = 16;
 
 /// What stands in the body of a struct or of an object.
 #[derive(Clone, Copy)]
 pub(crate) struct Inside<'a> {
     /// Whether a key and flags stand before each pod: whether it is an object.
-    keyed: bool,
+    pub(crate) keyed: bool,
     /// The pods, one after another.
-    pods: &'a [u8],
+    pub(crate) pods: &'a [u8],
 }
 
 /// The first pods whose rewritings are as long as they are, as many as are found, and what follows them. A pod in which structs and
@@ -101,7 +101,7 @@ fn are_steady(keyed: bool, body: &[u8], levels: u32) -> bool
 
 /// What is left of properties without the first key and flags, where these are there, and of pods all.
 #[inline(always)]
-fn behind_key(keyed: bool, left: &[u8]) -> Option<&[u8]>
+pub(crate) fn behind_key(keyed: bool, left: &[u8]) -> Option<&[u8]>
     ensures there { IfSome result (λ here. IsBehindKey keyed left.now here.now) }
     ensures short { IfNone result ((keyed ≡ true) × (length left.now < header_size)) }
 {
@@ -117,7 +117,7 @@ fn behind_key(keyed: bool, left: &[u8]) -> Option<&[u8]>
 
 /// What follows the pod at the front, where its body is one or two words and of a kind of fixed size.
 #[inline(always)]
-fn short_front(input: &[u8]) -> Option<&[u8]>
+pub(crate) fn short_front(input: &[u8]) -> Option<&[u8]>
     ensures taken { IfSome result (λ rest. BeginsSteady input.now rest.now) }
     ensures shorter { IfSome result (λ rest. length rest.now + 16 ≤ length input.now) }
 {
@@ -186,7 +186,7 @@ fn short_property(input: &[u8]) -> Option<&[u8]>
 
 /// What stands in the body of a struct or of an object; None for other types, and where an object's type and id aren't there.
 #[inline(always)]
-fn inside_of(type_: u32, body: &[u8]) -> Option<Inside<'_>>
+pub(crate) fn inside_of(type_: u32, body: &[u8]) -> Option<Inside<'_>>
     ensures there { IfSome result (λ inside. IsInside type_ body.now inside.keyed inside.pods.now) }
     ensures other { IfNone result (type_ ≢ struct_type) }
     ensures short { IfNone result (type_ ≡ object_type → length body.now < header_size) }
@@ -206,7 +206,7 @@ fn inside_of(type_: u32, body: &[u8]) -> Option<Inside<'_>>
 
 /// Whether a body of this type is that of a value without members whose encoding is as long as the pod.
 #[inline(always)]
-fn is_steady_leaf(type_: u32, body: &[u8]) -> bool
+pub(crate) fn is_steady_leaf(type_: u32, body: &[u8]) -> bool
     ensures steady { result ≡ true → IsSteadyBody type_ body.now }
     ensures found { (s : IsSteadyBody type_ body.now) → depth_of s.value ≡ 0 → result ≡ true }
 {

@@ -5,7 +5,6 @@ use Rattle.spa_bytes.specs.Opening.{Opens}
 use Rattle.spa_rewrite.specs.Steady.{key_size}
 use Rattle.spa_rewrite.proofs.Patches.{object_put, struct_put}
 use Rattle.spa_rewrite.proofs.PatchSteps.{entered, inner_fits, key_small, nothing_patched, pod_done, pod_is, stops_short, stops_unopened}
-use Rattle.spa_rewrite.proofs.PatchedBodies.{plain_patched}
 use Rattle.spa_rewrite.proofs.patch.+patching.Goals as goal
 
 pub patch-loop-bytes-init : goal.patch-loop-bytes-init
@@ -108,16 +107,3 @@ pub patch_pod-returns-then-size-ge-HEADER_LEN : goal.patch_pod-returns-then-size
 patch_pod-returns-then-size-ge-HEADER_LEN t c =
     object_put _ _ _ _ _ (λ i. omega (arith, c.type_inv.pod i)) c.requires (let is : c.args.type_ ≡ 15 = search rules in is)
     c.if-size-ge-HEADER_LEN.true refl c.patch-then-size-ge-HEADER_LEN.auto.bytes c.patch-then-size-ge-HEADER_LEN.ensures
-
-pub patch_pod-returns-in_default : goal.patch_pod-returns-in_default
-patch_pod-returns-in_default t c =
-    plain_patched _ _ _ _ (λ i. omega (arith, c.type_inv.pod i)) c.requires
-    (record {
-      no_bool = search rules;
-      no_array = search rules;
-      no_struct = search rules;
-      no_object = search rules;
-      no_pointer = search rules;
-      no_choice = search rules;
-    })
-    c.clear_padding.ensures

@@ -1,0 +1,175 @@
+//! Rewritings written elsewhere, of pods that may get shorter.
+ghost use Rattle.std.specs.Prelude.{◌≡◌, ◌≢◌, ◌+◌, ◌<◌, ◌≤◌, Bool, IfNone, IfSome, [], drop, length, take};
+ghost use Rattle.spa_format.specs.Tree.{choice_type};
+ghost use Rattle.spa_rewrite.specs.Rewriting.{AreRewritten};
+ghost use Rattle.spa_rewrite.specs.Shorter.{ArePodsWithin, AreRewrittenAs, HoldsWhole, IsInner, PutsKey, WritesPod, WritesPods, type_inside};
+ghost use Rattle.spa_rewrite.specs.Steady.{IsPodOf, key_size};
+ghost use Rattle.spa_scan.specs.Depth.{levels_looked_into};
+
+use crate::patch::{SECOND_HEADER, WORD_LEN, patch_choice, patch_leaf, taken_len};
+use crate::steady::behind_key;
+use crate::surplus::surplus_of;
+use spa_bytes::{HEADER_LEN, extent_of, open, two_words, u32_at, word_body};
+use spa_scan::LEVELS;
+use spa_utils::SpaTypes;
+
+/// Puts the rewritings of all pods that the input is at the front of an output that is at least as long as the input, and answers how many
+/// bytes they take; what is behind them stays as it was. To a shorter output it writes nothing, and only answers that. It takes no memory.
+///
+/// `None` says that the input isn't pods one after another, or that structs and objects stand more than `LEVELS` deep in one another in
+/// them: then it writes nothing.
+pub fn rewrite_into(input: &[u8], out: &mut [u8]) -> Option<usize>
+    ensures told { IfSome result (λ len. AreRewrittenAs input.now len) }
+    ensures rewritten { IfSome result (λ len. length input.now ≤ length out.old → AreRewritten input.now [] (take len out.new)) }
+    ensures behind { IfSome result (λ len. drop len out.new ≡ drop len out.old) }
+    ensures missed { IfNone result (¬ (ArePodsWithin levels_looked_into input.now)) }
+    ensures unchanged { IfNone result (out.new ≡ out.old) }
+    ensures short { length out.old < length input.now → out.new ≡ out.old }
+{
+    let Some(surplus) = surplus_of(false, input, LEVELS) else {
+        return None;
+    };
+    if out.len() >= input.len() {
+        return Some(write_pods(false, input, out));
+    }
+    Some(input.len() - surplus)
+}
+
+/// Writes the rewritings of pods one after another to the front of an output that is at least as long, with key and flags before each where
+/// `keyed` is set, and answers how many bytes they take. Of bytes that aren't such pods it promises only what stays as it was.
+#[cycle(writing)]
+fn write_pods(keyed: bool, pods: &[u8], out: &mut [u8]) -> usize
+    requires { length pods.now ≤ length out.old }
+    ensures { WritesPods keyed pods.now out.old out.new result }
+{
+    let mut to = 0;
+    let mut left = pods;
+    loop {
+        let Some(here) = behind_key(keyed, left) else {
+            return to;
+        };
+        let Some(front) = open(here) else {
+            return to;
+        };
+        to = put_key(keyed, left, out, to);
+        let pod = &here[..here.len() - front.rest.len()];
+        to += write_pod(front.type_, front.body.len(), pod, &mut out[to..]);
+        left = front.rest;
+    }
+}
+
+/// Writes a key and flags behind what is written, where `keyed` is set, and answers where that ends.
+#[inline(always)]
+fn put_key(keyed: bool, bytes: &[u8], out: &mut [u8], to: usize) -> usize
+    requires key { key_size keyed ≤ length bytes.now }
+    requires room { to + key_size keyed ≤ length out.old }
+    ensures { PutsKey keyed bytes.now out.old out.new to result }
+{
+    if !keyed {
+        return to;
+    }
+    let end = to + HEADER_LEN;
+    out[to..end].copy_from_slice(&bytes[..HEADER_LEN]);
+    end
+}
+
+/// The same of one pod.
+#[cycle(writing)]
+fn write_pod(type_: u32, size: usize, pod: &[u8], out: &mut [u8]) -> usize
+    requires pod { IsPodOf pod.now type_ size }
+    requires room { length pod.now ≤ length out.old }
+    ensures { WritesPod pod.now out.old out.new result }
+{
+    match holds_whole(type_, size) {
+        Some(keyed) => write_inner(keyed, pod, out),
+        None => write_leaf(type_, size, pod, out),
+    }
+}
+
+/// Whether properties stand in it, of a struct or an object whose pods can end where it does.
+#[inline(always)]
+fn holds_whole(type_: u32, size: usize) -> Option<bool>
+    ensures some { IfSome result (λ keyed. HoldsWhole type_ size keyed) }
+    ensures none { IfNone result ((keyed : Bool) → ¬ (HoldsWhole type_ size keyed)) }
+{
+    if size % HEADER_LEN > 0 {
+        return None;
+    }
+    if type_ == SpaTypes::Struct.0 {
+        return Some(false);
+    }
+    if type_ == SpaTypes::Object.0 && size >= HEADER_LEN {
+        return Some(true);
+    }
+    None
+}
+
+/// The same of a struct or an object: what it holds, and then its header.
+#[cycle(writing)]
+fn write_inner(keyed: bool, pod: &[u8], out: &mut [u8]) -> usize
+    requires pod { IsInner pod.now keyed }
+    requires room { length pod.now ≤ length out.old }
+    ensures { WritesPod pod.now out.old out.new result }
+{
+    let from = put_key(keyed, &pod[HEADER_LEN..], out, HEADER_LEN);
+    let len = from + write_pods(keyed, &pod[from..], &mut out[from..]);
+    let header = two_words((len - HEADER_LEN) as u32, inner_type(keyed));
+    out[..HEADER_LEN].copy_from_slice(&header);
+    len
+}
+
+/// The type of an object, or of a struct.
+#[inline(always)]
+fn inner_type(keyed: bool) -> u32
+    ensures { result ≡ type_inside keyed }
+{
+    if keyed {
+        SpaTypes::Object.0
+    } else {
+        SpaTypes::Struct.0
+    }
+}
+
+/// The same of a pod that holds no others, or of one that no value says.
+fn write_leaf(type_: u32, size: usize, pod: &[u8], out: &mut [u8]) -> usize
+    requires pod { IsPodOf pod.now type_ size }
+    requires no_inner { (keyed : Bool) → ¬ (HoldsWhole type_ size keyed) }
+    requires room { length pod.now ≤ length out.old }
+    ensures { WritesPod pod.now out.old out.new result }
+{
+    match SpaTypes(type_) {
+        SpaTypes::Struct => 0,
+        SpaTypes::Object => 0,
+        SpaTypes::Choice => write_choice(size, pod, out),
+        _ => {
+            // No other encoding is shorter than its pod.
+            let len = pod.len();
+            out[..len].copy_from_slice(pod);
+            patch_leaf(type_, size, &mut out[..len]);
+            len
+        }
+    }
+}
+
+/// The same of a choice: copied without its surplus values, and patched there.
+fn write_choice(size: usize, pod: &[u8], out: &mut [u8]) -> usize
+    requires pod { IsPodOf pod.now choice_type size }
+    requires room { length pod.now ≤ length out.old }
+    ensures { WritesPod pod.now out.old out.new result }
+{
+    if size < SECOND_HEADER {
+        return 0;
+    }
+    let all = size - SECOND_HEADER;
+    let shape = u32_at(pod, HEADER_LEN);
+    let len = taken_len(shape, u32_at(pod, SECOND_HEADER) as usize, all);
+    if len > all {
+        return 0;
+    }
+    let kept = SECOND_HEADER + len;
+    let end = extent_of(kept as u32);
+    out[..end].copy_from_slice(&pod[..end]);
+    out[..WORD_LEN].copy_from_slice(&word_body(kept as u32)[..WORD_LEN]);
+    patch_choice(kept, &mut out[..end]);
+    end
+}

@@ -1,0 +1,88 @@
+//! By how much pods get shorter where they are rewritten: a look that writes nothing and takes no memory.
+ghost use Rattle.std.specs.Prelude.{◌≡◌, ◌≢◌, ◌<◌, IfNone, IfSome, length};
+ghost use Rattle.spa_format.specs.Pod.{IsBody};
+ghost use Rattle.spa_format.specs.Tree.{Tree, choice_type, type_of};
+ghost use Rattle.spa_rewrite.specs.Shorter.{AreInsideWithin, AreShorterInside, IsBodyWithin, IsShorterBody};
+ghost use Rattle.spa_scan.specs.Depth.{depth_of};
+
+use crate::elements::values_of;
+use crate::steady::{CHOICE_HEADER, behind_key, inside_of, is_steady_leaf, short_front};
+use spa_bytes::{HEADER_LEN, open};
+use spa_utils::SpaTypes;
+
+/// By how many bytes the rewritings of pods one after another are shorter than these, with key and flags before each where `keyed` is set.
+/// `None` says that the bytes aren't such pods, or that structs and objects stand more than `levels` deep in one another in them.
+#[cycle(looking)]
+pub(crate) fn surplus_of(keyed: bool, pods: &[u8], levels: u32) -> Option<usize>
+    ensures there { IfSome result (λ surplus. AreShorterInside keyed pods.now surplus) }
+    ensures missed { IfNone result (¬ (AreInsideWithin levels keyed pods.now)) }
+{
+    let mut surplus = 0;
+    let mut left = pods;
+    while !left.is_empty() {
+        let Some(here) = behind_key(keyed, left) else {
+            return None;
+        };
+        if let Some(rest) = short_front(here) {
+            left = rest;
+        } else {
+            let Some(front) = open(here) else {
+                return None;
+            };
+            let Some(more) = body_surplus(front.type_, front.body, levels) else {
+                return None;
+            };
+            surplus += more;
+            left = front.rest;
+        }
+    }
+    Some(surplus)
+}
+
+/// The same of a pod with a body of this type.
+#[cycle(looking)]
+fn body_surplus(type_: u32, body: &[u8], levels: u32) -> Option<usize>
+    ensures there { IfSome result (λ surplus. IsShorterBody type_ body.now surplus) }
+    ensures missed { IfNone result (¬ (IsBodyWithin levels type_ body.now)) }
+{
+    match inside_of(type_, body) {
+        Some(inside) => {
+            if levels == 0 {
+                return None;
+            }
+            match surplus_of(inside.keyed, inside.pods, levels - 1) {
+                Some(surplus) => Some(surplus),
+                None => None,
+            }
+        }
+        None => leaf_surplus(type_, body),
+    }
+}
+
+/// The same of a pod that holds no others.
+#[inline(always)]
+fn leaf_surplus(type_: u32, body: &[u8]) -> Option<usize>
+    ensures there { IfSome result (λ surplus. IsShorterBody type_ body.now surplus) }
+    ensures missed { IfNone result ((v : Tree) → type_of v ≡ type_ → depth_of v ≡ 0 → ¬ (IsBody v body.now)) }
+{
+    if type_ == SpaTypes::Choice.0 {
+        return choice_surplus(body);
+    }
+    if is_steady_leaf(type_, body) {
+        Some(0)
+    } else {
+        None
+    }
+}
+
+/// The same of a choice: what it holds beyond the values that it takes and beyond the padding of these.
+fn choice_surplus(body: &[u8]) -> Option<usize>
+    ensures there { IfSome result (λ surplus. IsShorterBody choice_type body.now surplus) }
+    ensures missed { IfNone result ((v : Tree) → type_of v ≡ choice_type → ¬ (IsBody v body.now)) }
+{
+    let Some(kept) = values_of(body) else {
+        return None;
+    };
+    let size = CHOICE_HEADER + kept.len();
+    Some(((body.len() + 7) / HEADER_LEN - (size + 7) / HEADER_LEN) * HEADER_LEN)
+}

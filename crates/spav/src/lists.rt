@@ -1,7 +1,8 @@
 //! Lists of pods, rewritten into the caller's memory and checked.
-ghost use Rattle.std.specs.Prelude.{◌≡◌, ◌<◌, ◌≤◌, ◌++◌, drop, false, length, true};
+ghost use Rattle.std.specs.Prelude.{◌≡◌, ◌<◌, ◌≤◌, ◌++◌, drop, false, IfNone, IfSome, length, true};
 ghost use Rattle.spa_format.specs.Pod.{AreMembers};
 ghost use Rattle.spa_format.specs.Tree.{Trees};
+ghost use Rattle.spa_rewrite.specs.Shorter.{ArePodsWithin};
 ghost use Rattle.spa_rewrite.specs.Steady.{AreSteadyWithin};
 ghost use Rattle.spa_scan.specs.Depth.{AreShallow, levels_looked_into};
 ghost use Rattle.spav.specs.Answers.{IsChecked, IsDone, IsInvalid, IsNoMemory, IsNoRoom, IsPut, IsRewritten};
@@ -9,7 +10,7 @@ ghost use Rattle.spav.specs.Lists.{ListIsRefused, ListIsWritten, ListLacksRoom};
 
 use crate::answers::{DONE, INVALID, NO_MEMORY, NO_ROOM};
 use spa_fixed::DeserializeError;
-use spa_rewrite::{accept_all, rewrite_across, rewrite_all};
+use spa_rewrite::{accept_all, rewrite_across, rewrite_all, rewrite_into};
 use spa_scan::canonical_stretch;
 use std::alloc::Global;
 
@@ -17,8 +18,8 @@ use std::alloc::Global;
 ///
 /// 0: `written` is their length, and what is behind them is as it was. -EINVAL: the input isn't pods one after another; the pod
 /// that begins at the byte `at` is refused. -ENOSPC: it is, and `written`, the length of the rewritings, is more than `out` has.
-/// -ENOMEM: memory was asked for and refused, which isn't asked for where the input is its own rewriting, nor where each rewriting
-/// is as long as its pod and `out` as the input. Where the answer isn't 0, `out` is unchanged.
+/// -ENOMEM: memory was asked for and refused, which isn't asked for where the input is its own rewriting, nor where it is pods one after
+/// another and `out` is as long. Where the answer isn't 0, `out` is unchanged.
 #[unsafe(no_mangle)]
 pub extern "C" fn spav_rewrite(
     alloc: Global,
@@ -31,12 +32,12 @@ pub extern "C" fn spav_rewrite(
     ensures refused { IsInvalid result → ListIsRefused input.now at.new }
     ensures room { IsNoRoom result → ListLacksRoom input.now written.new out.old }
     ensures memory { IsNoMemory result → ¬ (AreShallow levels_looked_into input.now) }
-    ensures across { IsNoMemory result → length input.now ≤ length out.old → ¬ (AreSteadyWithin levels_looked_into input.now) }
+    ensures across { IsNoMemory result → length input.now ≤ length out.old → ¬ (ArePodsWithin levels_looked_into input.now) }
     ensures answers { IsRewritten result }
     ensures unchanged { ¬ (IsDone result) → out.new ≡ out.old }
 {
-    if put_across(input, out, written) {
-        return DONE;
+    if let Some(answer) = put_into(input, out, written) {
+        return answer;
     }
     let (_, others) = canonical_stretch(input);
     if others.is_empty() {
@@ -51,6 +52,32 @@ pub extern "C" fn spav_rewrite(
             INVALID
         }
     }
+}
+
+/// What is answered without memory: where the output is as long as the input, or shorter than the rewritings.
+fn put_into(input: &[u8], out: &mut [u8], written: &mut usize) -> Option<i32>
+    ensures done { IfSome result (λ answer. IsDone answer → ListIsWritten input.now written.new out.old out.new) }
+    ensures room { IfSome result (λ answer. IsNoRoom answer → ListLacksRoom input.now written.new out.old) }
+    ensures answers { IfSome result (λ answer. IsPut answer) }
+    ensures unchanged { IfSome result (λ answer. ¬ (IsDone answer) → out.new ≡ out.old) }
+    ensures nothing { IfNone result (out.new ≡ out.old) }
+    ensures missed { IfNone result (length input.now ≤ length out.old → ¬ (ArePodsWithin levels_looked_into input.now)) }
+{
+    if put_across(input, out, written) {
+        return Some(DONE);
+    }
+    let Some(len) = rewrite_into(input, out) else {
+        return None;
+    };
+    if input.len() <= out.len() {
+        *written = len;
+        return Some(DONE);
+    }
+    if out.len() < len {
+        *written = len;
+        return Some(NO_ROOM);
+    }
+    None
 }
 
 /// Puts the rewritings at the front of the output and says how many bytes they are, where each of them is found to be as long as its pod

@@ -33,7 +33,7 @@ uint32_t spav_abi(void);
  *   -EINVAL  `in` isn't pods one after another: the refused pod begins at the byte *at
  *   -ENOSPC  `cap` is less than their length, *written
  *   -ENOMEM  memory was asked for and refused; none is asked for where `in` is its own rewriting and nests in 1000 levels at most, nor
- *            where each rewriting is as long as its pod, these nest so, and `cap` is n or more
+ *            where it is pods that nest so, and `cap` is n or more
  * Where the answer isn't 0, `out` is unchanged. */
 int32_t spav_rewrite(const void *in, size_t n, void *out, size_t cap, size_t *written, size_t *at);
 

@@ -1,10 +1,10 @@
 -- Pods whose rewritings may be shorter than they are.
-use Rattle.std.proofs.Common.{◌≡◌, ◌≢◌, ℕ, ◌+◌, ◌*◌, ◌/◌, ◌-◌, ◌<◌, ◌≤◌, inl, inr, List, ◌++◌, length, drop, refl, sym, ap, ◌∙◌, subst, arith, length-append, length-drop}
+use Rattle.std.proofs.Common.{◌≡◌, ◌≢◌, ℕ, ◌+◌, ◌*◌, ◌/◌, ◌-◌, ◌<◌, ◌≤◌, inl, inr, List, ◌++◌, length, drop, refl, sym, ap, ◌∙◌, subst, arith, append_assoc, length-append, length-drop}
 use Rattle.std.specs.Prelude.{Bool, true, false, max}
 use Rattle.std.proofs.lemmas.List.{length-take-le, nil_from_length}
 use Rattle.spa_format.specs.Words.{extent, header_size, padded_size, word_at, word_bytes}
 use Rattle.spa_format.specs.Kind.{kind_of}
-use Rattle.spa_format.specs.Tree.{Shape, Tree, fixed, string, bytes, bitmap, array, choice, pointer, struct, object, Trees, no_trees, member, Properties, no_properties, property, choice_type, object_type, struct_type, type_of}
+use Rattle.spa_format.specs.Tree.{Shape, Tree, fixed, string, bytes, bitmap, array, choice, pointer, struct, object, Trees, no_trees, member, Properties, no_properties, property, join_members, choice_type, object_type, struct_type, type_of}
 use Rattle.spa_format.specs.Normal.{kept_flags}
 use Rattle.spa_format.specs.Pod.{AreMembers, AreProperties, IsBody, IsChoice, IsPod}
 use Rattle.spa_format.specs.Kind.{Fixed, Kind}
@@ -19,12 +19,15 @@ use Rattle.spa_format.proofs.Shapes.{choice_only, object_only, struct_only}
 use Rattle.spa_format.proofs.Short.{length-framed}
 use Rattle.spa_bytes.specs.Opening.{Opens}
 use Rattle.spa_leaf.proofs.Steps.{pod_read}
+use Rattle.spa_scan.specs.Canonical.{AreCanonical}
 use Rattle.spa_scan.specs.Depth.{depth_of, member_depth, property_depth}
 use Rattle.spa_rewrite.specs.Elements.{HasValues}
 use Rattle.spa_rewrite.specs.Shorter.{AreInsideWithin, ArePodsWithin, ArePropertiesWithin, AreShorter, AreShorterInside, BeginsShorter, IsBodyWithin, IsShorterBody}
 use Rattle.spa_rewrite.specs.Steady.{BeginsSteady, IsBehindKey, IsInside, IsSteadyBody}
 use Rattle.spa_rewrite.proofs.Places.{whole_keyed, whole_list}
 use Rattle.spa_rewrite.proofs.SteadyFound.{leaf_depth}
+use Rattle.spa_format.proofs.Sequences.{members_joined}
+use Rattle.spa_rewrite.proofs.Stretches.{member_encodings-join}
 use Rattle.spa_rewrite.proofs.SteadyLemmas.{kept_length}
 use Rattle.spa_rewrite.proofs.Steps.{parted}
 
@@ -177,6 +180,29 @@ pub counts_all : (keyed : Bool) (levels : ℕ) (pods left : List ℕ) (surplus :
     AreShorterInside keyed pods surplus
 counts_all keyed levels pods left surplus w z =
     subst (AreShorterInside keyed pods) (let e : surplus + 0 ≡ surplus = omega arith in e) (w.ends 0 (shorter_none keyed left z))
+
+-- what is behind other pods
+pub within_behind : (vs : Trees) (first rest : List ℕ) (levels : ℕ) → AreMembers vs first → ArePodsWithin levels (first ++ rest) → ArePodsWithin levels rest
+within_behind no_trees first rest levels m s = subst (ArePodsWithin levels) (ap (λ x. x ++ rest) m) s
+within_behind (member v vs) first rest levels m s =
+    let all = first ++ rest in
+    let e : all ≡ m.0 ++ (m.1 ++ rest) = ap (λ x. x ++ rest) m.2 ∙ append_assoc m.0 m.1 rest in
+    let f = front_of_whole all m.0 (m.1 ++ rest) (type_of v) (IsBody v) e m.3 in
+    let h = f.0.header in
+    let behind = (first_within levels false all all refl (omega arith) s).others in
+    within_behind vs m.1 rest levels m.4 (subst (ArePodsWithin levels) (sym f.2) behind)
+
+pub shorter_behind : (input first rest : List ℕ) (n : ℕ) → input ≡ first ++ rest → AreCanonical first → AreShorter rest n → AreShorter input n
+shorter_behind input first rest n e c s =
+    let l = ap length (member_encodings-join c.values s.values) ∙ length-append (member_encodings c.values) (member_encodings s.values) in
+    let m = ap length c.same in
+    let a = ap length e ∙ length-append first rest in
+    let b = s.long in
+    record {
+      values = join_members c.values s.values;
+      members = subst (AreMembers (join_members c.values s.values)) (sym e) (members_joined c.values s.values first rest c.members s.members);
+      long = omega arith;
+    }
 
 -- the body of the first
 pub first_body_within : (levels : ℕ) (keyed : Bool) (here body rest : List ℕ) (type : ℕ) → FirstWithin levels keyed here → Opens here type body rest →

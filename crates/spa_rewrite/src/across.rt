@@ -1,16 +1,16 @@
 //! Rewritings written elsewhere, of pods that may get shorter.
-ghost use Rattle.std.specs.Prelude.{◌≡◌, ◌≢◌, ◌+◌, ◌<◌, ◌≤◌, Bool, IfNone, IfSome, [], drop, length, take};
+ghost use Rattle.std.specs.Prelude.{◌≡◌, ◌≢◌, ◌+◌, ◌-◌, ◌<◌, ◌≤◌, Bool, IfNone, IfSome, [], drop, length, take};
 ghost use Rattle.spa_format.specs.Tree.{choice_type};
 ghost use Rattle.spa_rewrite.specs.Rewriting.{AreRewritten};
-ghost use Rattle.spa_rewrite.specs.Shorter.{ArePodsWithin, AreRewrittenAs, HoldsWhole, IsInner, PutsKey, WritesPod, WritesPods, type_inside};
+ghost use Rattle.spa_rewrite.specs.Shorter.{ArePodsWithin, AreRewrittenAs, AreShorter, HoldsWhole, IsInner, PutsKey, WritesPod, WritesPods, type_inside};
 ghost use Rattle.spa_rewrite.specs.Steady.{IsPodOf, key_size};
 ghost use Rattle.spa_scan.specs.Depth.{levels_looked_into};
 
-use crate::patch::{SECOND_HEADER, WORD_LEN, patch_choice, patch_leaf, taken_len};
+use crate::patch::{SECOND_HEADER, WORD_LEN, patch, patch_choice, patch_leaf, taken_len};
 use crate::steady::behind_key;
 use crate::surplus::surplus_of;
 use spa_bytes::{HEADER_LEN, extent_of, open, two_words, u32_at, word_body};
-use spa_scan::LEVELS;
+use spa_scan::{LEVELS, canonical_stretch};
 use spa_utils::SpaTypes;
 
 /// Puts the rewritings of all pods that the input is at the front of an output that is at least as long as the input, and answers how many
@@ -26,13 +26,53 @@ pub fn rewrite_into(input: &[u8], out: &mut [u8]) -> Option<usize>
     ensures unchanged { IfNone result (out.new ≡ out.old) }
     ensures short { length out.old < length input.now → out.new ≡ out.old }
 {
-    let Some(surplus) = surplus_of(false, input, LEVELS) else {
+    let (first, rest) = canonical_stretch(input);
+    let Some(surplus) = surplus_behind(rest) else {
         return None;
     };
-    if out.len() >= input.len() {
-        return Some(write_pods(false, input, out));
+    let len = input.len() - surplus;
+    if out.len() < input.len() {
+        return Some(len);
     }
-    Some(input.len() - surplus)
+    out[..first.len()].copy_from_slice(first);
+    write_rest(surplus, rest, &mut out[first.len()..]);
+    Some(len)
+}
+
+/// By how many bytes the rewritings of all pods that the bytes are are shorter than these. `None` says what it says there.
+#[inline(always)]
+fn surplus_behind(pods: &[u8]) -> Option<usize>
+    ensures there { IfSome result (λ surplus. AreShorter pods.now surplus) }
+    ensures missed { IfNone result (¬ (ArePodsWithin levels_looked_into pods.now)) }
+{
+    if pods.is_empty() {
+        return Some(0);
+    }
+    match surplus_of(false, pods, LEVELS) {
+        Some(surplus) => Some(surplus),
+        None => None,
+    }
+}
+
+/// Writes the rewritings of pods, which are so many bytes shorter, to the front of an output that is as long as the pods at least: patched in a
+/// copy, where they aren't shorter.
+#[inline(always)]
+fn write_rest(surplus: usize, pods: &[u8], out: &mut [u8])
+    requires room { length pods.now ≤ length out.old }
+    requires shorter { AreShorter pods.now surplus }
+    ensures rewritten { AreRewritten pods.now [] (take (length pods.now - surplus) out.new) }
+    ensures behind { drop (length pods.now - surplus) out.new ≡ drop (length pods.now - surplus) out.old }
+{
+    if pods.is_empty() {
+        return;
+    }
+    if surplus > 0 {
+        write_pods(false, pods, out);
+        return;
+    }
+    let len = pods.len();
+    out[..len].copy_from_slice(pods);
+    patch(false, &mut out[..len]);
 }
 
 /// Writes the rewritings of pods one after another to the front of an output that is at least as long, with key and flags before each where

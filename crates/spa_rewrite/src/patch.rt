@@ -186,6 +186,7 @@ fn patch_pod(type_: u32, size: usize, pod: &mut [u8])
 }
 
 /// The same of a pod that holds no others.
+#[inline(always)]
 pub(crate) fn patch_leaf(type_: u32, size: usize, pod: &mut [u8])
     requires pod { IsPodOf pod.old type_ size }
     requires no_struct { type_ ≢ struct_type }

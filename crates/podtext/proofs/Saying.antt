@@ -1,16 +1,17 @@
 -- What is said, line by line and pod by pod.
 use Rattle.std.specs.Io.KnownBytes.{Appends, Keeps}
-use Rattle.std.proofs.Common.{◌≡◌, ◌≤◌, ℕ, ◌+◌, ◌-◌, List, [], ◌∷◌, ◌++◌, Option, Some, None, refl, sym, inl, inr, arith, take, drop, length, ◌∙◌, ap, subst, length-append, length-drop, append_assoc, append-nil}
-use Rattle.std.specs.Prelude.{◌⊎◌, ⊤, Result, Ok, Err, OnOk, IfErr}
-use Rattle.std.proofs.lemmas.List.{length-take-le}
+use Rattle.std.proofs.Common.{◌≡◌, ◌≤◌, ℕ, ◌+◌, ◌-◌, List, [], ◌∷◌, ◌++◌, Option, Some, None, refl, sym, inl, inr, arith, take, length, ◌∙◌, ap, subst, length-drop, append_assoc, append-nil}
+use Rattle.std.specs.Prelude.{◌⊎◌, codes, Result, Ok, Err, OnOk}
+use Rattle.std.proofs.lemmas.List.{length-take-le, take_all}
 use Rattle.spa_format.specs.Words.{extent, word_at}
 use Rattle.spa_format.specs.Front.{HasFront, front_of, rest_of}
 use Rattle.spa_format.specs.Walk.{walk}
 use Rattle.spa_format.specs.Fixation.{walk_size}
 use Rattle.spa_format.proofs.WalkLemmas.{walk-end, walk-there}
-use Rattle.podtext.specs.Answers.{IsAllOf, IsCutOff, IsNotShown, ShowsAll, ShowsBegin, ShowsTo}
+use Rattle.podtext.specs.Answers.{IsAllOf, IsCutOff, IsNotShown, ShowsAll, ShowsBegin, ShowsTo, path_text}
 use Rattle.podtext.specs.declared.answer.Failure.{Failure}
-use Rattle.podtext.specs.declared.answer.Failure.TheVariants.{OutOfMemory, ReadFailed, WriteFailed}
+use Rattle.podtext.specs.declared.answer.Failure.TheVariants.{OutOfMemory, ReadFailed}
+use Rattle.podtext.specs.declared.answer.Origin.TheVariants.{Input}
 use Rattle.podtext.specs.Lines.{Adds, AreLines, Lists, MayAdd, Says, Shows}
 
 pub appends_nothing : (a : Option (List ℕ)) → Appends a a []
@@ -32,6 +33,36 @@ appends_keeps (Some a) (Some b) (Some c) xs k l = l ∙ k
 pub keeps_itself : (a : Option (List ℕ)) → Keeps a a
 keeps_itself None = tt
 keeps_itself (Some a) = refl
+
+pub keeps_keeps : (a b c : Option (List ℕ)) → Keeps a b → Keeps b c → Keeps a c
+keeps_keeps None b c k l = tt
+keeps_keeps (Some a) None c k l = absurd k
+keeps_keeps (Some a) (Some b) None k l = absurd l
+keeps_keeps (Some a) (Some b) (Some c) k l = l ∙ k
+
+pub keeps_appends : (a b c : Option (List ℕ)) (xs : List ℕ) → Keeps a b → Appends b c xs → Appends a c xs
+keeps_appends None b c xs k l = tt
+keeps_appends (Some a) None c xs k l = absurd k
+keeps_appends (Some a) (Some b) None xs k l = absurd l
+keeps_appends (Some a) (Some b) (Some c) xs k l = l ∙ ap (λ ys. ys ++ xs) k
+
+pub keeps_nothing : (a b : Option (List ℕ)) (xs : List ℕ) → Keeps a b → Appends a b (take 0 xs)
+keeps_nothing None b xs k = tt
+keeps_nothing (Some a) None xs k = absurd k
+keeps_nothing (Some a) (Some b) xs k = k ∙ sym (append-nil a)
+
+-- all of it is a beginning of it
+pub all_begun : (a b : Option (List ℕ)) (xs : List ℕ) → Appends a b xs → (n : ℕ) × Appends a b (take n xs)
+all_begun a b xs h = (length xs, subst (Appends a b) (sym (take_all (length xs) xs (omega arith))) h)
+
+-- what is said of a path
+pub no_path : (path : List ℕ) → length path ≡ 0 → path_text path ≡ []
+no_path [] e = refl
+no_path (x ∷ xs) e = absurd (omega (arith, e))
+
+pub some_path : (path : List ℕ) → ¬ (length path ≡ 0) → path_text path ≡ codes " at " ++ path
+some_path [] h = absurd (h refl)
+some_path (x ∷ xs) h = refl
 
 says_nothing : (old : Option (List ℕ)) (waited : List ℕ) → Says old waited old waited []
 says_nothing old waited = record { part = []; written = appends_nothing old; all = append-nil waited }
@@ -154,9 +185,9 @@ pub ok_may : {T E : Type 0} (r : Result T E) (a b c : Option (List ℕ)) (l m n 
 ok_may (Ok x) a b c l m n s t = adds_may a b c l m n s t
 ok_may (Err e) a b c l m n s t = tt
 
-pub not_read : (remaining old : Option (List ℕ)) (why : Failure) → (why ≡ OutOfMemory) ⊎ (why ≡ ReadFailed) → IsNotShown remaining old old why
+pub not_read : (remaining old : Option (List ℕ)) (why : Failure) → (why ≡ OutOfMemory) ⊎ (why ≡ ReadFailed Input) → IsNotShown remaining old old why
 not_read remaining old why (inl e) = subst (IsNotShown remaining old old) (sym e) tt
-not_read remaining old why (inr e) = subst (IsNotShown remaining old old) (sym e) (keeps_itself old)
+not_read remaining old why (inr e) = subst (IsNotShown remaining old old) (sym e) (refl, keeps_itself old)
 
 pub cut_off : (remaining old new : Option (List ℕ)) (why : Failure) → IsCutOff why → IsNotShown remaining old new why
 cut_off remaining old new why (inl e) = subst (IsNotShown remaining old new) (sym e) tt

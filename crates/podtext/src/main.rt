@@ -1,10 +1,14 @@
 //! `podtext print|read|show`: pods from standard input are printed as text, read from it, or shown with names, on standard output.
+//! `podtext diff FILE FILE`: the texts that differ of the pods of two files.
 #![tactic(auto)]
 
 mod answer;
+mod comparing;
+mod files;
 mod inside;
 mod lines;
 mod listing;
+mod output;
 mod page;
 mod parts;
 mod printing;
@@ -39,7 +43,13 @@ fn outcome(rt: &HostRuntime) -> Answer {
     let Ok(words) = words else {
         return Answer::Refused(Failure::OutOfMemory);
     };
-    let (answer, _) = run::run(rt.alloc(), words.as_slice(), &mut rt.stdin(), rt.stdout());
+    let (answer, _) = run::run(
+        rt.alloc(),
+        words.as_slice(),
+        &mut rt.stdin(),
+        rt,
+        rt.stdout(),
+    );
     answer
 }
 

@@ -1,9 +1,10 @@
 //! Lines of text read as pods.
-ghost use Rattle.std.specs.Prelude.{◌≡◌, ◌∷◌, ◌++◌, [], IfErr, IfNone, IfOk, IfSome, OnOk};
-ghost use Rattle.podtext.specs.Texts.{HasNoEnd, IsText, Reads, RefusesTexts};
-ghost use Rattle.podtext.specs.Unread.{IsNoPod, IsUnreadFor};
+ghost use Rattle.std.specs.Prelude.{◌≡◌, ◌≢◌, ◌++◌, [], IfErr, IfOk, IfSome, OnOk};
+ghost use Rattle.podtext.specs.Texts.{BeginsLine, IsText, Reads, RefusesTexts};
+ghost use Rattle.podtext.specs.Unread.{IsFor, IsNoPod};
 ghost use Rattle.spa_format.specs.Encoding.{encoding_of};
 ghost use Rattle.spa_format.specs.Tree.{Tree};
+ghost use Rattle.spa_text.specs.declared.cause.Cause as Cause;
 
 use crate::answer::Failure;
 use spa_sink::GenError;
@@ -13,52 +14,59 @@ use spa_write::write_value;
 use std::alloc::Global;
 
 /// Why a line isn't read.
-#[derive(Clone, Copy)]
+#[derive(Drop)]
 enum Unread {
     OutOfMemory,
-    For(&'static str),
+    For {
+        kind: &'static str,
+        /// How many bytes of the line stand before the place up to which it was read.
+        offset: usize,
+        path: String,
+    },
 }
 
 /// The pods of the values of which each line is a text.
-#[tactic(auto, using(crate::proofs::ReadLines::begins, crate::proofs::ReadLines::goes_on, crate::proofs::ReadLines::ends, crate::proofs::ReadLines::shorter, crate::proofs::ReadLines::unended, crate::proofs::ReadLines::not_read_at))]
+#[tactic(auto, using(crate::proofs::ReadLines::begins, crate::proofs::ReadLines::goes_on, crate::proofs::ReadLines::ends, crate::proofs::ReadLines::shorter, crate::proofs::ReadLines::numbered, crate::proofs::ReadLines::not_read_at))]
 pub(crate) fn read_all(alloc: Global, lines: &[u8]) -> Result<Vec<u8>, Failure>
     ensures read { IfOk result (λ pods. Reads lines.now pods.items) }
     ensures refused { IfErr result (RefusesTexts lines.now) }
 {
     let mut pods = Vec::new(alloc);
     let mut left = lines;
+    let mut number = 0;
     while !left.is_empty() {
-        let place = lines.len() - left.len();
-        let Some((line, behind)) = split_line(left) else {
-            return Err(Failure::Pod {
-                place,
-                kind: "Short",
-            });
-        };
+        let (line, behind) = split_line(left);
+        number += 1;
         match add_pod(alloc, line, &mut pods) {
             Ok(()) => left = behind,
             Err(Unread::OutOfMemory) => return Err(Failure::OutOfMemory),
-            Err(Unread::For(kind)) => return Err(Failure::Pod { place, kind }),
+            Err(Unread::For { kind, offset, path }) => {
+                return Err(Failure::Line {
+                    number,
+                    column: offset.min(line.len()) + 1,
+                    kind,
+                    path,
+                });
+            }
         }
     }
     Ok(pods)
 }
 
-/// The first line, and what follows its end.
+/// The first line, without its end, and what follows that.
 #[tactic(auto, using(crate::proofs::ReadLines::none_passed, crate::proofs::ReadLines::one_passed, crate::proofs::ReadLines::all_passed, crate::proofs::ReadLines::line_passed))]
-fn split_line(bytes: &[u8]) -> Option<(&[u8], &[u8])>
-    ensures line { IfSome result (λ split. bytes.now ≡ split.0.now ++ 10 ∷ split.1.now) }
-    ensures none { IfNone result (HasNoEnd bytes.now) }
+fn split_line(bytes: &[u8]) -> (&[u8], &[u8])
+    ensures { bytes.now ≢ [] → BeginsLine bytes.now result.0.now result.1.now }
 {
     let mut left = bytes;
     while let Some((byte, behind)) = left.split_first() {
         if *byte == b'\n' {
             let line = &bytes[..bytes.len() - left.len()];
-            return Some((line, behind));
+            return (line, behind);
         }
         left = behind;
     }
-    None
+    (bytes, left)
 }
 
 /// Adds the pod of the value of which the line is a text.
@@ -69,32 +77,52 @@ fn add_pod(alloc: Global, line: &[u8], pods: &mut Vec<u8>) -> Result<(), Unread>
 {
     let text = match str::from_utf8(line) {
         Ok(text) => text,
-        Err(_) => return Err(Unread::For("Text")),
+        Err(error) => return Err(unread_at(alloc, "Text", error.valid_up_to())),
     };
     let value = match read(alloc, text) {
         Ok(value) => Held::from(value),
-        Err(error) => return Err(cause_of(error.cause)),
+        Err(error) => {
+            let Some(kind) = kind_of(error.cause) else {
+                return Err(Unread::OutOfMemory);
+            };
+            return Err(Unread::For {
+                kind,
+                offset: error.offset,
+                path: error.path,
+            });
+        }
     };
     match write_value(alloc, pods, &*value) {
         Ok(_) => Ok(()),
         Err(error) => match error {
-            GenError::NulInText => Err(Unread::For("NulInText")),
-            GenError::TooLarge => Err(Unread::For("TooLarge")),
+            GenError::NulInText => Err(unread_at(alloc, "NulInText", 0)),
+            GenError::TooLarge => Err(unread_at(alloc, "TooLarge", 0)),
             _ => Err(Unread::OutOfMemory),
         },
     }
 }
 
-/// Why a text isn't read, for this cause.
-fn cause_of(cause: Cause) -> Unread
-    ensures { IsUnreadFor cause result }
+/// A refusal behind so many bytes of a line, for which no path is known.
+fn unread_at(alloc: Global, kind: &'static str, offset: usize) -> Unread
+    ensures { IsFor result }
+{
+    Unread::For {
+        kind,
+        offset,
+        path: String::new(alloc),
+    }
+}
+
+/// The name of a cause, but for want of memory.
+fn kind_of(cause: Cause) -> Option<&'static str>
+    ensures { IfSome result (λ _. cause ≢ Cause.OutOfMemory) }
 {
     match cause {
-        Cause::OutOfMemory => Unread::OutOfMemory,
-        Cause::Token => Unread::For("Token"),
-        Cause::Number => Unread::For("Number"),
-        Cause::Type => Unread::For("Type"),
-        Cause::Count => Unread::For("Count"),
-        Cause::End => Unread::For("End"),
+        Cause::OutOfMemory => None,
+        Cause::Token => Some("Token"),
+        Cause::Number => Some("Number"),
+        Cause::Type => Some("Type"),
+        Cause::Count => Some("Count"),
+        Cause::End => Some("End"),
     }
 }

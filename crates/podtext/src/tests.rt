@@ -1,4 +1,5 @@
 use crate::answer::tell;
+use crate::files::Sources;
 use crate::run::run;
 use spa_names::laws::{names_come_back, numbers_are_named};
 use spa_names::{Table, expected_under, ids_of, keys_of, name_of, number_of, path_of};
@@ -52,6 +53,44 @@ impl Read for Source<'_> {
     }
 }
 
+/// Two files, of these bytes, named `ours` and `theirs`; one of the name `broken` gives a refusal.
+#[derive(Drop)]
+struct Folder<'a> {
+    ours: &'a [u8],
+    theirs: &'a [u8],
+}
+
+impl Sources for Folder<'_> {
+    ghost use Rattle.std.specs.Prelude.{None};
+
+    ghost holds = { λ _ _. None };
+
+    fn read_file(&self, alloc: Global, name: &str) -> io::Result<Vec<u8>> {
+        let bytes = match name {
+            "ours" => self.ours,
+            "theirs" => self.theirs,
+            _ => return Err(Error::from(ErrorKind::NotFound)),
+        };
+        let mut copy = Vec::new(alloc);
+        copy.extend_from_slice(bytes)?;
+        Ok(copy)
+    }
+}
+
+/// A folder of empty files.
+const EMPTY: Folder<'static> = Folder {
+    ours: &[],
+    theirs: &[],
+};
+
+/// A source that gives all of these bytes.
+fn whole(bytes: &[u8]) -> Source<'_> {
+    Source {
+        left: bytes,
+        breaks: false,
+    }
+}
+
 /// The bytes of these words, least byte first.
 fn bytes_of(alloc: Global, words: &[u32]) -> Result<Vec<u8>, AllocError> {
     let mut bytes = Vec::new(alloc);
@@ -69,6 +108,7 @@ fn found(
     alloc: Global,
     words: &[&str],
     mut source: Source<'_>,
+    folder: &Folder<'_>,
     room: usize,
 ) -> (Vec<u8>, Vec<u8>, u8) {
     let output = Device {
@@ -79,7 +119,7 @@ fn found(
         taken: Vec::new(alloc),
         limit: AMPLE,
     };
-    let (answer, output) = run(alloc, words, &mut source, output);
+    let (answer, output) = run(alloc, words, &mut source, folder, output);
     // Where the line can't be written, nothing changes.
     let _ = tell(&mut faults, &answer);
     (output.taken, faults.taken, answer.status())
@@ -103,7 +143,7 @@ fn is_run(
         left: bytes,
         breaks: false,
     };
-    let run = found(alloc, words, source, AMPLE);
+    let run = found(alloc, words, source, &EMPTY, AMPLE);
     is_found(&run, written, said, status)
 }
 
@@ -181,12 +221,18 @@ const RUNS: [(&[&str], &[u32], &str, &str, u8); 6] = [
         "podtext: byte 16: Short\n",
         1,
     ),
-    (&[], &[], "", "usage: podtext print|read|show\n", 2),
+    (
+        &[],
+        &[],
+        "",
+        "usage: podtext print|read|show, podtext diff FILE FILE\n",
+        2,
+    ),
     (
         &["show", "all"],
         &[4, 4, 5, 0],
         "",
-        "usage: podtext print|read|show\n",
+        "usage: podtext print|read|show, podtext diff FILE FILE\n",
         2,
     ),
 ];
@@ -214,13 +260,46 @@ fn words_and_rests_are_refused(rt: HostRuntime) -> Result<(), Fail> {
 }
 
 /// Texts read as pods: the lines, the words of the pods, what is said, and the status.
-const TEXTS: [(&str, &[u32], &str, u8); 6] = [
+const TEXTS: [(&str, &[u32], &str, u8); 14] = [
     ("5\nnull\n", &[4, 4, 5, 0, 0, 1], "", 0),
     ("", &[], "", 0),
-    ("5", &[], "podtext: byte 0: Short\n", 1),
-    ("5\n[1,]\n", &[], "podtext: byte 2: Token\n", 1),
-    ("5\n\"a\\u0000b\"\n", &[], "podtext: byte 2: NulInText\n", 1),
-    ("5\n\n", &[], "podtext: byte 2: Token\n", 1),
+    ("5", &[4, 4, 5, 0], "", 0),
+    ("null\n5", &[0, 1, 4, 4, 5, 0], "", 0),
+    (" 5 \r\n", &[4, 4, 5, 0], "", 0),
+    (
+        "5\n[1,]\n",
+        &[],
+        "podtext: line 2, column 4: Token at [1]\n",
+        1,
+    ),
+    (
+        "5\n\"a\\u0000b\"\n",
+        &[],
+        "podtext: line 2, column 1: NulInText\n",
+        1,
+    ),
+    ("5\n\n", &[], "podtext: line 2, column 1: Token\n", 1),
+    ("\n", &[], "podtext: line 1, column 1: Token\n", 1),
+    ("5\n5\n ", &[], "podtext: line 3, column 2: Token\n", 1),
+    ("5 5\n", &[], "podtext: line 1, column 3: End\n", 1),
+    (
+        "[1,\n2]\n",
+        &[],
+        "podtext: line 1, column 4: Token at [1]\n",
+        1,
+    ),
+    (
+        "5\n{\"type\":\"Props\",\"id\":\"Props\",\"props\":{\"volume\":0.5,\"mute\":7x}}",
+        &[],
+        "podtext: line 2, column 59: Token at .props.mute\n",
+        1,
+    ),
+    (
+        "{\"type\":\"Format\",\"id\":\"EnumFormat\",\"props\":{\"mediaType\":\"audio\",\"rate\":4294967296}}\n",
+        &[],
+        "podtext: line 1, column 82: Number at .props.rate\n",
+        1,
+    ),
 ];
 
 /// Whether a text is read as its row says.
@@ -242,6 +321,145 @@ fn texts_are_read(rt: HostRuntime) -> Result<(), Fail> {
         let holds = is_text_row(rt.alloc(), row)?;
         assert!(rt; holds, "{}", row.0);
     }
+    let run = found(
+        rt.alloc(),
+        &["read"],
+        whole(b"5\n\"\xff\"\n"),
+        &EMPTY,
+        AMPLE,
+    );
+    let holds = is_found(&run, &[], "podtext: line 2, column 2: Text\n", 1);
+    assert!(rt; holds, "no UTF-8");
+    Ok(())
+}
+
+/// Files compared: the words of each, what is written, what is said, and the status.
+const COMPARED: [(&[u32], &[u32], &str, &str, u8); 12] = [
+    (&[], &[], "", "", 0),
+    (&[4, 4, 5, 0, 0, 1], &[4, 4, 5, 0, 0, 1], "", "", 0),
+    // Padding says nothing, and any truth is true.
+    (&[4, 4, 5, 0], &[4, 4, 5, 7], "", "", 0),
+    (&[4, 2, 1, 0], &[4, 2, 9, 3], "", "", 0),
+    (&[4, 4, 5, 0], &[4, 4, 6, 0], "< 5\n> 6\n", "", 1),
+    // An Id is no Int.
+    (&[4, 4, 5, 0], &[4, 3, 5, 0], "< 5\n> {\"id\":5}\n", "", 1),
+    // A zero of the other sign, and a NaN, which is equal to itself.
+    (
+        &[4, 6, 0, 0],
+        &[4, 6, 0x80000000, 0],
+        "< {\"float\":0.0}\n> {\"float\":-0.0}\n",
+        "",
+        1,
+    ),
+    (&[4, 6, 0x7fc00001, 0], &[4, 6, 0x7fc00001, 0], "", "", 0),
+    (
+        &[0, 1, 4, 4, 5, 0, 0, 1, 4, 4, 7, 0],
+        &[0, 1, 4, 4, 6, 0, 0, 1],
+        "< 5\n> 6\n< 7\n",
+        "",
+        1,
+    ),
+    (&[0, 1], &[0, 1, 0, 1, 4, 4, 7, 0], "> null\n> 7\n", "", 1),
+    (
+        &[4, 4, 5, 0, 7],
+        &[4, 4, 6, 0, 8],
+        "",
+        "podtext: first file, byte 16: Short\n",
+        1,
+    ),
+    (
+        &[4, 4, 5, 0],
+        &[4, 4, 6, 0, 0, 99],
+        "",
+        "podtext: second file, byte 16: InvalidType\n",
+        1,
+    ),
+];
+
+/// Whether two files are compared as their row says.
+fn is_compared(alloc: Global, row: (&[u32], &[u32], &str, &str, u8)) -> Result<bool, AllocError> {
+    let ours = bytes_of(alloc, row.0)?;
+    let theirs = bytes_of(alloc, row.1)?;
+    let folder = Folder {
+        ours: ours.as_slice(),
+        theirs: theirs.as_slice(),
+    };
+    let run = found(
+        alloc,
+        &["diff", "ours", "theirs"],
+        whole(NONE),
+        &folder,
+        AMPLE,
+    );
+    Ok(is_found(&run, row.2.as_bytes(), row.3, row.4))
+}
+
+#[test]
+fn files_are_compared(rt: HostRuntime) -> Result<(), Fail> {
+    for row in COMPARED {
+        let holds = is_compared(rt.alloc(), row)?;
+        assert!(rt; holds, "{} {}", row.2, row.3);
+    }
+    Ok(())
+}
+
+/// Runs over files that aren't read or answers that aren't written: the words, the room, what is written, what is said, the status.
+const FAILED: [(&[&str], usize, &str, &str, u8); 7] = [
+    (
+        &["diff", "broken", "theirs"],
+        AMPLE,
+        "",
+        "podtext: first file, read failed\n",
+        1,
+    ),
+    (
+        &["diff", "ours", "broken"],
+        AMPLE,
+        "",
+        "podtext: second file, read failed\n",
+        1,
+    ),
+    (
+        &["diff", "ours", "theirs"],
+        3,
+        "> n",
+        "podtext: write failed\n",
+        1,
+    ),
+    (&["diff", "ours", "ours"], 0, "", "", 0),
+    (
+        &["diff", "ours"],
+        AMPLE,
+        "",
+        "usage: podtext print|read|show, podtext diff FILE FILE\n",
+        2,
+    ),
+    (
+        &["diff"],
+        AMPLE,
+        "",
+        "usage: podtext print|read|show, podtext diff FILE FILE\n",
+        2,
+    ),
+    (&["print"], 2, "nu", "podtext: write failed\n", 1),
+];
+
+/// Whether a run does as its row says, over a None pod and files of none and of one.
+fn is_failed(alloc: Global, row: (&[&str], usize, &str, &str, u8)) -> bool {
+    let folder = Folder {
+        ours: &[],
+        theirs: NONE,
+    };
+    let run = found(alloc, row.0, whole(NONE), &folder, row.1);
+    is_found(&run, row.2.as_bytes(), row.3, row.4)
+}
+
+#[test]
+fn files_and_writes_fail(rt: HostRuntime) -> Result<(), Fail> {
+    for row in FAILED {
+        let holds = is_failed(rt.alloc(), row);
+        assert!(rt; holds, "{} {}", row.2, row.3);
+    }
     Ok(())
 }
 
@@ -254,7 +472,7 @@ fn is_read_refused(alloc: Global) -> bool {
         left: NONE,
         breaks: true,
     };
-    let run = found(alloc, &["show"], source, AMPLE);
+    let run = found(alloc, &["show"], source, &EMPTY, AMPLE);
     is_found(&run, &[], "podtext: read failed\n", 1)
 }
 
@@ -264,7 +482,7 @@ fn is_write_refused(alloc: Global) -> bool {
         left: NONE,
         breaks: false,
     };
-    let run = found(alloc, &["show"], source, 0);
+    let run = found(alloc, &["show"], source, &EMPTY, 0);
     is_found(&run, &[], "podtext: write failed\n", 1)
 }
 
@@ -295,7 +513,7 @@ fn is_deep_shown(alloc: Global) -> Result<bool, AllocError> {
         left: bytes.as_slice(),
         breaks: false,
     };
-    let run = found(alloc, &["show"], source, AMPLE);
+    let run = found(alloc, &["show"], source, &EMPTY, AMPLE);
     Ok(
         run.0.len() < LEVELS as usize * 120
             && run.0.ends_with(b"(99999) Struct: size 0\n")

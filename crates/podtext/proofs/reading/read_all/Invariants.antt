@@ -3,7 +3,7 @@ use Rattle.podtext.proofs.ReadLines.{ReadSoFar}
 use Rattle.podtext.proofs.reading.read_all.Given as goal
 
 abbrev pub invariant-loop-left : goal.invariant-loop-left
-invariant-loop-left l = ReadSoFar l.lines l.left l.pods.items
+invariant-loop-left l = ReadSoFar l.lines l.left l.pods.items l.number
 
 abbrev pub decreases-loop-left : goal.decreases-loop-left
 decreases-loop-left l = length l.left

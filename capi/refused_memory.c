@@ -1,6 +1,6 @@
 /* Each request for memory is refused in turn, alone or with all after it. From it on refused, the answer is -ENOMEM and the output is as it was;
  * refused alone, the answer may also be that of a call with memory, since what isn't got at once is asked for bit by bit. All memory is
- * given back. What is its own rewriting asks for none. Linked with --wrap=malloc, --wrap=realloc and --wrap=free. */
+ * given back. What is its own rewriting asks for none, nor what is written into as much room. Linked with --wrap=malloc, --wrap=realloc and --wrap=free. */
 #include <errno.h>
 #include <stdio.h>
 #include <stdlib.h>
@@ -43,27 +43,34 @@ static const uint32_t noisy[] = {
 	80, 15, 5, 3, 1, 0, 56, 14, 4, 2, 7, 9, 28, 19, 0, 5, 4, 4, 1, 2, 3, 0, 0, 14, 0, 14, 0, 14,
 };
 
-static void refuse_each(const void *in, size_t n, bool may_ask) {
+/* Into `cap` bytes. */
+static void refuse_each(const void *in, size_t n, size_t cap, bool may_ask) {
 	static uint8_t wanted[1024], out[1024], before[1024];
 	size_t len, written, at;
 	memset(before, 0xee, sizeof before);
 	refuse_at = 0;
-	SEE(spav_rewrite(in, n, wanted, sizeof wanted, &len, &at) == 0 && held == 0);
+	SEE(spav_rewrite(in, n, wanted, cap, &len, &at) == 0 && held == 0);
 	for (refuse_at = 1;; refuse_at++) {
 		asked = 0;
 		memset(out, 0xee, sizeof out);
-		int32_t answer = spav_rewrite(in, n, out, sizeof out, &written, &at);
+		int32_t answer = spav_rewrite(in, n, out, cap, &written, &at);
 		SEE(held == 0);
+		if (answer == 0)
+			SEE(written == len && !memcmp(out, wanted, len) && !memcmp(out + len, before, sizeof out - len));
 		if (asked < refuse_at) {
 			SEE(answer == 0);
 			break;
 		}
 		if (answer == 0)
-			SEE(!and_after && written == len && !memcmp(out, wanted, len));
+			SEE(!and_after);
 		else
 			SEE(answer == -ENOMEM && !memcmp(out, before, sizeof out));
 	}
 	SEE(may_ask == (refuse_at > 1));
+}
+
+static void refuse_check(const void *in, size_t n, bool may_ask) {
+	size_t at;
 	for (refuse_at = 1;; refuse_at++) {
 		asked = 0;
 		int32_t answer = spav_check(in, n, &at);
@@ -183,12 +190,17 @@ static void refuse_building(void) {
 int main(void) {
 	static uint8_t own[1024];
 	size_t written, at;
-	SEE(spav_rewrite(noisy, sizeof noisy, own, sizeof own, &written, &at) == 0);
+	SEE(spav_rewrite(noisy, sizeof noisy, own, sizeof own, &written, &at) == 0 && written + 8 == sizeof noisy);
 	for (int i = 0; i < 2; i++) {
 		and_after = i == 1;
-		refuse_each(noisy, sizeof noisy, true);
-		refuse_each(own, written, false);
-		refuse_each(noisy, 16, false);
+		/* What gets shorter, into room for it all, and into just enough. */
+		refuse_each(noisy, sizeof noisy, sizeof noisy, false);
+		refuse_each(noisy, sizeof noisy, written, true);
+		refuse_each(own, written, written, false);
+		refuse_each(noisy, 16, 1024, false);
+		refuse_check(noisy, sizeof noisy, true);
+		refuse_check(own, written, false);
+		refuse_check(noisy, 16, false);
 		refuse_in_place(noisy, 16, false);
 		refuse_in_place(noisy, sizeof noisy, true);
 		refuse_deep();

@@ -21,6 +21,9 @@ word = lambda *numbers: struct.pack(f"<{len(numbers)}I", *numbers)
 prop = lambda key: word(key, 0, 4, 4, key, 0)
 small = word(80, 15, 5, 3) + b"".join(prop(key) for key in (1, 2, 3))
 (room / "small").write_bytes(small * 1000)
+# The default of a None choice stands before three values that go.
+shrinking = word(80, 15, 5, 3) + prop(1) + word(2, 0, 32, 19, 0, 5, 4, 4, 7, 8, 9, 10)
+(room / "shrinking").write_bytes(shrinking * 1000)
 PY
 for it in mixed small; do "$room/calls" noise "$room/$it" 1 > "$room/$it-noise"; done
 count() {
@@ -31,7 +34,7 @@ count() {
 }
 echo '| Pods | second implementation | libspav | ratio | in place, with a copy before | ratio |'
 echo '|---|---|---|---|---|---|'
-for row in mixed: mixed-noise: small:_each small-noise:_each; do
+for row in mixed: mixed-noise: small:_each small-noise:_each shrinking: shrinking:_each; do
   file=${row%:*} each=${row#*:}
   one=$(count "one_pass$each" "$file")
   ours=$(count "library$each" "$file")

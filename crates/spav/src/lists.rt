@@ -18,8 +18,8 @@ use std::alloc::Global;
 ///
 /// 0: `written` is their length, and what is behind them is as it was. -EINVAL: the input isn't pods one after another; the pod
 /// that begins at the byte `at` is refused. -ENOSPC: it is, and `written`, the length of the rewritings, is more than `out` has.
-/// -ENOMEM: memory was asked for and refused, which isn't asked for where the input is its own rewriting, nor where it is pods one after
-/// another and `out` is as long. Where the answer isn't 0, `out` is unchanged.
+/// -ENOMEM: memory was asked for and refused, which isn't asked for where the input is its own rewriting, nor where it is pods that nest
+/// in 1000 levels at most and `out` is as long. Where the answer isn't 0, `out` is unchanged.
 #[unsafe(no_mangle)]
 pub extern "C" fn spav_rewrite(
     alloc: Global,
@@ -63,18 +63,18 @@ fn put_into(input: &[u8], out: &mut [u8], written: &mut usize) -> Option<i32>
     ensures nothing { IfNone result (out.new ≡ out.old) }
     ensures missed { IfNone result (length input.now ≤ length out.old → ¬ (ArePodsWithin levels_looked_into input.now)) }
 {
-    if put_across(input, out, written) {
-        return Some(DONE);
-    }
-    let Some(len) = rewrite_into(input, out) else {
+    let Some(taken) = rewrite_into(input, out) else {
+        if put_across(input, out, written) {
+            return Some(DONE);
+        }
         return None;
     };
     if input.len() <= out.len() {
-        *written = len;
+        *written = taken;
         return Some(DONE);
     }
-    if out.len() < len {
-        *written = len;
+    if out.len() < taken {
+        *written = taken;
         return Some(NO_ROOM);
     }
     None

@@ -1,15 +1,21 @@
 -- Structs of which each is the only member of the one around it.
-use Rattle.std.proofs.Common.{◌≡◌, ℕ, ◌+◌, ◌<◌, ◌≤◌, ◌⊎◌, inl, inr, ⊎_elim, length, sym, ap, ◌∙◌, subst, arith}
+use Rattle.std.proofs.Common.{◌≡◌, ℕ, ◌+◌, ◌-◌, ◌<◌, ◌≤◌, ◌⊎◌, inl, inr, ⊎_elim, List, [], ◌++◌, length, refl, sym, ap, ◌∙◌, subst, arith, append_assoc, length-append}
 use Rattle.std.proofs.lemmas.List.{append-nil}
 use Rattle.spa_sink.specs.declared.gen_error.GenError.{GenError}
 use Rattle.spa_sink.specs.declared.gen_error.GenError.TheVariants.{TooLarge}
-use Rattle.spa_sink.specs.Writing.{RefusesWrite}
-use Rattle.spa_format.specs.Words.{header_size, size_limit}
+use Rattle.spa_sink.specs.Writing.{RefusesWrite, Sent, none_sent, some_sent}
+use Rattle.spa_sink.proofs.Sending.{AppendsMore, sent_before, sent_twice}
+use Rattle.spa_format.specs.Words.{header_size, size_limit, word_bytes}
 use Rattle.spa_format.specs.Tree.{struct, struct_type, Trees, no_trees, member}
 use Rattle.spa_format.specs.Encoding.{encoding_of, member_encodings}
-use Rattle.spa_format.specs.Writable.{HasNul, IsTooLarge, SomeHasNul}
+use Rattle.spa_format.specs.Typed.{AllTyped}
+use Rattle.spa_format.specs.Writable.{HasNul, IsTooLarge, IsWritable, SomeHasNul}
 use Rattle.spa_format.proofs.Encodings.{length-framed, whole_members}
+use Rattle.spa_leaf.specs.Written.{Appending, Refusing, Stops}
 use Rattle.spa_leaf.proofs.Frames.{size_refused}
+use Rattle.spa_leaf.proofs.Parts.{TakesParts, stop_as, stop_behind, stop_first}
+use Rattle.spa_write.specs.Measured.{ArePut}
+use Rattle.spa_write.proofs.Stopping.{struct_parts}
 
 -- so many bytes of headers stand before the second members in the encodings of the first
 pub record AreWithin (vs : Trees) (outer : ℕ) (ws : Trees) : Type 0 where
@@ -56,3 +62,76 @@ pub within_too_long : (vs ws : Trees) (outer big : ℕ) → AreWithin vs outer w
 within_too_long vs ws outer big h le e r =
     size_refused (SomeHasNul vs) (IsTooLarge (struct vs)) (λ _. ⊥) (size_limit ≤ big)
     (λ b. inl (omega (arith, b, le, h.size))) e r
+
+-- A sink took the headers of the structs around the second members, which are to be written with so many bytes.
+pub record AreBegun {S : Type 0} (appends : Appending S) (old : S) (vs : Trees) (now : S) (ws : Trees) (left : ℕ) : Type 0 where
+  pub heads : List ℕ
+  pub parts : member_encodings vs ≡ heads ++ member_encodings ws
+  pub sent : Sent appends old heads now
+  pub size : left ≡ length (member_encodings ws)
+  pub writable : IsWritable (struct ws)
+  pub typed : AllTyped ws → AllTyped vs
+
+pub none_begun : {S : Type 0} {appends : Appending S} (a : S) (vs : Trees) (n : ℕ) →
+    IsWritable (struct vs) → n ≡ length (member_encodings vs) → AreBegun appends a vs a vs n
+none_begun a vs n w e =
+    record { heads = []; parts = refl; sent = none_sent refl refl; size = e; writable = w; typed = λ t. t }
+
+-- the next header, and what is behind it
+pub lone_parts : (ws us : Trees) (n k : ℕ) → ws ≡ member (struct us) no_trees →
+    n ≡ length (member_encodings ws) → k ≡ n - 8 →
+    member_encodings ws ≡ (word_bytes k ++ word_bytes struct_type) ++ member_encodings us
+lone_parts ws us n k is e d =
+    let size = lone_length ws us is in
+    ap member_encodings is ∙ append-nil (encoding_of (struct us)) ∙ struct_parts k us (omega (arith, size, e, d))
+
+pub next_begun : {S : Type 0} {appends : Appending S} → AppendsMore appends → (a b c : S)
+    (vs ws us : Trees) (n k : ℕ) → AreBegun appends a vs b ws n → ws ≡ member (struct us) no_trees → k ≡ n - 8 →
+    appends b (word_bytes k ++ word_bytes struct_type) c → AreBegun appends a vs c us k
+next_begun more a b c vs ws us n k h is d p =
+    let head = word_bytes k ++ word_bytes struct_type in
+    let whole = lone_length ws us is in
+    record {
+      heads = h.heads ++ head;
+      parts = h.parts ∙ ap (λ l. h.heads ++ l) (lone_parts ws us n k is h.size d) ∙ sym (append_assoc h.heads head (member_encodings us));
+      sent = some_sent (sent_before more a b c h.heads head h.sent p);
+      size = omega (arith, whole, h.size, d);
+      writable = record {
+        no_nul = λ x. h.writable.no_nul (subst SomeHasNul (sym is) (inl x));
+        fits = λ x. h.writable.fits (subst (λ l. IsTooLarge (struct l)) (sym is) (inr (inl x)));
+      };
+      typed = λ t. h.typed (subst AllTyped (sym is) (t, tt));
+    }
+
+-- within what is left
+pub left_stops : {S : Type 0} {appends : Appending S} {refuses : Refusing S} → TakesParts appends refuses →
+    (a b c : S) (vs ws : Trees) (n : ℕ) → AreBegun appends a vs b ws n → (e : GenError) →
+    Stops appends refuses b (member_encodings ws) c e → Stops appends refuses a (member_encodings vs) c e
+left_stops s a b c vs ws n h e x =
+    stop_as a c (h.heads ++ member_encodings ws) (member_encodings vs) e (sym h.parts)
+    (stop_behind s a b c h.heads (member_encodings ws) e h.sent x)
+
+-- within the next header
+pub begun_stops : {S : Type 0} {appends : Appending S} {refuses : Refusing S} → TakesParts appends refuses →
+    (a b c : S) (vs ws us : Trees) (n k : ℕ) → AreBegun appends a vs b ws n → ws ≡ member (struct us) no_trees →
+    k ≡ n - 8 → (e : GenError) → Stops appends refuses b (word_bytes k ++ word_bytes struct_type) c e →
+    Stops appends refuses a (member_encodings vs) c e
+begun_stops s a b c vs ws us n k h is d e x =
+    let head = word_bytes k ++ word_bytes struct_type in
+    left_stops s a b c vs ws n h e
+    (stop_as b c (head ++ member_encodings us) (member_encodings ws) e (sym (lone_parts ws us n k is h.size d))
+    (stop_first s b c head (member_encodings us) e x))
+
+pub whole_put_within : {S : Type 0} {appends : Appending S} → AppendsMore appends → (a b c : S) (vs ws : Trees)
+    (n : ℕ) → AreBegun appends a vs b ws n → ArePut appends b ws c → ArePut appends a vs c
+whole_put_within {appends = appends} more a b c vs ws n h k =
+    record {
+      encodings = subst (λ l. Sent appends a l c) (sym h.parts) (sent_twice more a b c h.heads (member_encodings ws) h.sent k.encodings);
+      typed = h.typed k.typed;
+    }
+
+-- how much is left at the most
+pub left_within : {S : Type 0} {appends : Appending S} (a b : S) (vs ws : Trees) (n : ℕ) →
+    AreBegun appends a vs b ws n → length (member_encodings ws) ≤ length (member_encodings vs)
+left_within a b vs ws n h =
+    omega (arith, ap length h.parts, length-append h.heads (member_encodings ws))

@@ -1,6 +1,7 @@
 //! How many values a value consists of, counted no further than to a number.
-ghost use Rattle.std.specs.Prelude.{◌≡◌, ◌+◌, ◌<◌, IfNone, IfSome, IsSomeAnd, length, true};
+ghost use Rattle.std.specs.Prelude.{◌≡◌, ◌+◌, ◌<◌, ◌≤◌, IfNone, IfSome, IsSomeAnd, length, true};
 ghost use Rattle.spa_format.specs.Encoding.{encoding_of};
+ghost use Rattle.spa_format.specs.Tree as tree;
 ghost use Rattle.spa_format.specs.Tree.{member_node_count, node_count, property_node_count};
 ghost use Rattle.spa_value.specs.View.{view};
 ghost use Rattle.spa_value.specs.Views.{property_views, views};
@@ -14,12 +15,88 @@ pub(crate) fn is_nested(value: &Value) -> bool {
     matches!(value, Value::Struct(_) | Value::Object(_))
 }
 
-/// How many values a struct or an object may consist of for the calls that write it to cost less than a list of what is open and a copy.
+/// How many members and properties the structs and objects in a value may have in all for the calls that write it to cost less
+/// than a list of what is open and a copy.
 const FEW: usize = 64;
 
-/// Does a value consist of no more values than these, itself among them? So it nests no deeper.
+/// Whether the structs and objects in a value have no more members and properties than these. A struct that is the only member
+/// of another one isn't counted, and takes no call: so no call that goes through the value is nested deeper.
 pub(crate) fn is_small(value: &Value) -> bool {
-    left_of(value, FEW).is_some()
+    few_left(value, FEW + 1) != 0
+}
+
+/// How much of this number is left by these members and properties. 0: they are as many, or more.
+#[cycle(few)]
+#[inline(always)]
+fn few_left(value: &Value, number: usize) -> usize {
+    match value {
+        Value::Struct(members) => few_left_of_members(members.as_slice(), number),
+        Value::Object(object) => few_left_of_properties(object.properties.as_slice(), number),
+        _ => number,
+    }
+}
+
+/// The same of the members of one struct.
+#[cycle(few)]
+fn few_left_of_members(members: &[Value], number: usize) -> usize {
+    let inner = innermost(members);
+    if inner.len() >= number {
+        return 0;
+    }
+    let mut left = number - inner.len();
+    for member in inner {
+        if is_nested(member) {
+            left = few_left(member, left);
+            if left == 0 {
+                return 0;
+            }
+        }
+    }
+    left
+}
+
+/// The same of the properties of one object.
+#[cycle(few)]
+fn few_left_of_properties(properties: &[Property], number: usize) -> usize {
+    if properties.len() >= number {
+        return 0;
+    }
+    let mut left = number - properties.len();
+    for property in properties {
+        if is_nested(&property.value) {
+            left = few_left(&property.value, left);
+            if left == 0 {
+                return 0;
+            }
+        }
+    }
+    left
+}
+
+/// The members of the innermost of structs of which each is the only member of the one around it.
+#[inline(always)]
+fn innermost(members: &[Value]) -> &[Value]
+    ensures { member_node_count (views result.now) ≤ member_node_count (views members.now) }
+{
+    let mut left = members;
+    while let Some(inner) = only_struct(left) {
+        left = inner;
+    }
+    left
+}
+
+/// The members of the struct that is the only one of these.
+#[inline(always)]
+pub(crate) fn only_struct(members: &[Value]) -> Option<&[Value]>
+    ensures { IfSome result (λ inner. views members.now ≡ tree.member (tree.struct (views inner.now)) tree.no_trees) }
+{
+    if members.len() != 1 {
+        return None;
+    }
+    match &members[0] {
+        Value::Struct(inner) => Some(inner.as_slice()),
+        _ => None,
+    }
 }
 
 /// Whether a value's encoding has more bytes than there is room for, as the number of its values tells: each has eight at least.

@@ -12,6 +12,7 @@ ghost use Rattle.spa_value.specs.Views.{property_views, views};
 ghost use Rattle.spa_write.specs.Measured.{AreMeasured, IsMeasured, PropertiesAreMeasured};
 ghost use Rattle.spa_leaf.specs.Written.{IsLeaf};
 
+use crate::count::only_struct;
 use crate::short::are_short;
 use spa_bytes::{HEADER_LEN, POINTER_LEN, extent_of};
 use spa_fixed::{
@@ -57,20 +58,6 @@ pub(crate) fn members_len(members: &[Value]) -> Result<u64, GenError>
     }
     let len = all_len(left)?;
     sum_of(outer, len)
-}
-
-/// The members of the struct that is the only one of these.
-#[inline(always)]
-fn only_struct(members: &[Value]) -> Option<&[Value]>
-    ensures { IfSome result (λ inner. views members.now ≡ tree.member (tree.struct (views inner.now)) tree.no_trees) }
-{
-    if members.len() != 1 {
-        return None;
-    }
-    match &members[0] {
-        Value::Struct(inner) => Some(inner.as_slice()),
-        _ => None,
-    }
 }
 
 /// How many pods of sixteen bytes a size word can't count.

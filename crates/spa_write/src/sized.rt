@@ -11,7 +11,7 @@ ghost use Rattle.spa_write.specs.Measured.{ArePropertiesPut, ArePut, PropertiesA
 ghost use Rattle.spa_leaf.specs.Written.{IsLeaf, IsPut, Stops};
 ghost use Rattle.spa_format.specs.Words.{header_size, size_limit, word_bytes};
 
-use crate::count::{is_beyond, is_nested, is_small};
+use crate::count::{is_beyond, is_nested, is_small, only_struct};
 use crate::largest::{largest_member, largest_property};
 use crate::nested::write_by_loop;
 use crate::short::short_encoding;
@@ -28,11 +28,11 @@ use std::alloc::Global;
 /// 4294967296 or more are refused before a byte is appended. Where the sink refuses it, the sink has taken a beginning of
 /// the encoding.
 ///
-/// Where the sink names an allocator, the encoding of a struct or of an object that consists of more than 64 values is put
-/// together in memory of that one by a loop, and appended at once. A smaller one, and any into another sink, is written by
-/// functions that call themselves for each level of nesting, and takes no memory. Where such a sink knows how much room it
-/// has, no call is nested deeper than an eighth of it: a value that consists of more values than that is refused as `Full`
-/// before anything else is looked at.
+/// Where the sink names an allocator, the encoding of a struct or of an object in which more than 64 values lie is put
+/// together in memory of that one by a loop, and appended at once; structs that are the only member of another one aren't
+/// counted. A smaller one, and any into another sink, is written by functions that call themselves for each level of nesting
+/// but that of such structs, and takes no memory. Where such a sink knows how much room it has, no call is nested deeper than
+/// an eighth of it: a value that consists of more values than that is refused as `Full` before anything else is looked at.
 pub fn write_sized<S: PodSink>(sink: &mut S, value: &Value) -> Result<u64, GenError>
     ensures put { OnOk result (IsPut S.appends sink.old (view value.now) sink.new) }
     ensures count { IfOk result (λ n. n ≡ length (encoding_of (view value.now))) }
@@ -133,6 +133,24 @@ fn len_of(value: &Value, known: Option<u64>) -> u64
 /// part of a smaller member, and nesting of any depth takes a time that grows with the number of values and its logarithm.
 #[cycle(put)]
 fn put_members<S: PodSink>(sink: &mut S, members: &[Value], size: u64) -> Result<(), GenError>
+    requires writable { IsWritable (tree.struct (views members.now)) }
+    requires size { size ≡ length (member_encodings (views members.now)) }
+    ensures put { OnOk result (ArePut S.appends sink.old (views members.now) sink.new) }
+    ensures stops { IfErr result (λ e. Stops S.appends S.refuses sink.old (member_encodings (views members.now)) sink.new e) }
+{
+    let mut left = members;
+    let mut size = size;
+    while let Some(inner) = only_struct(left) {
+        size -= HEADER_LEN as u64;
+        put_two(sink, size as u32, SpaTypes::Struct.0)?;
+        left = inner;
+    }
+    put_all(sink, left, size)
+}
+
+/// The same of members of which none is a struct that stands alone.
+#[cycle(put)]
+fn put_all<S: PodSink>(sink: &mut S, members: &[Value], size: u64) -> Result<(), GenError>
     requires writable { IsWritable (tree.struct (views members.now)) }
     requires size { size ≡ length (member_encodings (views members.now)) }
     ensures put { OnOk result (ArePut S.appends sink.old (views members.now) sink.new) }

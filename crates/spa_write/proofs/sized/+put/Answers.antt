@@ -10,6 +10,7 @@ use Rattle.spa_value.specs.View.{view}
 use Rattle.spa_value.specs.Views.{views, property_views}
 use Rattle.spa_value.proofs.ViewLaws.{view-struct, view-fields}
 use Rattle.spa_write.specs.Measured.{PropertiesAreWritable}
+use Rattle.spa_write.proofs.LoneStructs.{begun_stops, left_stops, lone_length, next_begun}
 use Rattle.spa_write.proofs.MemberLists.{members_length, only_encoding, writable_there}
 use Rattle.spa_write.proofs.PropertyLists.{properties_length, properties_of_writable, property_writable_there}
 use Rattle.spa_write.proofs.Stopping.{body_stops, four_stop, head_stops, keyed_at, member_known, next_key_stops, next_property_put, next_put, next_stops, next_value_stops, no_property_put, none_put, object_fits, object_head, object_put, size_of_object, size_of_struct, struct_fits, struct_head, struct_put, property_known, two_stop_at}
@@ -61,15 +62,48 @@ put_value-put_members-requires g t c =
     let writable : IsWritable (struct (views c.as_slice.result.now)) = subst IsWritable is c.requires.writable in
     let size : c.len_of.result - 8 ≡ length (member_encodings (views c.as_slice.result.now)) = omega (arith, n) in
     let known = c.len_of.ensures in
-    let smaller : 2 * length (member_encodings (views c.as_slice.result.now)) + 1 < 2 * length (encoding_of (view c.args.value.now)) =
+    let smaller : 3 * length (member_encodings (views c.as_slice.result.now)) + 2 < 3 * length (encoding_of (view c.args.value.now)) =
     omega (arith, n, known) in
     λ κs le. (search rules, (le, (writable, size)))
 
-pub put_members-loop-index-init : goal.put_members-loop-index-init
-put_members-loop-index-init g t c = none_put c.args.sink.now
+pub put_members-overflow_sub-size : goal.put_members-overflow_sub-size
+put_members-overflow_sub-size g t c =
+    let whole = lone_length (views c.loop-inner.left.now) (views c.in-Some.inner.now) c.in-Some.ensures in
+    omega (arith, whole, c.loop-inner.invariant.size)
 
-pub put_members-put_value-requires : goal.put_members-put_value-requires
-put_members-put_value-requires g t c =
+pub put_members-returns-in_err-put_two-clause-stops : goal.put_members-returns-in_err-put_two-clause-stops
+put_members-returns-in_err-put_two-clause-stops g t c =
+    let k = c.loop-inner.size - 8 in
+    let h = c.in_err-put_two.ensures in
+    passed_on _ _ _ c.from_residual.ensures.1
+    (begun_stops (parts_of g) c.args.sink.now c.loop-inner.sink _ (views c.args.members.now) (views c.loop-inner.left.now)
+    (views c.in-Some.inner.now) c.loop-inner.size k c.loop-inner.invariant c.in-Some.ensures refl _
+    (two_stop c.loop-inner.sink _ k struct_type h.begun.0 _ h.begun.1 h.cause))
+
+pub put_members-loop-inner-smaller : goal.put_members-loop-inner-smaller
+put_members-loop-inner-smaller g t c =
+    let whole = lone_length (views c.loop-inner.left.now) (views c.in-Some.inner.now) c.in-Some.ensures in
+    let smaller : length (member_encodings (views c.in-Some.inner.now)) < length (member_encodings (views c.loop-inner.left.now)) = omega (arith, whole) in
+    smaller
+
+pub put_members-loop-inner-preserved : goal.put_members-loop-inner-preserved
+put_members-loop-inner-preserved g t c =
+    next_begun g.met.S.PodSink.appends_more c.args.sink.now c.loop-inner.sink c.put_two.new.sink (views c.args.members.now)
+    (views c.loop-inner.left.now) (views c.in-Some.inner.now) c.loop-inner.size _ c.loop-inner.invariant c.in-Some.ensures refl
+    c.in_ok-put_two.ensures.ok
+
+pub put_members-returns-clause-stops : goal.put_members-returns-clause-stops
+put_members-returns-clause-stops g t c =
+    IfErr-weaker c.put_all.result _ _
+    (λ e h. left_stops (parts_of g) c.args.sink.now c.loop-inner.sink c.put_all.new.sink (views c.args.members.now)
+    (views c.loop-inner.left.now) c.loop-inner.size c.loop-inner.invariant e h)
+    c.put_all.ensures.stops
+
+pub put_all-loop-index-init : goal.put_all-loop-index-init
+put_all-loop-index-init g t c = none_put c.args.sink.now
+
+pub put_all-put_value-requires : goal.put_all-put_value-requires
+put_all-put_value-requires g t c =
     let v = c.index-members-0.result in
     let one : length c.args.members.now ≡ 1 = search rules in
     let same = only_encoding c.args.members.now v one c.index-members-0.is in
@@ -77,11 +111,11 @@ put_members-put_value-requires g t c =
     writable_there c.args.members.now 0 v (omega (arith, one)) c.index-members-0.is c.requires.writable in
     let known : c.args.size ≡ length (encoding_of (view v)) = c.requires.size ∙ ap length same in
     let all = ap length same in
-    let smaller : 2 * length (encoding_of (view v)) < 2 * length (member_encodings (views c.args.members.now)) + 1 = omega (arith, all) in
+    let smaller : 3 * length (encoding_of (view v)) < 3 * length (member_encodings (views c.args.members.now)) + 1 = omega (arith, all) in
     λ κs le. (search rules, (le, (writable, known)))
 
-pub put_members-put_value-requires-in-loop-index : goal.put_members-put_value-requires-in-loop-index
-put_members-put_value-requires-in-loop-index g t c =
+pub put_all-put_value-requires-in-loop-index : goal.put_all-put_value-requires-in-loop-index
+put_all-put_value-requires-in-loop-index g t c =
     let v = c.index-members-index.result in
     let writable : IsWritable (view v) =
     writable_there c.args.members.now c.loop-index.index v c.loop-index-test.true c.index-members-index.is c.requires.writable in
@@ -89,17 +123,17 @@ put_members-put_value-requires-in-loop-index g t c =
     member_known c.args.members.now c.loop-index.index c.largest_member-largest.result v c.args.size c.left_for_member-left.result
     c.known_at.result c.loop-index-test.true c.index-members-index.is c.requires.size c.left_for_member-left.ensures c.known_at.ensures in
     let all = members_length c.args.members.now c.loop-index.index v c.loop-index-test.true c.index-members-index.is in
-    let smaller : 2 * length (encoding_of (view v)) < 2 * length (member_encodings (views c.args.members.now)) + 1 = omega (arith, all) in
+    let smaller : 3 * length (encoding_of (view v)) < 3 * length (member_encodings (views c.args.members.now)) + 1 = omega (arith, all) in
     λ κs le. (search rules, (le, (writable, known)))
 
-pub put_members-returns-in_err-put_value-clause-stops : goal.put_members-returns-in_err-put_value-clause-stops
-put_members-returns-in_err-put_value-clause-stops g t c =
+pub put_all-returns-in_err-put_value-clause-stops : goal.put_all-returns-in_err-put_value-clause-stops
+put_all-returns-in_err-put_value-clause-stops g t c =
     passed_on _ _ _ c.from_residual.ensures.1
     (next_stops (parts_of g) c.args.sink.now c.loop-index.sink _ c.args.members.now c.loop-index.index c.index-members-index.result
     c.loop-index-test.true c.index-members-index.is c.loop-index.invariant _ c.in_err-put_value.ensures.stops)
 
-pub put_members-loop-index-preserved : goal.put_members-loop-index-preserved
-put_members-loop-index-preserved g t c =
+pub put_all-loop-index-preserved : goal.put_all-loop-index-preserved
+put_all-loop-index-preserved g t c =
     next_put (parts_of g) c.args.sink.now c.loop-index.sink c.put_value-in-loop-index.new.sink c.args.members.now c.loop-index.index
     c.index-members-index.result c.loop-index-test.true c.index-members-index.is c.loop-index.invariant c.in_ok-put_value.ensures.put
 
@@ -127,7 +161,7 @@ put_properties-put_value-requires g t c =
     c.known_at-known.result c.loop-index-test.true c.index-properties-index.is c.requires.size c.left_for_property-left.ensures
     c.known_at-known.ensures in
     let all = properties_length c.args.properties.now c.loop-index.index p c.loop-index-test.true c.index-properties-index.is in
-    let smaller : 2 * length (encoding_of (view p.value)) < 2 * length (property_encodings (property_views c.args.properties.now)) + 1 = omega (arith, all) in
+    let smaller : 3 * length (encoding_of (view p.value)) < 3 * length (property_encodings (property_views c.args.properties.now)) + 1 = omega (arith, all) in
     λ κs le. (search rules, (le, (writable, known)))
 
 pub put_properties-returns-in_err-put_value-clause-stops : goal.put_properties-returns-in_err-put_value-clause-stops
@@ -196,7 +230,7 @@ put_value-put_properties-requires g t c =
     properties_of_writable (view c.args.value.now) o.type_ o.id ps is c.requires.writable in
     let size : c.len_of-in-Object.result - 8 - 8 ≡ length (property_encodings (property_views c.as_slice-in-Object.result.now)) = omega (arith, n) in
     let known = c.len_of-in-Object.ensures in
-    let smaller : 2 * length (property_encodings (property_views c.as_slice-in-Object.result.now)) + 1 < 2 * length (encoding_of (view c.args.value.now)) =
+    let smaller : 3 * length (property_encodings (property_views c.as_slice-in-Object.result.now)) + 1 < 3 * length (encoding_of (view c.args.value.now)) =
     omega (arith, n, known) in
     λ κs le. (search rules, (le, (writable, size)))
 

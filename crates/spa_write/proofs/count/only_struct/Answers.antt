@@ -4,7 +4,7 @@ use Rattle.spa_value.specs.View.{view}
 use Rattle.spa_value.specs.Views.{views}
 use Rattle.spa_value.proofs.ViewLaws.{view-struct}
 use Rattle.spa_write.proofs.MemberLists.{only_member}
-use Rattle.spa_write.proofs.size.only_struct.Goals as goal
+use Rattle.spa_write.proofs.count.only_struct.Goals as goal
 
 pub returns-in-Struct : goal.returns-in-Struct
 returns-in-Struct c =

@@ -2,9 +2,10 @@
 
 What a function is proved from is its own body and the contracts of what it calls. So wrong bodies of several functions
 stand in one copy of the crate, a round, and one check tells of each function by name whether it is proved. An edit is
-refused where the function that it changes is named for its own failure. One whose function is only told to call what
-isn't proved goes into a further round, without what it calls. One whose function is still proved, and one that changes
-no function, is tried by itself: then the crate must be refused, by whatever function.
+refused where the function that it changes is named for its own failure; the check is asked for these functions alone. One
+whose function is only told to call what isn't proved goes into a further round, without what it calls. One whose function is
+still proved, and one that changes no function, is tried by itself, by a check of the whole crate: then the crate must be
+refused, by whatever function.
 """
 
 import dataclasses
@@ -168,8 +169,21 @@ class Crate:
     def text_of(self, path):
         return (self.folder / path).read_text(encoding="utf-8")
 
-    def check(self, texts, kept):
-        """Checks a copy of the crate with these texts in place of its own, over the kept work."""
+    def paths_for(self, edits):
+        """Paths that name the functions that these edits change, and few others; none where some function has no such path."""
+        sources = [it.read_text(encoding="utf-8") for it in self.folder.glob("src/**/*.rt")]
+        found = set()
+        for file, name in sorted({it for edit in edits for it in edit.functions}):
+            module = "::".join(it for it in pathlib.PurePath(file).with_suffix("").parts[1:] if it not in ("lib", "main"))
+            is_one = sum(len(re.findall(rf"\bfn {name.split('::')[-1]}\b", it)) for it in sources) == 1
+            if not name or not (is_one or module):
+                return []
+            found.add(name.split("::")[-1] if is_one else module)
+        return sorted(found)
+
+    def check(self, texts, kept, only):
+        """Checks a copy of the crate with these texts in place of its own, over the kept work: only what these paths name, or, where
+        there are none, all of it."""
         with tempfile.TemporaryDirectory(prefix="edits-") as name:
             room = pathlib.Path(name)
             for part in PARTS:
@@ -178,7 +192,7 @@ class Crate:
             for path, text in texts.items():
                 (room / path).write_text(text, encoding="utf-8")
             with subprocess.Popen(
-                [*self.words(), "--incremental", kept],
+                [*self.words(), "--incremental", kept, *(word for it in only for word in ("--only", it))],
                 cwd=room,
                 stdin=subprocess.DEVNULL,
                 stdout=subprocess.PIPE,
@@ -234,8 +248,12 @@ class Said:
             places += [it for it in in_proofs if it[1].startswith(folder) or (it[1].startswith(cycle) and f"`{name}-" in it[3])]
 
     def is_answered(self):
-        """Whether the prover judged the crate at all."""
-        return self.lines[-1].startswith("logic=")
+        """Whether the prover judged the crate, or what it was asked for, at all."""
+        return self.lines[-1].startswith(("logic=", "only="))
+
+    def is_whole(self):
+        """Whether the whole crate was judged."""
+        return not self.lines[-1].startswith("only=")
 
     def is_proved(self):
         return self.lines[-1].startswith("logic=proved")
@@ -324,7 +342,9 @@ def tried(crate, left, kept, tell, ends):
         parts = [chosen]
         while parts and not ENDED.is_set():
             part = parts.pop()
-            said, checks = crate.check(crate.applied(part), kept), checks + 1
+            # Alone, an edit may be refused by any function.
+            only = [] if any(it.is_alone for it in part) else crate.paths_for(part)
+            said, checks = crate.check(crate.applied(part), kept, only), checks + 1
             if not said.is_answered() and len(part) > 1:
                 # One of them can't be read.
                 parts += [part[: len(part) // 2], part[len(part) // 2 :]]
@@ -341,7 +361,7 @@ def sorted_out(crate, part, said):
     """The verdicts on the edits of a round, and those that are to be tried again."""
     verdicts, again = [], []
     for edit in part:
-        verdict = judged(crate, edit, said, len(part) == 1)
+        verdict = judged(crate, edit, said, len(part) == 1 and said.is_whole() and (edit.is_alone or said.is_answered()))
         if verdict:
             verdicts.append(verdict)
             continue

@@ -2,7 +2,7 @@
 use Rattle.std.proofs.Common.{◌≡◌, ℕ, ◌+◌, ◌-◌, ◌≤◌, List, [], ◌++◌, length, take, drop, refl, sym, ap, ◌∙◌, subst, arith, append-nil, append_assoc, length-append}
 use Rattle.std.specs.Borrow.{Bor}
 use Rattle.std.specs.Prelude.{⊤}
-use Rattle.std.proofs.lemmas.List.{drop_at, nil_from_length, take_at}
+use Rattle.std.proofs.lemmas.List.{drop-drop, drop_at, nil_from_length, take_at}
 use Rattle.spa_format.proofs.Short.{short_members}
 use Rattle.spa_fixed.specs.declared.fault.DeserializeError.{DeserializeError}
 use Rattle.spa_fixed.specs.declared.fault.DeserializeError.TheVariants as error
@@ -17,10 +17,13 @@ use Rattle.spa_format.specs.Encoding.{member_encodings}
 use Rattle.spa_format.proofs.Sequences.{members_joined}
 use Rattle.spa_scan.specs.Canonical.{AreCanonical}
 use Rattle.spa_rewrite.specs.Rewriting.{AreRewritten, AreRewrittenInParts, IsLeft, RefusesFront, RefusesList}
+use Rattle.spa_rewrite.specs.Shorter.{ArePodsWithin, AreShorter}
 use Rattle.spa_rewrite.specs.Steady.{ArePatched, AreSteady}
 use Rattle.spa_rewrite.proofs.Patches.{length_put}
 use Rattle.spa_rewrite.proofs.Stretches.{both_rewritten, list_refused, member_encodings-join}
+use Rattle.spa_rewrite.proofs.ShorterLemmas.{within_behind}
 use Rattle.spa_rewrite.proofs.TailLemmas.{written_behind}
+use Rattle.spa_rewrite.proofs.WrittenAcross.{drop_past, put_end, take_past}
 
 -- two parts of a rewriting take no more than the pods
 pub parts_fit : (input first out : List ℕ) → AreRewritten input [] (first ++ out) → length first + length out ≤ length input
@@ -257,6 +260,81 @@ placed_room input first rest steady others patched kept written l i r w len e =
     let n : length first + length steady - length first ≡ length steady = omega arith in
     let same = length_put (length first) (length first + length steady - length first) input patched (omega arith) (long ∙ sym n) in
     omega arith
+
+-- the bytes behind the first pods that became their rewritings
+patched_is : (input first rest steady others patched : List ℕ) → input ≡ first ++ rest → rest ≡ steady ++ others →
+    patched_of input first steady patched ≡ first ++ (patched ++ others)
+patched_is input first rest steady others patched i r =
+    let from = length first in
+    let k = from + length steady - from in
+    let n : k ≡ length steady = omega arith in
+    let front : take from input ≡ first = ap (take from) i ∙ take_at first rest from refl in
+    let back : drop k (drop from input) ≡ others =
+    ap (λ m. drop m (drop from input)) n ∙ ap (λ x. drop (length steady) (drop from x)) i ∙ ap (drop (length steady)) (drop_at first rest from refl ∙ r)
+    ∙ drop_at steady others (length steady) refl in
+    ap (λ x. x ++ (patched ++ drop k (drop from input))) front ∙ ap (λ x. first ++ (patched ++ x)) back
+
+pub others_left : (input first rest steady others patched : List ℕ) → input ≡ first ++ rest → rest ≡ steady ++ others →
+    length patched ≡ length (take (length first + length steady - length first) (drop (length first) input)) →
+    drop (length first + length steady) (patched_of input first steady patched) ≡ others
+others_left input first rest steady others patched i r l =
+    ap (drop (length first + length steady)) (patched_is input first rest steady others patched i r)
+    ∙ drop_past first (patched ++ others) (length first) (length steady) refl
+    ∙ drop_at patched others (length steady) (l ∙ ap length (steady_slice input first rest steady others i r))
+
+-- the rewritings of the others are where these began
+pub record RestPlaced (input new : List ℕ) (n : ℕ) : Type 0 where
+  pub rewritten : AreRewritten input [] (take (length input - n) new)
+  pub behind : drop (length input - n) new ≡ drop (length input - n) input
+
+pub rest_placed : (input first rest steady others patched sub_old sub : List ℕ) (k n : ℕ) → input ≡ first ++ rest → AreCanonical first →
+    rest ≡ steady ++ others → AreSteady steady → AreShorter others n →
+    ArePatched false (take (length first + length steady - length first) (drop (length first) input)) patched →
+    length patched ≡ length (take (length first + length steady - length first) (drop (length first) input)) →
+    k ≡ length (patched_of input first steady patched) - (length first + length steady) →
+    sub_old ≡ drop (length first + length steady) (patched_of input first steady patched) →
+    AreRewritten sub_old [] (take (length sub_old - n) sub) → drop (length sub_old - n) sub ≡ drop (length sub_old - n) sub_old →
+    RestPlaced input (put_mid (length first + length steady) k (patched_of input first steady patched) sub) n
+rest_placed input first rest steady others patched sub_old sub k n i c r s h p l kl so w b =
+    let to = length first + length steady in
+    let now = patched_of input first steady patched in
+    let slice = steady_slice input first rest steady others i r in
+    let q : ArePatched false steady patched = subst (λ x. ArePatched false x patched) slice p in
+    let long : length patched ≡ length steady = l ∙ ap length slice in
+    let now_is = patched_is input first rest steady others patched i r in
+    let left : sub_old ≡ others = so ∙ others_left input first rest steady others patched i r l in
+    let left_long = ap length left in
+    let i0 = ap length i ∙ length-append first rest in
+    let r0 = ap length r ∙ length-append steady others in
+    let h0 = h.long in
+    let front_long = length-append first patched in
+    let front : take to now ≡ first ++ patched =
+    ap (take to) now_is ∙ take_past first (patched ++ others) (length first) (length steady) refl
+    ∙ ap (λ x. first ++ x) (take_at patched others (length steady) long) in
+    let new : put_mid to k now sub ≡ (first ++ patched) ++ sub = put_end to k now sub kl ∙ ap (λ x. x ++ sub) front in
+    let m = length sub_old - n in
+    let at : length input - n ≡ to + m = omega arith in
+    let taken : take (length input - n) (put_mid to k now sub) ≡ (first ++ patched) ++ take m sub =
+    ap (take (length input - n)) new ∙ ap (λ j. take j ((first ++ patched) ++ sub)) at ∙ take_past (first ++ patched) sub to m (omega arith) in
+    let others_written : AreRewritten others [] (take m sub) = subst (λ x. AreRewritten x [] (take m sub)) left w in
+    let whole : take (length input - n) (put_mid to k now sub) ≡ (first ++ (patched ++ [])) ++ take m sub =
+    taken ∙ ap (λ x. (first ++ x) ++ take m sub) (sym (append-nil patched)) in
+    let same : drop to now ≡ drop to input =
+    others_left input first rest steady others patched i r l
+    ∙ sym (ap (drop to) i ∙ drop_past first rest (length first) (length steady) refl ∙ ap (drop (length steady)) r ∙ drop_at steady others (length steady) refl) in
+    record {
+      rewritten = placed_rewritten input first rest steady others patched [] (take m sub) (take (length input - n) (put_mid to k now sub)) i c r s q
+          others_written whole;
+      behind = ap (drop (length input - n)) new ∙ ap (λ j. drop j ((first ++ patched) ++ sub)) at ∙ drop_past (first ++ patched) sub to m (omega arith) ∙ b
+          ∙ ap (drop m) (so ∙ same) ∙ drop-drop m to input ∙ ap (λ j. drop j input) (sym at);
+    }
+
+-- Behind the first pods stand others that don't nest so.
+pub others_deeper : (input first rest steady others : List ℕ) (levels : ℕ) → input ≡ first ++ rest → AreCanonical first → rest ≡ steady ++ others →
+    AreSteady steady → ¬ (ArePodsWithin levels others) → ¬ (ArePodsWithin levels input)
+others_deeper input first rest steady others levels i c r s n w =
+    n (within_behind s.values steady others levels s.members
+    (subst (ArePodsWithin levels) r (within_behind c.values first rest levels c.members (subst (ArePodsWithin levels) i w))))
 
 -- pods that are all their own rewritings or became them
 pub across_rewritten : (input first rest steady others all patched : List ℕ) (at k : ℕ) → all ≡ input → input ≡ first ++ rest → AreCanonical first →

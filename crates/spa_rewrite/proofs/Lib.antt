@@ -18,3 +18,4 @@ pub mod Places
 pub mod ShorterLemmas
 pub mod PlacedBodies
 pub mod WrittenAcross
+pub mod Moves

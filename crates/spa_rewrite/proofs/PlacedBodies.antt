@@ -1,6 +1,6 @@
 -- Pods without members whose rewritings are written elsewhere.
 use Rattle.std.proofs.Common.{◌≡◌, ◌≢◌, ℕ, ◌+◌, ◌-◌, ◌≤◌, List, [], ◌∷◌, ◌++◌, length, drop, take, refl, sym, ap, ◌∙◌, subst, arith, append_assoc, length-append, length-drop}
-use Rattle.std.proofs.lemmas.List.{drop-drop, drop-take, drop_at, length-take-le, take-append-drop, take-take, take_at}
+use Rattle.std.proofs.lemmas.List.{drop-drop, drop-take, drop_at, length-take-le, take-append-drop, take-take, take_all, take_at}
 use Rattle.spa_format.specs.Words.{extent, padded_size, word_at, word_bytes}
 use Rattle.spa_format.specs.Kind.{Fixed, Kind, body_size}
 use Rattle.spa_format.specs.Tree.{Shape, none_choice, range_choice, step_choice, enum_choice, flags_choice, Tree, choice, choice_type, object_type, shape_number, struct_type, type_of}
@@ -51,6 +51,14 @@ leaf_written pod out front sub n type size e p t f q y =
       within = omega arith;
       behind = drop_at sub (drop n (front ++ drop n out)) n many ∙ drop_at front (drop n out) n l;
     }
+
+-- the same of a pod that is moved to the front of where it lies
+pub leaf_moved : (pod old x sub : List ℕ) (n type size : ℕ) → n ≡ length pod → IsPodOf pod type size → IsLeafType type → x ≡ take n pod ++ drop n old →
+    IsPatched (take n x) sub → length sub ≡ length (take n x) → WritesPod pod old (sub ++ drop n x) n
+leaf_moved pod old x sub n type size e p t is q y =
+    subst (λ z. WritesPod pod old (sub ++ drop n z) n) (sym is)
+    (leaf_written pod old (take n pod) sub n type size e p t (take_all n pod (omega arith)) (subst (λ z. IsPatched (take n z) sub) is q)
+    (y ∙ ap (λ z. length (take n z)) is))
 
 -- of a pod that no value says nothing is written
 pub nothing_written : (pod out : List ℕ) → IsPlaced pod [] → WritesPod pod out out 0
@@ -239,3 +247,20 @@ choice_written pod out front word sub end n size shape child p less e f w w8 w16
       behind = drop_at sub (drop end x) end many ∙ ap (drop end) (same ∙ copied pod out word end (omega arith) room)
           ∙ drop_at part (drop end out) end long;
     }
+
+-- the same of a choice that is moved to the front of where it lies
+pub choice_moved : (pod old x word sub : List ℕ) (end n size shape child : ℕ) → IsPodOf pod choice_type size → 16 + n ≤ size → end ≡ extent (16 + n) →
+    x ≡ take end pod ++ drop end old → word ≡ word_bytes (16 + n) → shape ≡ word_at pod 8 → child ≡ word_at pod 16 →
+    ((s : Shape) → shape ≡ shape_number s → n ≡ bytes_taken s child (size - 16)) →
+    IsPatched (take end (word ++ drop 4 x)) sub → length sub ≡ length (take end (word ++ drop 4 x)) →
+    WritesPod pod old (sub ++ drop end (word ++ drop 4 x)) end
+choice_moved pod old x word sub end n size shape child p less e is w w8 w16 taken q y =
+    subst (λ z. WritesPod pod old (sub ++ drop end (word ++ drop 4 z)) end) (sym is)
+    (choice_written pod old (take end pod) word sub end n size shape child p less e refl w w8 w16 taken
+    (subst (λ z. IsPatched (take end (word ++ drop 4 z)) sub) is q) (y ∙ ap (λ z. length (take end (word ++ drop 4 z))) is))
+
+pub choice_there : (pod old x word : List ℕ) (end kept size : ℕ) → IsPodOf pod choice_type size → 16 ≤ kept → kept ≤ size → end ≡ extent kept →
+    x ≡ take end pod ++ drop end old → word ≡ word_bytes kept → IsPodOf (take end (word ++ drop 4 x)) choice_type kept
+choice_there pod old x word end kept size p big less e is w =
+    subst (λ z. IsPodOf (take end (word ++ drop 4 z)) choice_type kept) (sym is)
+    (kept_choice pod old (take end pod) word end kept size p big less e refl w)

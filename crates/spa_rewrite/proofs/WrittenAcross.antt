@@ -62,10 +62,10 @@ pub take_past : (a b : List ℕ) (r m : ℕ) → length a ≡ r → take (r + m)
 take_past a b r m l =
     take-add r m (a ++ b) ∙ ap (λ x. x ++ take m (drop r (a ++ b))) (take_at a b r l) ∙ ap (λ x. a ++ take m x) (drop_at a b r l)
 
-drop_past : (a b : List ℕ) (r m : ℕ) → length a ≡ r → drop (r + m) (a ++ b) ≡ drop m b
+pub drop_past : (a b : List ℕ) (r m : ℕ) → length a ≡ r → drop (r + m) (a ++ b) ≡ drop m b
 drop_past a b r m l = sym (drop-drop m r (a ++ b)) ∙ ap (drop m) (drop_at a b r l)
 
-further_behind : (a b : List ℕ) (n m : ℕ) → n ≤ m → drop n a ≡ drop n b → drop m a ≡ drop m b
+pub further_behind : (a b : List ℕ) (n m : ℕ) → n ≤ m → drop n a ≡ drop n b → drop m a ≡ drop m b
 further_behind a b n m l e =
     let k : m ≡ n + (m - n) = omega arith in
     ap (λ i. drop i a) k ∙ sym (drop-drop (m - n) n a) ∙ ap (drop (m - n)) e ∙ drop-drop (m - n) n b ∙ ap (λ i. drop i b) (sym k)
@@ -74,13 +74,13 @@ four_parts : (out k pod new : List ℕ) → (out ++ k) ++ (pod ++ new) ≡ out +
 four_parts out k pod new = append_assoc out k (pod ++ new)
 
 -- what was put behind a place, to the end
-put_end : (at k : ℕ) (xs ys : List ℕ) → k ≡ length xs - at → put_mid at k xs ys ≡ take at xs ++ ys
+pub put_end : (at k : ℕ) (xs ys : List ℕ) → k ≡ length xs - at → put_mid at k xs ys ≡ take at xs ++ ys
 put_end at k xs ys e =
     let d = length-drop at xs in
     let f = length-drop k (drop at xs) in
     ap (λ z. take at xs ++ (ys ++ z)) (nil_from_length (drop k (drop at xs)) (omega arith)) ∙ ap (λ z. take at xs ++ z) (append-nil ys)
 
-writes_one : (keyed : Bool) (pods old left now keyed_out sub here body rest pod : List ℕ) (to at len type : ℕ) →
+pub writes_one : (keyed : Bool) (pods old left now keyed_out sub here body rest pod : List ℕ) (to at len type : ℕ) →
     WritesOn keyed pods old left now to → IsBehindKey keyed left here → Opens here type body rest → pod ≡ take (length here - length rest) here →
     length pods ≤ length old → PutsKey keyed left now keyed_out to at → length keyed_out ≡ length now → WritesPod pod (drop at keyed_out) sub len →
     length sub ≡ length (drop at keyed_out) → WritesOn keyed pods old rest (take at keyed_out ++ sub) (at + len)

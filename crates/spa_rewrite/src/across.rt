@@ -41,7 +41,7 @@ pub fn rewrite_into(input: &[u8], out: &mut [u8]) -> Option<usize>
 
 /// By how many bytes the rewritings of all pods that the bytes are are shorter than these. `None` says what it says there.
 #[inline(always)]
-fn surplus_behind(pods: &[u8]) -> Option<usize>
+pub(crate) fn surplus_behind(pods: &[u8]) -> Option<usize>
     ensures there { IfSome result (λ surplus. AreShorter pods.now surplus) }
     ensures missed { IfNone result (¬ (ArePodsWithin levels_looked_into pods.now)) }
 {
@@ -128,7 +128,7 @@ fn write_pod(type_: u32, size: usize, pod: &[u8], out: &mut [u8]) -> usize
 
 /// Whether properties stand in it, of a struct or an object whose pods can end where it does.
 #[inline(always)]
-fn holds_whole(type_: u32, size: usize) -> Option<bool>
+pub(crate) fn holds_whole(type_: u32, size: usize) -> Option<bool>
     ensures some { IfSome result (λ keyed. HoldsWhole type_ size keyed) }
     ensures none { IfNone result ((keyed : Bool) → ¬ (HoldsWhole type_ size keyed)) }
 {
@@ -160,7 +160,7 @@ fn write_inner(keyed: bool, pod: &[u8], out: &mut [u8]) -> usize
 
 /// The type of an object, or of a struct.
 #[inline(always)]
-fn inner_type(keyed: bool) -> u32
+pub(crate) fn inner_type(keyed: bool) -> u32
     ensures { result ≡ type_inside keyed }
 {
     if keyed {

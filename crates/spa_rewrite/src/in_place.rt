@@ -1,12 +1,15 @@
 //! Rewriting where the input lies.
-ghost use Rattle.std.specs.Prelude.{◌≡◌, ◌≤◌, [], IfErr, IfOk, OnErr, drop, false, length, take, true};
+ghost use Rattle.std.specs.Prelude.{◌≡◌, ◌-◌, ◌≤◌, [], IfErr, IfOk, OnErr, drop, false, length, take, true};
 ghost use Rattle.spa_fixed.specs.declared.fault.DeserializeError.TheVariants as refused;
 ghost use Rattle.spa_rewrite.specs.InPlace.{IsFaultOf, RefusesListAt};
 ghost use Rattle.spa_rewrite.specs.Rewriting.{AreRewritten};
+ghost use Rattle.spa_rewrite.specs.Shorter.{ArePodsWithin, AreShorter};
 ghost use Rattle.spa_rewrite.specs.Steady.{AreSteadyWithin};
 ghost use Rattle.spa_scan.specs.Depth.{levels_looked_into};
 
+use crate::across::surplus_behind;
 use crate::patch::patch;
+use crate::place::place;
 use crate::rewriting::rewrite_in_parts;
 use crate::steady::steady_stretch;
 use spa_fixed::{DeserializeError, Fault};
@@ -19,9 +22,9 @@ use std::alloc::Global;
 /// The call is refused exactly as `rewrite_all`, and then no byte is changed. A refusal gives how many bytes stand before the refused
 /// pod, and what is wrong with that one, without the place inside it: `accept_all` tells that too.
 ///
-/// The pods whose rewritings are as long as they are are made these where they lie, and take no memory: noise in the padding, truth values
-/// other than 0 and 1 and words that mean nothing cost a look and a pass. From the first pod on that gets shorter, or in which structs and
-/// objects stand more than `LEVELS` deep in one another, memory is asked for as `rewrite_in_parts` does.
+/// It takes no memory where structs and objects stand at most `LEVELS` deep in one another: a look tells which pods get shorter, and then the
+/// others are patched and those are moved. Where they stand deeper in a pod that gets shorter, or behind one, memory is asked for as
+/// `rewrite_in_parts` does.
 #[tactic(auto, using(crate::proofs::InPlaceLemmas::parts_fit))]
 pub fn rewrite_in_place(
     alloc: Global,
@@ -32,12 +35,19 @@ pub fn rewrite_in_place(
     ensures behind { IfOk result (λ len. drop len bytes.new ≡ drop len bytes.old) }
     ensures unchanged { OnErr result (bytes.new ≡ bytes.old) }
     ensures refused { IfErr result (λ refusal. RefusesListAt bytes.old refusal.0 refusal.1) }
+    // Pods that nest in 1000 levels at most are never refused: for these memory can't run out.
+    ensures missed { IfErr result (λ _. ¬ (ArePodsWithin levels_looked_into bytes.old)) }
 {
     let len = bytes.len();
     let (first, rest) = canonical_stretch(bytes);
     let (steady, others) = steady_stretch(rest);
     let from = first.len();
     let to = from + steady.len();
+    if let Some(surplus) = surplus_behind(others) {
+        patch(false, &mut bytes[from..to]);
+        place_rest(surplus, &mut bytes[to..]);
+        return Ok(len - surplus);
+    }
     let (start, written) = match rewrite_in_parts(alloc, others) {
         Ok((kept, written)) => (to + kept.len(), written),
         Err((left, error)) => return Err((len - left.len(), without_place(error))),
@@ -46,6 +56,19 @@ pub fn rewrite_in_place(
     let end = start + written.len();
     bytes[start..end].copy_from_slice(written.as_slice());
     Ok(end)
+}
+
+/// Makes pods that are so many bytes shorter then their rewritings, at their front.
+#[inline(always)]
+fn place_rest(surplus: usize, pods: &mut [u8])
+    requires shorter { AreShorter pods.old surplus }
+    ensures rewritten { AreRewritten pods.old [] (take (length pods.old - surplus) pods.new) }
+    ensures behind { drop (length pods.old - surplus) pods.new ≡ drop (length pods.old - surplus) pods.old }
+{
+    if pods.is_empty() {
+        return;
+    }
+    place(false, pods, 0);
 }
 
 /// Puts the rewritings of all pods that the input is into an output of the same length, and answers true, where each of them is found to

@@ -1,0 +1,133 @@
+//! Pods that may get shorter, made their rewritings at the front of where they lie.
+ghost use Rattle.std.specs.Prelude.{◌≡◌, ◌+◌, ◌≤◌, ◌++◌, Bool, drop, length, take};
+ghost use Rattle.spa_format.specs.Tree.{choice_type};
+ghost use Rattle.spa_format.specs.Typed.{IsBytes};
+ghost use Rattle.spa_rewrite.specs.Shorter.{HoldsWhole, IsInner, PutsKey, WritesPod, WritesPods};
+ghost use Rattle.spa_rewrite.specs.Steady.{IsPodOf, key_size};
+
+use crate::across::{holds_whole, inner_type};
+use crate::patch::{SECOND_HEADER, WORD_LEN, patch_choice, patch_leaf, taken_len};
+use crate::steady::behind_key;
+use spa_bytes::{HEADER_LEN, extent_of, open, two_words, u32_at, word_body};
+use spa_utils::SpaTypes;
+
+/// Makes the pods behind the first `gap` bytes their rewritings, at the front of all these bytes, with key and flags before each where
+/// `keyed` is set, and answers how many bytes they take. Of bytes that aren't such pods it promises only what stays as it was.
+#[cycle(placing)]
+pub(crate) fn place(keyed: bool, bytes: &mut [u8], gap: usize) -> usize
+    requires { gap ≤ length bytes.old }
+    ensures { WritesPods keyed (drop gap bytes.old) bytes.old bytes.new result }
+{
+    let mut to = 0;
+    let mut from = gap;
+    loop {
+        let Some(here) = behind_key(keyed, &bytes[from..]) else {
+            return to;
+        };
+        let Some(front) = open(here) else {
+            return to;
+        };
+        let (type_, size) = (front.type_, front.body.len());
+        let pod_at = bytes.len() - here.len();
+        let next = bytes.len() - front.rest.len();
+        to = move_key(keyed, bytes, from, to);
+        to += place_pod(type_, size, &mut bytes[to..next], pod_at - to);
+        from = next;
+    }
+}
+
+/// Moves a key and flags from one place to another, where `keyed` is set, and answers where they end there.
+#[inline(always)]
+fn move_key(keyed: bool, bytes: &mut [u8], from: usize, to: usize) -> usize
+    requires key { from + key_size keyed ≤ length bytes.old }
+    requires down { to ≤ from }
+    ensures { PutsKey keyed (drop from bytes.old) bytes.old bytes.new to result }
+{
+    if !keyed {
+        return to;
+    }
+    bytes.copy_within(from..from + HEADER_LEN, to);
+    to + HEADER_LEN
+}
+
+/// Moves so many of the bytes behind the first `gap` to the front.
+#[inline(always)]
+fn move_down(bytes: &mut [u8], gap: usize, len: usize)
+    requires { gap + len ≤ length bytes.old }
+    ensures { bytes.new ≡ take len (drop gap bytes.old) ++ drop len bytes.old }
+{
+    bytes.copy_within(gap..gap + len, 0);
+}
+
+/// The same of one pod.
+#[cycle(placing)]
+fn place_pod(type_: u32, size: usize, bytes: &mut [u8], gap: usize) -> usize
+    requires pod { IsPodOf (drop gap bytes.old) type_ size }
+    requires bytes { IsBytes (drop gap bytes.old) }
+    requires gap { gap ≤ length bytes.old }
+    ensures { WritesPod (drop gap bytes.old) bytes.old bytes.new result }
+{
+    match holds_whole(type_, size) {
+        Some(keyed) => place_inner(keyed, bytes, gap),
+        None => place_leaf(type_, size, bytes, gap),
+    }
+}
+
+/// The same of a struct or an object: what it holds, and then its header.
+#[cycle(placing)]
+fn place_inner(keyed: bool, bytes: &mut [u8], gap: usize) -> usize
+    requires pod { IsInner (drop gap bytes.old) keyed }
+    requires bytes { IsBytes (drop gap bytes.old) }
+    requires gap { gap ≤ length bytes.old }
+    ensures { WritesPod (drop gap bytes.old) bytes.old bytes.new result }
+{
+    let from = move_key(keyed, bytes, gap + HEADER_LEN, HEADER_LEN);
+    let len = from + place(keyed, &mut bytes[from..], gap);
+    let header = two_words((len - HEADER_LEN) as u32, inner_type(keyed));
+    bytes[..HEADER_LEN].copy_from_slice(&header);
+    len
+}
+
+/// The same of a pod that holds no others, or of one that no value says.
+fn place_leaf(type_: u32, size: usize, bytes: &mut [u8], gap: usize) -> usize
+    requires pod { IsPodOf (drop gap bytes.old) type_ size }
+    requires no_inner { (keyed : Bool) → ¬ (HoldsWhole type_ size keyed) }
+    requires gap { gap ≤ length bytes.old }
+    ensures { WritesPod (drop gap bytes.old) bytes.old bytes.new result }
+{
+    match SpaTypes(type_) {
+        SpaTypes::Struct => 0,
+        SpaTypes::Object => 0,
+        SpaTypes::Choice => place_choice(size, bytes, gap),
+        _ => {
+            // No other encoding is shorter than its pod.
+            let len = bytes.len() - gap;
+            move_down(bytes, gap, len);
+            patch_leaf(type_, size, &mut bytes[..len]);
+            len
+        }
+    }
+}
+
+/// The same of a choice: moved without its surplus values, and patched there.
+fn place_choice(size: usize, bytes: &mut [u8], gap: usize) -> usize
+    requires pod { IsPodOf (drop gap bytes.old) choice_type size }
+    requires gap { gap ≤ length bytes.old }
+    ensures { WritesPod (drop gap bytes.old) bytes.old bytes.new result }
+{
+    if size < SECOND_HEADER {
+        return 0;
+    }
+    let all = size - SECOND_HEADER;
+    let shape = u32_at(bytes, gap + HEADER_LEN);
+    let len = taken_len(shape, u32_at(bytes, gap + SECOND_HEADER) as usize, all);
+    if len > all {
+        return 0;
+    }
+    let kept = SECOND_HEADER + len;
+    let end = extent_of(kept as u32);
+    move_down(bytes, gap, end);
+    bytes[..WORD_LEN].copy_from_slice(&word_body(kept as u32)[..WORD_LEN]);
+    patch_choice(kept, &mut bytes[..end]);
+    end
+}

@@ -5,12 +5,74 @@ ghost use Rattle.spa_filter.specs.Offers.{IsIndexed, IsKept, IsOneMoreKept, Offe
 
 use crate::element::Element;
 use crate::numbers::{Numbers, add};
-use crate::offer::{Offer, admits};
+use crate::offer::{Offer, admits, is_among};
 use std::alloc::{AllocError, Global};
 use std::collections::BTreeSet;
 
+/// How many alternatives are looked through one by one, at most.
+const FEW: usize = 16;
+
 /// Those of an element and others that an offer admits, each once, in order.
+#[inline(never)]
 pub(crate) fn kept<T: Element>(
+    alloc: Global,
+    first: &T,
+    others: &[T],
+    other: &Offer<'_, T>,
+) -> Result<Vec<T>, AllocError>
+    ensures { IfOk result (λ kept. IsKept (OfferAdmits T.fixed other.now) (T.fixed first.now ∷ map T.fixed others.now) (map T.fixed kept.items)) }
+{
+    if others.len() <= FEW && is_short(other) {
+        return kept_of_few(alloc, first, others, other);
+    }
+    kept_of_many(alloc, first, others, other)
+}
+
+/// Whether an offer isn't an Enum of many alternatives.
+fn is_short<T>(offer: &Offer<'_, T>) -> bool {
+    match offer {
+        Offer::Among(_, others) => others.len() <= FEW,
+        _ => true,
+    }
+}
+
+/// The same, where each is looked for among all.
+fn kept_of_few<T: Element>(
+    alloc: Global,
+    first: &T,
+    others: &[T],
+    other: &Offer<'_, T>,
+) -> Result<Vec<T>, AllocError>
+    ensures { IfOk result (λ kept. IsKept (OfferAdmits T.fixed other.now) (T.fixed first.now ∷ map T.fixed others.now) (map T.fixed kept.items)) }
+{
+    let mut values = Vec::new(alloc);
+    keep_one(&mut values, first, other)?;
+    for value in others {
+        keep_one(&mut values, value, other)?;
+    }
+    Ok(values)
+}
+
+/// Keeps an element that the offer admits, where it isn't among those that are kept.
+fn keep_one<T: Element>(
+    values: &mut Vec<T>,
+    value: &T,
+    offer: &Offer<'_, T>,
+) -> Result<(), AllocError>
+    ensures { OnOk result (IsOneMoreKept (OfferAdmits T.fixed offer.now) (T.fixed value.now) (map T.fixed values.old.items) (map T.fixed values.new.items)) }
+{
+    if !admits(offer, value) {
+        return Ok(());
+    }
+    if is_among(value, values.as_slice()) {
+        return Ok(());
+    }
+    values.push(*value)?;
+    Ok(())
+}
+
+/// The same, by sets of what is looked for.
+fn kept_of_many<T: Element>(
     alloc: Global,
     first: &T,
     others: &[T],

@@ -20,3 +20,4 @@ mod values;
 pub use error::{FilterError, Side};
 pub use filtering::filter;
 pub use settling::settle;
+pub use values::common;

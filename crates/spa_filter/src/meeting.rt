@@ -13,6 +13,7 @@ use std::alloc::{AllocError, Global};
 
 /// What admits exactly the elements that both offers admit, where there is one: a plain value where one of them is one, else an
 /// Enum where one of them is one, else a Range, a Step or Flags.
+#[inline(never)]
 pub(crate) fn meet<T: Element>(
     alloc: Global,
     a: &Offer<'_, T>,

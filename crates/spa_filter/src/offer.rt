@@ -74,7 +74,7 @@ pub(crate) fn is_same<T: Element>(x: &T, y: &T) -> bool
 }
 
 /// Whether an element is one of these.
-fn is_among<T: Element>(x: &T, elements: &[T]) -> bool
+pub(crate) fn is_among<T: Element>(x: &T, elements: &[T]) -> bool
     ensures { IsTrue result ↔ Contains (map T.fixed elements.now) (T.fixed x.now) }
 {
     for element in elements {
@@ -96,6 +96,7 @@ fn is_one_of<T: Element>(x: &T, first: &T, others: &[T]) -> bool
 }
 
 /// Whether an offer admits an element. It looks through the alternatives of an Enum one by one.
+#[inline(never)]
 pub(crate) fn admits<T: Element>(offer: &Offer<'_, T>, x: &T) -> bool
     ensures { IsTrue result ↔ OfferAdmits T.fixed offer.now (T.fixed x.now) }
 {
@@ -109,6 +110,7 @@ pub(crate) fn admits<T: Element>(offer: &Offer<'_, T>, x: &T) -> bool
 }
 
 /// The first of these that both offers admit: the default of the one, that of the other, and an element that both admit.
+#[inline(never)]
 pub(crate) fn common_default<T: Element>(a: &Offer<'_, T>, b: &Offer<'_, T>, other: &T) -> T
     requires { OfferAdmits T.fixed a.now (T.fixed other.now) × OfferAdmits T.fixed b.now (T.fixed other.now) }
     ensures { IsDefault (OfferAdmits T.fixed a.now) (OfferAdmits T.fixed b.now) (default_of T.fixed a.now) (default_of T.fixed b.now) (T.fixed result) }

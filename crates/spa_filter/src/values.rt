@@ -16,8 +16,11 @@ use spa_value::laws::{equal_trees_are_the_same, trees_have_their_types};
 use spa_value::{ChoiceValue, Value, same};
 use std::alloc::{AllocError, Global};
 
-/// A value that admits exactly what both admit.
-pub(crate) fn common(alloc: Global, key: u32, a: &Value, b: &Value) -> Result<Value, FilterError>
+/// A value that admits exactly what two values admit that stand under this key, with the first of their defaults that both admit.
+///
+/// The refusals: `Unsupported` where no common value is sought for one of the two or for both side by side, before `Disjoint` where
+/// no value is admitted by both.
+pub fn common(alloc: Global, key: u32, a: &Value, b: &Value) -> Result<Value, FilterError>
     ensures meeting { IfOk result (λ y. IsMeeting (view a.now) (view b.now) (view y)) }
     ensures supported { OnOk result (AreSupported (view a.now) (view b.now)) }
     ensures cause { IfErr result (IsValueRefusal key (view a.now) (view b.now)) }

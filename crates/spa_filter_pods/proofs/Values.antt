@@ -23,7 +23,7 @@ module _ (P : Tree → Type 0) (of_fixed : (x : Fixed) → P (fixed x))
   holds-admitted v x p h = subst P (sym h) p
 
   -- of what two such values filter to,
-  holds-meeting : (v w y : Tree) → P v → IsMeeting v w y → P y
+  pub holds-meeting : (v w y : Tree) → P v → IsMeeting v w y → P y
   holds-meeting v w (choice s f k d vs) p m =
       subst (λ n. P (choice s n k d vs)) (sym m.no_flags) (of_choice s k d vs)
   holds-meeting v w y p m = holds-admitted v y p m.admitted.0
@@ -108,6 +108,10 @@ normal-each (property k f v ps) e =
 normal-all : (ps : Properties) → NormalEach ps → normal_properties ps ≡ ps
 normal-all no_properties h = refl
 normal-all (property k f v ps) h = let rest = normal-all ps h.1 in cc (h.0, rest)
+
+-- what two values filter to, of which the first is normal
+pub IsNormal-meeting : (v w y : Tree) → normal_of v ≡ v → IsMeeting v w y → normal_of y ≡ y
+IsNormal-meeting v w y e m = holds-meeting IsNormal (λ x. refl) normal-choice v w y e m
 
 -- two normal objects filter to a normal one
 pub IsNormal-filter : (v w x : Tree) → normal_of v ≡ v → normal_of w ≡ w → IsFilter v w x → normal_of x ≡ x

@@ -1,9 +1,11 @@
 //! Filtering from bytes to bytes: the objects of two pods are filtered, and the answer is written.
 #![tactic(auto)]
 
+mod common_pods;
 #[cfg(test)]
 mod formats;
 mod pods;
+mod short;
 #[cfg(test)]
 mod tests;
 

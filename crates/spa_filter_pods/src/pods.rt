@@ -8,6 +8,7 @@ ghost use Rattle.spa_filter.specs.Filtering.{CanFilter, IsFilter};
 ghost use Rattle.spa_filter.specs.Refusals.{AreRefused, OnDisagreement};
 ghost use Rattle.spa_filter_pods.specs.Fronts.{AreFrontsRefused, BeginBoth, FilterIn, IsFrontRefused, IsObject, IsWriteRefused, OnNoFilter, ReadsBack};
 
+use crate::short::filter_short;
 use libspa::pod::deserialize::{DeserializeError, PodDeserializer};
 use libspa::pod::laws::{pods_have_one_value, readings_are_normal};
 use libspa::pod::serialize::{GenError, write_value};
@@ -34,6 +35,9 @@ pub fn filter_pods(alloc: Global, a: &[u8], b: &[u8]) -> Result<Vec<u8>, FilterE
 {
     objects_are_their_fields();
     pods_have_one_value();
+    if let Some(bytes) = filter_short(alloc, a, b) {
+        return Ok(bytes);
+    }
     let first = object_at(alloc, a, Side::First)?;
     let second = object_at(alloc, b, Side::Second)?;
     let met = filtered(alloc, &*first, &*second)?;

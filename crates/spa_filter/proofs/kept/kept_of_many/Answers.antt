@@ -3,7 +3,7 @@ use Rattle.std.proofs.lemmas.Grind.{common_steps}
 use Rattle.spa_filter.specs.Offers.{IsKept, OfferAdmits}
 use Rattle.spa_filter.proofs.Contents.{map-next}
 use Rattle.spa_filter.proofs.Keeping.{IsKept-none, IsKept-more}
-use Rattle.spa_filter.proofs.kept.kept.Goals as goal
+use Rattle.spa_filter.proofs.kept.kept_of_many.Goals as goal
 
 pub loop-value-init : goal.loop-value-init
 loop-value-init g c =

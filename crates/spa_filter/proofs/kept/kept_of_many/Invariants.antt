@@ -1,7 +1,7 @@
 use Rattle.std.proofs.Common.{◌∷◌, map, take}
 use Rattle.spa_filter.specs.Numbering.{HasAll}
 use Rattle.spa_filter.specs.Offers.{OfferAdmits, IsIndexed, IsKept}
-use Rattle.spa_filter.proofs.kept.kept.Given as goal
+use Rattle.spa_filter.proofs.kept.kept_of_many.Given as goal
 
 abbrev pub invariant-loop-value : goal.invariant-loop-value
 invariant-loop-value g l =

@@ -1,0 +1,242 @@
+-- Two objects are filtered where they lie: what is put, and what is left of each side.
+use Rattle.std.proofs.Common.{◌≡◌, ℕ, ◌-◌, ◌<◌, ◌^◌, List, [], ◌++◌, length, drop, refl, sym, ap, ◌∙◌, subst, arith, append_assoc, Bool, true, false, Some, None}
+use Rattle.std.specs.List.{All}
+use Rattle.std.proofs.lemmas.List.{append-nil, drop_at}
+use Rattle.std.proofs.lemmas.List.Elements.{All-nil}
+use Rattle.spa_format.specs.Words.{word_bytes}
+use Rattle.spa_format.specs.Tree.{Tree, object, Properties, no_properties, property, join_properties}
+use Rattle.spa_format.specs.Typed.{IsBytes}
+use Rattle.spa_fronts.specs.Written.{AreWritten, BeginsWritten, HasFirst, IsWritten, has_key, open_header}
+use Rattle.spa_fronts.proofs.Listed.{AreListed, listed}
+use Rattle.spa_fronts.proofs.Joined.{header_long, object_written, written_joined, written_one}
+use Rattle.spa_filter.specs.Filtering.{AgreeAt, CanFilter, FiltersKeys}
+use Rattle.spa_filter.specs.Keys.{key_list, keys_of, offered_at}
+use Rattle.spa_filter.specs.PropertyLists.{contains}
+use Rattle.spa_filter.proofs.Agreeing.{AgreeAt-push, FiltersKeys-new, FiltersKeys-seen}
+use Rattle.spa_filter.proofs.Steps.{join_properties-none}
+use Rattle.spa_filter_pods.specs.Fronts.{BeginBoth, FilterIn}
+use Rattle.spa_filter_pods.specs.Written.{IsFilteredBehind, IsPutBy, offered}
+use Rattle.spa_filter_pods.proofs.Lookups.{contains-distinct, has_contains, offered_at-absent, offered_at-before, offered_at-behind, offered_at-joined}
+
+join_properties-assoc : (ps qs rs : Properties) → join_properties (join_properties ps qs) rs ≡ join_properties ps (join_properties qs rs)
+join_properties-assoc no_properties qs rs = refl
+join_properties-assoc (property k f v ps) qs rs = ap (property k f v) (join_properties-assoc ps qs rs)
+
+-- one more property is put
+behind_put : (ps qs done next : Properties) (head old new : List ℕ) (k : ℕ) → k < 2 ^ 32 → (m : IsFilteredBehind ps qs done head old) → (p : IsPutBy (offered_at k ps) (offered_at k qs) k old new) →
+    FiltersKeys ps qs next (join_properties m.met (property k p.flags p.value no_properties)) → IsFilteredBehind ps qs next head new
+behind_put ps qs done next head old new k l m p s =
+    let piece = (word_bytes k ++ word_bytes p.flags) ++ p.pod in
+    record {
+      met = join_properties m.met (property k p.flags p.value no_properties);
+      bytes = m.bytes ++ piece;
+      parts = p.parts ∙ ap (λ y. y ++ piece) m.parts ∙ append_assoc head m.bytes piece;
+      written = written_joined m.met (property k p.flags p.value no_properties) m.bytes piece m.written (written_one k p.flags p.value p.pod l p.fits p.written);
+      filters = s;
+      agree = AgreeAt-push ps qs m.met k p.flags p.value m.agree p.agree;
+    }
+
+-- what the search among those that were put says of those whose keys they settle
+abbrev pub SaysSettled : Bool → ℕ → List ℕ → Type 0
+SaysSettled r k out = (ms : Properties) → AreWritten ms (drop 16 out) → r ≡ has_key k ms
+
+said_settled : (ps qs done : Properties) (head out : List ℕ) (r : Bool) (k : ℕ) → length head ≡ 16 → IsFilteredBehind ps qs done head out → SaysSettled r k out →
+    contains k (key_list done) ≡ r
+said_settled ps qs done head out r k l m s =
+    let behind : drop 16 out ≡ m.bytes = ap (drop 16) m.parts ∙ drop_at head m.bytes 16 l in
+    sym (s m.met (subst (AreWritten m.met) (sym behind) m.written) ∙ has_contains k m.met ∙ ap (contains k) m.filters.keys ∙ contains-distinct k (key_list done))
+
+-- the first side, of which this is left
+pub record IsFirstLeft (ps qs : Properties) (head left out : List ℕ) : Type 0 where
+  pub done : Properties
+  pub rest : Properties
+  pub all : ps ≡ join_properties done rest
+  pub list : AreListed rest left
+  pub met : IsFilteredBehind ps qs done head out
+
+pub first_begun : (ps qs : Properties) (ours head : List ℕ) → IsBytes ours → AreWritten ps ours → IsFirstLeft ps qs head ours head
+first_begun ps qs ours head h w = record {
+  done = no_properties;
+  rest = ps;
+  all = refl;
+  list = listed ps ours h w.properties w.same;
+  met = record {
+    met = no_properties;
+    bytes = [];
+    parts = sym (append-nil head);
+    written = record { properties = refl; same = refl };
+    filters = record { keys = refl; values = tt };
+    agree = All-nil (AgreeAt ps qs);
+  };
+}
+
+joined_on : (ps done rest : Properties) (j f : ℕ) (v : Tree) → ps ≡ join_properties done (property j f v rest) →
+    ps ≡ join_properties (join_properties done (property j f v no_properties)) rest
+joined_on ps done rest j f v e = e ∙ sym (join_properties-assoc done (property j f v no_properties) rest)
+
+pub first_seen : (ps qs : Properties) (head left pod rest out : List ℕ) (k fl : ℕ) → length head ≡ 16 → HasFirst left k fl pod rest → SaysSettled true k out →
+    IsFirstLeft ps qs head left out → IsFirstLeft ps qs head rest out
+first_seen ps qs head left pod rest out k fl l f s i = of_rest i.rest i.all i.list
+  where
+    of_rest : (rs : Properties) → ps ≡ join_properties i.done rs → AreListed rs left → IsFirstLeft ps qs head rest out
+    of_rest no_properties e m = absurd (let z = ap length m in let h = f.header in omega arith)
+    of_rest (property j g v rs) e m =
+        let same : k ≡ j = f.its_key ∙ sym m.0.key in
+        let there = said_settled ps qs i.done head out true j l i.met (subst (λ n. SaysSettled true n out) same s) in
+        record {
+          done = join_properties i.done (property j g v no_properties);
+          rest = rs;
+          all = joined_on ps i.done rs j g v e;
+          list = subst (AreListed rs) (sym f.its_rest) m.1;
+          met = record {
+            met = i.met.met;
+            bytes = i.met.bytes;
+            parts = i.met.parts;
+            written = i.met.written;
+            filters = FiltersKeys-seen ps qs i.done i.met.met j i.met.filters g v there;
+            agree = i.met.agree;
+          };
+        }
+
+pub first_put : (ps qs : Properties) (head left pod rest out new : List ℕ) (k fl : ℕ) → length head ≡ 16 → k < 2 ^ 32 → HasFirst left k fl pod rest → SaysSettled false k out →
+    ((v : Tree) → IsWritten v pod → IsPutBy (Some (offered fl v)) (offered_at k qs) k out new) →
+    IsFirstLeft ps qs head left out → IsFirstLeft ps qs head rest new
+first_put ps qs head left pod rest out new k fl l n f s p i = of_rest i.rest i.all i.list
+  where
+    of_rest : (rs : Properties) → ps ≡ join_properties i.done rs → AreListed rs left → IsFirstLeft ps qs head rest new
+    of_rest no_properties e m = absurd (let z = ap length m in let h = f.header in omega arith)
+    of_rest (property j g v rs) e m =
+        let same : k ≡ j = f.its_key ∙ sym m.0.key in
+        let flags : fl ≡ g = f.its_flags ∙ sym m.0.flags in
+        let fresh = said_settled ps qs i.done head out false j l i.met (subst (λ n. SaysSettled false n out) same s) in
+        let ours : offered_at j ps ≡ Some (offered g v) = offered_at-joined j g v i.done rs ps e (offered_at-absent j i.done fresh) in
+        let by : IsPutBy (Some (offered g v)) (offered_at j qs) j out new =
+        subst (λ n. IsPutBy (Some (offered n v)) (offered_at j qs) j out new) flags
+        (subst (λ n. IsPutBy (Some (offered fl v)) (offered_at n qs) n out new) same (p v (subst (IsWritten v) (sym f.its_pod) m.0.written))) in
+        let put : IsPutBy (offered_at j ps) (offered_at j qs) j out new = subst (λ o. IsPutBy o (offered_at j qs) j out new) (sym ours) by in
+        let small : j < 2 ^ 32 = subst (λ n. n < 2 ^ 32) same n in
+        record {
+          done = join_properties i.done (property j g v no_properties);
+          rest = rs;
+          all = joined_on ps i.done rs j g v e;
+          list = subst (AreListed rs) (sym f.its_rest) m.1;
+          met = behind_put ps qs i.done (join_properties i.done (property j g v no_properties)) head out new j small i.met put
+              (FiltersKeys-new ps qs i.done i.met.met j i.met.filters g put.flags v put.value fresh put.filters);
+        }
+
+pub first_ended : (ps qs : Properties) (head left out : List ℕ) → length left ≡ 0 → IsFirstLeft ps qs head left out → IsFilteredBehind ps qs ps head out
+first_ended ps qs head left out z i = of_rest i.rest i.all i.list
+  where
+    of_rest : (rs : Properties) → ps ≡ join_properties i.done rs → AreListed rs left → IsFilteredBehind ps qs ps head out
+    of_rest no_properties e m = subst (λ ss. IsFilteredBehind ps qs ss head out) (sym (e ∙ join_properties-none i.done)) i.met
+    of_rest (property j g v rs) e m = absurd (let h = m.0.header in omega arith)
+
+-- the second side, of which this is left
+pub record IsOtherLeft (ps qs : Properties) (head left out : List ℕ) : Type 0 where
+  pub done : Properties
+  pub rest : Properties
+  pub all : qs ≡ join_properties done rest
+  pub list : AreListed rest left
+  pub met : IsFilteredBehind ps qs (join_properties ps done) head out
+
+pub other_begun : (ps qs : Properties) (theirs head out : List ℕ) → IsBytes theirs → AreWritten qs theirs → IsFilteredBehind ps qs ps head out → IsOtherLeft ps qs head theirs out
+other_begun ps qs theirs head out h w m = record {
+  done = no_properties;
+  rest = qs;
+  all = refl;
+  list = listed qs theirs h w.properties w.same;
+  met = subst (λ ss. IsFilteredBehind ps qs ss head out) (sym (join_properties-none ps)) m;
+}
+
+pub other_seen : (ps qs : Properties) (head left pod rest out : List ℕ) (k fl : ℕ) → length head ≡ 16 → HasFirst left k fl pod rest → SaysSettled true k out →
+    IsOtherLeft ps qs head left out → IsOtherLeft ps qs head rest out
+other_seen ps qs head left pod rest out k fl l f s i = of_rest i.rest i.all i.list
+  where
+    of_rest : (rs : Properties) → qs ≡ join_properties i.done rs → AreListed rs left → IsOtherLeft ps qs head rest out
+    of_rest no_properties e m = absurd (let z = ap length m in let h = f.header in omega arith)
+    of_rest (property j g v rs) e m =
+        let same : k ≡ j = f.its_key ∙ sym m.0.key in
+        let there = said_settled ps qs (join_properties ps i.done) head out true j l i.met (subst (λ n. SaysSettled true n out) same s) in
+        let next = join_properties-assoc ps i.done (property j g v no_properties) in
+        record {
+          done = join_properties i.done (property j g v no_properties);
+          rest = rs;
+          all = joined_on qs i.done rs j g v e;
+          list = subst (AreListed rs) (sym f.its_rest) m.1;
+          met = record {
+            met = i.met.met;
+            bytes = i.met.bytes;
+            parts = i.met.parts;
+            written = i.met.written;
+            filters = subst (λ ss. FiltersKeys ps qs ss i.met.met) next (FiltersKeys-seen ps qs (join_properties ps i.done) i.met.met j i.met.filters g v there);
+            agree = i.met.agree;
+          };
+        }
+
+pub other_put : (ps qs : Properties) (head left pod rest out new : List ℕ) (k fl : ℕ) → length head ≡ 16 → k < 2 ^ 32 → HasFirst left k fl pod rest → SaysSettled false k out →
+    ((v : Tree) → IsWritten v pod → IsPutBy None (Some (offered fl v)) k out new) →
+    IsOtherLeft ps qs head left out → IsOtherLeft ps qs head rest new
+other_put ps qs head left pod rest out new k fl l n f s p i = of_rest i.rest i.all i.list
+  where
+    of_rest : (rs : Properties) → qs ≡ join_properties i.done rs → AreListed rs left → IsOtherLeft ps qs head rest new
+    of_rest no_properties e m = absurd (let z = ap length m in let h = f.header in omega arith)
+    of_rest (property j g v rs) e m =
+        let same : k ≡ j = f.its_key ∙ sym m.0.key in
+        let flags : fl ≡ g = f.its_flags ∙ sym m.0.flags in
+        let before = join_properties ps i.done in
+        let fresh = said_settled ps qs before head out false j l i.met (subst (λ n. SaysSettled false n out) same s) in
+        let gone = offered_at-absent j before fresh in
+        let ours : offered_at j ps ≡ None = offered_at-before j ps i.done gone in
+        let theirs : offered_at j qs ≡ Some (offered g v) = offered_at-joined j g v i.done rs qs e (sym (offered_at-behind j ps i.done ours) ∙ gone) in
+        let by : IsPutBy None (Some (offered g v)) j out new =
+        subst (λ n. IsPutBy None (Some (offered n v)) j out new) flags
+        (subst (λ n. IsPutBy None (Some (offered fl v)) n out new) same (p v (subst (IsWritten v) (sym f.its_pod) m.0.written))) in
+        let put : IsPutBy (offered_at j ps) (offered_at j qs) j out new =
+        subst (λ o. IsPutBy o (offered_at j qs) j out new) (sym ours) (subst (λ o. IsPutBy None o j out new) (sym theirs) by) in
+        let small : j < 2 ^ 32 = subst (λ n. n < 2 ^ 32) same n in
+        let next = join_properties-assoc ps i.done (property j g v no_properties) in
+        record {
+          done = join_properties i.done (property j g v no_properties);
+          rest = rs;
+          all = joined_on qs i.done rs j g v e;
+          list = subst (AreListed rs) (sym f.its_rest) m.1;
+          met = subst (λ ss. IsFilteredBehind ps qs ss head new) next
+              (behind_put ps qs before (join_properties before (property j g v no_properties)) head out new j small i.met put
+              (FiltersKeys-new ps qs before i.met.met j i.met.filters g put.flags v put.value fresh put.filters));
+        }
+
+pub other_ended : (ps qs : Properties) (head left out : List ℕ) → length left ≡ 0 → IsOtherLeft ps qs head left out → IsFilteredBehind ps qs (join_properties ps qs) head out
+other_ended ps qs head left out z i = of_rest i.rest i.all i.list
+  where
+    of_rest : (rs : Properties) → qs ≡ join_properties i.done rs → AreListed rs left → IsFilteredBehind ps qs (join_properties ps qs) head out
+    of_rest no_properties e m = subst (λ ss. IsFilteredBehind ps qs (join_properties ps ss) head out) (sym (e ∙ join_properties-none i.done)) i.met
+    of_rest (property j g v rs) e m = absurd (let h = m.0.header in omega arith)
+
+-- what two short objects filter to
+pub record AreFiltered (a b bytes : List ℕ) : Type 0 where
+  pub can : BeginBoth a b CanFilter
+  pub filter : BeginBoth a b (FilterIn bytes)
+
+pub are_filtered : (a b ours theirs first second third bytes : List ℕ) (t i u j : ℕ) → t < 2 ^ 32 → i < 2 ^ 32 → BeginsWritten a t i ours → BeginsWritten b u j theirs → t ≡ u →
+    first ≡ open_header t i →
+    ((ps qs : Properties) → length first ≡ 16 → AreWritten ps ours → AreWritten qs theirs → IsFilteredBehind ps qs ps first second) →
+    ((ps qs : Properties) (head : List ℕ) → length head ≡ 16 → AreWritten qs theirs → IsFilteredBehind ps qs ps head second → IsFilteredBehind ps qs (join_properties ps qs) head third) →
+    length third - 8 < 2 ^ 32 → bytes ≡ word_bytes (length third - 8) ++ drop 4 third → AreFiltered a b bytes
+are_filtered a b ours theirs first second third bytes t i u j ft fi h k e o f g s d =
+    let ps = h.values in
+    let qs = k.values in
+    let long : length first ≡ 16 = ap length o ∙ header_long t i in
+    let m = f ps qs long h.written k.written in
+    let n = g ps qs first long k.written m in
+    let agreed : All (AgreeAt ps qs) (keys_of (join_properties ps qs)) = subst (All (AgreeAt ps qs)) n.filters.keys n.agree in
+    let w = object_written t i n.met n.bytes third bytes ft fi n.written (n.parts ∙ ap (λ y. y ++ n.bytes) o) s d in
+    record {
+      can = record { ours = object t i ps; theirs = object u j qs; first = h.begins; second = k.begins; holds = (sym e, agreed) };
+      filter = record {
+        ours = object t i ps;
+        theirs = object u j qs;
+        first = h.begins;
+        second = k.begins;
+        holds = record { met = object t i n.met; filter = (sym e, refl, refl, n.filters); encoding = w.encoding; pod = w.pod };
+      };
+    }

@@ -1,0 +1,88 @@
+//! What two values filter to, from pod to pod.
+ghost use Rattle.std.specs.Prelude.{◌≡◌, ◌≢◌, ◌++◌, IfSome, true};
+ghost use Rattle.spa_format.specs.Front.{Begins};
+ghost use Rattle.spa_format.specs.Normal.{normal_of};
+ghost use Rattle.spa_format.specs.Pod.{IsPod};
+ghost use Rattle.spa_format.specs.Tree.{Tree, choice_type, type_of};
+ghost use Rattle.spa_value.specs.View.{view};
+ghost use Rattle.spa_filter_pods.specs.Written.{IsAppended, IsCommonAppended};
+ghost use Rattle.spa_fronts.specs.Written.{IsWritten};
+
+use libspa::pod::deserialize::PodDeserializer;
+use libspa::pod::laws::readings_are_normal;
+use libspa::pod::serialize::write_value;
+use libspa::pod::{Held, Value};
+use libspa::utils::SpaTypes;
+use spa_bytes::{HEADER_LEN, SECOND_WORD, u32_at};
+use spa_filter::common;
+use spa_fronts::put_pod;
+use std::alloc::Global;
+
+/// Appends the pod of a value that admits exactly what the values of two pods admit, which are written as their values are. `false`
+/// says nothing of these: bytes may have been appended, then.
+pub(crate) fn put_common(alloc: Global, out: &mut Vec<u8>, a: &[u8], b: &[u8]) -> bool
+    ensures { result ≡ true → (v w : Tree) → IsWritten v a.now → IsWritten w b.now → IsCommonAppended v w out.old.items out.new.items }
+{
+    readings_are_normal();
+    if is_plain(a) && is_plain(b) {
+        return put_same(out, a, b);
+    }
+    let Some(ours) = value_of(alloc, a) else {
+        return false;
+    };
+    let Some(theirs) = value_of(alloc, b) else {
+        return false;
+    };
+    let Ok(met) = common(alloc, 0, &*ours, &*theirs) else {
+        return false;
+    };
+    let met = Held::from(met);
+    if is_plain(a) {
+        return put_pod(out, a);
+    }
+    if is_plain(b) {
+        return put_pod(out, b);
+    }
+    put_value(alloc, out, &*met)
+}
+
+/// Whether the value of a pod isn't a choice.
+fn is_plain(pod: &[u8]) -> bool
+    ensures { result ≡ true → (v : Tree) → IsPod pod.now v → type_of v ≢ choice_type }
+{
+    if pod.len() < HEADER_LEN {
+        return false;
+    }
+    u32_at(pod, SECOND_WORD) != SpaTypes::Choice.0
+}
+
+/// Appends a pod that is the same as another.
+fn put_same(out: &mut Vec<u8>, pod: &[u8], other: &[u8]) -> bool
+    ensures { result ≡ true → (pod.now ≡ other.now) × (out.new.items ≡ out.old.items ++ pod.now) }
+{
+    if pod == other {
+        return put_pod(out, pod);
+    }
+    false
+}
+
+/// The value of a pod.
+fn value_of(alloc: Global, pod: &[u8]) -> Option<Held>
+    ensures { IfSome result (λ held. Begins pod.now (view held)) }
+{
+    match PodDeserializer::deserialize_any_from(alloc, pod) {
+        Ok((_rest, value)) => Some(Held::from(value)),
+        Err(_) => None,
+    }
+}
+
+/// Appends the pod of a value that is its own normal form.
+fn put_value(alloc: Global, out: &mut Vec<u8>, value: &Value) -> bool
+    requires { normal_of (view value.now) ≡ view value.now }
+    ensures { result ≡ true → IsAppended (view value.now) out.old.items out.new.items }
+{
+    match write_value(alloc, out, value) {
+        Ok(_len) => true,
+        Err(_) => false,
+    }
+}

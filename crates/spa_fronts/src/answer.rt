@@ -1,0 +1,65 @@
+//! An object that is written property by property.
+ghost use Rattle.std.specs.Prelude.{◌≡◌, ◌-◌, ◌<◌, ◌++◌, drop, length, true};
+ghost use Rattle.spa_format.specs.Tree.{Properties};
+ghost use Rattle.spa_format.specs.Words.{size_limit, word_bytes};
+ghost use Rattle.spa_fronts.specs.Written.{AreWritten, has_key, open_header};
+
+use crate::object_view::find;
+use spa_bytes::{HEADER_LEN, joined, two_words};
+use spa_sink::PodOutput;
+use spa_utils::SpaTypes;
+
+/// Where the properties of an object begin in its pod: behind its header, its type and its id.
+const PROPERTIES_AT: usize = 16;
+
+/// Appends the header of an object, whose size is put there at last, its type and its id.
+pub fn put_header(out: &mut Vec<u8>, type_: u32, id: u32) -> bool
+    ensures { result ≡ true → out.new.items ≡ out.old.items ++ open_header type_ id }
+{
+    let header = joined(two_words(0, SpaTypes::Object.0), two_words(type_, id));
+    out.extend_from_slice(&header).is_ok()
+}
+
+/// Appends the key and the flags of a property.
+pub fn put_key(out: &mut Vec<u8>, key: u32, flags: u32) -> bool
+    ensures items { result ≡ true → out.new.items ≡ out.old.items ++ (word_bytes key ++ word_bytes flags) }
+    ensures words { (key < size_limit) × (flags < size_limit) }
+{
+    out.extend_from_slice(&two_words(key, flags)).is_ok()
+}
+
+/// Appends a pod.
+pub fn put_pod(out: &mut Vec<u8>, pod: &[u8]) -> bool
+    ensures { result ≡ true → out.new.items ≡ out.old.items ++ pod.now }
+{
+    out.extend_from_slice(pod).is_ok()
+}
+
+/// Whether a property with this key was appended behind the header.
+pub fn has_settled(out: &Vec<u8>, key: u32) -> bool
+    ensures { (ps : Properties) → AreWritten ps (drop 16 out.now.items) → result ≡ has_key key ps }
+{
+    if out.len() < PROPERTIES_AT {
+        return false;
+    }
+    let (_, properties) = out.as_slice().split_at(PROPERTIES_AT);
+    match find(properties, key) {
+        Some(_) => true,
+        None => false,
+    }
+}
+
+/// Puts the size into the header.
+pub fn finish(out: &mut Vec<u8>) -> bool
+    ensures size { result ≡ true → length out.old.items - 8 < size_limit }
+    ensures bytes { result ≡ true → out.new.items ≡ word_bytes (length out.old.items - 8) ++ drop 4 out.old.items }
+{
+    if out.len() < PROPERTIES_AT {
+        return false;
+    }
+    let Ok(size) = u32::try_from(out.len() - HEADER_LEN) else {
+        return false;
+    };
+    out.overwrite(0, size.to_le_bytes());
+    true
+}

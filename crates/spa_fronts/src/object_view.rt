@@ -1,0 +1,104 @@
+//! Objects and their properties where they lie.
+ghost use Rattle.std.specs.Prelude.{◌≡◌, ◌+◌, ◌<◌, ◌≤◌, IfNone, IfSome, MatchOption, None, drop, length};
+ghost use Rattle.spa_format.specs.Front.{HasFront};
+ghost use Rattle.spa_format.specs.Tree.{Properties};
+ghost use Rattle.spa_format.specs.Words.{header_size, size_limit};
+ghost use Rattle.spa_fronts.specs.Written.{AreWritten, BeginsWritten, HasFirst, IsFound, found_at};
+
+use spa_bytes::{HEADER_LEN, SECOND_WORD, extent_of, open, u32_at};
+use spa_scan::canonical_front;
+use spa_utils::SpaTypes;
+
+/// How long the body of an object may be that is looked at where it lies, in bytes. Keys and alternatives are looked for from the
+/// first one on there, which takes longer than looking them up in trees where there are many.
+const SHORT_LEN: usize = 1024;
+
+/// An object where it lies.
+#[derive(Clone, Copy)]
+pub struct ObjectView<'a> {
+    /// Its type.
+    pub type_: u32,
+    /// Its id.
+    pub id: u32,
+    /// The bytes of its properties.
+    pub properties: &'a [u8],
+}
+
+/// The object at the front of the input, where that is short and its own rewriting.
+pub fn short_object(input: &[u8]) -> Option<ObjectView<'_>>
+    ensures object { IfSome result (λ object. BeginsWritten input.now object.type_ object.id object.properties.now) }
+    ensures words { IfSome result (λ object. (object.type_ < size_limit) × (object.id < size_limit)) }
+{
+    let front = open(input)?;
+    if front.type_ != SpaTypes::Object.0 {
+        return None;
+    }
+    if front.body.len() < HEADER_LEN || front.body.len() > SHORT_LEN {
+        return None;
+    }
+    let Some(_rest) = canonical_front(input) else {
+        return None;
+    };
+    let (_, properties) = front.body.split_at(HEADER_LEN);
+    Some(ObjectView {
+        type_: u32_at(front.body, 0),
+        id: u32_at(front.body, SECOND_WORD),
+        properties,
+    })
+}
+
+/// The first of some properties, where it lies.
+#[derive(Clone, Copy)]
+pub struct PropertyView<'a> {
+    /// Its key.
+    pub key: u32,
+    /// Its flags.
+    pub flags: u32,
+    /// The pod of its value.
+    pub pod: &'a [u8],
+    /// The bytes of the properties behind it.
+    pub rest: &'a [u8],
+}
+
+/// The property at the front of the bytes.
+#[inline(always)]
+pub fn first_property(properties: &[u8]) -> Option<PropertyView<'_>>
+    ensures first { IfSome result (λ first. HasFirst properties.now first.key first.flags first.pod.now first.rest.now) }
+    ensures words { IfSome result (λ first. (first.key < size_limit) × (first.flags < size_limit)) }
+    ensures shorter { IfSome result (λ first. length first.rest.now + 16 ≤ length properties.now) }
+    ensures none { IfNone result (header_size ≤ length properties.now → ¬ (HasFront (drop header_size properties.now))) }
+{
+    if properties.len() < HEADER_LEN {
+        return None;
+    }
+    let (_, behind) = properties.split_at(HEADER_LEN);
+    if behind.len() < HEADER_LEN {
+        return None;
+    }
+    let extent = extent_of(u32_at(behind, 0));
+    if behind.len() < extent {
+        return None;
+    }
+    let (pod, rest) = behind.split_at(extent);
+    Some(PropertyView {
+        key: u32_at(properties, 0),
+        flags: u32_at(properties, SECOND_WORD),
+        pod,
+        rest,
+    })
+}
+
+/// The first property with this key.
+pub fn find(properties: &[u8], key: u32) -> Option<PropertyView<'_>>
+    ensures found { (ps : Properties) → AreWritten ps properties.now → MatchOption result (found_at key ps ≡ None) (λ first. IsFound (found_at key ps) first.flags first.pod.now) }
+    ensures words { IfSome result (λ first. (first.key < size_limit) × (first.flags < size_limit)) }
+{
+    let mut left = properties;
+    while let Some(first) = first_property(left) {
+        if first.key == key {
+            return Some(first);
+        }
+        left = first.rest;
+    }
+    None
+}

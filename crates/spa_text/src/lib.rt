@@ -23,4 +23,4 @@ mod tokens;
 pub use cause::Cause;
 pub use pretty::print_pretty;
 pub use printing::print;
-pub use reading::{TextError, read};
+pub use reading::{TextError, TextReader, read};

@@ -31,7 +31,39 @@ pub struct TextError {
     pub path: String,
 }
 
-/// Reads the value that a text is: strict JSON, in the grammar of docs/TEXT.md.
+/// Reads texts one after another, in memory that it keeps.
+#[derive(Drop)]
+pub struct TextReader {
+    alloc: Global,
+    scratch: Scratch,
+}
+
+impl TextReader {
+    /// One that has read nothing.
+    pub fn new(alloc: Global) -> TextReader {
+        TextReader {
+            alloc,
+            scratch: Scratch::new(alloc),
+        }
+    }
+
+    /// Reads the value that a text is, as `read` does.
+    pub fn read(&mut self, text: &str) -> Result<Value, TextError>
+        ensures value { IfOk result (λ v. ReadsAs nothing (view v) (tokens text.now) []) }
+        ensures refused { IfErr result (λ e. e.cause ≢ Cause.OutOfMemory → (v : Tree) → ¬ (ReadsAs nothing v (tokens text.now) [])) }
+    {
+        let mut path = String::new(self.alloc);
+        let Ok(mut reader) = Reader::new(text, &mut self.scratch) else {
+            return Err(error_at(Cause::OutOfMemory, text, 0, path));
+        };
+        match read_whole(self.alloc, &mut reader, &mut path) {
+            Ok(value) => Ok(value),
+            Err(cause) => Err(error_at(cause, text, reader.offset(), path)),
+        }
+    }
+}
+
+/// Reads the value that a text is: strict JSON, in the grammar of docs/TEXT.md. For many texts a `TextReader` is faster.
 ///
 /// A value that is nested deep is read too, by a loop; its drop calls itself for each level, unless it is handed to `Held` or to
 /// `discard`.
@@ -39,15 +71,8 @@ pub fn read(alloc: Global, text: &str) -> Result<Value, TextError>
     ensures value { IfOk result (λ v. ReadsAs nothing (view v) (tokens text.now) []) }
     ensures refused { IfErr result (λ e. e.cause ≢ Cause.OutOfMemory → (v : Tree) → ¬ (ReadsAs nothing v (tokens text.now) [])) }
 {
-    let mut scratch = Scratch::new(alloc);
-    let mut path = String::new(alloc);
-    let Ok(mut reader) = Reader::new(text, &mut scratch) else {
-        return Err(error_at(Cause::OutOfMemory, text, 0, path));
-    };
-    match read_whole(alloc, &mut reader, &mut path) {
-        Ok(value) => Ok(value),
-        Err(cause) => Err(error_at(cause, text, reader.offset(), path)),
-    }
+    let mut reader = TextReader::new(alloc);
+    reader.read(text)
 }
 
 /// The refusal at this place.

@@ -1,8 +1,8 @@
 /* Compares libspav with the second implementation in C (../capi/one_pass.c), and asserts the laws of rewriting: rewriting twice changes
  * nothing; is_canonical exactly where rewriting the front changes nothing; check accepts exactly what rewriting accepts; a refusal
  * changes nothing and says where; an accepted object stays accepted under fixation; the events
- * are those of a walk that calls itself; two objects meet in either order or in none, in their own rewriting; what is built is its own
- * rewriting. Inputs and outputs end at pages that can't be touched.
+ * are those of a walk that calls itself, and the first pod nests within the levels that they show and no fewer; two objects meet in either
+ * order or in none, in their own rewriting; what is built is its own rewriting. Inputs and outputs end at pages that can't be touched.
  * With afl-clang-fast in persistent mode, with clang's own fuzzer where LIBFUZZER is defined, else on the files that are named. */
 #include <errno.h>
 #include <stdio.h>
@@ -50,8 +50,14 @@ static void try_rewriting(const uint8_t *in, size_t n, uint8_t *out) {
 	SEE(spav_rewrite(out, len, again, MOST, &written, &at) == 0 && written == len && !memcmp(again, out, len));
 	memcpy(again, in, n);
 	SEE(spav_rewrite_in_place(again, n, &written, &at) == 0 && written == len && !memcmp(again, wanted, len) && !memcmp(again + len, in + len, n - len));
-	if (len > 0)
-		SEE(spav_rewrite(in, n, again, len - 1, &written, &at) == -ENOSPC && written == len);
+	/* Just enough room, and too little: behind the first `n - len` bytes, so that the page behind shows what goes past them. */
+	uint8_t *exact = out + n - len;
+	memset(out, UNTOUCHED, n);
+	SEE(spav_rewrite(in, n, exact, len, &written, &at) == 0 && written == len && !memcmp(exact, wanted, len) && is_untouched(out, n - len));
+	if (len == 0)
+		return;
+	memset(out, UNTOUCHED, n);
+	SEE(spav_rewrite(in, n, exact, len - 1, &written, &at) == -ENOSPC && written == len && is_untouched(out, n));
 }
 
 static void try_front(const uint8_t *in, size_t n, uint8_t *out) {
@@ -93,6 +99,12 @@ static void try_events(const uint8_t *in, size_t n) {
 		SEE(spav_events(in, n, fewer, count - 1, &enough) == -ENOSPC && enough == n / 8);
 		SEE(!memcmp(fewer, events, (count - 1) * sizeof *events) && fewer[count - 1].type == UNTOUCHED);
 	}
+	uint32_t levels = 0;
+	for (size_t i = 0; i < count && (i == 0 || events[i].depth > 0); i++) {
+		uint32_t here = (uint32_t)events[i].depth + (events[i].type == 14 || events[i].type == 15);
+		levels = here > levels ? here : levels;
+	}
+	SEE(spav_nests_within(in, n, levels) == 1 && (levels == 0 || spav_nests_within(in, n, levels - 1) == 0));
 }
 
 typedef int32_t join(const void *a, size_t n, const void *b, size_t m, void *out, size_t cap, size_t *written, uint32_t *told);

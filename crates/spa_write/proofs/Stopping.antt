@@ -54,21 +54,29 @@ next_stops s a b c vs i v l x h e k =
 pub no_property_put : {S : Type 0} {appends : Appending S} (a : S) → ArePropertiesPut appends a no_properties a
 no_property_put a = record { encodings = none_sent refl refl; typed = tt }
 
+-- a key, flags and the value at once
+pub next_keyed_put : {S : Type 0} {appends : Appending S} {refuses : Refusing S} → TakesParts appends refuses →
+    (a b c : S) (ps : List Property) (i : ℕ) (p : Property) → i < length ps → p ≡ get_or ps i p →
+    p.key < 2 ^ 32 → p.flags.0 < 2 ^ 32 → ArePropertiesPut appends a (property_views (take i ps)) b →
+    appends b (keyed_encoding p) c → IsTyped (view p.value) → ArePropertiesPut appends a (property_views (take (i + 1) ps)) c
+next_keyed_put {appends = appends} s a b c ps i p l e kf ff h own typed =
+    let first = property_encodings (property_views (take i ps)) in
+    record {
+      encodings = some_sent (subst (λ x. appends a x c) (sym (properties_next ps i p l e)) (sent_before s.more a b c first (keyed_encoding p) h.encodings own));
+      typed = properties_next_typed ps i p l e kf ff h.typed typed;
+    }
+
 pub next_property_put : {S : Type 0} {appends : Appending S} {refuses : Refusing S} → TakesParts appends refuses →
     (a b keyed c : S) (ps : List Property) (i : ℕ) (p : Property) → i < length ps → p ≡ get_or ps i p →
     p.key < 2 ^ 32 → p.flags.0 < 2 ^ 32 → ArePropertiesPut appends a (property_views (take i ps)) b →
     appends b (key_words p.key p.flags.0) keyed → IsPut appends keyed (view p.value) c →
     ArePropertiesPut appends a (property_views (take (i + 1) ps)) c
-next_property_put {appends = appends} s a b keyed c ps i p l e kf ff h w k =
-    let first = property_encodings (property_views (take i ps)) in
-    let own = s.more b keyed c (key_words p.key p.flags.0) (encoding_of (view p.value)) w k.encoding in
-    record {
-      encodings = some_sent (subst (λ x. appends a x c) (sym (properties_next ps i p l e)) (sent_before s.more a b c first (keyed_encoding p) h.encodings own));
-      typed = properties_next_typed ps i p l e kf ff h.typed k.typed;
-    }
+next_property_put s a b keyed c ps i p l e kf ff h w k =
+    next_keyed_put s a b c ps i p l e kf ff h
+    (s.more b keyed c (key_words p.key p.flags.0) (encoding_of (view p.value)) w k.encoding) k.typed
 
 -- within one of the properties
-next_keyed_stops : {S : Type 0} {appends : Appending S} {refuses : Refusing S} → TakesParts appends refuses →
+pub next_keyed_stops : {S : Type 0} {appends : Appending S} {refuses : Refusing S} → TakesParts appends refuses →
     (a b c : S) (ps : List Property) (i : ℕ) (p : Property) → i < length ps → p ≡ get_or ps i p →
     ArePropertiesPut appends a (property_views (take i ps)) b → (e : GenError) →
     Stops appends refuses b (keyed_encoding p) c e →
@@ -216,6 +224,25 @@ two_stop_at {appends = appends} {refuses = refuses} a c x y read n e same p r =
 pub keyed_at : {S : Type 0} (appends : Appending S) (a b : S) (x y read : ℕ) → read ≡ y →
     appends a (word_bytes x ++ word_bytes read) b → appends a (word_bytes x ++ word_bytes y) b
 keyed_at appends a b x y read same p = subst (λ m. appends a (word_bytes x ++ word_bytes m) b) same p
+
+-- a key, flags and a pod at once
+pub keyed_pod_at : {S : Type 0} (appends : Appending S) (a b : S) (x y read : ℕ) (pod enc : List ℕ) → read ≡ y →
+    pod ≡ enc → appends a ((word_bytes x ++ word_bytes read) ++ pod) b →
+    appends a ((word_bytes x ++ word_bytes y) ++ enc) b
+keyed_pod_at appends a b x y read pod enc same is p =
+    subst (λ l. appends a ((word_bytes x ++ word_bytes y) ++ l) b) is
+    (subst (λ m. appends a ((word_bytes x ++ word_bytes m) ++ pod) b) same p)
+
+pub keyed_pod_stop : {S : Type 0} {appends : Appending S} {refuses : Refusing S} (a c : S) (x y read n : ℕ)
+    (pod enc : List ℕ) (e : GenError) → read ≡ y → pod ≡ enc →
+    appends a (take n ((word_bytes x ++ word_bytes read) ++ pod)) c →
+    refuses a (length ((word_bytes x ++ word_bytes read) ++ pod)) c e →
+    Stops appends refuses a ((word_bytes x ++ word_bytes y) ++ enc) c e
+keyed_pod_stop a c x y read n pod enc e same is p r =
+    let bytes = (word_bytes x ++ word_bytes read) ++ pod in
+    let whole : bytes ≡ (word_bytes x ++ word_bytes y) ++ enc =
+    ap (λ m. (word_bytes x ++ word_bytes m) ++ pod) same ∙ ap (λ l. (word_bytes x ++ word_bytes y) ++ l) is in
+    stop_as a c bytes ((word_bytes x ++ word_bytes y) ++ enc) e whole (stop_by a c n bytes e p r)
 
 pub four_stop : {S : Type 0} {appends : Appending S} {refuses : Refusing S} (a c : S) (w x y z n : ℕ) (e : GenError) →
     appends a (take n ((word_bytes w ++ word_bytes x) ++ (word_bytes y ++ word_bytes z))) c → refuses a 16 c e →

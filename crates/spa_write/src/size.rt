@@ -53,7 +53,7 @@ pub(crate) fn members_len(members: &[Value]) -> Result<u64, GenError>
     let mut outer = 0;
     let mut left = members;
     while let Some(inner) = only_struct(left) {
-        outer = sum_of(outer, HEADER_LEN as u64)?;
+        outer = header_more(outer)?;
         left = inner;
     }
     let len = all_len(left)?;
@@ -94,6 +94,20 @@ pub(crate) fn properties_len(properties: &[Property]) -> Result<u64, GenError>
     Ok(total)
 }
 
+/// A header more than so many bytes, where a size word can count them.
+#[inline(always)]
+fn header_more(outer: u64) -> Result<u64, GenError>
+    ensures sum { IfOk result (λ sum. sum ≡ outer + 8) }
+    ensures short { IfOk result (λ sum. sum < size_limit) }
+    ensures long { IfErr result (λ e. (e ≡ TooLarge) × (size_limit ≤ outer + 8)) }
+{
+    if outer < SIZE_LIMIT - HEADER_LEN as u64 {
+        Ok(outer + HEADER_LEN as u64)
+    } else {
+        Err(GenError::TooLarge)
+    }
+}
+
 /// The sum, where a size word can count so many bytes.
 #[inline(always)]
 fn sum_of(total: u64, more: u64) -> Result<u64, GenError>
@@ -101,9 +115,11 @@ fn sum_of(total: u64, more: u64) -> Result<u64, GenError>
     ensures short { IfOk result (λ sum. sum < size_limit) }
     ensures long { IfErr result (λ e. (e ≡ TooLarge) × (size_limit ≤ total + more)) }
 {
-    match total.checked_add(more) {
-        Some(sum) if sum < SIZE_LIMIT => Ok(sum),
-        _ => Err(GenError::TooLarge),
+    let sum = total.saturating_add(more);
+    if sum < SIZE_LIMIT {
+        Ok(sum)
+    } else {
+        Err(GenError::TooLarge)
     }
 }
 

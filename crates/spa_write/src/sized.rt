@@ -18,11 +18,15 @@ use crate::short::short_encoding;
 use crate::size::{encoded_len, members_len, properties_len};
 use bitflags::Flags;
 use spa_bytes::{HEADER_LEN, joined, two_words};
+use spa_fixed::LONGEST_POD_LEN;
 use spa_leaf::{put_clean_text, put_leaf};
 use spa_sink::{GenError, PodSink, put_two};
 use spa_utils::SpaTypes;
 use spa_value::{Property, Value};
 use std::alloc::Global;
+
+/// The length in bytes of a key, flags and a pod of sixteen bytes.
+const KEYED_LEN: usize = 24;
 
 /// Appends the encoding of a value to any sink, front to back, and answers its length. A text with NUL and a size of
 /// 4294967296 or more are refused before a byte is appended. Where the sink refuses it, the sink has taken a beginning of
@@ -70,6 +74,7 @@ pub fn write_value<S: PodSink>(alloc: Global, sink: &mut S, value: &Value) -> Re
 }
 
 /// Appends the encoding of a value, whose sizes are computed before they are written.
+#[inline(always)]
 fn write_measured<S: PodSink>(sink: &mut S, value: &Value) -> Result<u64, GenError>
     ensures put { OnOk result (IsPut S.appends sink.old (view value.now) sink.new) }
     ensures count { IfOk result (λ n. n ≡ length (encoding_of (view value.now))) }
@@ -198,9 +203,14 @@ fn put_properties<S: PodSink>(
     let largest = largest_property(properties, size);
     let left = left_for_property(properties, largest, size);
     for (index, property) in properties.iter().enumerate() {
-        let known = known_at(index, largest, left);
-        put_two(sink, property.key, property.flags.bits())?;
-        put_value(sink, &property.value, known)?;
+        match short_encoding(&property.value) {
+            Some(pod) => put_keyed(sink, property.key, property.flags.bits(), &pod)?,
+            None => {
+                let known = known_at(index, largest, left);
+                put_two(sink, property.key, property.flags.bits())?;
+                put_value(sink, &property.value, known)?;
+            }
+        }
     }
     Ok(())
 }
@@ -246,12 +256,40 @@ fn put_checked_leaf<S: PodSink>(sink: &mut S, value: &Value) -> Result<(), GenEr
 }
 
 /// Appends the pod of a text that can be written.
+#[inline(always)]
 fn put_checked_text<S: PodSink>(sink: &mut S, text: &str) -> Result<(), GenError>
     requires { IsWritable (tree.string text.now) }
     ensures put { OnOk result (IsPut S.appends sink.old (tree.string text.now) sink.new) }
     ensures stops { IfErr result (λ e. Stops S.appends S.refuses sink.old (encoding_of (tree.string text.now)) sink.new e) }
 {
     put_clean_text(sink, text)
+}
+
+/// Appends a key, flags and a pod of sixteen bytes at once.
+#[inline(always)]
+fn put_keyed<S: PodSink>(
+    sink: &mut S,
+    key: u32,
+    flags: u32,
+    pod: &[u8; LONGEST_POD_LEN],
+) -> Result<(), GenError>
+    ensures ok { OnOk result (S.appends sink.old ((word_bytes key ++ word_bytes flags) ++ pod.now) sink.new) }
+    ensures begun { OnErr result ((count : ℕ) × S.appends sink.old (take count ((word_bytes key ++ word_bytes flags) ++ pod.now)) sink.new) }
+    ensures cause { IfErr result (λ e. S.refuses sink.old (length ((word_bytes key ++ word_bytes flags) ++ pod.now)) sink.new e) }
+{
+    sink.append(&keyed_pod(two_words(key, flags), pod))
+}
+
+/// Eight bytes, and a pod of sixteen.
+#[inline(always)]
+fn keyed_pod(key: [u8; HEADER_LEN], pod: &[u8; LONGEST_POD_LEN]) -> [u8; KEYED_LEN]
+    ensures { result ≡ key ++ pod.now }
+{
+    let mut bytes = [0; KEYED_LEN];
+    let (first, last) = bytes.split_at_mut(HEADER_LEN);
+    first.copy_from_slice(&key);
+    last.copy_from_slice(pod);
+    bytes
 }
 
 /// Appends four words at once.

@@ -1,4 +1,4 @@
-use Rattle.std.proofs.Common.{◌≡◌, ◌∙◌, ◌+◌, ◌-◌, ◌*◌, ◌<◌, ◌^◌, ◌++◌, IfSome, ap, sym, subst, arith, length, refl, rules}
+use Rattle.std.proofs.Common.{◌≡◌, ◌∙◌, ◌+◌, ◌-◌, ◌*◌, ◌<◌, ◌^◌, ◌++◌, IfSome, ap, sym, subst, arith, length, refl, rules, take}
 use Rattle.std.proofs.lemmas.Result.{IfErr-weaker, on_ok_weaker}
 use Rattle.spa_bytes.proofs.Passing.{passed_on}
 use Rattle.spa_format.specs.Tree.{struct, object, struct_type, object_type}
@@ -9,13 +9,14 @@ use Rattle.spa_value.specs.declared.object.Object.{out-Object}
 use Rattle.spa_value.specs.View.{view}
 use Rattle.spa_value.specs.Views.{views, property_views}
 use Rattle.spa_value.proofs.ViewLaws.{view-struct, view-fields}
-use Rattle.spa_write.specs.Measured.{PropertiesAreWritable}
+use Rattle.spa_write.specs.Measured.{ArePropertiesPut, PropertiesAreWritable}
 use Rattle.spa_write.proofs.LoneStructs.{begun_stops, left_stops, lone_length, next_begun}
 use Rattle.spa_write.proofs.MemberLists.{members_length, only_encoding, writable_there}
 use Rattle.spa_write.proofs.PropertyLists.{properties_length, properties_of_writable, property_writable_there}
-use Rattle.spa_write.proofs.Stopping.{body_stops, four_stop, head_stops, keyed_at, member_known, next_key_stops, next_property_put, next_put, next_stops, next_value_stops, no_property_put, none_put, object_fits, object_head, object_put, size_of_object, size_of_struct, struct_fits, struct_head, struct_put, property_known, two_stop_at}
+use Rattle.spa_write.proofs.Stopping.{body_stops, four_stop, head_stops, keyed_at, keyed_pod_at, keyed_pod_stop, member_known, next_key_stops, next_keyed_put, next_keyed_stops, next_property_put, next_put, next_stops, next_value_stops, no_property_put, none_put, object_fits, object_head, object_put, size_of_object, size_of_struct, struct_fits, struct_head, struct_put, property_known, two_stop_at}
 use Rattle.spa_leaf.proofs.Parts.{TakesParts, two_stop}
 use Rattle.spa_write.proofs.sized.+put.Given.{Over}
+use Rattle.spa_write.proofs.sized.+put.Goals.{put_properties-in-Some+in_ok-put_keyed-in-Some, put_properties-in-None+in_ok-put_two-in-None+in_ok-put_value-in-None}
 use Rattle.spa_write.proofs.sized.+put.Goals as goal
 
 parts_of : (g : Over) → TakesParts g.S.PodSink.appends g.S.PodSink.refuses
@@ -140,15 +141,26 @@ put_all-loop-index-preserved g t c =
 pub put_properties-loop-index-init : goal.put_properties-loop-index-init
 put_properties-loop-index-init g t c = no_property_put c.args.sink.now
 
-pub put_properties-returns-in_err-put_two-clause-stops : goal.put_properties-returns-in_err-put_two-clause-stops
-put_properties-returns-in_err-put_two-clause-stops g t c =
+pub put_properties-returns-in_err-put_keyed-in-Some-clause-stops : goal.put_properties-returns-in_err-put_keyed-in-Some-clause-stops
+put_properties-returns-in_err-put_keyed-in-Some-clause-stops g t c =
     let p = c.index-properties-index.result in
     let bits : c.bits.result ≡ p.flags.0 = search rules in
-    let h = c.in_err-put_two.ensures in
+    let h = c.in_err-put_keyed-in-Some.ensures in
     passed_on _ _ _ c.from_residual.ensures.1
+    (next_keyed_stops (parts_of g) c.args.sink.now c.loop-index.sink _ c.args.properties.now c.loop-index.index p
+    c.loop-index-test.true c.index-properties-index.is c.loop-index.invariant _
+    (keyed_pod_stop c.loop-index.sink _ p.key p.flags.0 c.bits.result h.begun.0 c.in-Some.pod (encoding_of (view p.value)) _ bits
+    c.in-Some.ensures.encoding h.begun.1 h.cause))
+
+pub put_properties-returns-in_err-put_two-in-None-clause-stops : goal.put_properties-returns-in_err-put_two-in-None-clause-stops
+put_properties-returns-in_err-put_two-in-None-clause-stops g t c =
+    let p = c.index-properties-index.result in
+    let bits : c.bits-in-None.result ≡ p.flags.0 = search rules in
+    let h = c.in_err-put_two-in-None.ensures in
+    passed_on _ _ _ c.from_residual-in_err-put_two-in-None.ensures.1
     (next_key_stops (parts_of g) c.args.sink.now c.loop-index.sink _ c.args.properties.now c.loop-index.index p
     c.loop-index-test.true c.index-properties-index.is c.loop-index.invariant _
-    (two_stop_at c.loop-index.sink _ p.key p.flags.0 c.bits.result h.begun.0 _ bits h.begun.1 h.cause))
+    (two_stop_at c.loop-index.sink _ p.key p.flags.0 c.bits-in-None.result h.begun.0 _ bits h.begun.1 h.cause))
 
 pub put_properties-put_value-requires : goal.put_properties-put_value-requires
 put_properties-put_value-requires g t c =
@@ -164,24 +176,40 @@ put_properties-put_value-requires g t c =
     let smaller : 3 * length (encoding_of (view p.value)) < 3 * length (property_encodings (property_views c.args.properties.now)) + 1 = omega (arith, all) in
     λ κs le. (search rules, (le, (writable, known)))
 
-pub put_properties-returns-in_err-put_value-clause-stops : goal.put_properties-returns-in_err-put_value-clause-stops
-put_properties-returns-in_err-put_value-clause-stops g t c =
+pub put_properties-returns-in_err-put_value-in-None-clause-stops : goal.put_properties-returns-in_err-put_value-in-None-clause-stops
+put_properties-returns-in_err-put_value-in-None-clause-stops g t c =
     let p = c.index-properties-index.result in
-    let bits : c.bits.result ≡ p.flags.0 = search rules in
-    passed_on _ _ _ c.from_residual-in_err-put_value.ensures.1
+    let bits : c.bits-in-None.result ≡ p.flags.0 = search rules in
+    passed_on _ _ _ c.from_residual-in_err-put_value-in-None.ensures.1
     (next_value_stops (parts_of g) c.args.sink.now c.loop-index.sink c.put_two.new.sink _ c.args.properties.now c.loop-index.index p
     c.loop-index-test.true c.index-properties-index.is c.loop-index.invariant
-    (keyed_at g.S.PodSink.appends c.loop-index.sink c.put_two.new.sink p.key p.flags.0 c.bits.result bits c.in_ok-put_two.ensures.ok) _ c.in_err-put_value.ensures.stops)
+    (keyed_at g.S.PodSink.appends c.loop-index.sink c.put_two.new.sink p.key p.flags.0 c.bits-in-None.result bits c.in_ok-put_two-in-None.ensures.ok) _
+    c.in_err-put_value-in-None.ensures.stops)
 
 pub put_properties-loop-index-preserved : goal.put_properties-loop-index-preserved
 put_properties-loop-index-preserved g t c =
+    let ps = c.args.properties.now in
+    let i = c.loop-index.index in
     let p = c.index-properties-index.result in
-    let bits : c.bits.result ≡ p.flags.0 = search rules in
     let kf : p.key < 2 ^ 32 = search rules in
     let ff : p.flags.0 < 2 ^ 32 = search rules in
-    next_property_put (parts_of g) c.args.sink.now c.loop-index.sink c.put_two.new.sink c.put_value.new.sink c.args.properties.now
-    c.loop-index.index p c.loop-index-test.true c.index-properties-index.is kf ff c.loop-index.invariant
-    (keyed_at g.S.PodSink.appends c.loop-index.sink c.put_two.new.sink p.key p.flags.0 c.bits.result bits c.in_ok-put_two.ensures.ok) c.in_ok-put_value.ensures.put
+    elim c.match-short_encoding.branch [
+      | put_properties-in-Some+in_ok-put_keyed-in-Some w ↦
+          let bits : w.bits.result ≡ p.flags.0 = search rules in
+          let own =
+          keyed_pod_at g.S.PodSink.appends c.loop-index.sink w.put_keyed.new.sink p.key p.flags.0 w.bits.result w.in-Some.pod
+          (encoding_of (view p.value)) bits w.in-Some.ensures.encoding w.in_ok-put_keyed-in-Some.ensures.ok in
+          subst (λ s. ArePropertiesPut g.S.PodSink.appends c.args.sink.now (property_views (take (i + 1) ps)) s) (sym w.sink-is)
+          (next_keyed_put (parts_of g) c.args.sink.now c.loop-index.sink w.put_keyed.new.sink ps i p c.loop-index-test.true
+          c.index-properties-index.is kf ff c.loop-index.invariant own w.in-Some.ensures.typed)
+      | put_properties-in-None+in_ok-put_two-in-None+in_ok-put_value-in-None w ↦
+          let bits : w.bits-in-None.result ≡ p.flags.0 = search rules in
+          subst (λ s. ArePropertiesPut g.S.PodSink.appends c.args.sink.now (property_views (take (i + 1) ps)) s) (sym w.sink-is)
+          (next_property_put (parts_of g) c.args.sink.now c.loop-index.sink w.put_two.new.sink w.put_value.new.sink ps i p
+          c.loop-index-test.true c.index-properties-index.is kf ff c.loop-index.invariant
+          (keyed_at g.S.PodSink.appends c.loop-index.sink w.put_two.new.sink p.key p.flags.0 w.bits-in-None.result bits w.in_ok-put_two-in-None.ensures.ok)
+          w.in_ok-put_value-in-None.ensures.put)
+    ]
 
 pub put_value-overflow_sub-size-in-Object : goal.put_value-overflow_sub-size-in-Object
 put_value-overflow_sub-size-in-Object g t c =

@@ -4,12 +4,12 @@ use Rattle.std.specs.Prelude.{Some, slice_get, true, false}
 use Rattle.std.proofs.lemmas.List.{set_at, get_or_push}
 use Rattle.spa_builder.specs.State.{Partial, open_struct, open_object, open_property, open_array, open_choice, with_property}
 use Rattle.spa_format.specs.Tree.{Tree}
-use Rattle.spa_builder.specs.declared.open.Stage.TheVariants.{Object}
+use Rattle.spa_builder.specs.declared.begun.Stage.TheVariants.{Object}
 use Rattle.spa_builder.specs.Framed.{at_stage}
 use Rattle.spa_builder.specs.Held.{all_so_far, frames_of, what_of}
 use Rattle.spa_builder.specs.Innermost.{filled, innermost_of, waits}
-use Rattle.spa_builder.specs.declared.open.Open.{Open}
-use Rattle.spa_builder.specs.declared.open.What.{What}
+use Rattle.spa_builder.specs.declared.begun.BegunPod.{BegunPod}
+use Rattle.spa_builder.specs.declared.begun.What.{What}
 
 pub length-frames_of : (base : ℕ) (ps : List Partial) → length (frames_of base ps) ≡ length ps
 length-frames_of base [] = refl
@@ -19,7 +19,7 @@ length-frames_of base (p ∷ ps) =
     let f = length-frames_of base ps in
     omega arith
 
-get_last : (xs : List Open) (x : Open) (n : ℕ) → n ≡ length xs → slice_get (xs ++ x ∷ []) n ≡ Some x
+get_last : (xs : List BegunPod) (x : BegunPod) (n : ℕ) → n ≡ length xs → slice_get (xs ++ x ∷ []) n ≡ Some x
 get_last [] x n e = rw e refl
 get_last (y ∷ ys) x n e = rw e (get_last ys x (length ys) refl)
 
@@ -27,11 +27,11 @@ pub last_frame : (base : ℕ) (ps : List Partial) →
     slice_get (frames_of base ps) (length (frames_of base ps) - 1) ≡ innermost_of base ps
 last_frame base [] = refl
 last_frame base (p ∷ ps) =
-    let x : Open = record { start = base + length (all_so_far ps); what = what_of p } in
+    let x : BegunPod = record { start = base + length (all_so_far ps); what = what_of p } in
     let e = length-append (frames_of base ps) (x ∷ []) in
     get_last (frames_of base ps) x (length (frames_of base ps ++ x ∷ []) - 1) (omega arith)
 
-get_first : (xs : List Open) (y x : Open) → slice_get xs 0 ≡ Some x →
+get_first : (xs : List BegunPod) (y x : BegunPod) → slice_get xs 0 ≡ Some x →
     slice_get (xs ++ y ∷ []) 0 ≡ Some x
 get_first [] y x e = cc
 get_first (z ∷ zs) y x e = e
@@ -60,7 +60,7 @@ set_last base p q ps n e =
     (length-frames_of base ps ∙ sym e)
 
 -- the first frame is the outermost tree's
-pub outermost_is : (frames : List Open) (base : ℕ) (ps : List Partial) (o : Open) →
+pub outermost_is : (frames : List BegunPod) (base : ℕ) (ps : List Partial) (o : BegunPod) →
     frames ≡ frames_of base ps → Some o ≡ slice_get frames 0 →
     (o.start ≡ base) × (length frames ≡ length ps) × (0 < length ps)
 outermost_is frames base [] o e f = let g = ap (λ l. slice_get l 0) e in absurd (cc)
@@ -68,20 +68,20 @@ outermost_is frames base (p ∷ ps) o e f =
     let g = first_frame base p ps in
     let h = f ∙ ap (λ l. slice_get l 0) e ∙ g.1 in
     let i : o ≡ record { start = base; what = g.0 } = cc in
-    (ap (λ (x : Open). x.start) i, ap length e ∙ length-frames_of base (p ∷ ps), omega arith)
+    (ap (λ (x : BegunPod). x.start) i, ap length e ∙ length-frames_of base (p ∷ ps), omega arith)
 
-pub set_frame : (frames : List Open) (base : ℕ) (p q : Partial) (ps : List Partial) (w : What)
-    (n : ℕ) (o : Open) → frames ≡ frames_of base (p ∷ ps) → n ≡ length frames - 1 →
+pub set_frame : (frames : List BegunPod) (base : ℕ) (p q : Partial) (ps : List Partial) (w : What)
+    (n : ℕ) (o : BegunPod) → frames ≡ frames_of base (p ∷ ps) → n ≡ length frames - 1 →
     o ≡ get_or frames n o → w ≡ what_of q → set frames n (record { start = o.start; what = w }) ≡
     frames_of base (q ∷ ps)
 set_frame frames base p q ps w n o e m g f =
-    let old : Open = record { start = base + length (all_so_far ps); what = what_of p } in
+    let old : BegunPod = record { start = base + length (all_so_far ps); what = what_of p } in
     let k : n ≡ length (frames_of base ps) =
     (let l = ap length e ∙ length-append (frames_of base ps) (old ∷ []) in omega arith) in
     let at : o ≡ old = g ∙ ap (λ i. get_or frames i o) k
     ∙ ap (λ l. get_or l (length (frames_of base ps)) o) e
     ∙ get_or_push (frames_of base ps) old o (length (frames_of base ps)) refl in
-    ap (λ (x : Open). set frames n (record { start = x.start; what = w })) at
+    ap (λ (x : BegunPod). set frames n (record { start = x.start; what = w })) at
     ∙ ap (λ (x : What). set frames n (record { start = base + length (all_so_far ps); what = x })) f
     ∙ ap (λ i. set frames i (record { start = base + length (all_so_far ps); what = what_of q })) k
     ∙ ap (λ l. set l (length (frames_of base ps))
@@ -89,7 +89,7 @@ set_frame frames base p q ps w n o e m g f =
     ∙ set_last base p q ps (length (frames_of base ps)) (length-frames_of base ps)
 
 -- where a key waits, it gets its value; in a struct the frame stays
-pub filled_frames : (old new : List Open) (base : ℕ) (ps : List Partial) (v : Tree) →
+pub filled_frames : (old new : List BegunPod) (base : ℕ) (ps : List Partial) (v : Tree) →
     waits ps ≡ true → old ≡ frames_of base ps →
     ((b : ℕ) (p q : Partial) (rs : List Partial) → old ≡ frames_of b (p ∷ rs) →
     at_stage (what_of p) Object ≡ what_of q → new ≡ frames_of b (q ∷ rs)) →

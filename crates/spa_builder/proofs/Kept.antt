@@ -6,13 +6,13 @@ use Rattle.spa_builder.specs.State.{Partial, open_struct, open_object, open_prop
 use Rattle.spa_builder.specs.Held.{all_so_far, frames_of, what_of}
 use Rattle.spa_builder.specs.Framed.{IsKept, at_stage, frames_in, is_nothing, most_bytes}
 use Rattle.spa_builder.specs.Innermost.{has_room_for, innermost_of}
-use Rattle.spa_builder.specs.declared.open.Open.{Open}
-use Rattle.spa_builder.specs.declared.open.Stage.{Stage}
+use Rattle.spa_builder.specs.declared.begun.BegunPod.{BegunPod}
+use Rattle.spa_builder.specs.declared.begun.Stage.{Stage}
 use Rattle.spa_builder.proofs.FrameLists.{outermost_is}
 use Rattle.spa_builder.proofs.Sizes.{at_least_8, same_test}
 
 -- a last element and what stands before it
-same_last : (xs ys : List Open) (x y : Open) → xs ++ x ∷ [] ≡ ys ++ y ∷ [] → (xs ≡ ys) × (x ≡ y)
+same_last : (xs ys : List BegunPod) (x y : BegunPod) → xs ++ x ∷ [] ≡ ys ++ y ∷ [] → (xs ≡ ys) × (x ≡ y)
 same_last [] [] x y e = (refl, cc)
 same_last [] (z ∷ zs) x y e = let l = ap length e in let m = length-append zs (y ∷ []) in
     absurd (omega arith)
@@ -25,7 +25,7 @@ same_last (z ∷ zs) (w ∷ ws) x y e =
     let k = r.0 in
     (cc, r.1)
 
-no_last : (xs : List Open) (x : Open) → xs ++ x ∷ [] ≡ [] → ⊥
+no_last : (xs : List BegunPod) (x : BegunPod) → xs ++ x ∷ [] ≡ [] → ⊥
 no_last xs x e = let l = ap length e in let m = length-append xs (x ∷ []) in omega arith
 
 pub what_something : (p : Partial) → is_nothing (what_of p) ≡ false
@@ -35,11 +35,11 @@ what_something (open_property t i ps k f) = refl
 what_something (open_array xs) = refl
 what_something (open_choice h f xs) = refl
 
-pub frames_with : (outer : List Open) (o : Open) → is_nothing o.what ≡ false →
+pub frames_with : (outer : List BegunPod) (o : BegunPod) → is_nothing o.what ≡ false →
     frames_in outer o ≡ outer ++ o ∷ []
 frames_with outer o h = ap (λ b. cond b outer (outer ++ o ∷ [])) h
 
-pub frames_without : (outer : List Open) (o : Open) → is_nothing o.what ≡ true →
+pub frames_without : (outer : List BegunPod) (o : BegunPod) → is_nothing o.what ≡ true →
     frames_in outer o ≡ outer
 frames_without outer o h = ap (λ b. cond b outer (outer ++ o ∷ [])) h
 
@@ -48,13 +48,13 @@ is_either true f = absurd (f refl)
 is_either false f = refl
 
 -- where a tree is begun, something is innermost
-begun_something : (outer : List Open) (o : Open) (first most base : ℕ) (p : Partial)
+begun_something : (outer : List BegunPod) (o : BegunPod) (first most base : ℕ) (p : Partial)
     (ps : List Partial) → IsKept outer o first most → frames_in outer o ≡ frames_of base (p ∷ ps) →
     is_nothing o.what ≡ false
 begun_something outer o first most base p ps k e =
     is_either (is_nothing o.what) (λ h. no_last _ _ (sym e ∙ frames_without outer o h ∙ k.none h))
 
-pub innermost_is : (outer : List Open) (o : Open) (first most base : ℕ) (ps : List Partial) →
+pub innermost_is : (outer : List BegunPod) (o : BegunPod) (first most base : ℕ) (ps : List Partial) →
     IsKept outer o first most → is_nothing o.what ≡ false → frames_in outer o ≡ frames_of base ps →
     Some o ≡ innermost_of base ps
 innermost_is outer o first most base [] k h e =
@@ -62,7 +62,7 @@ innermost_is outer o first most base [] k h e =
 innermost_is outer o first most base (p ∷ ps) k h e =
     ap (λ x. Some x) ((same_last outer _ o _ (sym (frames_with outer o h) ∙ e)).1)
 
-pub innermost_none : (outer : List Open) (o : Open) (first most base : ℕ) (ps : List Partial) →
+pub innermost_none : (outer : List BegunPod) (o : BegunPod) (first most base : ℕ) (ps : List Partial) →
     IsKept outer o first most → is_nothing o.what ≡ true → frames_in outer o ≡ frames_of base ps →
     ps ≡ []
 innermost_none outer o first most base [] k h e = refl
@@ -77,7 +77,7 @@ pub record Outermost (first end base : ℕ) (ps : List Partial) : Type 0 where
   pub around : length ps ≢ 1 → end ≡ first + most_bytes false
   pub low : first < 2 ^ 63
 
-pub outermost_kept : (outer : List Open) (o : Open) (first most base : ℕ) (ps : List Partial) →
+pub outermost_kept : (outer : List BegunPod) (o : BegunPod) (first most base : ℕ) (ps : List Partial) →
     IsKept outer o first most → is_nothing o.what ≡ false → frames_in outer o ≡ frames_of base ps →
     Outermost first most base ps
 outermost_kept [] o first most base ps k h e =
@@ -123,7 +123,7 @@ room_kept first end base (p ∷ q ∷ qs) more n o e =
     (2 ^ 32 - 7) (λ h. omega arith) (λ h. omega arith)
 
 -- one more is begun in the innermost
-pub pushed_kept : (outer more : List Open) (o new : Open) (first end most : ℕ) →
+pub pushed_kept : (outer more : List BegunPod) (o new : BegunPod) (first end most : ℕ) →
     IsKept outer o first end → is_nothing o.what ≡ false → is_nothing new.what ≡ false →
     more ≡ outer ++ o ∷ [] → most ≡ most_bytes false → IsKept more new first (first + most)
 pushed_kept [] more o new first end most k h n e m = record {
@@ -146,21 +146,21 @@ pushed_kept (q ∷ qs) more o new first end most k h n e m = record {
 }
 
 -- the innermost one says something else
-pub set_kept : (outer : List Open) (o new : Open) (first most base : ℕ) (p q : Partial)
+pub set_kept : (outer : List BegunPod) (o new : BegunPod) (first most base : ℕ) (p q : Partial)
     (ps : List Partial) → IsKept outer o first most → frames_in outer o ≡ frames_of base (p ∷ ps) →
     new.start ≡ o.start → new.what ≡ what_of q → frames_in outer new ≡ frames_of base (q ∷ ps)
 set_kept outer o new first most base p q ps k e s w =
     let h = begun_something outer o first most base p ps k e in
     let r = same_last outer (frames_of base ps) o _ (sym (frames_with outer o h) ∙ e) in
     let n : is_nothing new.what ≡ false = ap is_nothing w ∙ what_something q in
-    let at : o.start ≡ base + length (all_so_far ps) = ap (λ (x : Open). x.start) r.1 in
+    let at : o.start ≡ base + length (all_so_far ps) = ap (λ (x : BegunPod). x.start) r.1 in
     let same : new ≡ record { start = base + length (all_so_far ps); what = what_of q } =
     rw (s ∙ at, w) refl in
     frames_with outer new n ∙ ap (λ l. l ++ new ∷ []) r.0
     ∙ ap (λ x. frames_of base ps ++ x ∷ []) same
 
 -- the innermost one is at another stage
-pub stage_kept : (outer : List Open) (o new : Open) (stage : Stage) (first most base : ℕ)
+pub stage_kept : (outer : List BegunPod) (o new : BegunPod) (stage : Stage) (first most base : ℕ)
     (p q : Partial) (ps : List Partial) → IsKept outer o first most →
     frames_in outer o ≡ frames_of base (p ∷ ps) → new.start ≡ o.start →
     new.what ≡ at_stage o.what stage → at_stage (what_of p) stage ≡ what_of q →
@@ -168,11 +168,11 @@ pub stage_kept : (outer : List Open) (o new : Open) (stage : Stage) (first most 
 stage_kept outer o new stage first most base p q ps k e s w h =
     let b = begun_something outer o first most base p ps k e in
     let r = same_last outer (frames_of base ps) o _ (sym (frames_with outer o b) ∙ e) in
-    let was : o.what ≡ what_of p = ap (λ (x : Open). x.what) r.1 in
+    let was : o.what ≡ what_of p = ap (λ (x : BegunPod). x.what) r.1 in
     set_kept outer o new first most base p q ps k e s (w ∙ ap (λ x. at_stage x stage) was ∙ h)
 
 -- the innermost one is dropped, and there is another one
-pub popped_some : (outer rest : List Open) (o next : Open) (first most base : ℕ) (p : Partial)
+pub popped_some : (outer rest : List BegunPod) (o next : BegunPod) (first most base : ℕ) (p : Partial)
     (ps : List Partial) → IsKept outer o first most → frames_in outer o ≡ frames_of base (p ∷ ps) →
     outer ≡ rest ++ next ∷ [] →
     (is_nothing next.what ≡ false) × (frames_in rest next ≡ frames_of base ps)
@@ -185,11 +185,11 @@ popped_some outer rest o next first most base p (q ∷ qs) k e f =
     let r = same_last outer (frames_of base (q ∷ qs)) o _ (sym (frames_with outer o h) ∙ e) in
     let g = sym f ∙ r.0 in
     let t = same_last rest (frames_of base qs) next _ g in
-    let n : is_nothing next.what ≡ false = ap (λ (x : Open). is_nothing x.what) t.1
+    let n : is_nothing next.what ≡ false = ap (λ (x : BegunPod). is_nothing x.what) t.1
     ∙ what_something q in
     (n, frames_with rest next n ∙ g)
 
-pub popped_none : (outer : List Open) (o : Open) (first most base : ℕ) (p : Partial)
+pub popped_none : (outer : List BegunPod) (o : BegunPod) (first most base : ℕ) (p : Partial)
     (ps : List Partial) → IsKept outer o first most → frames_in outer o ≡ frames_of base (p ∷ ps) →
     outer ≡ [] → frames_of base ps ≡ []
 popped_none outer o first most base p ps k e f =
@@ -197,14 +197,14 @@ popped_none outer o first most base p ps k e f =
     let r = same_last outer (frames_of base ps) o _ (sym (frames_with outer o h) ∙ e) in
     sym r.0 ∙ f
 
-some_rest : (rest : List Open) (next q : Open) (r : List Open) → rest ≡ q ∷ r →
+some_rest : (rest : List BegunPod) (next q : BegunPod) (r : List BegunPod) → rest ≡ q ∷ r →
     rest ++ next ∷ [] ≡ q ∷ (r ++ next ∷ [])
 some_rest rest next q r e = ap (λ l. l ++ next ∷ []) e
 
-pub still_kept : (outer rest : List Open) (o next : Open) (first most most' : ℕ) →
+pub still_kept : (outer rest : List BegunPod) (o next : BegunPod) (first most most' : ℕ) →
     IsKept outer o first most → outer ≡ rest ++ next ∷ [] → is_nothing next.what ≡ false →
     (rest ≡ [] → most' ≡ first + most_bytes true) →
-    ((q : Open) (r : List Open) → rest ≡ q ∷ r → most' ≡ first + most_bytes false) →
+    ((q : BegunPod) (r : List BegunPod) → rest ≡ q ∷ r → most' ≡ first + most_bytes false) →
     IsKept rest next first most'
 still_kept outer rest o next first most most' k f n alone around = record {
   none = λ h. absurd (cc (n, h));
@@ -213,23 +213,23 @@ still_kept outer rest o next first most most' k f n alone around = record {
   low = k.low;
 }
 
-pub more_kept : (outer : List Open) (o new : Open) (first most : ℕ) → IsKept outer o first most →
+pub more_kept : (outer : List BegunPod) (o new : BegunPod) (first most : ℕ) → IsKept outer o first most →
     is_nothing o.what ≡ false → is_nothing new.what ≡ false →
     IsKept (outer ++ o ∷ []) new first (first + most_bytes false)
 more_kept [] o new first most k h n = record {
   none = λ x. absurd (cc (n, x));
   only = λ e. absurd (no_last [] o e);
-  more = λ q r e. let i : o ≡ q = cc in ((k.only refl).0 ∙ ap (λ (x : Open). x.start) i, refl);
+  more = λ q r e. let i : o ≡ q = cc in ((k.only refl).0 ∙ ap (λ (x : BegunPod). x.start) i, refl);
   low = k.low;
 }
 more_kept (z ∷ zs) o new first most k h n = record {
   none = λ x. absurd (cc (n, x));
   only = λ e. absurd (no_last (z ∷ zs) o e);
-  more = λ q r e. let i : z ≡ q = cc in ((k.more z zs refl).0 ∙ ap (λ (x : Open). x.start) i, refl);
+  more = λ q r e. let i : z ≡ q = cc in ((k.more z zs refl).0 ∙ ap (λ (x : BegunPod). x.start) i, refl);
   low = k.low;
 }
 
-pub first_kept : (outer : List Open) (o new : Open) (first most : ℕ) → IsKept outer o first most →
+pub first_kept : (outer : List BegunPod) (o new : BegunPod) (first most : ℕ) → IsKept outer o first most →
     is_nothing o.what ≡ true → is_nothing new.what ≡ false → new.start < 2 ^ 63 →
     IsKept outer new new.start (new.start + most_bytes true)
 first_kept outer o new first most k h n l = record {
@@ -242,9 +242,9 @@ first_kept outer o new first most k h n l = record {
 not_zero : (n m : ℕ) → n ≡ suc m → nat_eq n 0 ≡ false
 not_zero n m e = grind (arith, nat_tests)
 
-pub most_kept : (most : ℕ) (alone : Bool) (n : ℕ) (xs : List Open) → most ≡ most_bytes alone →
+pub most_kept : (most : ℕ) (alone : Bool) (n : ℕ) (xs : List BegunPod) → most ≡ most_bytes alone →
     alone ≡ nat_eq n 0 → n ≡ length xs →
-    (xs ≡ [] → most ≡ most_bytes true) × ((q : Open) (rest : List Open) → xs ≡ q ∷ rest →
+    (xs ≡ [] → most ≡ most_bytes true) × ((q : BegunPod) (rest : List BegunPod) → xs ≡ q ∷ rest →
     most ≡ most_bytes false)
 most_kept most alone n [] e f l =
     (λ h. e ∙ ap most_bytes (f ∙ ap (λ m. nat_eq m 0) l), λ q rest h. absurd (cc))

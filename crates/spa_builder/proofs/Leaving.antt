@@ -1,6 +1,6 @@
 -- A tree that is given up.
 use Rattle.std.proofs.Common.{◌≡◌, ℕ, ◌+◌, ◌≤◌, ◌^◌, List, [], ◌∷◌, ◌++◌, length, take, refl, sym, ap, ◌∙◌, arith, false, true, eq-eqb, ◌&&◌, Bool}
-use Rattle.std.specs.Prelude.{nat_eq, nat_lt, cond, Option, Some, None}
+use Rattle.std.specs.Prelude.{nat_eq, nat_lt, cond, Some, None}
 use Rattle.std.proofs.lemmas.Bool.Decides.{nat_tests}
 use Rattle.std.proofs.lemmas.List.{take_at}
 use borrow.Author.Tests.{ltb-true}
@@ -10,7 +10,7 @@ use Rattle.spa_format.specs.Encoding.{member_encodings}
 use Rattle.spa_builder.specs.State.{Partial, State}
 use Rattle.spa_builder.specs.Step.{abandoned, all_fit, own_size}
 use Rattle.spa_builder.specs.Held.{Held, IsAt, all_so_far, frames_of, so_far}
-use Rattle.spa_builder.specs.declared.open.Open.{Open}
+use Rattle.spa_builder.specs.declared.begun.BegunPod.{BegunPod}
 use Rattle.spa_builder.proofs.FrameLists.{length-frames_of}
 use Rattle.spa_builder.proofs.Steps.{Closing, lt_test}
 
@@ -53,7 +53,7 @@ pub other_number : (a b : ℕ) → (a ≡ b → ⊥) → nat_eq a b ≡ false
 other_number a b h = grind (arith, nat_tests)
 
 -- the bytes and the frames from before its push hold the state without it
-pub is_without : (old new : Held) (s : State) (o : Open) (p : Partial) (rest : List Partial) →
+pub is_without : (old new : Held) (s : State) (o : BegunPod) (p : Partial) (rest : List Partial) →
     Closing old s o p rest → new.bytes ≡ take o.start old.bytes →
     new.frames ≡ frames_of (length (member_encodings s.closed)) rest →
     IsAt new (without s.closed rest)

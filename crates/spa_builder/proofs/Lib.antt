@@ -10,3 +10,4 @@ pub mod Pieces
 pub mod Kept
 pub mod Leaving
 pub mod Valued
+pub mod AtHand

@@ -18,7 +18,7 @@ use Rattle.spa_builder.specs.Innermost.{filled, closed_with, has_room_for, inner
 use Rattle.spa_builder.specs.Answers.{Makes, Spells}
 use Rattle.spa_utils.specs.declared.errno.Errno.{Errno}
 use Rattle.spa_utils.specs.declared.errno.TheConstants.Errno.{NOMEM, INVAL, NOSPC}
-use Rattle.spa_builder.specs.declared.open.Open.{Open}
+use Rattle.spa_builder.specs.declared.begun.BegunPod.{BegunPod}
 use Rattle.spa_builder.proofs.Sizes.{one_size_decides, room_later, room_begun, length-body, length-so_far, kept_bodies, inside_fit}
 use borrow.Author.Tests.{ltb-true}
 
@@ -224,7 +224,7 @@ pub goes_inval : (A : Type 0) (o : Option State) (old : Held) → o ≡ None →
 goes_inval A o old e = subst (λ p. Makes {A = A} (taken p) old old (Err INVAL)) (sym e) (refl, refl)
 
 -- what is known where a frame is innermost
-pub record Closing (old : Held) (s : State) (o : Open) (p : Partial) (rest : List Partial) :
+pub record Closing (old : Held) (s : State) (o : BegunPod) (p : Partial) (rest : List Partial) :
     Type 0 where
   pub opened : s.opened ≡ p ∷ rest
   pub start : o.start ≡ length (member_encodings s.closed ++ all_so_far rest)
@@ -243,7 +243,7 @@ both_true : (a b : Bool) → (a && b) ≡ true → (a ≡ true) × (b ≡ true)
 both_true true b e = (refl, e)
 both_true false b e = absurd (cc)
 
-pub closing : (old : Held) (closed : Trees) (ops : List Partial) (o : Open) →
+pub closing : (old : Held) (closed : Trees) (ops : List Partial) (o : BegunPod) →
     IsAt old (record { closed = closed; opened = ops }) →
     Some o ≡ innermost_of (length (member_encodings closed)) ops →
     (p : Partial) × (rest : List Partial) × Closing old (record { closed = closed; opened = ops }) o
@@ -256,7 +256,7 @@ closing old closed (p ∷ rest) o at e =
           what_of p;
     } = cc in
     let st : o.start ≡ length (member_encodings closed) + length (all_so_far rest) =
-    ap (λ (x : Open). x.start) i in
+    ap (λ (x : BegunPod). x.start) i in
     let la = length-append (member_encodings closed) (all_so_far rest) in
     let b : old.bytes ≡ (member_encodings closed ++ all_so_far rest) ++ so_far p = at.bytes
     ∙ sym (append_assoc (member_encodings closed) (all_so_far rest) (so_far p)) in
@@ -273,7 +273,7 @@ closing old closed (p ∷ rest) o at e =
       record {
         opened = refl;
         start = st ∙ sym la;
-        what = ap (λ (x : Open). x.what) i;
+        what = ap (λ (x : BegunPod). x.what) i;
         bytes = b;
         frames = at.frames ∙ ap (λ x. frames_of (length (member_encodings closed)) rest ++ x ∷ [])
             (sym i);
@@ -400,7 +400,7 @@ closed_fit rest p v e f h k fit =
     ∙ sym (inside_fit rest (extent (own_size p)) (1 + (own_size p + 7) / 8) (omega arith) h k)
     ∙ fit
 
-pub is_closed : (old new : Held) (s : State) (o : Open) (p : Partial) (rest : List Partial)
+pub is_closed : (old new : Held) (s : State) (o : BegunPod) (p : Partial) (rest : List Partial)
     (v : Tree) → Closing old s o p rest → finished p ≡ Some v →
     new.bytes ≡ (member_encodings s.closed ++ all_so_far rest) ++ framed (type_of_partial p)
     (body_so_far p) → new.frames ≡ frames_of (length (member_encodings s.closed)) (filled rest v) →
@@ -472,7 +472,7 @@ sized_inval A b o old e = subst (λ p. Makes {A = A} (sized b p) old old (Err IN
 
 -- ---- the builder
 
-pub at_start : (xs : List ℕ) (fs : List Open) → xs ≡ [] → fs ≡ [] → IsAt (held xs fs) start
+pub at_start : (xs : List ℕ) (fs : List BegunPod) → xs ≡ [] → fs ≡ [] → IsAt (held xs fs) start
 at_start xs fs b f = record { bytes = b; frames = f; nested = tt; fit = refl }
 
 kept_one : {A : Type 0} (o : Outcome) (old new : Held) (r : Result A Errno) → IsHeld old →

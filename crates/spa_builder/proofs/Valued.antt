@@ -1,6 +1,6 @@
 -- A value that is written whole where it may come next.
-use Rattle.std.proofs.Common.{◌≡◌, ◌≢◌, ℕ, ◌<◌, ◌≤◌, ◌+◌, ◌∷◌, ◌++◌, [], List, length, take, refl, sym, ap, ◌∙◌, subst, arith, Bool, true, false, ◌==◌, Ok, Err, inl, inr, ◌⊎◌, eqb-true, eq-eqb, All, Contains, length-append}
-use Rattle.std.specs.Prelude.{cond, nat_lt, nat_eq, None, Some, Option, Result, ◌||◌, IsErrAnd}
+use Rattle.std.proofs.Common.{◌≡◌, ◌≢◌, ℕ, ◌<◌, ◌≤◌, ◌∷◌, ◌++◌, [], List, length, take, refl, sym, ap, ◌∙◌, subst, arith, Bool, true, false, Ok, Err, inl, inr, ◌⊎◌, eqb-true, eq-eqb, Contains, length-append}
+use Rattle.std.specs.Prelude.{cond, nat_lt, None, Some, Option, Result, IsErrAnd}
 use Rattle.std.specs.List.{list_any}
 use Rattle.std.proofs.lemmas.Bool.{or_cases, or_left, or_right, false≢true}
 use Rattle.std.proofs.lemmas.List.{append-nil, take_at}
@@ -20,11 +20,11 @@ use Rattle.spa_value.specs.declared.choice_value.ChoiceValue.{ChoiceValue}
 use Rattle.spa_value.specs.declared.object.Object.{Object}
 use Rattle.spa_value.specs.declared.value.Value.{Value}
 use Rattle.spa_value.specs.declared.value.Value.TheVariants as V
-use Rattle.spa_builder.specs.State.{Partial, State}
-use Rattle.spa_builder.specs.Step.{Accepts, Inval, Nospc, Outcome, add, all_fit, has_nul, is_nul, placed, sized, some_has_nul, some_value_has_nul, step, takes_trees}
+use Rattle.spa_builder.specs.State.{State}
+use Rattle.spa_builder.specs.Step.{Inval, Outcome, add, all_fit, has_nul, is_nul, placed, sized, some_has_nul, some_value_has_nul, step, takes_trees}
 use Rattle.spa_builder.specs.Held.{Held, IsAt, IsHeld, frames_of}
 use Rattle.spa_builder.specs.Innermost.{filled, has_room_for}
-use Rattle.spa_builder.specs.Answers.{Makes, MakesValue, RefusesValue, StopsInside, errno_of}
+use Rattle.spa_builder.specs.Answers.{Makes, MakesValue, RefusesValue, errno_of}
 use Rattle.spa_utils.specs.declared.errno.Errno.{Errno}
 use Rattle.spa_utils.specs.declared.errno.TheConstants.Errno.{INVAL, NOMEM, NOSPC}
 use Rattle.spa_builder.proofs.Lengths.{length-framed}
@@ -207,7 +207,7 @@ value_refused s v old new r e t is same (inr h) =
       same = same;
     })
 
-kept_made : (o : Outcome) (old new : Held) (r : Result (Unit {0}) Errno) → IsHeld old →
+pub kept_made : (o : Outcome) (old new : Held) (r : Result (Unit {0}) Errno) → IsHeld old →
     Makes o old new r → IsHeld new
 kept_made o old new r h m = kept (λ s. o) old new r h (λ s at. m)
 

@@ -1,9 +1,11 @@
 -- What a call answers, and what the builder holds then, by what the model's step comes to.
 use Rattle.std.specs.Prelude.{◌≡◌, ◌≢◌, ◌<◌, ◌≤◌, ◌⊎◌, ℕ, List, [], ◌++◌, true, false, None, Result, Ok, Err, IsErrAnd}
 use Rattle.spa_format.specs.Words.{extent, size_limit}
-use Rattle.spa_format.specs.Encoding.{member_encodings}
+use Rattle.spa_format.specs.Encoding.{encoding_of, member_encodings}
+use Rattle.spa_format.specs.Pod.{IsPod}
 use Rattle.spa_format.specs.Tree.{Tree}
 use Rattle.spa_format.specs.Writable.{HasNul, IsTooLarge}
+use Rattle.spa_scan.specs.Depth.{depth_of, levels_looked_into}
 use Rattle.spa_sink.specs.declared.gen_error.GenError.{GenError}
 use Rattle.spa_sink.specs.declared.gen_error.GenError.TheVariants.{Full, TooLarge, NulInText, WrongCount, Failed, Io, OutOfMemory}
 use Rattle.spa_builder.specs.State.{Partial, State}
@@ -32,6 +34,18 @@ pub record StopsInside (s : State) (v : Tree) (old new : Held) (r : Result (Unit
 -- a value is added as the model adds it, or its members were gone through and stopped that
 abbrev pub MakesValue : State → Tree → Held → Held → Result (Unit {0}) Errno → Type 0
 MakesValue s v old new r = Makes (step s (add v)) old new r ⊎ StopsInside s v old new r
+
+-- A pod's value is added so, where memory may also run out for reading it. A pod of no value is refused, and changes nothing.
+pub record MakesPod (s : State) (b : List ℕ) (old new : Held) (r : Result (Unit {0}) Errno) : Type 0 where
+  pub value : (v : Tree) → IsPod b v → MakesValue s v old new r
+  pub none : ((v : Tree) → ¬ (IsPod b v)) → IsErrAnd r (λ e. (e ≡ INVAL) ⊎ (e ≡ NOMEM)) × (new ≡ old)
+
+-- a pod of this value that is its own rewriting, and nests no deeper than is looked into, where any tree may stand
+pub record IsCopied (s : State) (b : List ℕ) (v : Tree) : Type 0 where
+  pub place : takes_trees s.opened ≡ true
+  pub pod : IsPod b v
+  pub own : b ≡ encoding_of v
+  pub shallow : depth_of v ≤ levels_looked_into
 
 -- why a value can't be written
 abbrev pub RefusesValue : Tree → Errno → Type 0

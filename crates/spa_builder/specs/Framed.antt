@@ -2,10 +2,10 @@
 use Rattle.std.specs.Prelude.{◌≡◌, ◌+◌, ◌-◌, ◌<◌, ◌^◌, ℕ, List, [], ◌∷◌, ◌++◌, Bool, true, false, cond}
 use Rattle.spa_format.specs.Words.{header_size, size_limit}
 use Rattle.spa_builder.specs.Innermost.{most_padding}
-use Rattle.spa_builder.specs.declared.open.Open.{Open}
-use Rattle.spa_builder.specs.declared.open.What.{What}
-use Rattle.spa_builder.specs.declared.open.Stage.{Stage}
-use Rattle.spa_builder.specs.declared.open.Stage.TheVariants.{Nothing, Struct, Property, Object, Array, Choice}
+use Rattle.spa_builder.specs.declared.begun.BegunPod.{BegunPod}
+use Rattle.spa_builder.specs.declared.begun.What.{What}
+use Rattle.spa_builder.specs.declared.begun.Stage.{Stage}
+use Rattle.spa_builder.specs.declared.begun.Stage.TheVariants.{Nothing, Struct, Property, Object, Array, Choice}
 
 -- nothing is begun
 abbrev pub no_stage : Stage → Bool
@@ -25,7 +25,7 @@ abbrev pub at_stage : What → Stage → What
 at_stage w stage = record { stage = stage; elements = w.elements }
 
 -- where nothing is innermost, nothing is begun
-abbrev pub frames_in : List Open → Open → List Open
+abbrev pub frames_in : List BegunPod → BegunPod → List BegunPod
 frames_in outer o = cond (is_nothing o.what) outer (outer ++ o ∷ [])
 
 -- The numbers of bytes of an open tree with its header that its size word can't hold begin here. Where a tree is inside it,
@@ -43,8 +43,8 @@ abbrev pub vector_limit : ℕ
 vector_limit = 2 ^ 63
 
 -- Beside them stand the outermost frame's place and the length of the vector from which on its size word can't hold it.
-pub record IsKept (outer : List Open) (innermost : Open) (first end : ℕ) : Type 0 where
+pub record IsKept (outer : List BegunPod) (innermost : BegunPod) (first end : ℕ) : Type 0 where
   pub none : is_nothing innermost.what ≡ true → outer ≡ []
   pub only : outer ≡ [] → (first ≡ innermost.start) × (end ≡ first + most_bytes true)
-  pub more : (o : Open) (rest : List Open) → outer ≡ o ∷ rest → (first ≡ o.start) × (end ≡ first + most_bytes false)
+  pub more : (o : BegunPod) (rest : List BegunPod) → outer ≡ o ∷ rest → (first ≡ o.start) × (end ≡ first + most_bytes false)
   pub low : first < vector_limit

@@ -6,17 +6,17 @@ use Rattle.spa_format.specs.Tree.{shape_number, struct_type, object_type, array_
 use Rattle.spa_format.specs.Encoding.{array_body, fixed_bodies, member_encodings, property_encodings}
 use Rattle.spa_builder.specs.State.{Partial, open_struct, open_object, open_property, open_array, open_choice, State}
 use Rattle.spa_builder.specs.Step.{child_kind, takes_trees, all_fit}
-use Rattle.spa_builder.specs.declared.open.Open.{Open}
-use Rattle.spa_builder.specs.declared.open.What.{What}
-use Rattle.spa_builder.specs.declared.open.Elements.{Elements}
-use Rattle.spa_builder.specs.declared.open.Stage.TheVariants.{Struct, Property, Object, Array, Choice}
+use Rattle.spa_builder.specs.declared.begun.BegunPod.{BegunPod}
+use Rattle.spa_builder.specs.declared.begun.What.{What}
+use Rattle.spa_builder.specs.declared.begun.Elements.{Elements}
+use Rattle.spa_builder.specs.declared.begun.Stage.TheVariants.{Struct, Property, Object, Array, Choice}
 
 -- what a builder holds
 pub record Held : Type 0 where
   pub bytes : List ℕ
-  pub frames : List Open
+  pub frames : List BegunPod
 
-abbrev pub held : List ℕ → List Open → Held
+abbrev pub held : List ℕ → List BegunPod → Held
 held bytes frames = record { bytes = bytes; frames = frames }
 
 -- the type number of the first element
@@ -60,7 +60,7 @@ all_so_far [] = []
 all_so_far (p ∷ ps) = all_so_far ps ++ so_far p
 
 -- the frames of open trees behind so many bytes, the outermost first
-abbrev pub frames_of : ℕ → List Partial → List Open
+abbrev pub frames_of : ℕ → List Partial → List BegunPod
 frames_of base [] = []
 frames_of base (p ∷ ps) = frames_of base ps ++ (record { start = base + length (all_so_far ps); what = what_of p }) ∷ []
 

@@ -6,10 +6,10 @@ use Rattle.spa_format.specs.Tree.{Tree, Trees}
 use Rattle.spa_builder.specs.State.{Partial, open_struct, open_object, open_property, open_array, open_choice, with_tree, with_property}
 use Rattle.spa_builder.specs.Step.{array_takes, choice_takes}
 use Rattle.spa_builder.specs.Held.{all_so_far, what_of}
-use Rattle.spa_builder.specs.declared.open.Open.{Open}
+use Rattle.spa_builder.specs.declared.begun.BegunPod.{BegunPod}
 
 -- the innermost open tree's frame
-abbrev pub innermost_of : ℕ → List Partial → Option Open
+abbrev pub innermost_of : ℕ → List Partial → Option BegunPod
 innermost_of base [] = None
 innermost_of base (p ∷ ps) = Some (record { start = base + length (all_so_far ps); what = what_of p })
 

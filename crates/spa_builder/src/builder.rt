@@ -2,27 +2,30 @@
 ghost use Rattle.std.specs.Prelude.{◌≡◌, ◌≢◌, ◌+◌, [], IfErr, IfOk, length, map};
 ghost use Rattle.spa_format.specs.Kind.{bool, double, fd, float, fraction, id, int, long, none, rectangle};
 ghost use Rattle.spa_format.specs.Encoding.{member_encodings};
-ghost use Rattle.spa_format.specs.Tree.{array, bytes, fixed, pointer, string};
+ghost use Rattle.spa_format.specs.Tree.{Tree, array, bytes, fixed, pointer, string};
 ghost use Rattle.spa_value.specs.View.{array_view, view};
 ghost use Rattle.spa_builder.specs.State.{State, start};
 ghost use Rattle.spa_builder.specs.Step.{abandon, add, add_prop, pop, push_array, push_choice, push_object, push_struct, step};
 ghost use Rattle.spa_builder.specs.Held.{IsAt};
-ghost use Rattle.spa_builder.specs.Answers.{Makes, MakesValue, Spells};
+ghost use Rattle.spa_builder.specs.Answers.{IsCopied, Makes, MakesPod, MakesValue, Spells};
+ghost use Rattle.spa_view.specs.View.{pod_bytes};
 ghost use Rattle.spa_utils.specs.declared.errno.TheConstants.Errno.{INVAL};
 
+use crate::begun::{Elements, NO_ELEMENTS, Stage, What};
 use crate::building::{
-    add_elements, add_encoding, add_fixed, add_key, add_pod, add_values, begin, close, leave,
+    add_body, add_elements, add_encoding, add_fixed, add_key, add_values, begin_tree, close, leave,
 };
 use crate::bytes::pointer_pod;
 use crate::frames::Frames;
 use crate::heads::{array_head, choice_head, object_head, struct_head};
-use crate::open::{Elements, NO_ELEMENTS, Stage, What};
+use crate::pods::add_seen;
 use crate::values::add_any;
 use crate::written::Written;
 use spa_bytes::POINTER_LEN;
 use spa_fixed::{CanonicalFixedSizedPod, FLAGS_SHAPE};
 use spa_utils::{Errno, Fd, Float32, Float64, Fraction, Frame, Id, Rectangle, SpaTypes};
 use spa_value::{Value, ValueArray};
+use spa_view::Pod;
 use std::marker::Model;
 
 /// Builds pods call by call, one behind another, at the end of one vector.
@@ -153,7 +156,7 @@ impl Builder {
         if text.contains(&0) {
             return Err(Errno::INVAL);
         }
-        add_pod(
+        add_body(
             &mut self.bytes,
             &mut self.frames,
             SpaTypes::String.0,
@@ -166,7 +169,7 @@ impl Builder {
     pub fn add_bytes(&mut self, value: &[u8]) -> Result<(), Errno>
         ensures { (s : State) → IsAt self.old s → Makes (step s (add (bytes value.now))) self.old self.new result }
     {
-        add_pod(
+        add_body(
             &mut self.bytes,
             &mut self.frames,
             SpaTypes::Bytes.0,
@@ -231,6 +234,15 @@ impl Builder {
         add_any(&mut self.bytes, &mut self.frames, value)
     }
 
+    /// Adds the value that a pod says, as `add_value` does. Where any value may stand, a pod that is its own rewriting, and
+    /// nests no more than 1000 deep, is copied; any other is read first, and one of no value is INVAL.
+    pub fn add_pod(&mut self, pod: Pod<'_>) -> Result<(), Errno>
+        ensures makes { (s : State) → IsAt self.old s → MakesPod s (pod_bytes pod.entry) self.old self.new result }
+        ensures copied { (s : State) (v : Tree) → IsAt self.old s → IsCopied s (pod_bytes pod.entry) v → Makes (step s (add v)) self.old self.new result }
+    {
+        add_seen(&mut self.bytes, &mut self.frames, &pod)
+    }
+
     /// Adds the key and the flags of a property. The next call adds or begins its value.
     #[inline(always)]
     pub fn add_prop(&mut self, key: u32, flags: u32) -> Result<(), Errno>
@@ -245,7 +257,7 @@ impl Builder {
         ensures step { (s : State) → IsAt self.old s → Makes (step s push_array) self.old self.new result }
         ensures frame { (s : State) → IsAt self.old s → IfOk result (λ f. f.0 ≡ length s.opened + 1) }
     {
-        begin(
+        begin_tree(
             &mut self.bytes,
             &mut self.frames,
             What {
@@ -266,7 +278,7 @@ impl Builder {
         if shape > FLAGS_SHAPE {
             return Err(Errno::INVAL);
         }
-        begin(
+        begin_tree(
             &mut self.bytes,
             &mut self.frames,
             What {
@@ -287,7 +299,7 @@ impl Builder {
         ensures step { (s : State) → IsAt self.old s → Makes (step s push_struct) self.old self.new result }
         ensures frame { (s : State) → IsAt self.old s → IfOk result (λ f. f.0 ≡ length s.opened + 1) }
     {
-        begin(
+        begin_tree(
             &mut self.bytes,
             &mut self.frames,
             What {
@@ -304,7 +316,7 @@ impl Builder {
         ensures step { (s : State) → IsAt self.old s → Makes (step s (push_object type_ id)) self.old self.new result }
         ensures frame { (s : State) → IsAt self.old s → IfOk result (λ f. f.0 ≡ length s.opened + 1) }
     {
-        begin(
+        begin_tree(
             &mut self.bytes,
             &mut self.frames,
             What {

@@ -12,10 +12,10 @@ ghost use Rattle.spa_builder.specs.Framed.{is_nothing};
 ghost use Rattle.spa_builder.specs.Innermost.{takes_elements};
 ghost use Rattle.spa_builder.specs.Answers.{Makes};
 
-use crate::bytes::{put_padding, put_plain, put_pod};
+use crate::begun::{BegunPod, Stage, What};
+use crate::bytes::{put_fixed_pod, put_padding, put_pod};
 use crate::elements::{is_finished, is_first, takes_element, takes_elements, with_element};
 use crate::frames::{Frames, admit, fill, takes_key, takes_trees};
-use crate::open::{Open, Stage, What};
 use crate::written::Written;
 use spa_bytes::{HEADER_LEN, two_words};
 use spa_fixed::{CanonicalFixedSizedPod, put_array};
@@ -24,7 +24,7 @@ use spa_value::ValueArray;
 
 /// Adds a pod whose body is at hand in two parts, where a tree of any type may stand.
 #[inline(always)]
-pub(crate) fn add_pod(
+pub(crate) fn add_body(
     bytes: &mut Written,
     frames: &mut Frames,
     type_: u32,
@@ -139,7 +139,7 @@ pub(crate) fn add_fixed<T: CanonicalFixedSizedPod>(
         return add_element(bytes, frames, T::TYPE, &value.padded_body()[..T::SIZE]);
     }
     admit(bytes.len(), frames, T::SIZE)?;
-    put_plain(bytes, value)?;
+    put_fixed_pod(bytes, value)?;
     fill(frames, innermost);
     Ok(())
 }
@@ -215,7 +215,7 @@ pub(crate) fn add_key(
 
 /// Begins a tree with these bytes, which are its header, with the size 0, and what follows it.
 #[inline(always)]
-pub(crate) fn begin<const N: usize>(
+pub(crate) fn begin_tree<const N: usize>(
     bytes: &mut Written,
     frames: &mut Frames,
     what: What,
@@ -236,7 +236,7 @@ pub(crate) fn begin<const N: usize>(
     if !frames.has_room(start, head.len()) {
         return Err(Errno::NOSPC);
     }
-    frames.push(Open { start, what }, bytes, head)?;
+    frames.push(BegunPod { start, what }, bytes, head)?;
     Ok(Frame(frames.len()))
 }
 

@@ -36,7 +36,7 @@ pub(crate) fn put_padding(bytes: &mut Written, size: usize) -> Result<(), Errno>
 
 /// Appends the pod of a value of fixed size.
 #[inline(always)]
-pub(crate) fn put_plain<T: CanonicalFixedSizedPod>(
+pub(crate) fn put_fixed_pod<T: CanonicalFixedSizedPod>(
     bytes: &mut Written,
     value: &T,
 ) -> Result<(), Errno>

@@ -8,7 +8,7 @@ ghost use Rattle.spa_builder.specs.Held.{what_of};
 ghost use Rattle.spa_builder.specs.Framed.{is_nothing};
 ghost use Rattle.spa_builder.specs.Innermost.{innermost_of, is_first, takes_element, takes_elements, with_element};
 
-use crate::open::{Elements, Open, Stage, What};
+use crate::begun::{BegunPod, Elements, Stage, What};
 use spa_fixed::{NONE_SHAPE, RANGE_SHAPE, STEP_SHAPE};
 use spa_utils::SpaTypes;
 
@@ -19,7 +19,7 @@ const STEP_COUNT: u32 = 4;
 
 /// Whether elements of a fixed size stand there.
 #[inline(always)]
-pub(crate) fn takes_elements(innermost: Option<Open>) -> bool
+pub(crate) fn takes_elements(innermost: Option<BegunPod>) -> bool
     ensures { (base : ℕ) (ps : List Partial) → innermost ≡ innermost_of base ps → result ≡ takes_elements ps }
 {
     match innermost {

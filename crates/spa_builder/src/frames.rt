@@ -10,7 +10,7 @@ ghost use Rattle.spa_builder.specs.Innermost.{filled, has_room_for, innermost_of
 ghost use Rattle.spa_builder.specs.Answers.{IsAdmitted};
 ghost use Rattle.spa_utils.specs.declared.errno.TheConstants.Errno.{NOMEM};
 
-use crate::open::{NO_ELEMENTS, Open, Stage, What};
+use crate::begun::{BegunPod, NO_ELEMENTS, Stage, What};
 use crate::written::Written;
 use spa_bytes::HEADER_LEN;
 use spa_utils::Errno;
@@ -22,7 +22,7 @@ use std::mem;
 pub(crate) const SIZE_LIMIT: usize = 1 << 32;
 
 /// No frame.
-const NO_FRAME: Open = Open {
+const NO_FRAME: BegunPod = BegunPod {
     start: 0,
     what: What {
         stage: Stage::Nothing,
@@ -58,7 +58,7 @@ fn is_nothing(what: What) -> bool
 /// builder whose calls are inlined can lie in registers.
 #[cold]
 #[inline(never)]
-fn roomier(mut outer: Vec<Open>) -> Vec<Open>
+fn roomier(mut outer: Vec<BegunPod>) -> Vec<BegunPod>
     ensures { result.items ≡ outer.items }
 {
     let _ = outer.reserve(1);
@@ -67,7 +67,7 @@ fn roomier(mut outer: Vec<Open>) -> Vec<Open>
 
 /// Makes room for one frame more.
 #[inline(always)]
-fn make_room(outer: &mut Vec<Open>) -> Result<(), Errno>
+fn make_room(outer: &mut Vec<BegunPod>) -> Result<(), Errno>
     ensures room { OnOk result (length outer.new.items < vec_capacity outer.new) }
     ensures same { outer.new.items ≡ outer.old.items }
     ensures memory { IfErr result (λ e. e ≡ NOMEM) }
@@ -85,7 +85,7 @@ fn make_room(outer: &mut Vec<Open>) -> Result<(), Errno>
 
 /// The list with this frame behind it, for which there is room. It is handed over whole, as above.
 #[inline(never)]
-fn longer(mut outer: Vec<Open>, frame: Open) -> Vec<Open>
+fn longer(mut outer: Vec<BegunPod>, frame: BegunPod) -> Vec<BegunPod>
     requires { length outer.items < vec_capacity outer }
     ensures { result.items ≡ outer.items ++ frame ∷ [] }
 {
@@ -97,7 +97,7 @@ fn longer(mut outer: Vec<Open>, frame: Open) -> Vec<Open>
 
 /// Puts a frame behind the others, for which there is room.
 #[inline(always)]
-fn put(outer: &mut Vec<Open>, frame: Open)
+fn put(outer: &mut Vec<BegunPod>, frame: BegunPod)
     requires { length outer.old.items < vec_capacity outer.old }
     ensures { outer.new.items ≡ outer.old.items ++ frame ∷ [] }
 {
@@ -108,18 +108,18 @@ fn put(outer: &mut Vec<Open>, frame: Open)
 /// The frames of the pods that are begun.
 #[derive(Drop)]
 pub(crate) struct Frames {
-    outer: Vec<Open>,
-    innermost: Open,
+    outer: Vec<BegunPod>,
+    innermost: BegunPod,
     first: usize,
     end: usize,
 }
 
 impl Model for Frames {
     ghost use Rattle.std.specs.Prelude.{List};
-    ghost use Rattle.spa_builder.specs.declared.open.Open.{Open};
+    ghost use Rattle.spa_builder.specs.declared.begun.BegunPod.{BegunPod};
     ghost use Rattle.spa_builder.specs.Framed.{IsKept, frames_in};
 
-    ghost Value = { List Open };
+    ghost Value = { List BegunPod };
 
     ghost view = { λ f. frames_in f.outer.items f.innermost };
 
@@ -152,7 +152,7 @@ impl Frames {
 
     /// The innermost.
     #[inline(always)]
-    pub(crate) fn innermost(&self) -> Option<Open>
+    pub(crate) fn innermost(&self) -> Option<BegunPod>
         ensures last { (base : ℕ) (ps : List Partial) → self.now ≡ frames_of base ps → result ≡ innermost_of base ps }
         ensures something { IfSome result (λ o. is_nothing o.what ≡ false) }
     {
@@ -198,7 +198,7 @@ impl Frames {
     #[inline(always)]
     pub(crate) fn push<const N: usize>(
         &mut self,
-        frame: Open,
+        frame: BegunPod,
         bytes: &mut Written,
         head: [u8; N],
     ) -> Result<(), Errno>
@@ -244,7 +244,7 @@ impl Frames {
 
 /// Whether a tree of any type may begin there.
 #[inline(always)]
-pub(crate) fn takes_trees(innermost: Option<Open>) -> bool
+pub(crate) fn takes_trees(innermost: Option<BegunPod>) -> bool
     ensures { (base : ℕ) (ps : List Partial) → innermost ≡ innermost_of base ps → result ≡ takes_trees ps }
 {
     match innermost {
@@ -255,7 +255,7 @@ pub(crate) fn takes_trees(innermost: Option<Open>) -> bool
 
 /// Whether a key waits there for its value.
 #[inline(always)]
-fn waits(innermost: Option<Open>) -> bool
+fn waits(innermost: Option<BegunPod>) -> bool
     ensures { (base : ℕ) (ps : List Partial) → innermost ≡ innermost_of base ps → result ≡ waits ps }
 {
     match innermost {
@@ -266,7 +266,7 @@ fn waits(innermost: Option<Open>) -> bool
 
 /// Whether an object stands there in which no key waits.
 #[inline(always)]
-pub(crate) fn takes_key(innermost: Option<Open>) -> bool
+pub(crate) fn takes_key(innermost: Option<BegunPod>) -> bool
     ensures { (base : ℕ) (ps : List Partial) → innermost ≡ innermost_of base ps → result ≡ takes_key ps }
 {
     match innermost {
@@ -296,7 +296,7 @@ pub(crate) fn admit(len: usize, frames: &Frames, size: usize) -> Result<(), Errn
 
 /// A value came into the innermost tree, whose frame was read before: a key that waited has it.
 #[inline(always)]
-pub(crate) fn fill(frames: &mut Frames, innermost: Option<Open>)
+pub(crate) fn fill(frames: &mut Frames, innermost: Option<BegunPod>)
     ensures { (base : ℕ) (ps : List Partial) (v : Tree) → IsTrue (takes_trees ps) → frames.old ≡ frames_of base ps → innermost ≡ innermost_of base ps → frames.new ≡ frames_of base (filled ps v) }
 {
     if waits(innermost) {

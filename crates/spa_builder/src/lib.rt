@@ -1,6 +1,7 @@
 //! Pods built call by call, into one vector.
 #![tactic(auto)]
 
+mod begun;
 mod build_call;
 mod builder;
 mod building;
@@ -10,7 +11,7 @@ mod elements;
 mod frames;
 mod heads;
 mod macros;
-mod open;
+mod pods;
 mod values;
 mod written;
 

@@ -4,7 +4,7 @@
 ///
 /// `None`, `Bool(v)`, `Id(v)`, `Int(v)`, `Long(v)`, `Float(v)`, `Double(v)`, `String(v)`, `Bytes(v)`,
 /// `Pointer(type, v)`, `Fd(v)`, `Rectangle(v)`, `Fraction(v)`, `Array(v)` of a slice of elements, `Value(v)` of a reference
-/// to a `Value`; `Array { .. }` and `Choice(shape, flags) { .. }` of forms of fixed size, `Struct { .. }` of any forms, and
+/// to a `Value`, `Pod(v)` of a view; `Array { .. }` and `Choice(shape, flags) { .. }` of forms of fixed size, `Struct { .. }` of any forms, and
 /// `Object(type, id) { key => form, key, flags => form, .. }`, whose properties have no flags where none are given.
 ///
 /// It answers `Ok(())`, or the first refusal. Then the calls before the refused one keep their effect, and what was begun
@@ -52,6 +52,9 @@ macro_rules! builder_add {
     };
     ($builder:expr, Value($value:expr)) => {
         $builder.add_value($value)
+    };
+    ($builder:expr, Pod($pod:expr)) => {
+        $builder.add_pod($pod)
     };
     ($builder:expr, Array($values:expr)) => {
         $builder.add_array_of($values)

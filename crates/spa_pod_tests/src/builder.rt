@@ -3,6 +3,7 @@ mod calls;
 mod finished;
 mod forms;
 mod objects;
+mod pods;
 mod refused;
 mod rows;
 mod shown;

@@ -38,8 +38,8 @@ returns-in_err-admit g c s at =
     (c.in_err-admit.ensures (length (member_encodings s.closed)) s.opened (at.frames)
     (c.len.ensures ∙ base_and_more old s at))
 
-pub returns-in_err-put_plain : goal.returns-in_err-put_plain
-returns-in_err-put_plain g c s at =
+pub returns-in_err-put_fixed_pod : goal.returns-in_err-put_fixed_pod
+returns-in_err-put_fixed_pod g c s at =
     let old : Held = held c.args.bytes.now c.args.frames.now in
     let x = g.T.CanonicalFixedSizedPod.fixed c.args.value.now in
     let v = fixed x in
@@ -55,9 +55,9 @@ returns-in_err-put_plain g c s at =
     admitted_nomem s v old _ _ _ _ at size
     (c.in_ok-admit.ensures (length (member_encodings s.closed)) s.opened (at.frames)
     (c.len.ensures ∙ base_and_more old s at))
-    (passed _ _ c.from_residual-in_err-put_plain.ensures.1
-    ∙ ap (λ e. Err e) c.in_err-put_plain.ensures.memory)
-    (ap (λ l. held l c.args.frames.now) c.in_err-put_plain.ensures.unchanged)
+    (passed _ _ c.from_residual-in_err-put_fixed_pod.ensures.1
+    ∙ ap (λ e. Err e) c.in_err-put_fixed_pod.ensures.memory)
+    (ap (λ l. held l c.args.frames.now) c.in_err-put_fixed_pod.ensures.unchanged)
 
 pub returns : goal.returns
 returns g c s at =
@@ -73,10 +73,10 @@ returns g c s at =
       large =
           λ y. subst (λ m. size_limit ≤ m) (c.SIZE-2.ensures ∙ l) y;
     } in
-    admitted s v old (held c.put_plain.new.bytes c.fill.new.frames) _ _ _ at size
+    admitted s v old (held c.put_fixed_pod.new.bytes c.fill.new.frames) _ _ _ at size
     (c.in_ok-admit.ensures (length (member_encodings s.closed)) s.opened (at.frames)
     (c.len.ensures ∙ base_and_more old s at))
-    (c.in_ok-put_plain.ensures.ok ∙ ap (λ t. c.args.bytes.now ++ framed t (fixed_body x))
+    (c.in_ok-put_fixed_pod.ensures.ok ∙ ap (λ t. c.args.bytes.now ++ framed t (fixed_body x))
     (g.met.T.CanonicalFixedSizedPod.its_type ∙ ap type_number (sym k)))
     (λ t. c.fill.ensures (length (member_encodings s.closed)) s.opened v t at.frames
     (c.innermost-innermost.ensures.last (length (member_encodings s.closed)) s.opened

@@ -6,18 +6,18 @@ use Rattle.spa_builder.proofs.Steps.{kept, through, nul_refused, without_nul, no
 use Rattle.spa_builder.proofs.builder.Builder.add_string.Goals as goal
 
 pub invariant_of-self : goal.invariant_of-self
-invariant_of-self c = kept (λ s. step s (add (string c.args.value.now))) _ _ c.add_pod.result
-    c.self.invariant (λ s at. without_nul _ _ _ _ c.add_pod.result
+invariant_of-self c = kept (λ s. step s (add (string c.args.value.now))) _ _ c.add_body.result
+    c.self.invariant (λ s at. without_nul _ _ _ _ c.add_body.result
     (ap (list_any is_nul) (sym c.as_bytes-text.ensures.value) ∙ sym c.contains.ensures.value
-    ∙ c.if-contains.false) (c.add_pod.ensures s (string c.args.value.now) at refl
+    ∙ c.if-contains.false) (c.add_body.ensures s (string c.args.value.now) at refl
     (ap (λ l. l ++ 0 ∷ []) (sym c.as_bytes-text.ensures.value))
     (no_element s.closed s.opened (string c.args.value.now) (λ x e. cc))))
 
 pub returns : goal.returns
-returns c = through (λ s. step s (add (string c.args.value.now))) _ _ _ c.add_pod.result
-    c.self.view_is (λ s at. without_nul _ _ _ _ c.add_pod.result
+returns c = through (λ s. step s (add (string c.args.value.now))) _ _ _ c.add_body.result
+    c.self.view_is (λ s at. without_nul _ _ _ _ c.add_body.result
     (ap (list_any is_nul) (sym c.as_bytes-text.ensures.value) ∙ sym c.contains.ensures.value
-    ∙ c.if-contains.false) (c.add_pod.ensures s (string c.args.value.now) at refl
+    ∙ c.if-contains.false) (c.add_body.ensures s (string c.args.value.now) at refl
     (ap (λ l. l ++ 0 ∷ []) (sym c.as_bytes-text.ensures.value))
     (no_element s.closed s.opened (string c.args.value.now) (λ x e. cc))))
 

@@ -1,4 +1,4 @@
-use Rattle.std.proofs.Common.{◌≡◌, ◌≤◌, [], length, ap, ◌∙◌, arith}
+use Rattle.std.proofs.Common.{◌≡◌, [], length, ap, ◌∙◌, arith}
 use Rattle.spa_builder.specs.Held.{Held}
 use Rattle.spa_builder.proofs.Leaving.{count_of, none_opened}
 use Rattle.spa_builder.proofs.Steps.{spells}

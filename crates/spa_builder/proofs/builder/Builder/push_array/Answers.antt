@@ -5,9 +5,9 @@ use Rattle.spa_builder.proofs.Steps.{kept, through}
 use Rattle.spa_builder.proofs.builder.Builder.push_array.Goals as goal
 
 pub invariant_of-self : goal.invariant_of-self
-invariant_of-self c = kept (λ s. step s push_array) _ _ c.begin.result c.self.invariant
-    (λ s at. c.begin.ensures.step s (open_array []) at refl c.array_head.ensures (λ e. refl))
+invariant_of-self c = kept (λ s. step s push_array) _ _ c.begin_tree.result c.self.invariant
+    (λ s at. c.begin_tree.ensures.step s (open_array []) at refl c.array_head.ensures (λ e. refl))
 
 pub returns-clause-step : goal.returns-clause-step
-returns-clause-step c = through (λ s. step s push_array) _ _ _ c.begin.result c.self.view_is
-    (λ s at. c.begin.ensures.step s (open_array []) at refl c.array_head.ensures (λ e. refl))
+returns-clause-step c = through (λ s. step s push_array) _ _ _ c.begin_tree.result c.self.view_is
+    (λ s at. c.begin_tree.ensures.step s (open_array []) at refl c.array_head.ensures (λ e. refl))

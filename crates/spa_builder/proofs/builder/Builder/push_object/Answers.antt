@@ -6,12 +6,12 @@ use Rattle.spa_builder.proofs.Steps.{kept, through}
 use Rattle.spa_builder.proofs.builder.Builder.push_object.Goals as goal
 
 pub invariant_of-self : goal.invariant_of-self
-invariant_of-self c = kept (λ s. step s (push_object c.args.type_ c.args.id)) _ _ c.begin.result
-    c.self.invariant (λ s at. c.begin.ensures.step s
+invariant_of-self c = kept (λ s. step s (push_object c.args.type_ c.args.id)) _ _ c.begin_tree.result
+    c.self.invariant (λ s at. c.begin_tree.ensures.step s
     (open_object c.args.type_ c.args.id no_properties) at refl c.object_head.ensures tt)
 
 pub returns-clause-step : goal.returns-clause-step
 returns-clause-step c = through (λ s. step s (push_object c.args.type_ c.args.id)) _ _ _
-    c.begin.result c.self.view_is
-    (λ s at. c.begin.ensures.step s (open_object c.args.type_ c.args.id no_properties) at refl
+    c.begin_tree.result c.self.view_is
+    (λ s at. c.begin_tree.ensures.step s (open_object c.args.type_ c.args.id no_properties) at refl
     c.object_head.ensures tt)

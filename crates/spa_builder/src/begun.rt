@@ -40,7 +40,7 @@ pub(crate) struct What {
 
 /// A pod that was begun, and where it begins.
 #[derive(Clone, Copy, Debug)]
-pub(crate) struct Open {
+pub(crate) struct BegunPod {
     /// Where its header stands in the vector.
     pub(crate) start: usize,
     /// What it is.

@@ -4,7 +4,7 @@ use Rattle.spa_format.specs.Tree.{type_of}
 use Rattle.spa_builder.specs.Held.{Held, held}
 use Rattle.spa_builder.proofs.Steps.{has_its_room, base_and_more}
 use Rattle.spa_builder.proofs.Placing.{IsSizeOf, not_admitted, admitted_nomem, admitted, passed}
-use Rattle.spa_builder.proofs.building.add_pod.Goals as goal
+use Rattle.spa_builder.proofs.building.add_body.Goals as goal
 
 pub admit-requires : goal.admit-requires
 admit-requires c =

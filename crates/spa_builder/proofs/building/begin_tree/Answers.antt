@@ -5,7 +5,7 @@ use Rattle.spa_builder.specs.Held.{Held, held, so_far}
 use Rattle.spa_builder.proofs.FrameLists.{length-frames_of}
 use Rattle.spa_builder.proofs.Steps.{sized_goes, sized_nomem, sized_nospc, begun_is, begun_fit, is_begun, has_its_room, base_and_more}
 use Rattle.spa_builder.proofs.Placing.{passed}
-use Rattle.spa_builder.proofs.building.begin.Goals as goal
+use Rattle.spa_builder.proofs.building.begin_tree.Goals as goal
 
 pub has_room-requires-clause-within : goal.has_room-requires-clause-within
 has_room-requires-clause-within g c =

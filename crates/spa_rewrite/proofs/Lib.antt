@@ -19,3 +19,4 @@ pub mod ShorterLemmas
 pub mod PlacedBodies
 pub mod WrittenAcross
 pub mod Moves
+pub mod Chains

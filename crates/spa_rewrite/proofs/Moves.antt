@@ -16,16 +16,16 @@ use Rattle.spa_rewrite.proofs.Patches.{length_put}
 use Rattle.spa_rewrite.proofs.WrittenAcross.{further_behind, here_is, opened_here, writes_all, writes_none, writes_one}
 
 -- the pods from a place on are left: once their rewritings are behind what is written, those of all are there
-pub record PlacesOn (keyed : Bool) (old now : List ℕ) (gap from to : ℕ) : Type 0 where
-  pub on : WritesOn keyed (drop gap old) old (drop from now) now to
+pub record PlacesOn (all keyed : Bool) (old now : List ℕ) (gap from to : ℕ) : Type 0 where
+  pub on : WritesOn all keyed (drop gap old) old (drop from now) now to
   pub within : from ≤ length now
 
-pub places_none : (keyed : Bool) (old : List ℕ) (gap : ℕ) → IsBytes old → gap ≤ length old → PlacesOn keyed old old gap gap 0
+pub places_none : (keyed : Bool) (old : List ℕ) (gap : ℕ) → IsBytes old → gap ≤ length old → PlacesOn keyed keyed old old gap gap 0
 places_none keyed old gap y l = record { on = writes_none keyed (drop gap old) old (IsBytes-drop gap old y); within = l }
 
 -- what is written is before what is left
-pub places_before : (keyed : Bool) (old now : List ℕ) (gap from to : ℕ) → PlacesOn keyed old now gap from to → gap ≤ length old → to + gap ≤ from
-places_before keyed old now gap from to p l =
+pub places_before : (all keyed : Bool) (old now : List ℕ) (gap from to : ℕ) → PlacesOn all keyed old now gap from to → gap ≤ length old → to + gap ≤ from
+places_before all keyed old now gap from to p l =
     let r = p.on.room in
     let s = p.on.long in
     let w = p.within in
@@ -91,14 +91,14 @@ written_before pod old sub k len w l y n =
     }
 
 -- one pod more
-pub places_more : (keyed : Bool) (old now keyed_out key_old sub_old sub left here body rest : List ℕ) (gap from to at len k pod_at next type : ℕ) →
-    PlacesOn keyed old now gap from to → gap ≤ length old → left ≡ drop from now → IsBehindKey keyed left here → Opens here type body rest →
+pub places_more : (all keyed : Bool) (old now keyed_out key_old sub_old sub left here body rest : List ℕ) (gap from to at len k pod_at next type : ℕ) →
+    PlacesOn all keyed old now gap from to → gap ≤ length old → left ≡ drop from now → IsBehindKey keyed left here → Opens here type body rest →
     pod_at ≡ length now - length here → next ≡ length now - length rest → PutsKey keyed key_old now keyed_out to at → key_old ≡ drop from now →
     length keyed_out ≡ length now → WritesPod (drop (pod_at - at) sub_old) sub_old sub len → sub_old ≡ take k (drop at keyed_out) → k ≡ next - at →
-    length sub ≡ length sub_old → PlacesOn keyed old (put_mid at k keyed_out sub) gap next (at + len)
-places_more keyed old now keyed_out key_old sub_old sub left here body rest gap from to at len k pod_at next type p l e b o pa na put ke same w is n y =
+    length sub ≡ length sub_old → PlacesOn all keyed old (put_mid at k keyed_out sub) gap next (at + len)
+places_more all keyed old now keyed_out key_old sub_old sub left here body rest gap from to at len k pod_at next type p l e b o pa na put ke same w is n y =
     let h = pod_places keyed now left here body rest from pod_at next type p.within e b o pa na in
-    let before = places_before keyed old now gap from to p l in
+    let before = places_before all keyed old now gap from to p l in
     let order = h.order in
     let within = h.within in
     let here_at = h.at in
@@ -124,20 +124,20 @@ places_more keyed old now keyed_out key_old sub_old sub left here body rest gap 
     let next_is : drop next (put_mid at k keyed_out sub) ≡ rest =
     drop-put_mid at k keyed_out sub next (omega arith) (omega arith) sub_long ∙ further_behind keyed_out now at next (omega arith) put.behind ∙ sym h.behind in
     let key_is : PutsKey keyed left now keyed_out to at = subst (λ x. PutsKey keyed x now keyed_out to at) (ke ∙ sym e) put in
-    let on_left : WritesOn keyed (drop gap old) old left now to = subst (λ x. WritesOn keyed (drop gap old) old x now to) (sym e) p.on in
-    let all = writes_one keyed (drop gap old) old left now keyed_out (sub ++ drop k d) here body rest pod to at len type on_left b o refl (omega arith)
+    let on_left : WritesOn all keyed (drop gap old) old left now to = subst (λ x. WritesOn all keyed (drop gap old) old x now to) (sym e) p.on in
+    let whole_on = writes_one all keyed (drop gap old) old left now keyed_out (sub ++ drop k d) here body rest pod to at len type on_left b o refl (omega arith)
     key_is same one (omega arith) in
-    let long = all.long in
+    let long = whole_on.long in
     let was = p.on.long in
     record {
-      on = subst (λ x. WritesOn keyed (drop gap old) old x (put_mid at k keyed_out sub) (at + len)) (sym next_is) all;
+      on = subst (λ x. WritesOn all keyed (drop gap old) old x (put_mid at k keyed_out sub) (at + len)) (sym next_is) whole_on;
       within = omega arith;
     }
 
 -- none is left
-pub places_all : (keyed : Bool) (old now left : List ℕ) (gap from to : ℕ) → PlacesOn keyed old now gap from to → left ≡ drop from now → ArePlaced keyed left [] →
-    WritesPods keyed (drop gap old) old now to
-places_all keyed old now left gap from to p e q = writes_all keyed (drop gap old) old (drop from now) now to p.on (subst (λ x. ArePlaced keyed x []) e q)
+pub places_all : (all keyed : Bool) (old now left : List ℕ) (gap from to : ℕ) → PlacesOn all keyed old now gap from to → left ≡ drop from now → ArePlaced keyed left [] →
+    WritesPods all (drop gap old) old now to
+places_all all keyed old now left gap from to p e q = writes_all all keyed (drop gap old) old (drop from now) now to p.on (subst (λ x. ArePlaced keyed x []) e q)
 
 -- so many bytes moved to the front
 pub moved_down : (old : List ℕ) (gap len : ℕ) → gap + len ≤ length old → paste old 0 (drop gap old) (gap + len - gap) ≡ take len (drop gap old) ++ drop len old

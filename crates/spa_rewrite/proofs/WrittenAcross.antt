@@ -21,7 +21,7 @@ use Rattle.spa_rewrite.proofs.Stretches.{both_rewritten}
 use Rattle.spa_rewrite.proofs.Places.{few_placed, inner_placed, none_placed, pods_placed}
 
 -- none is written
-pub writes_none : (keyed : Bool) (pods old : List ℕ) → IsBytes pods → WritesOn keyed pods old pods old 0
+pub writes_none : (keyed : Bool) (pods old : List ℕ) → IsBytes pods → WritesOn keyed keyed pods old pods old 0
 writes_none keyed pods old y = record { ends = λ new q. q; room = omega arith; long = refl; behind = refl; bytes = y }
 
 -- what is behind the key
@@ -80,11 +80,11 @@ put_end at k xs ys e =
     let f = length-drop k (drop at xs) in
     ap (λ z. take at xs ++ (ys ++ z)) (nil_from_length (drop k (drop at xs)) (omega arith)) ∙ ap (λ z. take at xs ++ z) (append-nil ys)
 
-pub writes_one : (keyed : Bool) (pods old left now keyed_out sub here body rest pod : List ℕ) (to at len type : ℕ) →
-    WritesOn keyed pods old left now to → IsBehindKey keyed left here → Opens here type body rest → pod ≡ take (length here - length rest) here →
+pub writes_one : (all keyed : Bool) (pods old left now keyed_out sub here body rest pod : List ℕ) (to at len type : ℕ) →
+    WritesOn all keyed pods old left now to → IsBehindKey keyed left here → Opens here type body rest → pod ≡ take (length here - length rest) here →
     length pods ≤ length old → PutsKey keyed left now keyed_out to at → length keyed_out ≡ length now → WritesPod pod (drop at keyed_out) sub len →
-    length sub ≡ length (drop at keyed_out) → WritesOn keyed pods old rest (take at keyed_out ++ sub) (at + len)
-writes_one keyed pods old left now keyed_out sub here body rest pod to at len type w k o n fits put same p y =
+    length sub ≡ length (drop at keyed_out) → WritesOn all keyed pods old rest (take at keyed_out ++ sub) (at + len)
+writes_one all keyed pods old left now keyed_out sub here body rest pod to at len type w k o n fits put same p y =
     let h = here_is keyed left here k in
     let key = key_size keyed in
     let op = opened_here here body rest pod type (length body) o refl n in
@@ -100,7 +100,7 @@ writes_one keyed pods old left now keyed_out sub here body rest pod to at len ty
     let l1 = length-drop at keyed_out in
     let follows : rest ≡ rest_of (drop key left) = o.its_rest ∙ ap rest_of h.1 in
     record {
-      ends = λ new q. subst (ArePlaced keyed pods)
+      ends = λ new q. subst (ArePlaced all pods)
           (sym (ap (λ x. x ++ new) (take_past (take at keyed_out) sub at len many ∙ ap (λ x. x ++ take len sub) put.front)
           ∙ append_assoc (take to now ++ take key left) (take len sub) new ∙ four_parts (take to now) (take key left) (take len sub) new))
           (w.ends (take key left ++ (take len sub ++ new))
@@ -113,13 +113,13 @@ writes_one keyed pods old left now keyed_out sub here body rest pod to at len ty
       bytes = subst IsBytes (sym follows) (IsBytes-drop (extent (word_at (drop key left) 0)) (drop key left) (IsBytes-drop key left w.bytes));
     }
 
-pub writes_more : (keyed : Bool) (pods old left now keyed_out sub_old sub here body rest pod : List ℕ) (to at len k type : ℕ) →
-    WritesOn keyed pods old left now to → IsBehindKey keyed left here → Opens here type body rest → pod ≡ take (length here - length rest) here →
+pub writes_more : (all keyed : Bool) (pods old left now keyed_out sub_old sub here body rest pod : List ℕ) (to at len k type : ℕ) →
+    WritesOn all keyed pods old left now to → IsBehindKey keyed left here → Opens here type body rest → pod ≡ take (length here - length rest) here →
     length pods ≤ length old → PutsKey keyed left now keyed_out to at → length keyed_out ≡ length now → WritesPod pod sub_old sub len →
-    sub_old ≡ drop at keyed_out → length sub ≡ length sub_old → k ≡ length keyed_out - at → WritesOn keyed pods old rest (put_mid at k keyed_out sub) (at + len)
-writes_more keyed pods old left now keyed_out sub_old sub here body rest pod to at len k type w b o n fits put same p is y e =
-    subst (λ x. WritesOn keyed pods old rest x (at + len)) (sym (put_end at k keyed_out sub e))
-    (writes_one keyed pods old left now keyed_out sub here body rest pod to at len type w b o n fits put same
+    sub_old ≡ drop at keyed_out → length sub ≡ length sub_old → k ≡ length keyed_out - at → WritesOn all keyed pods old rest (put_mid at k keyed_out sub) (at + len)
+writes_more all keyed pods old left now keyed_out sub_old sub here body rest pod to at len k type w b o n fits put same p is y e =
+    subst (λ x. WritesOn all keyed pods old rest x (at + len)) (sym (put_end at k keyed_out sub e))
+    (writes_one all keyed pods old left now keyed_out sub here body rest pod to at len type w b o n fits put same
     (subst (λ x. WritesPod pod x sub len) is p) (y ∙ ap length is))
 
 -- there is room for a pod
@@ -139,12 +139,12 @@ pod_room keyed left here body rest type k o =
     record { whole = omega arith; behind = omega arith; its = omega arith }
 
 -- none is left
-pub writes_all : (keyed : Bool) (pods old left now : List ℕ) (to : ℕ) → WritesOn keyed pods old left now to → ArePlaced keyed left [] →
-    WritesPods keyed pods old now to
-writes_all keyed pods old left now to w q =
+pub writes_all : (all keyed : Bool) (pods old left now : List ℕ) (to : ℕ) → WritesOn all keyed pods old left now to → ArePlaced keyed left [] →
+    WritesPods all pods old now to
+writes_all all keyed pods old left now to w q =
     let r = w.room in
     record {
-      placed = subst (ArePlaced keyed pods) (append-nil (take to now)) (w.ends [] q);
+      placed = subst (ArePlaced all pods) (append-nil (take to now)) (w.ends [] q);
       within = omega arith;
       behind = w.behind;
     }

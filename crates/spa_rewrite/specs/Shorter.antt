@@ -1,6 +1,6 @@
 -- Pods whose rewritings may be shorter than they are, and these written elsewhere: docs/FORMAT.md, "The encoding of a value".
-use Rattle.std.specs.Prelude.{◌≡◌, ◌%◌, ◌+◌, ◌≤◌, ◌++◌, ℕ, List, length, drop, take, Bool, true, false}
-use Rattle.spa_format.specs.Words.{padded_size}
+use Rattle.std.specs.Prelude.{◌≡◌, ◌%◌, ◌+◌, ◌-◌, ◌≤◌, ◌++◌, ℕ, List, length, drop, take, Bool, true, false}
+use Rattle.spa_format.specs.Words.{padded_size, word_bytes}
 use Rattle.spa_format.specs.Tree.{Tree, Trees, Properties, object_type, struct_type, type_of}
 use Rattle.spa_format.specs.Pod.{AreMembers, AreProperties, IsBody, IsPod}
 use Rattle.spa_format.specs.Encoding.{encoded_body, encoding_of, member_encodings, property_encodings}
@@ -91,8 +91,8 @@ pub record WritesPods (keyed : Bool) (pods old new : List ℕ) (len : ℕ) : Typ
   pub behind : drop len new ≡ drop len old
 
 -- These pods are left: once their rewritings are behind what is written, those of all are there.
-pub record WritesOn (keyed : Bool) (pods old left now : List ℕ) (to : ℕ) : Type 0 where
-  pub ends : (new : List ℕ) → ArePlaced keyed left new → ArePlaced keyed pods (take to now ++ new)
+pub record WritesOn (all keyed : Bool) (pods old left now : List ℕ) (to : ℕ) : Type 0 where
+  pub ends : (new : List ℕ) → ArePlaced keyed left new → ArePlaced all pods (take to now ++ new)
   pub room : to + length left ≤ length pods
   pub long : length now ≡ length old
   pub behind : drop to now ≡ drop to old
@@ -120,3 +120,9 @@ pub record IsInner (pod : List ℕ) (keyed : Bool) : Type 0 where
 abbrev pub type_inside : Bool → ℕ
 type_inside true = object_type
 type_inside false = struct_type
+
+-- the header of a struct or an object whose rewriting ends there is behind what is written, and an object's type and id are behind it
+pub record PutsHeader (keyed : Bool) (old new : List ℕ) (at to end body : ℕ) : Type 0 where
+  pub there : body ≡ to + 8 + key_size keyed
+  pub front : take body new ≡ take to old ++ ((word_bytes (end - (to + 8)) ++ word_bytes (type_inside keyed)) ++ take (key_size keyed) (drop (at + 8) old))
+  pub behind : drop body new ≡ drop body old

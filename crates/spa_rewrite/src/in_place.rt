@@ -7,11 +7,11 @@ ghost use Rattle.spa_rewrite.specs.Shorter.{ArePodsWithin, AreShorter};
 ghost use Rattle.spa_rewrite.specs.Steady.{AreSteadyWithin};
 ghost use Rattle.spa_scan.specs.Depth.{levels_looked_into};
 
-use crate::across::surplus_behind;
 use crate::patch::patch;
-use crate::place::place;
+use crate::place::place_all;
 use crate::rewriting::rewrite_in_parts;
 use crate::steady::steady_stretch;
+use crate::surplus::surplus_of_all;
 use spa_fixed::{DeserializeError, Fault};
 use spa_scan::canonical_stretch;
 use std::alloc::Global;
@@ -22,9 +22,9 @@ use std::alloc::Global;
 /// The call is refused exactly as `rewrite_all`, and then no byte is changed. A refusal gives how many bytes stand before the refused
 /// pod, and what is wrong with that one, without the place inside it: `accept_all` tells that too.
 ///
-/// It takes no memory where structs and objects stand at most `LEVELS` deep in one another: a look tells which pods get shorter, and then the
-/// others are patched and those are moved. Where they stand deeper in a pod that gets shorter, or behind one, memory is asked for as
-/// `rewrite_in_parts` does.
+/// A look tells first which pods get shorter; then those are moved, and the others are patched where they lie. That takes no memory where structs
+/// and objects stand at most `LEVELS` deep in one another, not counting those that end where the one around them does. Where they stand deeper
+/// in a pod that gets shorter, or behind one, memory is asked for as `rewrite_in_parts` does.
 #[tactic(auto, using(crate::proofs::InPlaceLemmas::parts_fit))]
 pub fn rewrite_in_place(
     alloc: Global,
@@ -43,7 +43,7 @@ pub fn rewrite_in_place(
     let (steady, others) = steady_stretch(rest);
     let from = first.len();
     let to = from + steady.len();
-    if let Some(surplus) = surplus_behind(others) {
+    if let Some(surplus) = surplus_of_all(others) {
         patch(false, &mut bytes[from..to]);
         place_rest(surplus, &mut bytes[to..]);
         return Ok(len - surplus);
@@ -65,10 +65,7 @@ fn place_rest(surplus: usize, pods: &mut [u8])
     ensures rewritten { AreRewritten pods.old [] (take (length pods.old - surplus) pods.new) }
     ensures behind { drop (length pods.old - surplus) pods.new ≡ drop (length pods.old - surplus) pods.old }
 {
-    if pods.is_empty() {
-        return;
-    }
-    place(false, pods, 0);
+    place_all(surplus, pods);
 }
 
 /// Puts the rewritings of all pods that the input is into an output of the same length, and answers true, where each of them is found to

@@ -140,7 +140,7 @@ fn is_word_type(type_: u32) -> bool
 
 /// The place behind a header here, and behind a key and flags where `keyed` is set.
 #[inline(always)]
-fn place_behind(bytes: &[u8], at: usize, header: usize, keyed: bool) -> usize
+pub(crate) fn place_behind(bytes: &[u8], at: usize, header: usize, keyed: bool) -> usize
     requires { at + header + key_size keyed ≤ length bytes.now }
     ensures { result ≡ at + header + key_size keyed }
 {

@@ -1,20 +1,85 @@
 //! Pods that may get shorter, made their rewritings at the front of where they lie.
-ghost use Rattle.std.specs.Prelude.{◌≡◌, ◌+◌, ◌≤◌, ◌++◌, Bool, drop, length, take};
+ghost use Rattle.std.specs.Prelude.{◌≡◌, ◌+◌, ◌-◌, ◌<◌, ◌≤◌, ◌++◌, Bool, IfSome, drop, false, length, take};
 ghost use Rattle.spa_format.specs.Tree.{choice_type};
 ghost use Rattle.spa_format.specs.Typed.{IsBytes};
-ghost use Rattle.spa_rewrite.specs.Shorter.{HoldsWhole, IsInner, PutsKey, WritesPod, WritesPods};
+ghost use Rattle.spa_format.specs.Words.{header_size, size_limit};
+ghost use Rattle.spa_rewrite.specs.Shorter.{AreShorter, HoldsWhole, IsInner, PutsHeader, PutsKey, WritesPod, WritesPods};
 ghost use Rattle.spa_rewrite.specs.Steady.{IsPodOf, key_size};
 
 use crate::across::{holds_whole, inner_type};
-use crate::patch::{SECOND_HEADER, WORD_LEN, patch_choice, patch_leaf, taken_len};
+use crate::patch::{SECOND_HEADER, WORD_LEN, patch_choice, patch_leaf, place_behind, taken_len};
 use crate::steady::behind_key;
 use spa_bytes::{HEADER_LEN, extent_of, open, two_words, u32_at, word_body};
 use spa_utils::SpaTypes;
 
+/// Makes all pods that the bytes are, which are so many bytes shorter then, their rewritings at their front, and answers how many bytes these
+/// take. Structs and objects may stand at any depth that end where the one around them does: where they end then is known before.
+pub(crate) fn place_all(surplus: usize, bytes: &mut [u8]) -> usize
+    requires { AreShorter bytes.old surplus }
+    ensures { WritesPods false bytes.old bytes.old bytes.new result }
+{
+    let end = bytes.len() - surplus;
+    let mut keyed = false;
+    let mut to = 0;
+    let mut from = 0;
+    loop {
+        let Some(here) = behind_key(keyed, &bytes[from..]) else {
+            return to;
+        };
+        let Some(front) = open(here) else {
+            return to;
+        };
+        let (type_, size, left) = (front.type_, front.body.len(), front.rest.len());
+        let pod_at = bytes.len() - here.len();
+        to = move_key(keyed, bytes, from, to);
+        match last_whole(left, type_, size) {
+            Some(inner) => {
+                from = place_behind(bytes, pod_at, HEADER_LEN, inner);
+                to = put_header(inner, bytes, pod_at, to, end);
+                keyed = inner;
+            }
+            None => {
+                from = bytes.len() - left;
+                to += place_pod(type_, size, &mut bytes[to..from], pod_at - to);
+            }
+        }
+    }
+}
+
+/// Whether properties stand in it, of a struct or an object that nothing follows.
+#[inline(always)]
+fn last_whole(left: usize, type_: u32, size: usize) -> Option<bool>
+    ensures { IfSome result (λ keyed. (left ≡ 0) × HoldsWhole type_ size keyed) }
+{
+    if left > 0 {
+        return None;
+    }
+    match holds_whole(type_, size) {
+        Some(keyed) => Some(keyed),
+        None => None,
+    }
+}
+
+/// Writes the header of a struct or of an object, whose rewriting ends there, behind what is written, moves an object's type and id behind
+/// it, and answers where these end.
+#[inline(always)]
+fn put_header(keyed: bool, bytes: &mut [u8], at: usize, to: usize, end: usize) -> usize
+    requires room { at + header_size + key_size keyed ≤ length bytes.old }
+    requires down { to ≤ at }
+    requires fits { to + header_size ≤ end }
+    requires small { end - (to + header_size) < size_limit }
+    ensures { PutsHeader keyed bytes.old bytes.new at to end result }
+{
+    let body = to + HEADER_LEN;
+    let header = two_words((end - body) as u32, inner_type(keyed));
+    bytes[to..body].copy_from_slice(&header);
+    move_key(keyed, bytes, at + HEADER_LEN, body)
+}
+
 /// Makes the pods behind the first `gap` bytes their rewritings, at the front of all these bytes, with key and flags before each where
 /// `keyed` is set, and answers how many bytes they take. Of bytes that aren't such pods it promises only what stays as it was.
 #[cycle(placing)]
-pub(crate) fn place(keyed: bool, bytes: &mut [u8], gap: usize) -> usize
+fn place(keyed: bool, bytes: &mut [u8], gap: usize) -> usize
     requires { gap ≤ length bytes.old }
     ensures { WritesPods keyed (drop gap bytes.old) bytes.old bytes.new result }
 {

@@ -2,12 +2,14 @@
 ghost use Rattle.std.specs.Prelude.{◌≡◌, ◌≢◌, ◌<◌, IfNone, IfSome, length};
 ghost use Rattle.spa_format.specs.Pod.{IsBody};
 ghost use Rattle.spa_format.specs.Tree.{Tree, choice_type, type_of};
-ghost use Rattle.spa_rewrite.specs.Shorter.{AreInsideWithin, AreShorterInside, IsBodyWithin, IsShorterBody};
-ghost use Rattle.spa_scan.specs.Depth.{depth_of};
+ghost use Rattle.spa_rewrite.specs.Shorter.{AreInsideWithin, ArePodsWithin, AreShorter, AreShorterInside, IsBodyWithin, IsShorterBody};
+ghost use Rattle.spa_rewrite.specs.Steady.{IsInside};
+ghost use Rattle.spa_scan.specs.Depth.{depth_of, levels_looked_into};
 
 use crate::elements::values_of;
-use crate::steady::{CHOICE_HEADER, behind_key, inside_of, is_steady_leaf, short_front};
+use crate::steady::{CHOICE_HEADER, Inside, behind_key, inside_of, is_steady_leaf, short_front};
 use spa_bytes::{HEADER_LEN, open};
+use spa_scan::LEVELS;
 use spa_utils::SpaTypes;
 
 /// By how many bytes the rewritings of pods one after another are shorter than these, with key and flags before each where `keyed` is set.
@@ -37,6 +39,50 @@ pub(crate) fn surplus_of(keyed: bool, pods: &[u8], levels: u32) -> Option<usize>
         }
     }
     Some(surplus)
+}
+
+/// The same of all pods of an input, where structs and objects may stand at any depth that end where the one around them does.
+pub(crate) fn surplus_of_all(pods: &[u8]) -> Option<usize>
+    ensures there { IfSome result (λ surplus. AreShorter pods.now surplus) }
+    ensures missed { IfNone result (¬ (ArePodsWithin levels_looked_into pods.now)) }
+{
+    let mut keyed = false;
+    let mut surplus = 0;
+    let mut left = pods;
+    while !left.is_empty() {
+        let Some(here) = behind_key(keyed, left) else {
+            return None;
+        };
+        let Some(front) = open(here) else {
+            return None;
+        };
+        match last_inside(front.type_, front.body, front.rest) {
+            Some(inside) => {
+                keyed = inside.keyed;
+                left = inside.pods;
+            }
+            None => {
+                let Some(more) = body_surplus(front.type_, front.body, LEVELS) else {
+                    return None;
+                };
+                surplus += more;
+                left = front.rest;
+            }
+        }
+    }
+    Some(surplus)
+}
+
+/// What stands in the body of a struct or of an object that nothing follows.
+#[inline(always)]
+fn last_inside<'a>(type_: u32, body: &'a [u8], rest: &[u8]) -> Option<Inside<'a>>
+    ensures { IfSome result (λ inside. (length rest.now ≡ 0) × IsInside type_ body.now inside.keyed inside.pods.now) }
+{
+    if rest.is_empty() {
+        inside_of(type_, body)
+    } else {
+        None
+    }
 }
 
 /// The same of a pod with a body of this type.

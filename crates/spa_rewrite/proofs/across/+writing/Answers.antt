@@ -6,11 +6,11 @@ use Rattle.spa_rewrite.proofs.WrittenAcross.{inner_written, no_front, no_key, op
 use Rattle.spa_rewrite.proofs.across.+writing.Goals as goal
 
 pub write_pods-returns-in_default : goal.write_pods-returns-in_default
-write_pods-returns-in_default t c = writes_all _ _ _ _ _ _ c.loop-here.invariant (no_key _ _ c.in_default.ensures.short)
+write_pods-returns-in_default t c = writes_all _ _ _ _ _ _ _ c.loop-here.invariant (no_key _ _ c.in_default.ensures.short)
 
 pub write_pods-returns-in_default-open : goal.write_pods-returns-in_default-open
 write_pods-returns-in_default-open t c =
-    writes_all _ _ _ _ _ _ c.loop-here.invariant (no_front _ _ _ c.in-Some.ensures.there c.in_default-open.ensures.short)
+    writes_all _ _ _ _ _ _ _ c.loop-here.invariant (no_front _ _ _ c.in-Some.ensures.there c.in_default-open.ensures.short)
 
 pub write_pods-write_pod-to-requires : goal.write_pods-write_pod-to-requires
 write_pods-write_pod-to-requires t c =
@@ -34,7 +34,7 @@ write_pods-write_pod-to-requires t c =
 
 pub write_pods-loop-here-preserved : goal.write_pods-loop-here-preserved
 write_pods-loop-here-preserved t c =
-    writes_more _ _ _ _ _ _ _ _ _ _ _ _ _ _ _ _ _ c.loop-here.invariant c.in-Some.ensures.there c.in-Some-open.ensures.there refl c.requires
+    writes_more _ _ _ _ _ _ _ _ _ _ _ _ _ _ _ _ _ _ c.loop-here.invariant c.in-Some.ensures.there c.in-Some-open.ensures.there refl c.requires
     c.put_key-to.ensures c.put_key-to.auto.out c.write_pod-to.ensures (take_rest c.put_key-to.new.out c.put_key-to.result) c.write_pod-to.auto.out refl
 
 pub write_inner-returns : goal.write_inner-returns

@@ -12,7 +12,7 @@ abbrev pub decreases-write_inner : goal.decreases-write_inner
 decreases-write_inner l = 3 * length l.pod.now
 
 abbrev pub invariant-write_pods-loop-here : goal.invariant-write_pods-loop-here
-invariant-write_pods-loop-here l = WritesOn l.keyed l.pods l.initial.out l.left l.out l.to
+invariant-write_pods-loop-here l = WritesOn l.keyed l.keyed l.pods l.initial.out l.left l.out l.to
 
 abbrev pub decreases-write_pods-loop-here : goal.decreases-write_pods-loop-here
 decreases-write_pods-loop-here l = length l.left

@@ -8,11 +8,11 @@ use Rattle.spa_rewrite.proofs.place.+placing.Goals as goal
 
 pub place-returns-in_default : goal.place-returns-in_default
 place-returns-in_default t c =
-    places_all _ _ _ _ _ _ _ c.loop-here.invariant (take_rest c.loop-here.bytes c.loop-here.from) (no_key _ _ c.in_default.ensures.short)
+    places_all _ _ _ _ _ _ _ _ c.loop-here.invariant (take_rest c.loop-here.bytes c.loop-here.from) (no_key _ _ c.in_default.ensures.short)
 
 pub place-returns-in_default-open : goal.place-returns-in_default-open
 place-returns-in_default-open t c =
-    places_all _ _ _ _ _ _ _ c.loop-here.invariant (take_rest c.loop-here.bytes c.loop-here.from)
+    places_all _ _ _ _ _ _ _ _ c.loop-here.invariant (take_rest c.loop-here.bytes c.loop-here.from)
     (no_front _ _ _ c.in-Some.ensures.there c.in_default-open.ensures.short)
 
 pub place-place_pod-to-requires : goal.place-place_pod-to-requires
@@ -26,7 +26,7 @@ place-place_pod-to-requires t c =
     let within = h.within in
     let here_at = h.at in
     let put_at = c.move_key-to.ensures.at in
-    let before = places_before _ _ _ _ _ _ inv c.requires in
+    let before = places_before _ _ _ _ _ _ _ inv c.requires in
     let at = c.move_key-to.result in
     let pod_at = length now - length here in
     let next = length now - length rest in
@@ -49,7 +49,7 @@ place-loop-here-smaller t c =
     let h = pod_places _ _ _ _ _ _ _ _ _ _ inv.within (take_rest now c.loop-here.from) c.in-Some.ensures.there c.in-Some-open.ensures.there refl refl in
     let here_at = h.at in
     let put_at = c.move_key-to.ensures.at in
-    let before = places_before _ _ _ _ _ _ inv c.requires in
+    let before = places_before _ _ _ _ _ _ _ inv c.requires in
     let at = c.move_key-to.result in
     let pod_at = length now - length here in
     let down : at ≤ pod_at = omega arith in
@@ -57,7 +57,7 @@ place-loop-here-smaller t c =
 
 pub place-loop-here-preserved : goal.place-loop-here-preserved
 place-loop-here-preserved t c =
-    places_more _ _ _ _ _ _ _ _ _ _ _ _ _ _ _ _ _ _ _ _ c.loop-here.invariant c.requires (take_rest c.loop-here.bytes c.loop-here.from)
+    places_more _ _ _ _ _ _ _ _ _ _ _ _ _ _ _ _ _ _ _ _ _ c.loop-here.invariant c.requires (take_rest c.loop-here.bytes c.loop-here.from)
     c.in-Some.ensures.there c.in-Some-open.ensures.there refl refl c.move_key-to.ensures refl c.move_key-to.auto.bytes c.place_pod-to.ensures refl refl
     c.place_pod-to.auto.bytes
 

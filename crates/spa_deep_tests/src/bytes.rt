@@ -37,7 +37,7 @@ pub(crate) fn between(
     Ok(bytes)
 }
 
-fn push_words(bytes: &mut Vec<u8>, words: &[u32]) -> Result<(), AllocError> {
+pub(crate) fn push_words(bytes: &mut Vec<u8>, words: &[u32]) -> Result<(), AllocError> {
     for word in words {
         bytes.extend_from_slice(&word.to_le_bytes())?;
     }

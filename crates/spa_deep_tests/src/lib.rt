@@ -8,4 +8,6 @@ mod calls;
 #[cfg(test)]
 mod negotiation;
 #[cfg(test)]
+mod rewriting;
+#[cfg(test)]
 mod typed;

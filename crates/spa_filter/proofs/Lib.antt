@@ -20,3 +20,4 @@ pub mod Settled
 pub mod Masks
 pub mod Stepping
 pub mod StepKinds
+pub mod CommonPods

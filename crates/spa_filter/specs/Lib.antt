@@ -10,3 +10,4 @@ pub mod Numbering
 pub mod Offers
 pub mod PropertyLists
 pub mod Steps
+pub mod CommonPods

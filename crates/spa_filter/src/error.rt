@@ -21,9 +21,9 @@ pub enum FilterError {
     TypeMismatch,
     /// One object has this key, as MANDATORY, and the other lacks it.
     Missing(u32),
-    /// Both objects have this key, and the value of one is a choice for which no common value is sought: a Step, a Range over
-    /// truth values or file descriptors, or Flags over another type than `Id`, `i32` and `i64`; or one is Flags and the other
-    /// a Range.
+    /// Both objects have this key, and the value of one is a choice for which no common value is sought: a Range over truth values
+    /// or file descriptors, a Step over another type than `i32`, `i64` and `Rectangle`, or Flags over another type than `Id`,
+    /// `i32` and `i64`; or one is Flags and the other a Range or a Step.
     Unsupported(u32),
     /// Both objects have this key, with values for which a common one is sought, and no value is admitted by both.
     Disjoint(u32),

@@ -1,6 +1,7 @@
 //! Two offers are filtered: to an object under each of whose keys stands a value that admits exactly what both sides admit.
 #![tactic(auto)]
 
+mod common_pods;
 mod element;
 mod elements;
 mod error;
@@ -17,6 +18,7 @@ mod settling;
 mod stepped;
 mod values;
 
+pub use common_pods::put_common;
 pub use error::{FilterError, Side};
 pub use filtering::filter;
 pub use settling::settle;

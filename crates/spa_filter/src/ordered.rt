@@ -4,11 +4,11 @@ ghost use Rattle.spa_filter.specs.Offers.{IsChain, IsJoin, IsMeet, IsShared};
 ghost use Rattle.spa_filter.specs.Flags.{IsFlagKind};
 ghost use Rattle.spa_filter.specs.Order.{IsAtMost, IsNumber, IsOrderedKind, place};
 
-use spa_fixed::CanonicalFixedSizedPod;
+use spa_fixed::ChoiceElement;
 use spa_utils::{Fd, Float32, Float64, Fraction, Id, Rectangle};
 
 /// One of the nine types over which there are choices, with its order where it has one.
-pub(crate) trait Ordered: CanonicalFixedSizedPod {
+pub(crate) trait Ordered: ChoiceElement {
     /// Whether the type has an order.
     fn is_ordered() -> bool
         ensures { IsTrue result ↔ IsOrderedKind Self.kind };

@@ -1,5 +1,5 @@
 //! Two values meet.
-ghost use Rattle.std.specs.Prelude.{◌&&◌, ◌≡◌, ◌↔◌, IfErr, IfOk, IsTrue, OnOk};
+ghost use Rattle.std.specs.Prelude.{◌&&◌, ◌≡◌, ◌↔◌, IfErr, IfOk, IsTrue, OnOk, true};
 ghost use Rattle.spa_format.specs.Tree.{fixed};
 ghost use Rattle.spa_fixed.specs.Choices.{choice_enum_tree, choice_tree};
 ghost use Rattle.spa_value.specs.View.{choice_view, view};
@@ -63,7 +63,7 @@ fn is_choice_supported(choice: &ChoiceValue) -> bool
 }
 
 /// The same of a choice over one type.
-fn is_shape_supported<T: Element>(choice: &Choice<T>) -> bool
+pub(crate) fn is_shape_supported<T: Element>(choice: &Choice<T>) -> bool
     ensures { IsTrue result ↔ IsSupported (choice_tree T.kind T.fixed choice.now) }
 {
     match &choice.1 {
@@ -138,6 +138,24 @@ fn typed_shapes<T: Element>(choice: &Choice<T>) -> (bool, bool)
         ChoiceEnum::Enum { .. } => (false, false),
         ChoiceEnum::Flags { .. } => (true, false),
     }
+}
+
+/// Whether two choices over one type are supported, and a choice can say what both admit.
+pub(crate) fn are_meetable<T: Element>(a: &Choice<T>, b: &Choice<T>) -> bool
+    ensures { result ≡ true → AreSupported (choice_tree T.kind T.fixed a.now) (choice_tree T.kind T.fixed b.now) }
+{
+    if !is_shape_supported(a) || !is_shape_supported(b) {
+        return false;
+    }
+    let first = typed_shapes(a);
+    let second = typed_shapes(b);
+    if are_both(first.0, second.1) {
+        return false;
+    }
+    if are_both(first.1, second.0) {
+        return false;
+    }
+    true
 }
 
 /// A value that admits exactly what both admit, where they admit one. What isn't supported admits nothing here.

@@ -11,12 +11,11 @@ use Rattle.spa_format.specs.Words.{word_at, extent}
 use Rattle.spa_format.specs.Writable.{IsWritable}
 use Rattle.spa_format.proofs.Back.{encoding_is_pod}
 use Rattle.spa_format.proofs.Unique.{one_value}
-use Rattle.spa_fronts.specs.Written.{IsWritten}
 use Rattle.spa_filter.specs.Admits.{Admits, AreSupported, IsCommon, IsMeeting, plain_of}
 use Rattle.spa_filter.proofs.Plain.{IsPlainTree, IsMeeting-same}
 use Rattle.spa_value.specs.View.{view}
 use Rattle.spa_value.specs.declared.value.Value.{Value}
-use Rattle.spa_filter_pods.specs.Written.{IsAppended, IsCommonAppended}
+use Rattle.spa_filter.specs.CommonPods.{IsAppended, IsCommonAppended, IsWritten}
 
 -- the value with which a pod begins is its own
 same_value : (v u : Tree) (pod : List ℕ) → IsPod pod v → Begins pod u → u ≡ v

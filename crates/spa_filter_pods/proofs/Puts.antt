@@ -4,13 +4,18 @@ use Rattle.std.specs.Prelude.{bit_and}
 use Rattle.spa_format.specs.Words.{word_bytes}
 use Rattle.spa_format.specs.Tree.{Tree}
 use Rattle.spa_fronts.specs.Written.{IsWritten}
+use Rattle.spa_filter.specs.CommonPods as common
 use Rattle.spa_filter.specs.Admits.{plain_of}
 use Rattle.spa_filter.specs.Keys.{IsMandatory, Offered}
-use Rattle.spa_filter_pods.specs.Written.{IsCommonAppended, IsPutBy, offered}
+use Rattle.spa_filter_pods.specs.Written.{IsPutBy, offered}
+
+-- the word for what is written, of the crate below
+pub as_common : (v : Tree) (pod : List ℕ) → IsWritten v pod → common.IsWritten v pod
+as_common v pod w = record { its_pod = w.its_pod; same = w.same }
 
 -- what two properties filter to
 pub put_of_both : (v w : Tree) (f g h key : ℕ) (old mid new : List ℕ) → h ≡ bit_and f g → h < 2 ^ 32 → mid ≡ old ++ (word_bytes key ++ word_bytes h) →
-    (c : IsCommonAppended v w mid new) → IsPutBy (Some (offered f v)) (Some (offered g w)) key old new
+    (c : common.IsCommonAppended v w mid new) → IsPutBy (Some (offered f v)) (Some (offered g w)) key old new
 put_of_both v w f g h key old mid new e l m c =
     let words = word_bytes key ++ word_bytes h in
     record {

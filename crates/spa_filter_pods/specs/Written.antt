@@ -4,26 +4,12 @@ use Rattle.std.specs.List.{All}
 use Rattle.spa_format.specs.Words.{size_limit, word_bytes}
 use Rattle.spa_format.specs.Tree.{Tree, Properties}
 use Rattle.spa_fronts.specs.Written.{AreWritten, IsWritten}
-use Rattle.spa_filter.specs.Admits.{AreSupported, IsMeeting}
 use Rattle.spa_filter.specs.Keys.{Offered, key_list}
 use Rattle.spa_filter.specs.Filtering.{Agree, AgreeAt, Filters, FiltersKeys}
 
 -- a property with these flags and this value
 abbrev pub offered : ℕ → Tree → Offered
 offered flags value = record { flags = flags; value = value }
-
--- the pod of a value was appended, as it is written
-pub record IsAppended (y : Tree) (old new : List ℕ) : Type 0 where
-  pub pod : List ℕ
-  pub written : IsWritten y pod
-  pub parts : new ≡ old ++ pod
-
--- the pod of a value to which the two filter was appended, as it is written
-pub record IsCommonAppended (v w : Tree) (old new : List ℕ) : Type 0 where
-  pub value : Tree
-  pub supported : AreSupported v w
-  pub meeting : IsMeeting v w value
-  pub appended : IsAppended value old new
 
 -- a property was appended with this key, and flags and a value to which the two sides filter under it, and agree
 pub record IsPutBy (ours theirs : Option Offered) (key : ℕ) (old new : List ℕ) : Type 0 where

@@ -5,8 +5,7 @@ ghost use Rattle.spa_format.specs.Normal.{normal_of};
 ghost use Rattle.spa_format.specs.Pod.{IsPod};
 ghost use Rattle.spa_format.specs.Tree.{Tree, choice_type, type_of};
 ghost use Rattle.spa_value.specs.View.{view};
-ghost use Rattle.spa_filter_pods.specs.Written.{IsAppended, IsCommonAppended};
-ghost use Rattle.spa_fronts.specs.Written.{IsWritten};
+ghost use Rattle.spa_filter.specs.CommonPods.{IsAppended, IsCommonAppended, IsWritten};
 
 use libspa::pod::deserialize::PodDeserializer;
 use libspa::pod::laws::readings_are_normal;
@@ -14,19 +13,46 @@ use libspa::pod::serialize::write_value;
 use libspa::pod::{Held, Value};
 use libspa::utils::SpaTypes;
 use spa_bytes::{HEADER_LEN, SECOND_WORD, u32_at};
-use spa_filter::common;
+use spa_filter::{common, put_common};
 use spa_fronts::put_pod;
 use std::alloc::Global;
 
+/// How many bytes the words of a choice's pod take that stand before its values.
+const CHOICE_LEN: usize = 24;
+
+/// Where the type of a choice's values stands in its pod: behind its header, its shape and flags, and their size.
+const ELEMENT_TYPE_AT: usize = 20;
+
 /// Appends the pod of a value that admits exactly what the values of two pods admit, which are written as their values are. `false`
 /// says nothing of these: bytes may have been appended, then.
-pub(crate) fn put_common(alloc: Global, out: &mut Vec<u8>, a: &[u8], b: &[u8]) -> bool
+pub(crate) fn put_met(alloc: Global, out: &mut Vec<u8>, a: &[u8], b: &[u8]) -> bool
     ensures { result ≡ true → (v w : Tree) → IsWritten v a.now → IsWritten w b.now → IsCommonAppended v w out.old.items out.new.items }
 {
-    readings_are_normal();
     if is_plain(a) && is_plain(b) {
         return put_same(out, a, b);
     }
+    if is_much_used(a) || is_much_used(b) {
+        return put_common(alloc, out, a, b);
+    }
+    put_read(alloc, out, a, b)
+}
+
+/// Whether a pod is a choice over a type for which `put_common` looks at values where they lie.
+fn is_much_used(pod: &[u8]) -> bool {
+    if pod.len() < CHOICE_LEN || is_plain(pod) {
+        return false;
+    }
+    match SpaTypes(u32_at(pod, ELEMENT_TYPE_AT)) {
+        SpaTypes::Id | SpaTypes::Int | SpaTypes::Rectangle | SpaTypes::Fraction => true,
+        _ => false,
+    }
+}
+
+/// The same of values that are read.
+fn put_read(alloc: Global, out: &mut Vec<u8>, a: &[u8], b: &[u8]) -> bool
+    ensures { result ≡ true → (v w : Tree) → IsWritten v a.now → IsWritten w b.now → IsCommonAppended v w out.old.items out.new.items }
+{
+    readings_are_normal();
     let Some(ours) = value_of(alloc, a) else {
         return false;
     };

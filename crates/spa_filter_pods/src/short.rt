@@ -7,7 +7,7 @@ ghost use Rattle.spa_filter_pods.specs.Fronts.{BeginBoth, FilterIn};
 ghost use Rattle.spa_filter_pods.specs.Written.{IsFilteredBehind, IsPutBy, offered};
 ghost use Rattle.spa_fronts.specs.Written.{AreWritten, IsWritten};
 
-use crate::common_pods::put_common;
+use crate::common_pods::put_met;
 use spa_fronts::{
     PropertyView, find, finish, first_property, has_settled, put_header, put_key, put_pod,
     short_object,
@@ -97,7 +97,7 @@ fn put_both(
     if !put_key(out, first.key, flags) {
         return false;
     }
-    put_common(alloc, out, first.pod, other.pod)
+    put_met(alloc, out, first.pod, other.pod)
 }
 
 /// Puts a property that one side alone has.

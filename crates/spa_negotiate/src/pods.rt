@@ -15,7 +15,7 @@ use crate::negotiation::negotiate;
 use crate::short::meet_short;
 use libspa::pod::deserialize::{DeserializeError, PodDeserializer};
 use libspa::pod::laws::{pods_have_one_value, readings_are_normal};
-use libspa::pod::serialize::{GenError, PodSerializer};
+use libspa::pod::serialize::{GenError, write_value};
 use libspa::pod::value_laws::{objects_are_their_fields, trees_have_their_types};
 use libspa::pod::view_laws::{settled_properties_are_settled, walks_find_members};
 use libspa::pod::{Held, Object, Value};
@@ -112,8 +112,9 @@ fn encoded(alloc: Global, object: Object) -> Result<Vec<u8>, NegotiateError>
     ensures cause { IfErr result (IsWriteRefused (object_view object)) }
 {
     let value = Held::from(Value::Object(object));
-    match PodSerializer::serialize(Vec::new(alloc), &*value) {
-        Ok((bytes, _len)) => Ok(bytes),
+    let mut bytes = Vec::new(alloc);
+    match write_value(alloc, &mut bytes, &*value) {
+        Ok(_len) => Ok(bytes),
         Err(GenError::TooLarge) => Err(NegotiateError::TooLarge),
         Err(GenError::OutOfMemory) => Err(NegotiateError::OutOfMemory),
         Err(_) => unreachable!(),

@@ -1,5 +1,6 @@
 mod Saying
 pub mod PrintedPods
-pub mod ReadLines
+pub mod Extents
+pub mod ReadTexts
 pub mod Differing
 pub mod Compared

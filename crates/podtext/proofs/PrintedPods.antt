@@ -20,30 +20,31 @@ use Rattle.podtext.specs.declared.answer.Answer.{Answer}
 use Rattle.podtext.specs.declared.answer.Answer.TheVariants.{Done}
 use Rattle.podtext.specs.declared.answer.Origin.{Origin}
 use Rattle.podtext.specs.declared.answer.Origin.TheVariants.{Input}
-use Rattle.podtext.specs.Texts.{AreTexts, IsText, Prints, RefusesPods, RefusesTexts}
+use Rattle.podtext.specs.Texts.{AreTexts, IsTextIn, Prints, RefusesPods, RefusesTexts}
+use Rattle.podtext.specs.declared.printing.Layout.{Layout}
 use Rattle.podtext.specs.declared.answer.Failure.{Failure}
 use Rattle.podtext.specs.declared.answer.Failure.TheVariants.{Pod, Line, OutOfMemory, ReadFailed, WriteFailed}
 use Rattle.podtext.proofs.Saying.{keeps_itself}
 
 -- how far the loop over pods is: some first ones are printed, and this is left
-pub record PrintedSoFar (mark start left old out : List ℕ) : Type 0 where
+pub record PrintedSoFar (layout : Layout) (mark start left old out : List ℕ) : Type 0 where
   pub first : List ℕ
   pub values : Trees
   pub lines : List ℕ
   pub whole : start ≡ first ++ left
   pub members : AreMembers values first
-  pub texts : AreTexts mark values lines
+  pub texts : AreTexts layout mark values lines
   pub made : out ≡ old ++ lines
 
-pub begins : (mark start old out : List ℕ) → out ≡ old → PrintedSoFar mark start start old out
-begins mark start old out e =
+pub begins : (layout : Layout) (mark start old out : List ℕ) → out ≡ old → PrintedSoFar layout mark start start old out
+begins layout mark start old out e =
     record { first = []; values = no_trees; lines = []; whole = refl; members = refl; texts = refl; made = e ∙ sym (append-nil old) }
 
 -- one line more
-pub texts_push : (mark : List ℕ) (vs : Trees) (v : Tree) (out text : List ℕ) → AreTexts mark vs out → IsText v text →
-    AreTexts mark (join_members vs (member v no_trees)) (out ++ (mark ++ (text ++ 10 ∷ [])))
-texts_push mark no_trees v out text e t = (text, [], ap (λ l. l ++ (mark ++ (text ++ 10 ∷ []))) e, t, refl)
-texts_push mark (member w vs) v out text h t =
+pub texts_push : (layout : Layout) (mark : List ℕ) (vs : Trees) (v : Tree) (out text : List ℕ) → AreTexts layout mark vs out → IsTextIn layout v text →
+    AreTexts layout mark (join_members vs (member v no_trees)) (out ++ (mark ++ (text ++ 10 ∷ [])))
+texts_push layout mark no_trees v out text e t = (text, [], ap (λ l. l ++ (mark ++ (text ++ 10 ∷ []))) e, t, refl)
+texts_push layout mark (member w vs) v out text h t =
     let more = mark ++ (text ++ 10 ∷ []) in (
       h.0,
       h.1 ++ more,
@@ -51,7 +52,7 @@ texts_push mark (member w vs) v out text h t =
           ∙ append_assoc mark (h.0 ++ 10 ∷ h.1) more
           ∙ ap (λ l. mark ++ l) (append_assoc h.0 (10 ∷ h.1) more),
       h.3,
-      texts_push mark vs v h.1 text h.4 t,
+      texts_push layout mark vs v h.1 text h.4 t,
     )
 
 -- the front is passed
@@ -61,15 +62,15 @@ front_passed input first left rest whole behind =
     ∙ ap (λ l. first ++ l) (sym (take-append-drop (extent (word_at left 0)) left) ∙ ap (λ l. front_of left ++ l) (sym behind))
     ∙ sym (append_assoc first (front_of left) rest)
 
-pub goes_on : (mark start left rest old out more text : List ℕ) (v : Tree) → PrintedSoFar mark start left old out → Begins left v →
-    rest ≡ rest_of left → more ≡ out ++ (mark ++ (text ++ 10 ∷ [])) → IsText v text → PrintedSoFar mark start rest old more
-goes_on mark start left rest old out more text v so b behind e t = record {
+pub goes_on : (layout : Layout) (mark start left rest old out more text : List ℕ) (v : Tree) → PrintedSoFar layout mark start left old out → Begins left v →
+    rest ≡ rest_of left → more ≡ out ++ (mark ++ (text ++ 10 ∷ [])) → IsTextIn layout v text → PrintedSoFar layout mark start rest old more
+goes_on layout mark start left rest old out more text v so b behind e t = record {
   first = so.first ++ front_of left;
   values = join_members so.values (member v no_trees);
   lines = so.lines ++ (mark ++ (text ++ 10 ∷ []));
   whole = front_passed start so.first left rest so.whole behind;
   members = members_push so.values v so.first (front_of left) so.members b.pod;
-  texts = texts_push mark so.values v so.lines text so.texts t;
+  texts = texts_push layout mark so.values v so.lines text so.texts t;
   made = e ∙ ap (λ l. l ++ (mark ++ (text ++ 10 ∷ []))) so.made ∙ append_assoc old so.lines (mark ++ (text ++ 10 ∷ []));
 }
 
@@ -77,8 +78,9 @@ pub empty : (xs : List ℕ) → length xs ≡ 0 → xs ≡ []
 empty [] e = refl
 empty (x ∷ xs) e = absurd (omega (arith, e))
 
-pub ends : (mark start left old out : List ℕ) → PrintedSoFar mark start left old out → length left ≡ 0 → AddsTexts mark start old out
-ends mark start left old out so e =
+pub ends : (layout : Layout) (mark start left old out : List ℕ) → PrintedSoFar layout mark start left old out → length left ≡ 0 →
+    AddsTexts layout mark start old out
+ends layout mark start left old out so e =
     let all : start ≡ so.first = so.whole ∙ ap (λ l. so.first ++ l) (empty left e) ∙ append-nil so.first in
     (so.values, so.lines, subst (AreMembers so.values) (sym all) so.members, so.texts, so.made)
 
@@ -92,9 +94,9 @@ pub no_front : (left kind : List ℕ) (e : DeserializeError (Bor (List ℕ))) �
 no_front left kind e fault refused named its_kind =
     record { refused = fault_holds (IsRefused left) e fault refused; told = e; named = named; its_kind = its_kind }
 
-pub stops : (mark start left old out : List ℕ) (origin : Origin) (place size : ℕ) (why : Failure) → PrintedSoFar mark start left old out →
+pub stops : (layout : Layout) (mark start left old out : List ℕ) (origin : Origin) (place size : ℕ) (why : Failure) → PrintedSoFar layout mark start left old out →
     ¬ (length left ≡ 0) → length start ≤ size → place ≡ size - length left → IsNoFront origin place left why → IsStopped origin start size why
-stops mark start left old out origin place size (Pod from at kind) so some fits is h =
+stops layout mark start left old out origin place size (Pod from at kind) so some fits is h =
     let l = ap length so.whole in
     let a = length-append so.first left in
     let same = h.1 in (
@@ -106,10 +108,10 @@ stops mark start left old out origin place size (Pod from at kind) so some fits 
         front = h.2;
       },
     )
-stops mark start left old out origin place size (Line n c k p) so some fits is h = absurd h
-stops mark start left old out origin place size OutOfMemory so some fits is h = tt
-stops mark start left old out origin place size (ReadFailed o) so some fits is h = absurd h
-stops mark start left old out origin place size WriteFailed so some fits is h = absurd h
+stops layout mark start left old out origin place size (Line n c k p) so some fits is h = absurd h
+stops layout mark start left old out origin place size OutOfMemory so some fits is h = tt
+stops layout mark start left old out origin place size (ReadFailed o) so some fits is h = absurd h
+stops layout mark start left old out origin place size WriteFailed so some fits is h = absurd h
 
 pub runs_out : (origin : Origin) (start : List ℕ) (size : ℕ) (why : Failure) → why ≡ OutOfMemory → IsStopped origin start size why
 runs_out origin start size why e = subst (IsStopped origin start size) (sym e) tt
@@ -140,9 +142,10 @@ stops_whole origin input first left vs (ReadFailed o) whole members h = absurd h
 stops_whole origin input first left vs WriteFailed whole members h = absurd h
 
 -- all of an input
-pub prints_all : (mark input old out : List ℕ) → AddsTexts mark input old out → mark ≡ [] → old ≡ [] → Prints input out
-prints_all mark input old out h m o =
-    (h.0, h.2, subst (AreTexts [] h.0) (sym (h.4 ∙ ap (λ l. l ++ h.1) o)) (subst (λ k. AreTexts k h.0 h.1) m h.3))
+pub prints_all : (layout : Layout) (mark input old out : List ℕ) → AddsTexts layout mark input old out → mark ≡ [] → old ≡ [] →
+    Prints layout input out
+prints_all layout mark input old out h m o =
+    (h.0, h.2, subst (AreTexts layout [] h.0) (sym (h.4 ∙ ap (λ l. l ++ h.1) o)) (subst (λ k. AreTexts layout k h.0 h.1) m h.3))
 
 pub refuses_all : (origin : Origin) (input : List ℕ) (why : Failure) → IsStopped origin input (length input) why → RefusesPods origin input why
 refuses_all origin input why h = stops_whole origin input [] input no_trees why refl refl h

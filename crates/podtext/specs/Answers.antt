@@ -20,6 +20,13 @@ IsOneWord [] word = ⊥
 IsOneWord (x ∷ []) word = x.now ≡ word
 IsOneWord (x ∷ y ∷ more) word = ⊥
 
+-- the words are these two alone
+abbrev pub AreTwoWords : List (Bor (List ℕ)) → (first second : List ℕ) → Type 0
+AreTwoWords [] first second = ⊥
+AreTwoWords (x ∷ []) first second = ⊥
+AreTwoWords (x ∷ y ∷ []) first second = (x.now ≡ first) × (y.now ≡ second)
+AreTwoWords (x ∷ y ∷ z ∷ more) first second = ⊥
+
 -- the words ask how the files of these names differ
 abbrev pub AsksDiff : List (Bor (List ℕ)) → (ours theirs : List ℕ) → Type 0
 AsksDiff [] ours theirs = ⊥
@@ -31,8 +38,8 @@ AsksDiff (x ∷ y ∷ z ∷ u ∷ more) ours theirs = ⊥
 -- the program's words
 abbrev pub IsUse : List (Bor (List ℕ)) → Type 0
 IsUse words =
-    IsOneWord words (codes "show") ⊎ IsOneWord words (codes "print") ⊎ IsOneWord words (codes "read")
-    ⊎ ((ours : List ℕ) × (theirs : List ℕ) × AsksDiff words ours theirs)
+    IsOneWord words (codes "show") ⊎ IsOneWord words (codes "print") ⊎ AreTwoWords words (codes "print") (codes "--pretty")
+    ⊎ IsOneWord words (codes "read") ⊎ ((ours : List ℕ) × (theirs : List ℕ) × AsksDiff words ours theirs)
 
 -- the one fact where the work was done, and the other of the reason where it was refused
 abbrev pub OnAnswer : Answer → Type 0 → (Failure → Type 0) → Type 0
@@ -62,8 +69,8 @@ path_text (x ∷ xs) = codes " at " ++ x ∷ xs
 -- what is said of a refusal
 abbrev pub failure_text : Failure → List ℕ
 failure_text (Pod origin place kind) = codes "podtext: " ++ (file_text origin ++ (codes "byte " ++ (decimal place ++ (codes ": " ++ kind.now))))
-failure_text (Line number column kind path) =
-    codes "podtext: line " ++ (decimal number ++ (codes ", column " ++ (decimal column ++ (codes ": " ++ (kind.now ++ path_text (string_bytes path))))))
+failure_text (Line line column kind path) =
+    codes "podtext: line " ++ (decimal line ++ (codes ", column " ++ (decimal column ++ (codes ": " ++ (kind.now ++ path_text (string_bytes path))))))
 failure_text OutOfMemory = codes "podtext: out of memory"
 failure_text (ReadFailed origin) = codes "podtext: " ++ (file_text origin ++ codes "read failed")
 failure_text WriteFailed = codes "podtext: write failed"
@@ -73,7 +80,7 @@ abbrev pub line_of : Answer → List ℕ
 line_of Done = []
 line_of Differs = []
 line_of (Refused why) = failure_text why ++ 10 ∷ []
-line_of Misused = codes "usage: podtext print|read|show, podtext diff FILE FILE" ++ 10 ∷ []
+line_of Misused = codes "usage: podtext print [--pretty]|read|show, podtext diff FILE FILE" ++ 10 ∷ []
 
 -- all that a reader had left is read, where that is known
 abbrev pub IsAllOf : Option (List ℕ) → List ℕ → Type 0
@@ -98,7 +105,7 @@ ShowsBegin remaining old new place = (input : List ℕ) × (place < length input
 -- Why not all of the input is shown, and what was written: nothing, where it wasn't read.
 abbrev pub IsNotShown : Option (List ℕ) → Option (List ℕ) → Option (List ℕ) → Failure → Type 0
 IsNotShown remaining old new (Pod origin place kind) = (origin ≡ Input) × (kind.now ≡ codes "Short") × ShowsBegin remaining old new place
-IsNotShown remaining old new (Line number column kind path) = ⊥
+IsNotShown remaining old new (Line line column kind path) = ⊥
 IsNotShown remaining old new OutOfMemory = ⊤
 IsNotShown remaining old new (ReadFailed origin) = (origin ≡ Input) × Keeps old new
 IsNotShown remaining old new WriteFailed = ⊤

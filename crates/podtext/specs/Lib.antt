@@ -1,5 +1,6 @@
 pub mod Answers
 pub mod Differences
+pub mod Extent
 pub mod Lines
 pub mod Texts
 pub mod Unread

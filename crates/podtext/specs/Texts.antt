@@ -1,7 +1,8 @@
 -- Pods as lines of text: docs/TEXT.md, "The grammar".
-use Rattle.std.specs.Prelude.{◌≡◌, ◌≢◌, ◌≤◌, ◌⊎◌, ◌+◌, ⊤, ℕ, List, [], ◌∷◌, ◌++◌, length}
+use Rattle.std.specs.Prelude.{◌≡◌, ◌⊎◌, ⊤, ℕ, List, [], ◌∷◌, ◌++◌, length, ◌+◌}
 use Rattle.std.specs.Str.{IsUtf8}
 use Rattle.std.specs.Borrow.{Bor}
+use Rattle.json.specs.Layout.{pretty}
 use Rattle.json.specs.Lex.{tokens}
 use Rattle.spa_format.specs.Tree.{Tree, Trees, no_trees, member}
 use Rattle.spa_format.specs.Pod.{AreMembers}
@@ -13,70 +14,72 @@ use Rattle.spa_fixed.specs.declared.fault.DeserializeError.{DeserializeError}
 use Rattle.spa_leaf.specs.Reading.{Names}
 use Rattle.spa_rewrite.specs.Rewriting.{IsLeft}
 use Rattle.spa_text.specs.Grammar.{ReadsAs, nothing}
+use Rattle.spa_text.specs.Line.{HasNoEnd}
+use Rattle.podtext.specs.Extent.{BeginsText, column_behind, line_behind}
 use Rattle.podtext.specs.declared.answer.Failure.{Failure}
 use Rattle.podtext.specs.declared.answer.Failure.TheVariants.{Pod, Line, OutOfMemory}
 use Rattle.podtext.specs.declared.answer.Origin.{Origin}
+use Rattle.podtext.specs.declared.printing.Layout.{Layout}
+use Rattle.podtext.specs.declared.printing.Layout.TheVariants.{OneLine, Indented}
 
 -- the text reads as this value, and nothing follows it
 abbrev pub IsText : Tree → List ℕ → Type 0
 IsText v text = ReadsAs nothing v (tokens text) []
 
--- a line of text behind this mark for each of these values, in order
-abbrev pub AreTexts : (mark : List ℕ) → Trees → List ℕ → Type 0
-AreTexts mark no_trees out = out ≡ []
-AreTexts mark (member v vs) out =
-    (text : List ℕ) × (others : List ℕ) × (out ≡ mark ++ (text ++ 10 ∷ others)) × IsText v text × AreTexts mark vs others
+-- the same on one line, or with each member and each property on one of its own
+abbrev pub IsTextIn : Layout → Tree → List ℕ → Type 0
+IsTextIn OneLine v text = IsText v text × HasNoEnd text
+IsTextIn Indented v text = IsText v text × (text ≡ pretty (tokens text))
 
--- a line of text for each pod that the input consists of
-abbrev pub Prints : List ℕ → List ℕ → Type 0
-Prints input out = (vs : Trees) × AreMembers vs input × AreTexts [] vs out
+-- a text in this layout behind this mark for each of these values, in order, and the end of its last line
+abbrev pub AreTexts : Layout → (mark : List ℕ) → Trees → List ℕ → Type 0
+AreTexts layout mark no_trees out = out ≡ []
+AreTexts layout mark (member v vs) out =
+    (text : List ℕ) × (others : List ℕ) × (out ≡ mark ++ (text ++ 10 ∷ others)) × IsTextIn layout v text × AreTexts layout mark vs others
 
--- no line ends in these bytes
-abbrev pub HasNoEnd : List ℕ → Type 0
-HasNoEnd [] = ⊤
-HasNoEnd (x ∷ xs) = (x ≢ 10) × HasNoEnd xs
+-- a text for each pod that the input consists of
+abbrev pub Prints : Layout → List ℕ → List ℕ → Type 0
+Prints layout input out = (vs : Trees) × AreMembers vs input × AreTexts layout [] vs out
 
--- the bytes begin with this line, which ends at a line feed or where they end, and these follow
-pub record BeginsLine (bytes line others : List ℕ) : Type 0 where
-  pub some : bytes ≢ []
-  pub unbroken : HasNoEnd line
-  pub ends : (bytes ≡ line ++ 10 ∷ others) ⊎ ((bytes ≡ line) × (others ≡ []))
-
--- the first lines of the bytes are texts of these values, in order, and this is left
+-- the bytes begin with texts of these values, in order, and this is left
 abbrev pub BeginTexts : Trees → (bytes left : List ℕ) → Type 0
 BeginTexts no_trees bytes left = bytes ≡ left
 BeginTexts (member v vs) bytes left =
-    (line : List ℕ) × (others : List ℕ) × BeginsLine bytes line others × IsText v line × BeginTexts vs others left
+    (text : List ℕ) × (others : List ℕ) × BeginsText bytes text others × IsText v text × BeginTexts vs others left
 
--- the pods of the values of which each line of the input is a text
+-- the pods of the values of which the input is texts, one after another
 abbrev pub Reads : List ℕ → List ℕ → Type 0
 Reads input out = (vs : Trees) × BeginTexts vs input [] × (out ≡ member_encodings vs)
 
--- the line isn't UTF-8, or no text of a value, or one of a value that has no pod
+-- the bytes aren't UTF-8, or no text of a value, or one of a value that has no pod
 abbrev pub HasNoPod : List ℕ → Type 0
-HasNoPod line =
-    ¬ (IsUtf8 line) ⊎ ((v : Tree) → ¬ (IsText v line)) ⊎ ((v : Tree) × IsText v line × (HasNul v ⊎ IsTooLarge v))
+HasNoPod text =
+    ¬ (IsUtf8 text) ⊎ ((v : Tree) → ¬ (IsText v text)) ⊎ ((v : Tree) × IsText v text × (HasNul v ⊎ IsTooLarge v))
 
--- how many values these are
-abbrev pub value_count : Trees → ℕ
-value_count no_trees = 0
-value_count (member v vs) = 1 + value_count vs
+-- the text, which begins with this line, has no pod, and what is read of it ends in this line and this column
+pub record IsRefusedAt (text : List ℕ) (first line column : ℕ) : Type 0 where
+  pub against : HasNoPod text
+  pub part : List ℕ
+  pub rest : List ℕ
+  pub cut : text ≡ part ++ rest
+  pub its_line : line ≡ line_behind first part
+  pub its_column : column ≡ column_behind 1 part
 
--- Behind some first lines that are texts, the line of this number, from 1, has no pod. This column, from 1, is within it or at its end.
-pub record HasNoTextAt (input : List ℕ) (number column : ℕ) : Type 0 where
+-- behind some first texts stands one that has no pod; lines and columns are counted from 1
+pub record HasNoTextAt (input : List ℕ) (line column : ℕ) : Type 0 where
   pub values : Trees
+  pub before : List ℕ
   pub left : List ℕ
+  pub whole : input ≡ before ++ left
   pub texts : BeginTexts values input left
-  pub its_number : number ≡ value_count values + 1
-  pub line : List ℕ
+  pub text : List ℕ
   pub others : List ℕ
-  pub begins : BeginsLine left line others
-  pub against : HasNoPod line
-  pub within : (1 ≤ column) × (column ≤ length line + 1)
+  pub begins : BeginsText left text others
+  pub refused : IsRefusedAt text (line_behind 1 before) line column
 
--- why lines aren't read
+-- why texts aren't read
 abbrev pub RefusesTexts : List ℕ → Failure → Type 0
-RefusesTexts input (Line number column kind path) = HasNoTextAt input number column
+RefusesTexts input (Line line column kind path) = HasNoTextAt input line column
 RefusesTexts input OutOfMemory = ⊤
 RefusesTexts input _ = ⊥
 

@@ -85,10 +85,10 @@ pub enum Failure {
         place: usize,
         kind: &'static str,
     },
-    /// The name of a refusal, the number of the refused line and the byte of it up to which it was read, both from 1, and the path of
-    /// the value that was being read there, as `.props.rate`, or nothing.
+    /// The name of a refusal, the line up to which was read and the byte of it, both from 1, and the path of the value that was being
+    /// read there, as `.props.rate`, or nothing.
     Line {
-        number: usize,
+        line: usize,
         column: usize,
         kind: &'static str,
         path: String,
@@ -115,13 +115,13 @@ impl fmt::Display for Failure {
                 kind,
             } => write!(f, "podtext: {}byte {place}: {kind}", file_of(*origin)),
             Failure::Line {
-                number,
+                line,
                 column,
                 kind,
                 path,
             } => write!(
                 f,
-                "podtext: line {number}, column {column}: {kind}{}",
+                "podtext: line {line}, column {column}: {kind}{}",
                 At(path.as_str())
             ),
             Failure::OutOfMemory => write!(f, "podtext: out of memory"),
@@ -153,7 +153,7 @@ pub fn tell<E: Write>(faults: &mut E, answer: &Answer) -> io::Result<()>
         Answer::Refused(why) => writeln!(faults, "{why}"),
         Answer::Misused => writeln!(
             faults,
-            "usage: podtext print|read|show, podtext diff FILE FILE"
+            "usage: podtext print [--pretty]|read|show, podtext diff FILE FILE"
         ),
     }
 }

@@ -1,9 +1,10 @@
-//! `podtext print|read|show`: pods from standard input are printed as text, read from it, or shown with names, on standard output.
+//! `podtext print [--pretty]|read|show`: pods from standard input are printed as text, read from it, or shown with names, on standard output.
 //! `podtext diff FILE FILE`: the texts that differ of the pods of two files.
 #![tactic(auto)]
 
 mod answer;
 mod comparing;
+mod extent;
 mod files;
 mod inside;
 mod lines;

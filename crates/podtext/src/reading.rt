@@ -1,85 +1,92 @@
-//! Lines of text read as pods.
-ghost use Rattle.std.specs.Prelude.{◌≡◌, ◌≢◌, ◌++◌, [], IfErr, IfOk, IfSome, OnOk};
-ghost use Rattle.podtext.specs.Texts.{BeginsLine, IsText, Reads, RefusesTexts};
-ghost use Rattle.podtext.specs.Unread.{IsFor, IsNoPod};
+//! Texts read as pods.
+ghost use Rattle.std.specs.Prelude.{◌≡◌, ◌≢◌, ◌+◌, ◌<◌, ◌^◌, ◌++◌, IfErr, IfOk, IfSome, OnOk, length};
+ghost use Rattle.podtext.specs.Texts.{IsText, Reads, RefusesTexts};
+ghost use Rattle.podtext.specs.Unread.{IsFor, IsNoPod, IsNoText};
 ghost use Rattle.spa_format.specs.Encoding.{encoding_of};
 ghost use Rattle.spa_format.specs.Tree.{Tree};
 ghost use Rattle.spa_text.specs.declared.cause.Cause as Cause;
 
 use crate::answer::Failure;
+use crate::extent::{position_behind, split_text};
 use spa_sink::GenError;
-use spa_text::{Cause, read};
+use spa_text::{Cause, TextReader};
 use spa_value::Held;
 use spa_write::write_value;
 use std::alloc::Global;
 
-/// Why a line isn't read.
+/// Why a text isn't read.
 #[derive(Drop)]
 enum Unread {
     OutOfMemory,
     For {
         kind: &'static str,
-        /// How many bytes of the line stand before the place up to which it was read.
+        /// How many bytes of it stand before the place up to which it was read.
         offset: usize,
         path: String,
     },
 }
 
-/// The pods of the values of which each line is a text.
-#[tactic(auto, using(crate::proofs::ReadLines::begins, crate::proofs::ReadLines::goes_on, crate::proofs::ReadLines::ends, crate::proofs::ReadLines::shorter, crate::proofs::ReadLines::numbered, crate::proofs::ReadLines::not_read_at))]
-pub(crate) fn read_all(alloc: Global, lines: &[u8]) -> Result<Vec<u8>, Failure>
-    ensures read { IfOk result (λ pods. Reads lines.now pods.items) }
-    ensures refused { IfErr result (RefusesTexts lines.now) }
+/// The pods of the values of which the bytes are texts.
+#[tactic(auto, using(crate::proofs::ReadTexts::begins, crate::proofs::ReadTexts::goes_on, crate::proofs::ReadTexts::ends, crate::proofs::Extents::shorter, crate::proofs::ReadTexts::counted, crate::proofs::ReadTexts::not_read))]
+pub(crate) fn read_all(alloc: Global, bytes: &[u8]) -> Result<Vec<u8>, Failure>
+    ensures read { IfOk result (λ pods. Reads bytes.now pods.items) }
+    ensures refused { IfErr result (RefusesTexts bytes.now) }
 {
+    let mut reader = TextReader::new(alloc);
     let mut pods = Vec::new(alloc);
-    let mut left = lines;
-    let mut number = 0;
+    let mut left = bytes;
+    let mut line = 1;
     while !left.is_empty() {
-        let (line, behind) = split_line(left);
-        number += 1;
-        match add_pod(alloc, line, &mut pods) {
-            Ok(()) => left = behind,
-            Err(Unread::OutOfMemory) => return Err(Failure::OutOfMemory),
-            Err(Unread::For { kind, offset, path }) => {
-                return Err(Failure::Line {
-                    number,
-                    column: offset.min(line.len()) + 1,
-                    kind,
-                    path,
-                });
+        let (text, behind) = split_text(left);
+        match add_pod(alloc, &mut reader, text, &mut pods) {
+            Ok(()) => {
+                let (last, _) = position_behind(text, line);
+                line = last + 1;
+                left = behind;
             }
+            Err(why) => return Err(failure_at(why, text, line)),
         }
     }
     Ok(pods)
 }
 
-/// The first line, without its end, and what follows that.
-#[tactic(auto, using(crate::proofs::ReadLines::none_passed, crate::proofs::ReadLines::one_passed, crate::proofs::ReadLines::all_passed, crate::proofs::ReadLines::line_passed))]
-fn split_line(bytes: &[u8]) -> (&[u8], &[u8])
-    ensures { bytes.now ≢ [] → BeginsLine bytes.now result.0.now result.1.now }
+/// The refusal of a text that begins with this line.
+#[tactic(auto, using(crate::proofs::ReadTexts::refused_at))]
+fn failure_at(why: Unread, text: &[u8], first: usize) -> Failure
+    requires { first + length text.now < 2 ^ 64 }
+    ensures { IsNoPod text.now why → IsNoText text.now first result }
 {
-    let mut left = bytes;
-    while let Some((byte, behind)) = left.split_first() {
-        if *byte == b'\n' {
-            let line = &bytes[..bytes.len() - left.len()];
-            return (line, behind);
+    match why {
+        Unread::OutOfMemory => Failure::OutOfMemory,
+        Unread::For { kind, offset, path } => {
+            let part = &text[..offset.min(text.len())];
+            let (line, column) = position_behind(part, first);
+            Failure::Line {
+                line,
+                column,
+                kind,
+                path,
+            }
         }
-        left = behind;
     }
-    (bytes, left)
 }
 
-/// Adds the pod of the value of which the line is a text.
-#[tactic(auto, using(crate::proofs::ReadLines::not_utf8, crate::proofs::ReadLines::no_text, crate::proofs::ReadLines::no_encoding))]
-fn add_pod(alloc: Global, line: &[u8], pods: &mut Vec<u8>) -> Result<(), Unread>
-    ensures added { OnOk result ((v : Tree) × IsText v line.now × (pods.new.items ≡ pods.old.items ++ encoding_of v)) }
-    ensures refused { IfErr result (λ why. IsNoPod line.now why) }
+/// Adds the pod of the value of which these bytes are a text.
+#[tactic(auto, using(crate::proofs::ReadTexts::not_utf8, crate::proofs::ReadTexts::no_text, crate::proofs::ReadTexts::no_encoding))]
+fn add_pod(
+    alloc: Global,
+    reader: &mut TextReader,
+    bytes: &[u8],
+    pods: &mut Vec<u8>,
+) -> Result<(), Unread>
+    ensures added { OnOk result ((v : Tree) × IsText v bytes.now × (pods.new.items ≡ pods.old.items ++ encoding_of v)) }
+    ensures refused { IfErr result (λ why. IsNoPod bytes.now why) }
 {
-    let text = match str::from_utf8(line) {
+    let text = match str::from_utf8(bytes) {
         Ok(text) => text,
         Err(error) => return Err(unread_at(alloc, "Text", error.valid_up_to())),
     };
-    let value = match read(alloc, text) {
+    let value = match reader.read(text) {
         Ok(value) => Held::from(value),
         Err(error) => {
             let Some(kind) = kind_of(error.cause) else {
@@ -102,7 +109,7 @@ fn add_pod(alloc: Global, line: &[u8], pods: &mut Vec<u8>) -> Result<(), Unread>
     }
 }
 
-/// A refusal behind so many bytes of a line, for which no path is known.
+/// A refusal behind so many bytes of a text, for which no path is known.
 fn unread_at(alloc: Global, kind: &'static str, offset: usize) -> Unread
     ensures { IsFor result }
 {

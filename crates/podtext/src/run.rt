@@ -1,10 +1,11 @@
 //! The program's work, over a reader, files and a writer.
 ghost use Rattle.std.specs.Prelude.{◌≡◌, ◌≤◌, ◌⊎◌, ℕ, codes, IfErr, IfOk, List, OnOk, string_bytes};
 ghost use Rattle.std.specs.Io.KnownBytes.{Keeps};
-ghost use Rattle.podtext.specs.Answers.{AreFilesRefused, AsksDiff, IsAllOf, IsCompared, IsCutOff, IsInputRefused, IsNotShown, IsOneWord, IsRun, IsUse, OfInput, OnAnswer, ShowsAll};
+ghost use Rattle.podtext.specs.Answers.{AreFilesRefused, AreTwoWords, AsksDiff, IsAllOf, IsCompared, IsCutOff, IsInputRefused, IsNotShown, IsOneWord, IsRun, IsUse, OfInput, OnAnswer, ShowsAll};
 ghost use Rattle.podtext.specs.declared.answer.Answer.TheVariants.{Misused};
 ghost use Rattle.podtext.specs.declared.answer.Failure as Failure;
 ghost use Rattle.podtext.specs.declared.answer.Origin.TheVariants.{Input};
+ghost use Rattle.podtext.specs.declared.printing.Layout as Layout;
 ghost use Rattle.podtext.specs.Lines.{Lists};
 ghost use Rattle.podtext.specs.Texts.{Prints, Reads, RefusesPods, RefusesTexts};
 ghost use Rattle.podtext.specs.Unread.{ComparesFiles, IsWritten};
@@ -15,15 +16,15 @@ use crate::files::{Sources, read_named};
 use crate::listing::list;
 use crate::output::write_whole;
 use crate::page::Page;
-use crate::printing::print_all;
+use crate::printing::{Layout, print_all};
 use crate::reading::read_all;
 use spa_view::split_first;
 use std::alloc::Global;
 use std::io::{ErrorKind, Read, Write};
 
 /// Does what the arguments ask for. By `show` the lines of the whole pods that the input begins with are written, by `print` the
-/// texts of the pods that it consists of, by `read` the pods of the texts that its lines are, and by `diff` and two names the texts
-/// that differ of the pods that these files consist of.
+/// texts of the pods that it consists of, each on one line, or by `print --pretty` indented, by `read` the pods of the texts that it
+/// consists of, and by `diff` and two names the texts that differ of the pods that these files consist of.
 ///
 /// The arguments are settled before anything is read, and what is asked for is read whole before anything is written.
 #[tactic(auto, using(crate::proofs::Saying::keeps_itself, crate::proofs::Compared::as_asked))]
@@ -37,7 +38,9 @@ pub fn run<R: Read, S: Sources, W: Write + Drop>(
     ensures show { IsOneWord words.now (codes "show") → OnAnswer result.0
         (ShowsAll (R.remaining input.old) (W.contents device) (W.contents result.1))
         (IsNotShown (R.remaining input.old) (W.contents device) (W.contents result.1)) }
-    ensures print { IsOneWord words.now (codes "print") → IsRun result.0 (OfInput Prints (R.remaining input.old))
+    ensures print { IsOneWord words.now (codes "print") → IsRun result.0 (OfInput (Prints Layout.OneLine) (R.remaining input.old))
+        (IsInputRefused (RefusesPods Input) (R.remaining input.old)) (W.contents device) (W.contents result.1) }
+    ensures pretty { AreTwoWords words.now (codes "print") (codes "--pretty") → IsRun result.0 (OfInput (Prints Layout.Indented) (R.remaining input.old))
         (IsInputRefused (RefusesPods Input) (R.remaining input.old)) (W.contents device) (W.contents result.1) }
     ensures read { IsOneWord words.now (codes "read") → IsRun result.0 (OfInput Reads (R.remaining input.old))
         (IsInputRefused RefusesTexts (R.remaining input.old)) (W.contents device) (W.contents result.1) }
@@ -47,7 +50,8 @@ pub fn run<R: Read, S: Sources, W: Write + Drop>(
 {
     match words {
         ["show"] => show(alloc, input, device),
-        ["print"] => print(alloc, input, device),
+        ["print"] => print(alloc, Layout::OneLine, input, device),
+        ["print", "--pretty"] => print(alloc, Layout::Indented, input, device),
         ["read"] => read(alloc, input, device),
         ["diff", ours, theirs] => diff(alloc, files, *ours, *theirs, device),
         _ => (Answer::Misused, device),
@@ -103,24 +107,29 @@ fn list_all<W: Write + Drop>(
     Ok(left.len())
 }
 
-/// Writes a line of text for each pod that the input consists of, once all are printed.
+/// Writes a text for each pod that the input consists of, once all are printed.
 #[tactic(auto, using(crate::proofs::PrintedPods::not_read, crate::proofs::PrintedPods::not_printed, crate::proofs::PrintedPods::answered))]
-fn print<R: Read, W: Write + Drop>(alloc: Global, input: &mut R, device: W) -> (Answer, W)
-    ensures { IsRun result.0 (OfInput Prints (R.remaining input.old)) (IsInputRefused (RefusesPods Input) (R.remaining input.old))
+fn print<R: Read, W: Write + Drop>(
+    alloc: Global,
+    layout: Layout,
+    input: &mut R,
+    device: W,
+) -> (Answer, W)
+    ensures { IsRun result.0 (OfInput (Prints layout) (R.remaining input.old)) (IsInputRefused (RefusesPods Input) (R.remaining input.old))
         (W.contents device) (W.contents result.1) }
 {
     let bytes = match read_whole(alloc, input) {
         Ok(bytes) => bytes,
         Err(why) => return (Answer::Refused(why), device),
     };
-    let lines = match print_all(alloc, bytes.as_slice()) {
+    let lines = match print_all(alloc, layout, bytes.as_slice()) {
         Ok(lines) => lines,
         Err(why) => return (Answer::Refused(why), device),
     };
     write_made(device, lines.as_slice(), Answer::Done)
 }
 
-/// Writes the pods of the texts that the input's lines are, once all are read.
+/// Writes the pods of the texts that the input consists of, once all are read.
 #[tactic(auto, using(crate::proofs::PrintedPods::not_read, crate::proofs::PrintedPods::texts_not_read, crate::proofs::PrintedPods::answered))]
 fn read<R: Read, W: Write + Drop>(alloc: Global, input: &mut R, device: W) -> (Answer, W)
     ensures { IsRun result.0 (OfInput Reads (R.remaining input.old)) (IsInputRefused RefusesTexts (R.remaining input.old))

@@ -198,8 +198,30 @@ fn refused_pods_are_shown(rt: HostRuntime) -> Result<(), Fail> {
 }
 
 /// Runs: the words, the input, what is written, what is said, and the status.
-const RUNS: [(&[&str], &[u32], &str, &str, u8); 6] = [
+const RUNS: [(&[&str], &[u32], &str, &str, u8); 9] = [
     (&["print"], &[4, 4, 5, 0, 0, 1], "5\nnull\n", "", 0),
+    // As `jq` lays `[5,[]]` out.
+    (
+        &["print", "--pretty"],
+        &[24, 14, 4, 4, 5, 0, 0, 14, 0, 1],
+        "[\n  5,\n  []\n]\nnull\n",
+        "",
+        0,
+    ),
+    (
+        &["print", "--pretty"],
+        &[4, 4, 5, 0, 7],
+        "",
+        "podtext: byte 16: Short\n",
+        1,
+    ),
+    (
+        &["print", "--flat"],
+        &[4, 4, 5, 0],
+        "",
+        "usage: podtext print [--pretty]|read|show, podtext diff FILE FILE\n",
+        2,
+    ),
     (
         &["print"],
         &[4, 4, 5, 0, 7],
@@ -225,14 +247,14 @@ const RUNS: [(&[&str], &[u32], &str, &str, u8); 6] = [
         &[],
         &[],
         "",
-        "usage: podtext print|read|show, podtext diff FILE FILE\n",
+        "usage: podtext print [--pretty]|read|show, podtext diff FILE FILE\n",
         2,
     ),
     (
         &["show", "all"],
         &[4, 4, 5, 0],
         "",
-        "usage: podtext print|read|show, podtext diff FILE FILE\n",
+        "usage: podtext print [--pretty]|read|show, podtext diff FILE FILE\n",
         2,
     ),
 ];
@@ -260,7 +282,7 @@ fn words_and_rests_are_refused(rt: HostRuntime) -> Result<(), Fail> {
 }
 
 /// Texts read as pods: the lines, the words of the pods, what is said, and the status.
-const TEXTS: [(&str, &[u32], &str, u8); 14] = [
+const TEXTS: [(&str, &[u32], &str, u8); 22] = [
     ("5\nnull\n", &[4, 4, 5, 0, 0, 1], "", 0),
     ("", &[], "", 0),
     ("5", &[4, 4, 5, 0], "", 0),
@@ -282,10 +304,29 @@ const TEXTS: [(&str, &[u32], &str, u8); 14] = [
     ("\n", &[], "podtext: line 1, column 1: Token\n", 1),
     ("5\n5\n ", &[], "podtext: line 3, column 2: Token\n", 1),
     ("5 5\n", &[], "podtext: line 1, column 3: End\n", 1),
+    // A text goes on where a bracket is open, and a line feed ends a string, which none has.
+    ("[1,\n2]\n", &[32, 14, 4, 4, 1, 0, 4, 4, 2, 0], "", 0),
     (
-        "[1,\n2]\n",
+        "{\n  \"long\": 5\n}\n[\n]\nnull",
+        &[8, 5, 5, 0, 0, 14, 0, 1],
+        "",
+        0,
+    ),
+    ("\"[\"\n5\n", &[2, 8, 91, 0, 4, 4, 5, 0], "", 0),
+    ("\"\\\"[\"\n5\n", &[3, 8, 0x5b22, 0, 4, 4, 5, 0], "", 0),
+    ("[\"]\"\n]\n5\n", &[16, 14, 2, 8, 93, 0, 4, 4, 5, 0], "", 0),
+    (
+        "5\n[1,\n2]\n[3,\n x]\n",
         &[],
-        "podtext: line 1, column 4: Token at [1]\n",
+        "podtext: line 5, column 2: Token at [1]\n",
+        1,
+    ),
+    ("5]\n5\n", &[], "podtext: line 1, column 3: End\n", 1),
+    ("\"[\n5\n", &[], "podtext: line 1, column 1: Token\n", 1),
+    (
+        "[\n5\n6]",
+        &[],
+        "podtext: line 3, column 1: Token at [1]\n",
         1,
     ),
     (
@@ -330,6 +371,42 @@ fn texts_are_read(rt: HostRuntime) -> Result<(), Fail> {
     );
     let holds = is_found(&run, &[], "podtext: line 2, column 2: Text\n", 1);
     assert!(rt; holds, "no UTF-8");
+    Ok(())
+}
+
+/// Pods that are their own rewriting: an Int, a struct of a text with brackets and a struct, an object with flags.
+const WORDS: [&[u32]; 3] = [
+    &[4, 4, 5, 0],
+    &[40, 14, 6, 8, 0x7b5d5b22, 0x5c, 0, 14, 4, 4, 7, 0],
+    &[32, 15, 99, 3, 5, 3, 4, 3, 9, 0],
+];
+
+/// Whether pods that are printed on lines of their own are read back.
+fn is_read_back(alloc: Global, words: &[u32]) -> Result<bool, AllocError> {
+    let pods = bytes_of(alloc, words)?;
+    let printed = found(
+        alloc,
+        &["print", "--pretty"],
+        whole(pods.as_slice()),
+        &EMPTY,
+        AMPLE,
+    );
+    Ok(is_run(
+        alloc,
+        &["read"],
+        printed.0.as_slice(),
+        pods.as_slice(),
+        "",
+        0,
+    ))
+}
+
+#[test]
+fn indented_texts_are_read_back(rt: HostRuntime) -> Result<(), Fail> {
+    for words in WORDS {
+        let holds = is_read_back(rt.alloc(), words)?;
+        assert!(rt; holds, "{}", words.len());
+    }
     Ok(())
 }
 
@@ -431,14 +508,14 @@ const FAILED: [(&[&str], usize, &str, &str, u8); 7] = [
         &["diff", "ours"],
         AMPLE,
         "",
-        "usage: podtext print|read|show, podtext diff FILE FILE\n",
+        "usage: podtext print [--pretty]|read|show, podtext diff FILE FILE\n",
         2,
     ),
     (
         &["diff"],
         AMPLE,
         "",
-        "usage: podtext print|read|show, podtext diff FILE FILE\n",
+        "usage: podtext print [--pretty]|read|show, podtext diff FILE FILE\n",
         2,
     ),
     (&["print"], 2, "nu", "podtext: write failed\n", 1),

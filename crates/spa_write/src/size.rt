@@ -101,10 +101,9 @@ fn header_more(outer: u64) -> Result<u64, GenError>
     ensures short { IfOk result (λ sum. sum < size_limit) }
     ensures long { IfErr result (λ e. (e ≡ TooLarge) × (size_limit ≤ outer + 8)) }
 {
-    if outer < SIZE_LIMIT - HEADER_LEN as u64 {
-        Ok(outer + HEADER_LEN as u64)
-    } else {
-        Err(GenError::TooLarge)
+    match outer.checked_add(HEADER_LEN as u64) {
+        Some(sum) if sum < SIZE_LIMIT => Ok(sum),
+        _ => Err(GenError::TooLarge),
     }
 }
 

@@ -1,6 +1,6 @@
 /* Each request for memory is refused in turn, alone or with all after it. From it on refused, the answer is -ENOMEM and the output is as it was;
  * refused alone, the answer may also be that of a call with memory, since what isn't got at once is asked for bit by bit. All memory is
- * given back. What is its own rewriting asks for none, nor what is written into as much room. Linked with --wrap=malloc, --wrap=realloc and --wrap=free. */
+ * given back. What is its own rewriting asks for none, nor what is written into as much room, or where it lies, and isn't deep. Linked with --wrap=malloc, --wrap=realloc and --wrap=free. */
 #include <errno.h>
 #include <stdio.h>
 #include <stdlib.h>
@@ -84,9 +84,9 @@ static void refuse_check(const void *in, size_t n, bool may_ask) {
 	SEE(may_ask == (refuse_at > 1));
 }
 
-/* The same where the pods lie: what stays as long asks for no memory. */
+/* The same where the pods lie. */
 static void refuse_in_place(const void *in, size_t n, bool may_ask) {
-	static uint8_t bytes[1024];
+	static uint8_t bytes[16384];
 	size_t written, at;
 	for (refuse_at = 1;; refuse_at++) {
 		asked = 0;
@@ -126,6 +126,19 @@ static void refuse_deep(void) {
 		}
 		SEE(answer == -ENOMEM || (answer == 1 && !and_after));
 	}
+}
+
+/* Structs so deep in one another that the choice in the last, which gets shorter, is rewritten by means of memory. */
+static void refuse_deep_in_place(void) {
+	enum { LEVELS = 1200, LEN = 8 * LEVELS + 40 };
+	static const uint32_t shrinking[] = { 28, 19, 0, 5, 4, 4, 1, 2, 3, 0 };
+	static uint32_t deep[LEN / 4];
+	for (uint32_t i = 0; i < LEVELS; i++) {
+		deep[2 * i] = LEN - 8 * i - 8;
+		deep[2 * i + 1] = 14;
+	}
+	memcpy(deep + 2 * LEVELS, shrinking, sizeof shrinking);
+	refuse_in_place(deep, LEN, true);
 }
 
 /* Two objects that meet: under one key an Enum and an Int, and one of them has a struct under another one. */
@@ -202,7 +215,8 @@ int main(void) {
 		refuse_check(own, written, false);
 		refuse_check(noisy, 16, false);
 		refuse_in_place(noisy, 16, false);
-		refuse_in_place(noisy, sizeof noisy, true);
+		refuse_in_place(noisy, sizeof noisy, false);
+		refuse_deep_in_place();
 		refuse_deep();
 		refuse_joining(false);
 		refuse_joining(true);

@@ -7,7 +7,7 @@ ghost use Rattle.spa_format.specs.Tree.{array, bitmap, bitmap_type, bytes, bytes
 ghost use Rattle.spa_typed_read.specs.Asking.{RefusesAsked, array_of, choice_of, of_type};
 
 use crate::deserializer::{DeserializeSuccess, PodDeserialize, PodDeserializer};
-use spa_fixed::DeserializeError;
+use spa_fixed::{ChoiceElement, DeserializeError};
 use spa_utils::{Choice, Fd, Float32, Float64, Fraction, Id, Rectangle};
 use spa_value::Bitmap;
 
@@ -354,119 +354,15 @@ impl<'de> PodDeserialize<'de> for Vec<Fd> {
     }
 }
 
-/// A choice over `bool`. One over another of the nine types is refused as `UnsupportedType`.
-impl<'de> PodDeserialize<'de> for Choice<bool> {
-    ghost reads = { λ value it. value ≡ choice_tree k.bool_kind (λ x. k.bool x) it };
+/// A choice over one of the nine types that have bytes. One over another of them is refused as `UnsupportedType`.
+impl<'de, T: ChoiceElement> PodDeserialize<'de> for Choice<T> {
+    ghost reads = { λ value it. value ≡ choice_tree T.kind T.fixed it };
 
-    ghost refuses = { RefusesAsked (choice_of k.bool_kind) ⊤ };
-
-    fn deserialize(
-        deserializer: PodDeserializer<'de>,
-    ) -> Result<(Choice<bool>, DeserializeSuccess<'de>), DeserializeError<&'de [u8]>> {
-        deserializer.choice_pod::<bool>()
-    }
-}
-
-/// A choice over `Id`. One over another of the nine types is refused as `UnsupportedType`.
-impl<'de> PodDeserialize<'de> for Choice<Id> {
-    ghost reads = { λ value it. value ≡ choice_tree k.id_kind (λ x. k.id x.0) it };
-
-    ghost refuses = { RefusesAsked (choice_of k.id_kind) ⊤ };
+    ghost refuses = { RefusesAsked (choice_of T.kind) ⊤ };
 
     fn deserialize(
         deserializer: PodDeserializer<'de>,
-    ) -> Result<(Choice<Id>, DeserializeSuccess<'de>), DeserializeError<&'de [u8]>> {
-        deserializer.choice_pod::<Id>()
-    }
-}
-
-/// A choice over `i32`. One over another of the nine types is refused as `UnsupportedType`.
-impl<'de> PodDeserialize<'de> for Choice<i32> {
-    ghost reads = { λ value it. value ≡ choice_tree k.int_kind (λ x. k.int x) it };
-
-    ghost refuses = { RefusesAsked (choice_of k.int_kind) ⊤ };
-
-    fn deserialize(
-        deserializer: PodDeserializer<'de>,
-    ) -> Result<(Choice<i32>, DeserializeSuccess<'de>), DeserializeError<&'de [u8]>> {
-        deserializer.choice_pod::<i32>()
-    }
-}
-
-/// A choice over `i64`. One over another of the nine types is refused as `UnsupportedType`.
-impl<'de> PodDeserialize<'de> for Choice<i64> {
-    ghost reads = { λ value it. value ≡ choice_tree k.long_kind (λ x. k.long x) it };
-
-    ghost refuses = { RefusesAsked (choice_of k.long_kind) ⊤ };
-
-    fn deserialize(
-        deserializer: PodDeserializer<'de>,
-    ) -> Result<(Choice<i64>, DeserializeSuccess<'de>), DeserializeError<&'de [u8]>> {
-        deserializer.choice_pod::<i64>()
-    }
-}
-
-/// A choice over `Float32`. One over another of the nine types is refused as `UnsupportedType`.
-impl<'de> PodDeserialize<'de> for Choice<Float32> {
-    ghost reads = { λ value it. value ≡ choice_tree k.float_kind (λ x. k.float x.0) it };
-
-    ghost refuses = { RefusesAsked (choice_of k.float_kind) ⊤ };
-
-    fn deserialize(
-        deserializer: PodDeserializer<'de>,
-    ) -> Result<(Choice<Float32>, DeserializeSuccess<'de>), DeserializeError<&'de [u8]>> {
-        deserializer.choice_pod::<Float32>()
-    }
-}
-
-/// A choice over `Float64`. One over another of the nine types is refused as `UnsupportedType`.
-impl<'de> PodDeserialize<'de> for Choice<Float64> {
-    ghost reads = { λ value it. value ≡ choice_tree k.double_kind (λ x. k.double x.0) it };
-
-    ghost refuses = { RefusesAsked (choice_of k.double_kind) ⊤ };
-
-    fn deserialize(
-        deserializer: PodDeserializer<'de>,
-    ) -> Result<(Choice<Float64>, DeserializeSuccess<'de>), DeserializeError<&'de [u8]>> {
-        deserializer.choice_pod::<Float64>()
-    }
-}
-
-/// A choice over `Rectangle`. One over another of the nine types is refused as `UnsupportedType`.
-impl<'de> PodDeserialize<'de> for Choice<Rectangle> {
-    ghost reads = { λ value it. value ≡ choice_tree k.rectangle_kind (λ x. k.rectangle x.width x.height) it };
-
-    ghost refuses = { RefusesAsked (choice_of k.rectangle_kind) ⊤ };
-
-    fn deserialize(
-        deserializer: PodDeserializer<'de>,
-    ) -> Result<(Choice<Rectangle>, DeserializeSuccess<'de>), DeserializeError<&'de [u8]>> {
-        deserializer.choice_pod::<Rectangle>()
-    }
-}
-
-/// A choice over `Fraction`. One over another of the nine types is refused as `UnsupportedType`.
-impl<'de> PodDeserialize<'de> for Choice<Fraction> {
-    ghost reads = { λ value it. value ≡ choice_tree k.fraction_kind (λ x. k.fraction x.num x.denom) it };
-
-    ghost refuses = { RefusesAsked (choice_of k.fraction_kind) ⊤ };
-
-    fn deserialize(
-        deserializer: PodDeserializer<'de>,
-    ) -> Result<(Choice<Fraction>, DeserializeSuccess<'de>), DeserializeError<&'de [u8]>> {
-        deserializer.choice_pod::<Fraction>()
-    }
-}
-
-/// A choice over `Fd`. One over another of the nine types is refused as `UnsupportedType`.
-impl<'de> PodDeserialize<'de> for Choice<Fd> {
-    ghost reads = { λ value it. value ≡ choice_tree k.fd_kind (λ x. k.fd x.0) it };
-
-    ghost refuses = { RefusesAsked (choice_of k.fd_kind) ⊤ };
-
-    fn deserialize(
-        deserializer: PodDeserializer<'de>,
-    ) -> Result<(Choice<Fd>, DeserializeSuccess<'de>), DeserializeError<&'de [u8]>> {
-        deserializer.choice_pod::<Fd>()
+    ) -> Result<(Choice<T>, DeserializeSuccess<'de>), DeserializeError<&'de [u8]>> {
+        deserializer.choice_pod()
     }
 }

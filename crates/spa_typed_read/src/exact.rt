@@ -11,6 +11,7 @@ ghost use Rattle.spa_typed_read.specs.Exactly.{RefusesExactly};
 ghost use Rattle.spa_typed_read.specs.ExactlyLaws.{any_exactly, asked_exactly, choice_asked};
 
 use crate::deserializer::PodDeserialize;
+use spa_fixed::ChoiceElement;
 use spa_utils::{Choice, Fd, Float32, Float64, Fraction, Id, Rectangle};
 use spa_value::{Bitmap, Value};
 
@@ -162,38 +163,6 @@ impl<'de> ExactDeserialize<'de> for Vec<Fd> {
     ghost exactly = { λ b e r. asked_exactly (array_of k.fd_kind) ⊤ _ (λ v x h. (_, h)) b e r };
 }
 
-impl<'de> ExactDeserialize<'de> for Choice<bool> {
-    ghost exactly = { λ b e r. asked_exactly (choice_of k.bool_kind) ⊤ _ (λ v x h. choice_asked _ _ v x h) b e r };
-}
-
-impl<'de> ExactDeserialize<'de> for Choice<Id> {
-    ghost exactly = { λ b e r. asked_exactly (choice_of k.id_kind) ⊤ _ (λ v x h. choice_asked _ _ v x h) b e r };
-}
-
-impl<'de> ExactDeserialize<'de> for Choice<i32> {
-    ghost exactly = { λ b e r. asked_exactly (choice_of k.int_kind) ⊤ _ (λ v x h. choice_asked _ _ v x h) b e r };
-}
-
-impl<'de> ExactDeserialize<'de> for Choice<i64> {
-    ghost exactly = { λ b e r. asked_exactly (choice_of k.long_kind) ⊤ _ (λ v x h. choice_asked _ _ v x h) b e r };
-}
-
-impl<'de> ExactDeserialize<'de> for Choice<Float32> {
-    ghost exactly = { λ b e r. asked_exactly (choice_of k.float_kind) ⊤ _ (λ v x h. choice_asked _ _ v x h) b e r };
-}
-
-impl<'de> ExactDeserialize<'de> for Choice<Float64> {
-    ghost exactly = { λ b e r. asked_exactly (choice_of k.double_kind) ⊤ _ (λ v x h. choice_asked _ _ v x h) b e r };
-}
-
-impl<'de> ExactDeserialize<'de> for Choice<Rectangle> {
-    ghost exactly = { λ b e r. asked_exactly (choice_of k.rectangle_kind) ⊤ _ (λ v x h. choice_asked _ _ v x h) b e r };
-}
-
-impl<'de> ExactDeserialize<'de> for Choice<Fraction> {
-    ghost exactly = { λ b e r. asked_exactly (choice_of k.fraction_kind) ⊤ _ (λ v x h. choice_asked _ _ v x h) b e r };
-}
-
-impl<'de> ExactDeserialize<'de> for Choice<Fd> {
-    ghost exactly = { λ b e r. asked_exactly (choice_of k.fd_kind) ⊤ _ (λ v x h. choice_asked _ _ v x h) b e r };
+impl<'de, T: ChoiceElement> ExactDeserialize<'de> for Choice<T> {
+    ghost exactly = { λ b e r. asked_exactly (choice_of T.kind) ⊤ _ (λ v x h. choice_asked _ _ v x h) b e r };
 }

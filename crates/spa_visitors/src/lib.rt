@@ -5,6 +5,7 @@
 mod array;
 mod choice;
 mod fixed;
+mod handed;
 mod plain;
 mod value_visitor;
 
@@ -18,5 +19,6 @@ pub use fixed::{
     BoolVisitor, DoubleVisitor, FdVisitor, FloatVisitor, FractionVisitor, IdVisitor, IntVisitor,
     LongVisitor, NoneVisitor, RectangleVisitor,
 };
+pub use handed::{Handed, HandedVisitor};
 pub use plain::{BitmapVisitor, BytesVisitor, PointerVisitor, StringVisitor};
 pub use value_visitor::ValueVisitor;

@@ -40,8 +40,7 @@ int32_t spav_rewrite(const void *in, size_t n, void *out, size_t cap, size_t *wr
 /* The same where the pods lie: their rewritings go to the front of `bytes`. Never more than n are written.
  *   0        *written is their length; behind them the bytes are as they were
  *   -EINVAL  the bytes aren't pods one after another: the refused pod begins at the byte *at
- *   -ENOMEM  memory was asked for and refused; none is asked for where each rewriting is as long as its pod, and these nest in 1000 levels
- *            at most
+ *   -ENOMEM  memory was asked for and refused; none is asked for where the bytes are pods that nest in 1000 levels at most
  * Where the answer isn't 0, nothing is changed. */
 int32_t spav_rewrite_in_place(void *bytes, size_t n, size_t *written, size_t *at);
 

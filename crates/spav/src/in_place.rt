@@ -2,6 +2,8 @@
 ghost use Rattle.std.specs.Prelude.{◌≡◌, false, true, ℕ};
 ghost use Rattle.spa_fixed.specs.declared.fault.DeserializeError.TheVariants as refused;
 ghost use Rattle.spa_rewrite.specs.InPlace.{RefusesListAt};
+ghost use Rattle.spa_rewrite.specs.Shorter.{ArePodsWithin};
+ghost use Rattle.spa_scan.specs.Depth.{levels_looked_into};
 ghost use Rattle.spav.specs.Answers.{IsChecked, IsDone, IsInvalid, IsNoMemory};
 ghost use Rattle.spav.specs.Lists.{IsForBytes, ListIsRefused, ListIsWritten};
 
@@ -14,7 +16,7 @@ use std::alloc::Global;
 ///
 /// 0: `written` is their length, never more than the pods had, and what is behind them is as it was. -EINVAL: the bytes aren't pods one
 /// after another; the pod that begins at the byte `at` is refused. -ENOMEM: memory was asked for and refused, which isn't asked for
-/// where each rewriting is as long as its pod. Where the answer isn't 0, nothing is changed.
+/// where they are pods that nest in 1000 levels at most. Where the answer isn't 0, nothing is changed.
 #[unsafe(no_mangle)]
 pub extern "C" fn spav_rewrite_in_place(
     alloc: Global,
@@ -25,6 +27,7 @@ pub extern "C" fn spav_rewrite_in_place(
     ensures done { IsDone result → ListIsWritten bytes.old written.new bytes.old bytes.new }
     ensures refused { IsInvalid result → ListIsRefused bytes.old at.new }
     ensures memory { IsNoMemory result → (place : ℕ) × RefusesListAt bytes.old place refused.OutOfMemory }
+    ensures shallow { IsNoMemory result → ¬ (ArePodsWithin levels_looked_into bytes.old) }
     ensures answers { IsChecked result }
     ensures unchanged { ¬ (IsDone result) → bytes.new ≡ bytes.old }
 {

@@ -115,7 +115,7 @@ static void refuse_deep(void) {
 		if (i + 1 < LEVELS)
 			pod[4] = 1; /* the key */
 	}
-	SEE(spav_nests_within(deep, LEN, LEVELS - 1) == 0 && spav_nests_within(deep, LEN, LEVELS) == 1);
+	SEE(spav_nests_within(deep, LEN, 1000) == 0 && spav_nests_within(deep, LEN, 1001) == -ELOOP && spav_nests_within(deep, LEN, UINT32_MAX) == -ELOOP);
 	for (refuse_at = 1;; refuse_at++) {
 		asked = 0;
 		int32_t answer = spav_is_canonical(deep, LEN);

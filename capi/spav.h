@@ -53,7 +53,8 @@ int32_t spav_check(const void *in, size_t n, size_t *at);
 int32_t spav_is_canonical(const void *in, size_t n);
 
 /* Whether at most `levels` structs and objects stand in one another in the pod at the front of `in`: 1 or 0. An Int nests in 0 levels,
- * a struct of Ints in 1. Where no pod is at the front, 1. It calls itself `levels` deep at most, and takes no memory. */
+ * a struct of Ints in 1. Where no pod is at the front, 1. -ELOOP: `levels` is more than 1000, and it nests in more than 1000, which aren't looked
+ * into. It takes no memory. */
 int32_t spav_nests_within(const void *in, size_t n, uint32_t levels);
 
 /* Sets each choice among the properties of the object at the front to its default, in place, unless the property has the flag

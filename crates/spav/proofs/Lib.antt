@@ -1,3 +1,4 @@
+mod Nesting
 mod Refusals
 mod Runs
 mod Written

@@ -37,6 +37,14 @@ IsChecked answer = IsDone answer ⊎ IsNoMemory answer ⊎ IsInvalid answer
 abbrev pub IsTold : ℤ → Type 0
 IsTold answer = IsDone answer ⊎ IsYes answer
 
+-- -ELOOP
+abbrev pub IsTooDeep : ℤ → Type 0
+IsTooDeep answer = IsFailure 40 answer
+
+-- what the question of levels answers
+abbrev pub IsNested : ℤ → Type 0
+IsNested answer = IsTold answer ⊎ IsTooDeep answer
+
 -- what a question answers that may take memory
 abbrev pub IsDecided : ℤ → Type 0
 IsDecided answer = IsTold answer ⊎ IsNoMemory answer

@@ -27,6 +27,9 @@ pub(crate) const UNSUPPORTED: i32 = -95;
 /// No value is admitted by both: `-ENODATA`.
 pub(crate) const DISJOINT: i32 = -61;
 
+/// More levels stand in one another than are looked into: `-ELOOP`.
+pub(crate) const TOO_DEEP: i32 = -40;
+
 /// A size of the answer is 2^32 or more: `-EOVERFLOW`.
 pub(crate) const PAST: i32 = -75;
 

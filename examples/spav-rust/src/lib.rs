@@ -59,6 +59,8 @@ pub enum Error {
     OtherType,
     /// The output is shorter than this many bytes.
     NoRoom(usize),
+    /// Structs and objects nest deeper than is looked into.
+    TooDeep,
     /// Memory was asked for and refused.
     OutOfMemory,
 }
@@ -71,6 +73,7 @@ impl fmt::Display for Error {
             Error::NoKey => write!(to, "no such key"),
             Error::OtherType => write!(to, "another type"),
             Error::NoRoom(needed) => write!(to, "{needed} bytes are needed"),
+            Error::TooDeep => write!(to, "nested too deep"),
             Error::OutOfMemory => write!(to, "out of memory"),
         }
     }
@@ -121,9 +124,13 @@ pub fn is_canonical(input: &[u8]) -> Result<bool, Error> {
     }
 }
 
-/// Whether at most so many structs and objects stand in one another in the pod at the front.
-pub fn nests_within(input: &[u8], levels: u32) -> bool {
-    unsafe { raw::spav_nests_within(input.as_ptr(), input.len(), levels) == 1 }
+/// Whether at most so many structs and objects stand in one another in the pod at the front. Of 1000 more aren't looked into.
+pub fn nests_within(input: &[u8], levels: u32) -> Result<bool, Error> {
+    match unsafe { raw::spav_nests_within(input.as_ptr(), input.len(), levels) } {
+        0 => Ok(false),
+        1 => Ok(true),
+        _ => Err(Error::TooDeep),
+    }
 }
 
 /// Sets each choice of the object at the front to its default, unless its property is protected.
@@ -641,7 +648,9 @@ mod tests {
         let pod = pods.walk().next().unwrap();
         let inside: Vec<_> = pod.inside().map(|it| (it.property, it.type_, it.body.len())).collect();
         assert_eq!(inside, [(Some((1, 0)), 4, 4), (Some((2, 0)), 19, 28), (Some((3, 0)), 8, 3)]);
-        assert!(nests_within(pod.bytes, 1) && !nests_within(pod.bytes, 0));
+        assert_eq!((nests_within(pod.bytes, 1), nests_within(pod.bytes, 0)), (Ok(true), Ok(false)));
+        let deep: Vec<u32> = (0..1100).flat_map(|level| [8 * (1099 - level), STRUCT]).collect();
+        assert_eq!((nests_within(&bytes(&deep), 1000), nests_within(&bytes(&deep), 1001)), (Ok(false), Err(Error::TooDeep)));
         assert!(pod.inside().next().unwrap().inside().next().is_none());
     }
 

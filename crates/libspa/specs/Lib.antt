@@ -32,3 +32,10 @@ pub use Rattle.spa_rewrite.specs.Rewriting
 pub use Rattle.spa_view.specs.View as Seen
 pub use Rattle.spa_view.specs.Tests
 pub use Rattle.spa_view.specs.Found
+pub use Rattle.spa_builder.specs.State as BuilderState
+pub use Rattle.spa_builder.specs.Step as BuilderSteps
+pub use Rattle.spa_builder.specs.Held as BuilderHeld
+pub use Rattle.spa_builder.specs.Answers as BuilderAnswers
+pub use Rattle.spa_builder.specs.Replay as BuilderRuns
+pub use Rattle.spa_parser.specs.State as ParserState
+pub use Rattle.spa_parser.specs.Steps as ParserSteps

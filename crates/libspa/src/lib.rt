@@ -77,8 +77,9 @@ pub mod pod {
             BitmapVisitor, BoolVisitor, BytesVisitor, ChoiceBoolVisitor, ChoiceDoubleVisitor,
             ChoiceFdVisitor, ChoiceFloatVisitor, ChoiceFractionVisitor, ChoiceIdVisitor,
             ChoiceIntVisitor, ChoiceLongVisitor, ChoiceRectangleVisitor, DoubleVisitor, FdVisitor,
-            FloatVisitor, FractionVisitor, IdVisitor, IntVisitor, LongVisitor, NoneVisitor,
-            PointerVisitor, RectangleVisitor, StringVisitor, ValueVisitor, VecVisitor,
+            FloatVisitor, FractionVisitor, Handed, HandedVisitor, IdVisitor, IntVisitor,
+            LongVisitor, NoneVisitor, PointerVisitor, RectangleVisitor, StringVisitor,
+            ValueVisitor, VecVisitor,
         };
     }
 

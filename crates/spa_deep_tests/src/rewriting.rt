@@ -14,13 +14,19 @@ const CHOICE: &[u32] = &[28, 19, 0, 5, 4, 4, 7, 9, 11, 0];
 
 const SHORTER: &[u32] = &[20, 19, 0, 0, 4, 4, 7, 0];
 
+/// How many bytes these words are.
+fn byte_count(words: &[u32]) -> u32 {
+    match u32::try_from(words.len()) {
+        Ok(count) => count.wrapping_mul(4),
+        Err(_) => 0,
+    }
+}
+
 /// The pod in so many structs or objects.
 fn inside(alloc: Global, depth: u32, header: &[u32], pod: &[u32]) -> Result<Vec<u8>, AllocError> {
     let mut bytes = Vec::new(alloc);
-    let step = (header.len() as u32).wrapping_add(1).wrapping_mul(4);
-    let mut size = depth
-        .wrapping_mul(step)
-        .wrapping_add((pod.len() as u32).wrapping_mul(4));
+    let step = byte_count(header).wrapping_add(4);
+    let mut size = depth.wrapping_mul(step).wrapping_add(byte_count(pod));
     for _ in 0..depth {
         size = size.wrapping_sub(step);
         push_words(&mut bytes, &[size.wrapping_add(step.wrapping_sub(8))])?;

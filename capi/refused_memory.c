@@ -86,7 +86,7 @@ static void refuse_check(const void *in, size_t n, bool may_ask) {
 
 /* The same where the pods lie. */
 static void refuse_in_place(const void *in, size_t n, bool may_ask) {
-	static uint8_t bytes[16384];
+	static uint8_t bytes[32768];
 	size_t written, at;
 	for (refuse_at = 1;; refuse_at++) {
 		asked = 0;
@@ -128,17 +128,23 @@ static void refuse_deep(void) {
 	}
 }
 
-/* Structs so deep in one another that the choice in the last, which gets shorter, is rewritten by means of memory. */
+/* A choice that gets shorter, deep in structs: where each of these ends with the one around it, it is rewritten without memory; where an Int
+ * follows each, by means of memory. */
 static void refuse_deep_in_place(void) {
-	enum { LEVELS = 1200, LEN = 8 * LEVELS + 40 };
-	static const uint32_t shrinking[] = { 28, 19, 0, 5, 4, 4, 1, 2, 3, 0 };
-	static uint32_t deep[LEN / 4];
+	enum { LEVELS = 1200, FEW = 8 * LEVELS + 40, MANY = FEW + 16 * LEVELS };
+	static const uint32_t shrinking[] = { 28, 19, 0, 5, 4, 4, 1, 2, 3, 0 }, number[] = { 4, 4, 7, 0 };
+	static uint32_t deep[MANY / 4];
 	for (uint32_t i = 0; i < LEVELS; i++) {
-		deep[2 * i] = LEN - 8 * i - 8;
+		deep[2 * i] = FEW - 8 * i - 8;
 		deep[2 * i + 1] = 14;
 	}
 	memcpy(deep + 2 * LEVELS, shrinking, sizeof shrinking);
-	refuse_in_place(deep, LEN, true);
+	refuse_in_place(deep, FEW, false);
+	for (uint32_t i = 0; i < LEVELS; i++) {
+		deep[2 * i] = MANY - 24 * i - 8;
+		memcpy(deep + FEW / 4 + 4 * i, number, sizeof number);
+	}
+	refuse_in_place(deep, MANY, true);
 }
 
 /* Two objects that meet: under one key an Enum and an Int, and one of them has a struct under another one. */

@@ -19,11 +19,11 @@ use Rattle.spa_scan.specs.Canonical.{AreCanonical}
 use Rattle.spa_rewrite.specs.Rewriting.{AreRewritten, AreRewrittenInParts, IsLeft, RefusesFront, RefusesList}
 use Rattle.spa_rewrite.specs.Shorter.{ArePodsWithin, AreShorter}
 use Rattle.spa_rewrite.specs.Steady.{ArePatched, AreSteady}
-use Rattle.spa_rewrite.proofs.Patches.{length_put}
+use Rattle.spa_rewrite.proofs.Patches.{length_put, put_end}
 use Rattle.spa_rewrite.proofs.Stretches.{both_rewritten, list_refused, member_encodings-join}
 use Rattle.spa_rewrite.proofs.ShorterLemmas.{within_behind}
 use Rattle.spa_rewrite.proofs.TailLemmas.{written_behind}
-use Rattle.spa_rewrite.proofs.WrittenAcross.{drop_past, put_end, take_past}
+use Rattle.spa_rewrite.proofs.WrittenAcross.{drop_past, take_past}
 
 -- two parts of a rewriting take no more than the pods
 pub parts_fit : (input first out : List ℕ) → AreRewritten input [] (first ++ out) → length first + length out ≤ length input

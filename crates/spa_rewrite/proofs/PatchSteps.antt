@@ -184,7 +184,7 @@ plain_number n m l = record {
   no_choice = λ e. omega (arith, e, l);
 }
 
-plain_kind : (k : Kind) → body_size k ≡ 4 → k ≢ bool_kind → IsPlainType (type_number k)
+pub plain_kind : (k : Kind) → body_size k ≡ 4 → k ≢ bool_kind → IsPlainType (type_number k)
 plain_kind none_kind s n = absurd (omega (arith, s))
 plain_kind bool_kind s n = absurd (n refl)
 plain_kind id_kind s n = plain_number 3 (λ e. omega (arith, e)) (omega arith)
@@ -196,7 +196,7 @@ plain_kind rectangle_kind s n = absurd (omega (arith, s))
 plain_kind fraction_kind s n = absurd (omega (arith, s))
 plain_kind fd_kind s n = absurd (omega (arith, s))
 
-word_opens : (input : List ℕ) → BeginsWord input → Opens input (word_at input 4) (body_of input) (drop 16 input)
+pub word_opens : (input : List ℕ) → BeginsWord input → Opens input (word_at input 4) (body_of input) (drop 16 input)
 word_opens input w =
     let l = w.long in
     let n = w.its_size in

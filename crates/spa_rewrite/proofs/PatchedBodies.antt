@@ -25,7 +25,7 @@ use Rattle.spa_scan.proofs.Words.{content_kept}
 use Rattle.spa_scan.specs.Canonical.{AreCanonicalElements}
 use Rattle.spa_scan.proofs.Parts.{no_elements, whole_elements}
 use Rattle.spa_rewrite.specs.Elements.{AreTruths}
-use Rattle.spa_rewrite.specs.Steady.{IsPatched, IsPodOf, TurnsWritten, bytes_taken}
+use Rattle.spa_rewrite.specs.Steady.{IsPatched, IsPodOf, TakesValues, TurnsWritten, bytes_taken}
 use Rattle.spa_rewrite.proofs.Bodies.{choice_parts, first_elements}
 use Rattle.spa_rewrite.proofs.Patches.{behind_bytes, framed_again, front_bytes, length_put, says_body, two_words_of}
 
@@ -336,6 +336,23 @@ choice_patched pod first els new number size n k shape flags child h p big w8 w1
   where
     four_parts : (a b c d : List ℕ) → ((a ++ b) ++ c) ++ d ≡ a ++ (b ++ (c ++ d))
     four_parts a b c d = simp append_assoc
+
+-- the same, whatever its first words were
+pub values_patched : (old first els new : List ℕ) (number n k shape flags : ℕ) → IsBytes new → number ≡ word_at old 20 →
+    ((s : Shape) → shape ≡ shape_number s → flags ≡ kept_flags s (word_at old 12)) →
+    first ≡ (word_bytes (16 + n) ++ word_bytes choice_type) ++ (word_bytes shape ++ word_bytes flags) → k ≡ n →
+    TurnsWritten number (take k (drop 24 (first ++ drop 16 old))) els →
+    length els ≡ length (take k (drop 24 (first ++ drop 16 old))) →
+    new ≡ take (8 + (16 + n)) (put_mid 24 k (first ++ drop 16 old) els)
+    ++ replicate (length (put_mid 24 k (first ++ drop 16 old) els) - (8 + (16 + n))) 0 → TakesValues shape n old new
+values_patched old first els new number n k shape flags h w20 kept fe kn t len e = λ pod size p same big room w8 taken.
+    let behind : drop 16 pod ≡ drop 16 old = sym (drop-drop 8 8 pod) ∙ ap (drop 8) same ∙ drop-drop 8 8 old in
+    let at = λ (i : ℕ). sym (word_at-drop 8 i pod) ∙ ap (λ x. word_at x i) same ∙ word_at-drop 8 i old in
+    choice_patched pod first els new number size n k shape flags (word_at pod 16) h p big w8 refl taken room (w20 ∙ sym (at 12))
+    (λ s q. kept s q ∙ ap (kept_flags s) (sym (at 4))) fe kn
+    (subst (λ z. TurnsWritten number (take k (drop 24 (first ++ z))) els) (sym behind) t)
+    (len ∙ ap (λ z. length (take k (drop 24 (first ++ z)))) (sym behind))
+    (e ∙ ap (λ z. take (8 + (16 + n)) (put_mid 24 k (first ++ z) els) ++ replicate (length (put_mid 24 k (first ++ z) els) - (8 + (16 + n))) 0) (sym behind))
 
 -- pods of a size that their type doesn't have
 pub no_bool : (pod : List ℕ) (size : ℕ) → IsPodOf pod (type_number bool_kind) size → size ≢ 4 → IsPatched pod pod

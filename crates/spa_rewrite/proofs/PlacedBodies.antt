@@ -1,6 +1,6 @@
 -- Pods without members whose rewritings are written elsewhere.
-use Rattle.std.proofs.Common.{◌≡◌, ◌≢◌, ℕ, ◌+◌, ◌-◌, ◌≤◌, List, [], ◌∷◌, ◌++◌, length, drop, take, refl, sym, ap, ◌∙◌, subst, arith, append_assoc, length-append, length-drop}
-use Rattle.std.proofs.lemmas.List.{drop-drop, drop-take, drop_at, length-take-le, take-append-drop, take-take, take_all, take_at}
+use Rattle.std.proofs.Common.{◌≡◌, ◌≢◌, ℕ, ◌+◌, ◌-◌, ◌≤◌, List, [], ◌∷◌, ◌++◌, length, drop, take, refl, sym, ap, ◌∙◌, subst, arith, length-append, length-drop}
+use Rattle.std.proofs.lemmas.List.{drop-drop, drop-take, drop_at, length-take-le, take-take, take_all, take_at}
 use Rattle.spa_format.specs.Words.{extent, padded_size, word_at, word_bytes}
 use Rattle.spa_format.specs.Kind.{Fixed, Kind, body_size}
 use Rattle.spa_format.specs.Tree.{Shape, none_choice, range_choice, step_choice, enum_choice, flags_choice, Tree, choice, choice_type, object_type, shape_number, struct_type, type_of}
@@ -13,7 +13,7 @@ use Rattle.spa_format.proofs.Shapes.{choice_only}
 use Rattle.spa_format.proofs.Short.{length-framed, padded_above}
 use Rattle.spa_format.proofs.WordLemmas.{word_at-append, word_at-drop, word_at-take, word_at-word_bytes}
 use Rattle.spa_rewrite.specs.Shorter.{IsPlaced, WritesPod}
-use Rattle.spa_rewrite.specs.Steady.{IsPatched, IsPodOf, bytes_taken}
+use Rattle.spa_rewrite.specs.Steady.{IsPatched, IsPodOf, TakesValues, bytes_taken}
 use Rattle.spa_rewrite.proofs.PatchedBodies.{taken_elements}
 use Rattle.spa_rewrite.proofs.Patches.{says_body}
 use Rattle.spa_rewrite.proofs.ShorterLemmas.{same_padded}
@@ -131,22 +131,6 @@ kept_long pod word end b l four =
     let l2 = length-take-le end pod l in
     omega arith
 
--- the front of the output
-copied : (pod out word : List ℕ) (end : ℕ) → 4 ≤ end → end ≤ length pod → word ++ drop 4 (take end pod ++ drop end out) ≡ kept_part pod word end ++ drop end out
-copied pod out word end b l =
-    let part = take end pod in
-    let n = length-take-le end pod l in
-    let m = length-take-le 4 part (omega arith) in
-    let split : part ++ drop end out ≡ take 4 part ++ (drop 4 part ++ drop end out) =
-    ap (λ x. x ++ drop end out) (sym (take-append-drop 4 part)) ∙ append_assoc (take 4 part) (drop 4 part) (drop end out) in
-    ap (λ x. word ++ drop 4 x) split ∙ ap (λ x. word ++ x) (drop_at (take 4 part) (drop 4 part ++ drop end out) 4 m)
-    ∙ sym (append_assoc word (drop 4 part) (drop end out))
-
-pub kept_is : (pod out word : List ℕ) (end : ℕ) → 4 ≤ end → end ≤ length pod → length word ≡ 4 →
-    take end (word ++ drop 4 (take end pod ++ drop end out)) ≡ kept_part pod word end
-kept_is pod out word end b l four =
-    ap (take end) (copied pod out word end b l) ∙ take_at (kept_part pod word end) (drop end out) end (kept_long pod word end b l four)
-
 pub kept_room : (pod : List ℕ) (size kept end : ℕ) → IsPodOf pod choice_type size → kept ≤ size → end ≡ extent kept → end ≤ length pod
 kept_room pod size kept end p l e = let g = p.long in omega arith
 
@@ -168,15 +152,6 @@ kept_pod pod word end kept size p big less e w =
       its_type = sym (word_at-drop 4 0 (kept_part pod word end)) ∙ ap (λ y. word_at y 0) (drop_at word (drop 4 part) 4 four)
           ∙ word_at-drop 4 0 part ∙ word_at-take end 4 pod (omega arith) ∙ p.its_type;
     }
-
-pub kept_choice : (pod out front word : List ℕ) (end kept size : ℕ) → IsPodOf pod choice_type size → 16 ≤ kept → kept ≤ size → end ≡ extent kept →
-    front ≡ take end pod → word ≡ word_bytes kept → IsPodOf (take end (word ++ drop 4 (front ++ drop end out))) choice_type kept
-kept_choice pod out front word end kept size p big less e f w =
-    let u = padded_above kept in
-    subst (λ x. IsPodOf x choice_type kept)
-    (sym (ap (λ y. take end (word ++ drop 4 (y ++ drop end out))) f
-    ∙ kept_is pod out word end (omega arith) (kept_room pod size kept end p less e) (ap length w ∙ length-word_bytes kept)))
-    (kept_pod pod word end kept size p big less e w)
 
 kept_body : (pod word : List ℕ) (end kept size : ℕ) → kept ≤ size → end ≡ extent kept → length word ≡ 4 →
     take kept (drop 8 (kept_part pod word end)) ≡ take kept (take size (drop 8 pod))
@@ -225,42 +200,66 @@ choice_same pod word sub end n size shape child p less e w w8 w16 taken q = λ v
     ∙ ap extent (choice_length o.0 o.1 o.2 o.3 o.4 ∙ ap (λ m. 16 + m) k.long) ∙ sym its.long in
     q v again same
 
-pub choice_written : (pod out front word sub : List ℕ) (end n size shape child : ℕ) → IsPodOf pod choice_type size → 16 + n ≤ size → end ≡ extent (16 + n) →
-    front ≡ take end pod → word ≡ word_bytes (16 + n) → shape ≡ word_at pod 8 → child ≡ word_at pod 16 →
-    ((s : Shape) → shape ≡ shape_number s → n ≡ bytes_taken s child (size - 16)) →
-    IsPatched (take end (word ++ drop 4 (front ++ drop end out))) sub → length sub ≡ length (take end (word ++ drop 4 (front ++ drop end out))) →
-    WritesPod pod out (sub ++ drop end (word ++ drop 4 (front ++ drop end out))) end
-choice_written pod out front word sub end n size shape child p less e f w w8 w16 taken q y =
+taken_again : (s : Shape) (c all n : ℕ) → n ≡ bytes_taken s c all → n ≡ bytes_taken s c n
+taken_again none_choice c all n e = e
+taken_again range_choice c all n e = e
+taken_again step_choice c all n e = e
+taken_again enum_choice c all n e = refl
+taken_again flags_choice c all n e = refl
+
+values_placed : (pod sub : List ℕ) (end n size shape child : ℕ) → IsPodOf pod choice_type size → 16 + n ≤ size → end ≡ extent (16 + n) →
+    shape ≡ word_at pod 8 → child ≡ word_at pod 16 → ((s : Shape) → shape ≡ shape_number s → n ≡ bytes_taken s child (size - 16)) →
+    TakesValues shape n (take end pod) sub → IsPlaced pod sub
+values_placed pod sub end n size shape child p less e w8 w16 taken t =
+    let word = word_bytes (16 + n) in
     let u = padded_above (16 + n) in
-    let four : length word ≡ 4 = ap length w ∙ length-word_bytes (16 + n) in
-    let room = kept_room pod size (16 + n) end p less e in
-    let x = word ++ drop 4 (front ++ drop end out) in
-    let same : x ≡ word ++ drop 4 (take end pod ++ drop end out) = ap (λ z. word ++ drop 4 (z ++ drop end out)) f in
     let part = kept_part pod word end in
-    let is : take end x ≡ part = ap (take end) same ∙ kept_is pod out word end (omega arith) room four in
-    let long = kept_long pod word end (omega arith) room four in
+    let its = kept_pod pod word end (16 + n) size p (omega arith) less e refl in
+    let same : drop 8 part ≡ drop 8 (take end pod) =
+    sym (drop-drop 4 4 part) ∙ ap (drop 4) (drop_at word (drop 4 (take end pod)) 4 (length-word_bytes (16 + n))) ∙ drop-drop 4 4 (take end pod) in
+    let at = λ (i : ℕ) (r : 8 + i + 4 ≤ end). sym (word_at-drop 8 i part) ∙ ap (λ x. word_at x i) same ∙ word_at-drop 8 i (take end pod) ∙ word_at-take end (8 + i) pod r in
+    let child_is : child ≡ word_at part 16 = w16 ∙ sym (at 8 (omega arith)) in
+    choice_same pod word sub end n size shape child p less e refl w8 w16 taken
+    (t part (16 + n) its same (omega arith) (omega arith) (w8 ∙ sym (at 0 (omega arith)))
+    (λ s q. taken_again s child (size - 16) n (taken s q) ∙ ap (λ c. bytes_taken s c n) child_is
+    ∙ ap (bytes_taken s (word_at part 16)) (let m : n ≡ 16 + n - 16 = omega arith in m)))
+
+pub choice_written : (pod out front sub : List ℕ) (end n size shape child : ℕ) → IsPodOf pod choice_type size → 16 + n ≤ size → end ≡ extent (16 + n) →
+    front ≡ take end pod → shape ≡ word_at pod 8 → child ≡ word_at pod 16 →
+    ((s : Shape) → shape ≡ shape_number s → n ≡ bytes_taken s child (size - 16)) →
+    TakesValues shape n (take end (front ++ drop end out)) sub → length sub ≡ length (take end (front ++ drop end out)) →
+    WritesPod pod out (sub ++ drop end (front ++ drop end out)) end
+choice_written pod out front sub end n size shape child p less e f w8 w16 taken t y =
+    let u = padded_above (16 + n) in
+    let room = kept_room pod size (16 + n) end p less e in
+    let x = front ++ drop end out in
+    let long = length-take-le end pod room in
+    let l : length front ≡ end = ap length f ∙ long in
+    let is : take end x ≡ take end pod = take_at front (drop end out) end l ∙ f in
     let many : length sub ≡ end = y ∙ ap length is ∙ long in
     record {
       placed = subst (IsPlaced pod) (sym (take_at sub (drop end x) end many))
-          (choice_same pod word sub end n size shape child p less e w w8 w16 taken (subst (λ z. IsPatched z sub) is q));
+          (values_placed pod sub end n size shape child p less e w8 w16 taken (subst (λ z. TakesValues shape n z sub) is t));
       within = room;
-      behind = drop_at sub (drop end x) end many ∙ ap (drop end) (same ∙ copied pod out word end (omega arith) room)
-          ∙ drop_at part (drop end out) end long;
+      behind = drop_at sub (drop end x) end many ∙ drop_at front (drop end out) end l;
     }
 
 -- the same of a choice that is moved to the front of where it lies
-pub choice_moved : (pod old x word sub : List ℕ) (end n size shape child : ℕ) → IsPodOf pod choice_type size → 16 + n ≤ size → end ≡ extent (16 + n) →
-    x ≡ take end pod ++ drop end old → word ≡ word_bytes (16 + n) → shape ≡ word_at pod 8 → child ≡ word_at pod 16 →
+pub choice_moved : (pod old x sub : List ℕ) (end n size shape child : ℕ) → IsPodOf pod choice_type size → 16 + n ≤ size → end ≡ extent (16 + n) →
+    x ≡ take end pod ++ drop end old → shape ≡ word_at pod 8 → child ≡ word_at pod 16 →
     ((s : Shape) → shape ≡ shape_number s → n ≡ bytes_taken s child (size - 16)) →
-    IsPatched (take end (word ++ drop 4 x)) sub → length sub ≡ length (take end (word ++ drop 4 x)) →
-    WritesPod pod old (sub ++ drop end (word ++ drop 4 x)) end
-choice_moved pod old x word sub end n size shape child p less e is w w8 w16 taken q y =
-    subst (λ z. WritesPod pod old (sub ++ drop end (word ++ drop 4 z)) end) (sym is)
-    (choice_written pod old (take end pod) word sub end n size shape child p less e refl w w8 w16 taken
-    (subst (λ z. IsPatched (take end (word ++ drop 4 z)) sub) is q) (y ∙ ap (λ z. length (take end (word ++ drop 4 z))) is))
+    TakesValues shape n (take end x) sub → length sub ≡ length (take end x) → WritesPod pod old (sub ++ drop end x) end
+choice_moved pod old x sub end n size shape child p less e is w8 w16 taken t y =
+    subst (λ z. WritesPod pod old (sub ++ drop end z) end) (sym is)
+    (choice_written pod old (take end pod) sub end n size shape child p less e refl w8 w16 taken
+    (subst (λ z. TakesValues shape n (take end z) sub) is t) (y ∙ ap (λ z. length (take end z)) is))
 
-pub choice_there : (pod old x word : List ℕ) (end kept size : ℕ) → IsPodOf pod choice_type size → 16 ≤ kept → kept ≤ size → end ≡ extent kept →
-    x ≡ take end pod ++ drop end old → word ≡ word_bytes kept → IsPodOf (take end (word ++ drop 4 x)) choice_type kept
-choice_there pod old x word end kept size p big less e is w =
-    subst (λ z. IsPodOf (take end (word ++ drop 4 z)) choice_type kept) (sym is)
-    (kept_choice pod old (take end pod) word end kept size p big less e refl w)
+-- there is room for the values
+pub values_room : (pod x old : List ℕ) (end n size : ℕ) → IsPodOf pod choice_type size → 16 + n ≤ size → end ≡ extent (16 + n) →
+    x ≡ take end pod ++ drop end old → 24 + n ≤ length (take end x)
+values_room pod x old end n size p less e is =
+    let u = padded_above (16 + n) in
+    let room = kept_room pod size (16 + n) end p less e in
+    let long = length-take-le end pod room in
+    let same = ap length (ap (take end) is ∙ take_at (take end pod) (drop end old) end long) in
+    omega arith

@@ -1,22 +1,26 @@
 -- Pods whose rewritings are written elsewhere, one after another.
 use Rattle.std.proofs.Common.{◌≡◌, ℕ, ◌+◌, ◌-◌, ◌<◌, ◌≤◌, List, [], ◌++◌, length, drop, take, refl, sym, ap, ◌∙◌, subst, arith, append_assoc, length-append, length-drop, length-take}
-use Rattle.std.specs.Prelude.{Bool, true, false}
+use Rattle.std.specs.Prelude.{Bool, replicate, true, false}
 use Rattle.std.proofs.Math.Seq.{take-add}
 use Rattle.std.proofs.lemmas.List.{append-nil, drop-drop, drop_at, length-take-le, nil_from_length, take_at}
 use borrow.Rule.Slice.PartMut.{put_mid}
-use Rattle.spa_format.specs.Words.{extent, header_size, word_at, word_bytes}
+use Rattle.spa_format.specs.Words.{body_of, extent, header_size, word_at, word_bytes}
 use Rattle.spa_format.specs.Tree.{no_trees}
 use Rattle.spa_format.specs.Encoding.{member_encodings}
 use Rattle.spa_format.specs.Front.{HasFront, front_of, rest_of}
 use Rattle.spa_format.specs.Typed.{IsBytes}
 use Rattle.spa_format.proofs.Encodings.{two_words_length}
 use Rattle.spa_format.proofs.Fronts.{length-body_of}
-use Rattle.spa_format.proofs.WordLemmas.{IsBytes-drop, word_at-take}
+use Rattle.spa_format.proofs.WordLemmas.{IsBytes-drop, IsBytes-take, word_at-take}
 use Rattle.spa_bytes.specs.Opening.{Opens}
 use Rattle.spa_scan.specs.Canonical.{AreCanonical}
 use Rattle.spa_rewrite.specs.Rewriting.{AreRewritten}
 use Rattle.spa_rewrite.specs.Shorter.{ArePlaced, AreRewrittenAs, AreShorter, IsInner, IsPlaced, PutsKey, WritesOn, WritesPod, WritesPods, type_inside}
-use Rattle.spa_rewrite.specs.Steady.{ArePatched, IsBehindKey, IsPodOf, key_size}
+use Rattle.spa_rewrite.specs.Steady.{ArePatched, BeginsWord, IsBehindKey, IsPodOf, key_size}
+use Rattle.spa_rewrite.proofs.PatchSteps.{opened_at, plain_kind, word_opens}
+use Rattle.spa_rewrite.proofs.Patches.{put_end}
+use Rattle.spa_rewrite.proofs.PatchedBodies.{IsPlainType, plain_patched}
+use Rattle.spa_rewrite.proofs.PlacedBodies.{IsLeafType, leaf_written}
 use Rattle.spa_rewrite.proofs.Stretches.{both_rewritten}
 use Rattle.spa_rewrite.proofs.Places.{few_placed, inner_placed, none_placed, pods_placed}
 
@@ -73,13 +77,6 @@ further_behind a b n m l e =
 four_parts : (out k pod new : List ℕ) → (out ++ k) ++ (pod ++ new) ≡ out ++ (k ++ (pod ++ new))
 four_parts out k pod new = append_assoc out k (pod ++ new)
 
--- what was put behind a place, to the end
-pub put_end : (at k : ℕ) (xs ys : List ℕ) → k ≡ length xs - at → put_mid at k xs ys ≡ take at xs ++ ys
-put_end at k xs ys e =
-    let d = length-drop at xs in
-    let f = length-drop k (drop at xs) in
-    ap (λ z. take at xs ++ (ys ++ z)) (nil_from_length (drop k (drop at xs)) (omega arith)) ∙ ap (λ z. take at xs ++ z) (append-nil ys)
-
 pub writes_one : (all keyed : Bool) (pods old left now keyed_out sub here body rest pod : List ℕ) (to at len type : ℕ) →
     WritesOn all keyed pods old left now to → IsBehindKey keyed left here → Opens here type body rest → pod ≡ take (length here - length rest) here →
     length pods ≤ length old → PutsKey keyed left now keyed_out to at → length keyed_out ≡ length now → WritesPod pod (drop at keyed_out) sub len →
@@ -121,6 +118,52 @@ writes_more all keyed pods old left now keyed_out sub_old sub here body rest pod
     subst (λ x. WritesOn all keyed pods old rest x (at + len)) (sym (put_end at k keyed_out sub e))
     (writes_one all keyed pods old left now keyed_out sub here body rest pod to at len type w b o n fits put same
     (subst (λ x. WritesPod pod x sub len) is p) (y ∙ ap length is))
+
+-- a word, and one more
+pub word_pod : (here : List ℕ) → BeginsWord here → IsPodOf (take 16 here) (word_at here 4) 4
+word_pod here w =
+    let o = word_opens here w in
+    let four : length (body_of here) ≡ 4 = length-body_of here o.there ∙ w.its_size in
+    let is = opened_at here (body_of here) (drop 16 here) (word_at here 4) 4 o (sym four) in
+    is.its
+
+pub word_written : (pods out front sub : List ℕ) → BeginsWord pods → IsBytes (sub ++ drop 16 (front ++ drop 16 out)) →
+    front ≡ take 16 pods → sub ≡ take (8 + 4) (take 16 (front ++ drop 16 out)) ++ replicate (length (take 16 (front ++ drop 16 out)) - (8 + 4)) 0 →
+    length sub ≡ length (take 16 (front ++ drop 16 out)) → WritesPod (take 16 pods) out (sub ++ drop 16 (front ++ drop 16 out)) 16
+word_written pods out front sub w y f e long =
+    let type = word_at pods 4 in
+    let t = w.its_type in
+    let plain : IsPlainType type = subst IsPlainType (sym t.1) (plain_kind t.0 t.2 t.3) in
+    let pod = word_pod pods w in
+    let l = w.long in
+    let n : 16 ≡ length (take 16 pods) = sym (length-take-le 16 pods (omega arith)) in
+    let is : take 16 (front ++ drop 16 out) ≡ take 16 pods = take_at front (drop 16 out) 16 (ap length f ∙ sym n) ∙ f in
+    let leaf : IsLeafType type = record { no_choice = plain.no_choice; no_struct = plain.no_struct; no_object = plain.no_object } in
+    let x = drop 16 (front ++ drop 16 out) in
+    let bytes : IsBytes sub = subst IsBytes (take_at sub x (length sub) refl) (IsBytes-take (length sub) (sub ++ x) y) in
+    leaf_written (take 16 pods) out front sub 16 type 4 n pod leaf f
+    (plain_patched (take 16 (front ++ drop 16 out)) sub type 4 bytes (subst (λ x. IsPodOf x type 4) (sym is) pod) plain e) long
+
+pub writes_word : (all keyed : Bool) (pods old left now keyed_out sub_old sub here : List ℕ) (to at k : ℕ) →
+    WritesOn all keyed pods old left now to → IsBehindKey keyed left here → BeginsWord here → length pods ≤ length old →
+    PutsKey keyed left now keyed_out to at → length keyed_out ≡ length now → WritesPod (take 16 here) sub_old sub 16 →
+    sub_old ≡ drop at keyed_out → length sub ≡ length sub_old → k ≡ length keyed_out - at →
+    WritesOn all keyed pods old (drop 16 here) (put_mid at k keyed_out sub) (at + 16)
+writes_word all keyed pods old left now keyed_out sub_old sub here to at k w b i fits put same p is y e =
+    let l = i.long in
+    let d = length-drop 16 here in
+    let n : take 16 here ≡ take (length here - length (drop 16 here)) here =
+    ap (λ m. take m here) (let m : 16 ≡ length here - length (drop 16 here) = omega arith in m) in
+    writes_more all keyed pods old left now keyed_out sub_old sub here (body_of here) (drop 16 here) (take 16 here) to at 16 k (word_at here 4)
+    w b (word_opens here i) n fits put same p is y e
+
+-- there is room for it
+pub word_room : (keyed : Bool) (left here : List ℕ) → IsBehindKey keyed left here → BeginsWord here → key_size keyed + 16 ≤ length left
+word_room keyed left here k w =
+    let h = here_is keyed left here k in
+    let e = ap length h.1 ∙ length-drop (key_size keyed) left in
+    let l = w.long in
+    omega arith
 
 -- there is room for a pod
 pub record HasRoom (keyed : Bool) (left here rest : List ℕ) : Type 0 where

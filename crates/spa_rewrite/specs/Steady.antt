@@ -1,7 +1,7 @@
 -- Pods whose rewritings are as long as they are: docs/FORMAT.md, "The encoding of a value".
-use Rattle.std.specs.Prelude.{◌≡◌, ◌≢◌, ◌+◌, ◌<◌, ◌≤◌, ◌*◌, ◌++◌, ℕ, List, length, drop, take, Bool, true, false}
+use Rattle.std.specs.Prelude.{◌≡◌, ◌≢◌, ◌+◌, ◌-◌, ◌<◌, ◌≤◌, ◌*◌, ◌++◌, ℕ, List, length, drop, take, Bool, true, false}
 use Rattle.spa_format.specs.Words.{extent, header_size, padded_size, size_limit, word_at}
-use Rattle.spa_format.specs.Tree.{Shape, none_choice, range_choice, step_choice, enum_choice, flags_choice, Tree, Trees, Properties, object_type, struct_type, type_of}
+use Rattle.spa_format.specs.Tree.{Shape, none_choice, range_choice, step_choice, enum_choice, flags_choice, Tree, Trees, Properties, choice_type, object_type, shape_number, struct_type, type_of}
 use Rattle.spa_format.specs.Kind.{Fixed, Kind, body_size, bool_kind, type_number}
 use Rattle.spa_format.specs.Pod.{AreElements, AreMembers, AreProperties, IsBody, IsPod}
 use Rattle.spa_format.specs.Encoding.{encoded_body, encoding_of, fixed_bodies, member_encodings, property_encodings}
@@ -119,6 +119,11 @@ bytes_taken range_choice size all = 3 * size
 bytes_taken step_choice size all = 4 * size
 bytes_taken enum_choice size all = all
 bytes_taken flags_choice size all = all
+
+-- a choice that takes so many bytes of values became its rewriting, if that is as long, whatever its size word was
+abbrev pub TakesValues : ℕ → ℕ → List ℕ → List ℕ → Type 0
+TakesValues shape n old new = (pod : List ℕ) (size : ℕ) → IsPodOf pod choice_type size → drop 8 pod ≡ drop 8 old → 16 ≤ size → n ≤ size - 16 →
+    shape ≡ word_at pod 8 → ((s : Shape) → shape ≡ shape_number s → n ≡ bytes_taken s (word_at pod 16) (size - 16)) → IsPatched pod new
 
 -- pods were appended, and became their rewritings, if those are as long
 pub record AppendsPatched (old : Tail) (pods : List ℕ) (new : Tail) : Type 0 where

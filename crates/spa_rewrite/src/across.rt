@@ -1,15 +1,19 @@
 //! Rewritings written elsewhere, of pods that may get shorter.
 ghost use Rattle.std.specs.Prelude.{◌≡◌, ◌≢◌, ◌+◌, ◌-◌, ◌<◌, ◌≤◌, Bool, IfNone, IfSome, [], drop, length, take};
 ghost use Rattle.spa_format.specs.Tree.{choice_type};
+ghost use Rattle.spa_format.specs.Words.{header_size};
 ghost use Rattle.spa_rewrite.specs.Rewriting.{AreRewritten};
 ghost use Rattle.spa_rewrite.specs.Shorter.{ArePodsWithin, AreRewrittenAs, AreShorter, HoldsWhole, IsInner, PutsKey, WritesPod, WritesPods, type_inside};
-ghost use Rattle.spa_rewrite.specs.Steady.{IsPodOf, key_size};
+ghost use Rattle.spa_rewrite.specs.Steady.{BeginsWord, IsPodOf, key_size};
 ghost use Rattle.spa_scan.specs.Depth.{levels_looked_into};
 
-use crate::patch::{SECOND_HEADER, WORD_LEN, patch, patch_choice, patch_leaf, taken_len};
+use crate::patch::{
+    SECOND_HEADER, WORD_LEN, begins_word, clear_padding, patch_all, patch_leaf, patch_values,
+    taken_len,
+};
 use crate::steady::behind_key;
 use crate::surplus::surplus_of;
-use spa_bytes::{HEADER_LEN, extent_of, open, two_words, u32_at, word_body};
+use spa_bytes::{HEADER_LEN, extent_of, open, two_words, u32_at};
 use spa_scan::{LEVELS, canonical_stretch};
 use spa_utils::SpaTypes;
 
@@ -72,7 +76,7 @@ fn write_rest(surplus: usize, pods: &[u8], out: &mut [u8])
     }
     let len = pods.len();
     out[..len].copy_from_slice(pods);
-    patch(false, &mut out[..len]);
+    patch_all(&mut out[..len]);
 }
 
 /// Writes the rewritings of pods one after another to the front of an output that is at least as long, with key and flags before each where
@@ -88,14 +92,32 @@ fn write_pods(keyed: bool, pods: &[u8], out: &mut [u8]) -> usize
         let Some(here) = behind_key(keyed, left) else {
             return to;
         };
-        let Some(front) = open(here) else {
-            return to;
-        };
-        to = put_key(keyed, left, out, to);
-        let pod = &here[..here.len() - front.rest.len()];
-        to += write_pod(front.type_, front.body.len(), pod, &mut out[to..]);
-        left = front.rest;
+        if begins_word(here) {
+            to = put_key(keyed, left, out, to);
+            write_word(here, &mut out[to..]);
+            to += SECOND_HEADER;
+            (_, left) = here.split_at(SECOND_HEADER);
+        } else {
+            let Some(front) = open(here) else {
+                return to;
+            };
+            to = put_key(keyed, left, out, to);
+            let pod = &here[..here.len() - front.rest.len()];
+            to += write_pod(front.type_, front.body.len(), pod, &mut out[to..]);
+            left = front.rest;
+        }
     }
+}
+
+/// The same of the pod at the front, which is a word and no truth value.
+#[inline(always)]
+fn write_word(pods: &[u8], out: &mut [u8])
+    requires word { BeginsWord pods.now }
+    requires room { header_size + 8 ≤ length out.old }
+    ensures { WritesPod (take (header_size + 8) pods.now) out.old out.new (header_size + 8) }
+{
+    out[..SECOND_HEADER].copy_from_slice(&pods[..SECOND_HEADER]);
+    clear_padding(WORD_LEN, &mut out[..SECOND_HEADER]);
 }
 
 /// Writes a key and flags behind what is written, where `keyed` is set, and answers where that ends.
@@ -206,10 +228,8 @@ fn write_choice(size: usize, pod: &[u8], out: &mut [u8]) -> usize
     if len > all {
         return 0;
     }
-    let kept = SECOND_HEADER + len;
-    let end = extent_of(kept as u32);
+    let end = extent_of((SECOND_HEADER + len) as u32);
     out[..end].copy_from_slice(&pod[..end]);
-    out[..WORD_LEN].copy_from_slice(&word_body(kept as u32)[..WORD_LEN]);
-    patch_choice(kept, &mut out[..end]);
+    patch_values(shape, len, &mut out[..end]);
     end
 }

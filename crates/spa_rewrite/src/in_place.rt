@@ -7,7 +7,7 @@ ghost use Rattle.spa_rewrite.specs.Shorter.{ArePodsWithin, AreShorter};
 ghost use Rattle.spa_rewrite.specs.Steady.{AreSteadyWithin};
 ghost use Rattle.spa_scan.specs.Depth.{levels_looked_into};
 
-use crate::patch::patch;
+use crate::patch::patch_all;
 use crate::place::place_all;
 use crate::rewriting::rewrite_in_parts;
 use crate::steady::steady_stretch;
@@ -44,7 +44,7 @@ pub fn rewrite_in_place(
     let from = first.len();
     let to = from + steady.len();
     if let Some(surplus) = surplus_of_all(others) {
-        patch(false, &mut bytes[from..to]);
+        patch_all(&mut bytes[from..to]);
         place_rest(surplus, &mut bytes[to..]);
         return Ok(len - surplus);
     }
@@ -52,7 +52,7 @@ pub fn rewrite_in_place(
         Ok((kept, written)) => (to + kept.len(), written),
         Err((left, error)) => return Err((len - left.len(), without_place(error))),
     };
-    patch(false, &mut bytes[from..to]);
+    patch_all(&mut bytes[from..to]);
     let end = start + written.len();
     bytes[start..end].copy_from_slice(written.as_slice());
     Ok(end)
@@ -86,7 +86,7 @@ pub fn rewrite_across(input: &[u8], out: &mut [u8]) -> bool
         return false;
     }
     out.copy_from_slice(input);
-    patch(false, &mut out[first.len()..]);
+    patch_all(&mut out[first.len()..]);
     true
 }
 

@@ -1,12 +1,12 @@
 //! Pods made their rewritings where they lie, where these are as long: only padding and words that mean nothing change.
-ghost use Rattle.std.specs.Prelude.{Bool, List, true, ℕ, ◌≡◌, ◌≢◌, ◌+◌, ◌-◌, ◌^◌, ◌<◌, ◌≤◌, ◌++◌, ◌*◌, IfNone, IfSome, drop, length, replicate, take};
+ghost use Rattle.std.specs.Prelude.{Bool, List, false, true, ℕ, ◌≡◌, ◌≢◌, ◌+◌, ◌-◌, ◌^◌, ◌<◌, ◌≤◌, ◌++◌, ◌*◌, IfNone, IfSome, drop, length, replicate, take};
 ghost use Rattle.spa_fixed.specs.Reading.{AreWhole};
 ghost use Rattle.spa_format.specs.Pod.{IsPointer};
 ghost use Rattle.spa_format.specs.Tree.{Shape, array_type, choice_type, object_type, pointer_type, shape_number, struct_type};
 ghost use Rattle.spa_format.specs.Kind.{bool_kind, type_number};
 ghost use Rattle.spa_rewrite.specs.Elements.{AreTruths};
 ghost use Rattle.spa_format.specs.Words.{header_size, size_limit, word_at};
-ghost use Rattle.spa_rewrite.specs.Steady.{ArePatched, BeginsWord, HoldsPods, IsPatched, IsPodOf, IsWordType, PatchesOn, TurnsWritten, bytes_taken, key_size};
+ghost use Rattle.spa_rewrite.specs.Steady.{ArePatched, BeginsWord, HoldsPods, IsPatched, IsPodOf, IsWordType, PatchesOn, TakesValues, TurnsWritten, bytes_taken, key_size};
 
 use crate::elements::written_flags;
 use spa_bytes::{
@@ -29,15 +29,56 @@ const VALUES_AT: usize = 24;
 /// The length in bytes of a whole pointer.
 const POINTER_POD: usize = 24;
 
-/// Makes pods one after another their rewritings, with key and flags before each where `keyed` is set. It promises nothing
-/// where the bytes aren't such pods, or are longer than these rewritings.
+/// Makes pods one after another their rewritings. It promises nothing where the bytes aren't such pods, or are longer than these rewritings.
+pub(crate) fn patch_all(bytes: &mut [u8])
+    ensures { ArePatched false bytes.old bytes.new }
+{
+    let mut at = 0;
+    loop {
+        let start = behind_words(false, bytes, at);
+        let Some(front) = open(&bytes[start..]) else {
+            return;
+        };
+        let (type_, size, left) = (front.type_, front.body.len(), front.rest.len());
+        at = bytes.len() - left;
+        patch_here(type_, size, &mut bytes[start..at]);
+    }
+}
+
+/// Makes a pod its rewriting, if that is as long. What stands in it is patched in place, without a call.
+#[inline(always)]
+fn patch_here(type_: u32, size: usize, pod: &mut [u8])
+    requires { IsPodOf pod.old type_ size }
+    ensures { IsPatched pod.old pod.new }
+{
+    match SpaTypes(type_) {
+        SpaTypes::Struct => patch_inside(false, &mut pod[HEADER_LEN..]),
+        SpaTypes::Object => {
+            if size >= HEADER_LEN {
+                patch_inside(true, &mut pod[SECOND_HEADER..]);
+            }
+        }
+        _ => patch_leaf(type_, size, pod),
+    }
+}
+
+/// Makes pods one after another their rewritings, with key and flags before each where `keyed` is set, with the same promise.
 #[cycle(patching)]
-pub(crate) fn patch(keyed: bool, bytes: &mut [u8])
+fn patch(keyed: bool, bytes: &mut [u8])
+    ensures { ArePatched keyed bytes.old bytes.new }
+{
+    patch_inside(keyed, bytes);
+}
+
+/// The same in place.
+#[cycle(patching)]
+#[inline(always)]
+fn patch_inside(keyed: bool, bytes: &mut [u8])
     ensures { ArePatched keyed bytes.old bytes.new }
 {
     let mut properties = keyed;
     let mut at = 0;
-    while bytes.len() - at >= HEADER_LEN {
+    loop {
         let start = behind_words(properties, bytes, at);
         if bytes.len() - start < HEADER_LEN {
             return;
@@ -113,7 +154,7 @@ fn begins_word_property(input: &[u8]) -> bool
 
 /// Whether the pod at the front is there, and a word that is no truth value.
 #[inline(always)]
-fn begins_word(input: &[u8]) -> bool
+pub(crate) fn begins_word(input: &[u8]) -> bool
     ensures { result ≡ true → BeginsWord input.now }
 {
     if input.len() < SECOND_HEADER {
@@ -168,8 +209,9 @@ fn last_inner(left: usize, type_: u32, size: usize) -> Option<bool>
     None
 }
 
-/// Makes a pod its rewriting, if that is as long.
+/// The same of one pod.
 #[cycle(patching)]
+#[inline(always)]
 fn patch_pod(type_: u32, size: usize, pod: &mut [u8])
     requires { IsPodOf pod.old type_ size }
     ensures { IsPatched pod.old pod.new }
@@ -268,6 +310,16 @@ pub(crate) fn patch_choice(size: usize, pod: &mut [u8])
     if len > all {
         return;
     }
+    patch_values(shape, len, pod);
+}
+
+/// The same of a choice of this shape that takes so many bytes of values. Its size word isn't read.
+#[inline(always)]
+pub(crate) fn patch_values(shape: u32, len: usize, pod: &mut [u8])
+    requires room { 24 + len ≤ length pod.old }
+    requires fits { 16 + len < size_limit }
+    ensures { TakesValues shape len pod.old pod.new }
+{
     let type_ = u32_at(pod, VALUES_AT - WORD_LEN);
     let flags = written_flags(shape, u32_at(pod, HEADER_LEN + SECOND_WORD));
     let header = two_words((SECOND_HEADER + len) as u32, SpaTypes::Choice.0);
@@ -313,14 +365,34 @@ fn patch_truths(words: &mut [u8])
 
 /// Makes what follows a body of this size zeros.
 #[inline(always)]
-fn clear_padding(size: usize, pod: &mut [u8])
+pub(crate) fn clear_padding(size: usize, pod: &mut [u8])
     requires { header_size + size ≤ length pod.old }
     ensures { pod.new ≡ take (header_size + size) pod.old ++ replicate (length pod.old - (header_size + size)) 0 }
 {
     let from = HEADER_LEN + size;
     match pod.len() - from {
         0 => (),
-        WORD_LEN => pod[from..].copy_from_slice(&[0; WORD_LEN]),
+        WORD_LEN => {
+            let zeros = [0; WORD_LEN];
+            pod[from..].copy_from_slice(&zeros);
+        }
+        1 | 2 => clear_ends(1, from, pod),
+        3 => clear_ends(2, from, pod),
+        5 | 6 | 7 => clear_ends(WORD_LEN, from, pod),
         _ => pod[from..].fill(0),
     }
+}
+
+/// Makes all bytes from a place on zeros, which are as many as this width or more, and at most twice as many: the first of them and the last.
+#[inline(always)]
+fn clear_ends(width: usize, from: usize, pod: &mut [u8])
+    requires once { from + width ≤ length pod.old }
+    requires twice { length pod.old ≤ from + 2 * width }
+    requires small { width ≤ 4 }
+    ensures { pod.new ≡ take from pod.old ++ replicate (length pod.old - from) 0 }
+{
+    let zeros = [0; WORD_LEN];
+    let last = pod.len() - width;
+    pod[from..from + width].copy_from_slice(&zeros[..width]);
+    pod[last..].copy_from_slice(&zeros[..width]);
 }

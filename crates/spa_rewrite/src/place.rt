@@ -7,9 +7,9 @@ ghost use Rattle.spa_rewrite.specs.Shorter.{AreShorter, HoldsWhole, IsInner, Put
 ghost use Rattle.spa_rewrite.specs.Steady.{IsPodOf, key_size};
 
 use crate::across::{holds_whole, inner_type};
-use crate::patch::{SECOND_HEADER, WORD_LEN, patch_choice, patch_leaf, place_behind, taken_len};
+use crate::patch::{SECOND_HEADER, patch_leaf, patch_values, place_behind, taken_len};
 use crate::steady::behind_key;
-use spa_bytes::{HEADER_LEN, extent_of, open, two_words, u32_at, word_body};
+use spa_bytes::{HEADER_LEN, extent_of, open, two_words, u32_at};
 use spa_utils::SpaTypes;
 
 /// Makes all pods that the bytes are, which are so many bytes shorter then, their rewritings at their front, and answers how many bytes these
@@ -189,10 +189,8 @@ fn place_choice(size: usize, bytes: &mut [u8], gap: usize) -> usize
     if len > all {
         return 0;
     }
-    let kept = SECOND_HEADER + len;
-    let end = extent_of(kept as u32);
+    let end = extent_of((SECOND_HEADER + len) as u32);
     move_down(bytes, gap, end);
-    bytes[..WORD_LEN].copy_from_slice(&word_body(kept as u32)[..WORD_LEN]);
-    patch_choice(kept, &mut bytes[..end]);
+    patch_values(shape, len, &mut bytes[..end]);
     end
 }

@@ -54,7 +54,7 @@ fn steady_front(input: &[u8]) -> Option<&[u8]>
         return None;
     };
     let steady = match inside_of(front.type_, front.body) {
-        Some(inside) => are_steady(inside.keyed, inside.pods, LEVELS),
+        Some(inside) => are_steady_inside(inside.keyed, inside.pods, LEVELS),
         None => is_steady_leaf(front.type_, front.body),
     };
     if steady { Some(front.rest) } else { None }
@@ -62,7 +62,18 @@ fn steady_front(input: &[u8]) -> Option<&[u8]>
 
 /// Whether the bytes are pods one after another whose rewritings are as long as they are, with key and flags before each where
 /// `keyed` is set.
+#[cycle(steady)]
 fn are_steady(keyed: bool, body: &[u8], levels: u32) -> bool
+    ensures steady { result ≡ true → AreSteadyInside keyed body.now }
+    ensures found { AreSteadyInsideWithin levels keyed body.now → result ≡ true }
+{
+    are_steady_inside(keyed, body, levels)
+}
+
+/// The same in place: what stands in the first pods of an input needs no call.
+#[cycle(steady)]
+#[inline(always)]
+fn are_steady_inside(keyed: bool, body: &[u8], levels: u32) -> bool
     ensures steady { result ≡ true → AreSteadyInside keyed body.now }
     ensures found { AreSteadyInsideWithin levels keyed body.now → result ≡ true }
 {

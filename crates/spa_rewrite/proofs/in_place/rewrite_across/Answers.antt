@@ -8,9 +8,9 @@ use Rattle.spa_rewrite.proofs.in_place.rewrite_across.Goals as goal
 
 pub returns-clause-rewritten : goal.returns-clause-rewritten
 returns-clause-rewritten c = λ _.
-    across_rewritten _ _ _ _ _ c.copy_from_slice.new.self c.patch.new.bytes _ _ c.copy_from_slice.ensures.after
+    across_rewritten _ _ _ _ _ c.copy_from_slice.new.self c.patch_all.new.bytes _ _ c.copy_from_slice.ensures.after
     c.canonical_stretch.ensures.parts c.canonical_stretch.ensures.canonical c.steady_stretch.ensures.parts c.steady_stretch.ensures.steady
-    (search rules) (search rules) refl c.patch.auto.bytes c.patch.ensures
+    (search rules) (search rules) refl c.patch_all.auto.bytes c.patch_all.ensures
 
 pub returns-then-not-is_empty-clause-found : goal.returns-then-not-is_empty-clause-found
 returns-then-not-is_empty-clause-found c = λ s _.

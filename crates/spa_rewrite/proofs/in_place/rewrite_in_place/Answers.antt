@@ -18,10 +18,10 @@ slice_bounds-copy_from_slice-end c =
     let steady = c.steady_stretch.result.0.now in
     let kept = c.in-Ok.kept.now in
     let same : vec_len c.in-Ok.written ≡ length c.in-Ok.written.items = search rules in
-    let room : start_of first steady kept + c.len.result ≤ length (patched_of c.args.bytes.now first steady c.patch-2.new.bytes) =
-    placed_room c.args.bytes.now first c.canonical_stretch.result.1.now steady c.steady_stretch.result.1.now c.patch-2.new.bytes kept
+    let room : start_of first steady kept + c.len.result ≤ length (patched_of c.args.bytes.now first steady c.patch_all-2.new.bytes) =
+    placed_room c.args.bytes.now first c.canonical_stretch.result.1.now steady c.steady_stretch.result.1.now c.patch_all-2.new.bytes kept
     c.in-Ok.written.items c.len.result c.canonical_stretch.ensures.parts c.steady_stretch.ensures.parts c.in-Ok.ensures.rewritten
-    c.patch-2.auto.bytes (c.len.ensures ∙ same) in
+    c.patch_all-2.auto.bytes (c.len.ensures ∙ same) in
     room
 
 pub returns-clause-rewritten : goal.returns-clause-rewritten
@@ -34,8 +34,8 @@ returns-clause-rewritten c =
     let parts = subst (AreRewrittenInParts others kept) (sym new) c.in-Ok.ensures.parts in
     let whole = subst (λ w. AreRewritten others [] (kept ++ w)) (sym new) c.in-Ok.ensures.rewritten in
     let all = all_placed c.args.bytes.now c.canonical_stretch.result.0.now c.canonical_stretch.result.1.now c.steady_stretch.result.0.now others
-    c.patch-2.new.bytes kept written c.len.result c.canonical_stretch.ensures.parts c.canonical_stretch.ensures.canonical
-    c.steady_stretch.ensures.parts c.steady_stretch.ensures.steady parts whole c.patch-2.ensures c.patch-2.auto.bytes
+    c.patch_all-2.new.bytes kept written c.len.result c.canonical_stretch.ensures.parts c.canonical_stretch.ensures.canonical
+    c.steady_stretch.ensures.parts c.steady_stretch.ensures.steady parts whole c.patch_all-2.ensures c.patch_all-2.auto.bytes
     (c.len.ensures ∙ same ∙ ap length (sym new)) in
     all.rewritten
 
@@ -49,8 +49,8 @@ returns-clause-behind c =
     let parts = subst (AreRewrittenInParts others kept) (sym new) c.in-Ok.ensures.parts in
     let whole = subst (λ w. AreRewritten others [] (kept ++ w)) (sym new) c.in-Ok.ensures.rewritten in
     let all = all_placed c.args.bytes.now c.canonical_stretch.result.0.now c.canonical_stretch.result.1.now c.steady_stretch.result.0.now others
-    c.patch-2.new.bytes kept written c.len.result c.canonical_stretch.ensures.parts c.canonical_stretch.ensures.canonical
-    c.steady_stretch.ensures.parts c.steady_stretch.ensures.steady parts whole c.patch-2.ensures c.patch-2.auto.bytes
+    c.patch_all-2.new.bytes kept written c.len.result c.canonical_stretch.ensures.parts c.canonical_stretch.ensures.canonical
+    c.steady_stretch.ensures.parts c.steady_stretch.ensures.steady parts whole c.patch_all-2.ensures c.patch_all-2.auto.bytes
     (c.len.ensures ∙ same ∙ ap length (sym new)) in
     all.behind
 
@@ -63,11 +63,11 @@ pub place_rest-requires : goal.place_rest-requires
 place_rest-requires c =
     let first = c.canonical_stretch.result.0.now in
     let steady = c.steady_stretch.result.0.now in
-    let now = patched_of c.args.bytes.now first steady c.patch.new.bytes in
+    let now = patched_of c.args.bytes.now first steady c.patch_all.new.bytes in
     record {
       shorter = subst (λ x. AreShorter x c.in-Some.surplus)
           (sym (take_rest now (length first + length steady)
-          ∙ others_left _ _ _ _ _ _ c.canonical_stretch.ensures.parts c.steady_stretch.ensures.parts c.patch.auto.bytes))
+          ∙ others_left _ _ _ _ _ _ c.canonical_stretch.ensures.parts c.steady_stretch.ensures.parts c.patch_all.auto.bytes))
           c.in-Some.ensures.there;
     }
 
@@ -75,20 +75,20 @@ pub returns-in-Some-clause-rewritten : goal.returns-in-Some-clause-rewritten
 returns-in-Some-clause-rewritten c =
     let first = c.canonical_stretch.result.0.now in
     let steady = c.steady_stretch.result.0.now in
-    let now = patched_of c.args.bytes.now first steady c.patch.new.bytes in
-    let all = rest_placed c.args.bytes.now first c.canonical_stretch.result.1.now steady c.steady_stretch.result.1.now c.patch.new.bytes _
+    let now = patched_of c.args.bytes.now first steady c.patch_all.new.bytes in
+    let all = rest_placed c.args.bytes.now first c.canonical_stretch.result.1.now steady c.steady_stretch.result.1.now c.patch_all.new.bytes _
     c.place_rest.new.pods (length now - (length first + length steady)) c.in-Some.surplus c.canonical_stretch.ensures.parts
-    c.canonical_stretch.ensures.canonical c.steady_stretch.ensures.parts c.steady_stretch.ensures.steady c.in-Some.ensures.there c.patch.ensures
-    c.patch.auto.bytes refl (take_rest now (length first + length steady)) c.place_rest.ensures.rewritten c.place_rest.ensures.behind in
+    c.canonical_stretch.ensures.canonical c.steady_stretch.ensures.parts c.steady_stretch.ensures.steady c.in-Some.ensures.there c.patch_all.ensures
+    c.patch_all.auto.bytes refl (take_rest now (length first + length steady)) c.place_rest.ensures.rewritten c.place_rest.ensures.behind in
     all.rewritten
 
 pub returns-in-Some-clause-behind : goal.returns-in-Some-clause-behind
 returns-in-Some-clause-behind c =
     let first = c.canonical_stretch.result.0.now in
     let steady = c.steady_stretch.result.0.now in
-    let now = patched_of c.args.bytes.now first steady c.patch.new.bytes in
-    let all = rest_placed c.args.bytes.now first c.canonical_stretch.result.1.now steady c.steady_stretch.result.1.now c.patch.new.bytes _
+    let now = patched_of c.args.bytes.now first steady c.patch_all.new.bytes in
+    let all = rest_placed c.args.bytes.now first c.canonical_stretch.result.1.now steady c.steady_stretch.result.1.now c.patch_all.new.bytes _
     c.place_rest.new.pods (length now - (length first + length steady)) c.in-Some.surplus c.canonical_stretch.ensures.parts
-    c.canonical_stretch.ensures.canonical c.steady_stretch.ensures.parts c.steady_stretch.ensures.steady c.in-Some.ensures.there c.patch.ensures
-    c.patch.auto.bytes refl (take_rest now (length first + length steady)) c.place_rest.ensures.rewritten c.place_rest.ensures.behind in
+    c.canonical_stretch.ensures.canonical c.steady_stretch.ensures.parts c.steady_stretch.ensures.steady c.in-Some.ensures.there c.patch_all.ensures
+    c.patch_all.auto.bytes refl (take_rest now (length first + length steady)) c.place_rest.ensures.rewritten c.place_rest.ensures.behind in
     all.behind

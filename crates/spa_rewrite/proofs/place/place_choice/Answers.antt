@@ -1,7 +1,7 @@
 use Rattle.std.proofs.Common.{◌+◌, ◌≤◌, ◌∙◌, arith, sym}
 use Rattle.spa_format.proofs.WordLemmas.{word_at-drop}
 use Rattle.spa_rewrite.proofs.PatchedBodies.{no_few_values}
-use Rattle.spa_rewrite.proofs.PlacedBodies.{choice_moved, choice_there, nothing_written}
+use Rattle.spa_rewrite.proofs.PlacedBodies.{choice_moved, nothing_written, values_room}
 use Rattle.spa_rewrite.proofs.place.place_choice.Goals as goal
 
 pub returns-then-len-all : goal.returns-then-len-all
@@ -15,13 +15,19 @@ returns-then-len-all c =
     absurd (no_few_values _ _ _ _ _ c.requires.pod (omega arith) (c.u32_at-shape.ensures ∙ sym (word_at-drop gap 8 bytes))
     (c.u32_at.ensures ∙ sym (word_at-drop gap 16 bytes)) c.taken_len-len.ensures (omega arith) v pd))
 
-pub patch_choice-requires : goal.patch_choice-requires
-patch_choice-requires c =
+pub patch_values-requires-clause-room : goal.patch_values-requires-clause-room
+patch_values-requires-clause-room c =
     let big = c.if-size-lt-SECOND_HEADER.false in
     let less = c.if-len-all.false in
     let kept : 16 + c.taken_len-len.result ≤ c.args.size = omega arith in
-    choice_there _ _ _ _ _ _ _ c.requires.pod (omega arith) kept c.extent_of-end.ensures.extent c.move_down.ensures
-    (c.copy_from_slice.ensures.after ∙ c.word_body.ensures.front)
+    values_room _ _ _ _ _ _ c.requires.pod kept c.extent_of-end.ensures.extent c.move_down.ensures
+
+pub patch_values-requires-clause-fits : goal.patch_values-requires-clause-fits
+patch_values-requires-clause-fits c =
+    let big = c.if-size-lt-SECOND_HEADER.false in
+    let less = c.if-len-all.false in
+    let fits = c.requires.pod.fits in
+    omega arith
 
 pub returns : goal.returns
 returns c =
@@ -30,6 +36,6 @@ returns c =
     let gap = c.args.gap in
     let bytes = c.args.bytes.now in
     let kept : 16 + c.taken_len-len.result ≤ c.args.size = omega arith in
-    choice_moved _ _ _ _ _ _ _ _ _ _ c.requires.pod kept c.extent_of-end.ensures.extent c.move_down.ensures
-    (c.copy_from_slice.ensures.after ∙ c.word_body.ensures.front) (c.u32_at-shape.ensures ∙ sym (word_at-drop gap 8 bytes))
-    (c.u32_at.ensures ∙ sym (word_at-drop gap 16 bytes)) c.taken_len-len.ensures c.patch_choice.ensures c.patch_choice.auto.pod
+    choice_moved _ _ _ _ _ _ _ _ _ c.requires.pod kept c.extent_of-end.ensures.extent c.move_down.ensures
+    (c.u32_at-shape.ensures ∙ sym (word_at-drop gap 8 bytes)) (c.u32_at.ensures ∙ sym (word_at-drop gap 16 bytes))
+    c.taken_len-len.ensures c.patch_values.ensures c.patch_values.auto.pod

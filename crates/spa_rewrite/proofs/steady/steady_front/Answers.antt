@@ -11,7 +11,7 @@ returns-then-steady-clause-taken c =
     elim c.match-inside_of.branch [
       | in-Some-inside_of w ↦
           steady_opened _ _ _ _ c.in-Some.ensures.there
-          (steady_inside _ _ _ _ w.in-Some-inside_of.ensures.there (w.are_steady-steady.ensures.steady (sym w.steady-is ∙ c.if-steady.true)))
+          (steady_inside _ _ _ _ w.in-Some-inside_of.ensures.there (w.are_steady_inside-steady.ensures.steady (sym w.steady-is ∙ c.if-steady.true)))
       | in-None w ↦
           steady_opened _ _ _ _ c.in-Some.ensures.there (w.is_steady_leaf-steady.ensures.steady (sym w.steady-is ∙ c.if-steady.true))
     ]
@@ -25,7 +25,7 @@ returns-else-steady-clause-missed c = λ behind s.
           elim c.match-inside_of.branch [
             | in-Some-inside_of w ↦
                 let inside = (inside_within _ _ _ _ _ w.in-Some-inside_of.ensures.there body).1 in
-                let found = w.are_steady-steady.ensures.found (within_more _ _ _ _ (omega arith) inside) in
+                let found = w.are_steady_inside-steady.ensures.found (within_more _ _ _ _ (omega arith) inside) in
                 absurd (never _ found (sym w.steady-is ∙ c.if-steady.false))
             | in-None w ↦
                 let found = w.is_steady_leaf-steady.ensures.found body.its (body_depth _ _ w.in-None.ensures.other w.in-None.ensures.short body.its) in

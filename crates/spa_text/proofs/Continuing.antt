@@ -1,5 +1,5 @@
 -- Values with others in them, read from what is printed of them.
-use Rattle.std.proofs.Common.{◌≡◌, ℕ, length, ◌<◌, ◌^◌, List, [], ◌∷◌, ◌++◌, Bool, true, false, refl, sym, ap, subst, ◌∙◌, append-nil, append_assoc, arith, true≢false}
+use Rattle.std.proofs.Common.{◌≡◌, ◌≢◌, ℕ, zero, suc, length, ◌<◌, ◌^◌, List, [], ◌∷◌, ◌++◌, Bool, true, false, refl, sym, ap, subst, ◌∙◌, append-nil, append_assoc, true≢false}
 use Rattle.std.specs.Prelude.{Option, Some, None, Result, Ok, Err, IfOk, OnOk, IsOk, codes, decimal, if◌then◌else◌, reverse}
 use Rattle.std.specs.Str.{bytes_eq}
 use Rattle.std.proofs.lemmas.List.{reverse-append}
@@ -17,11 +17,13 @@ use Rattle.spa_text.specs.Names.{expected_under, ids_of, keys_of, number_of}
 use Rattle.spa_text.specs.Numerals.{unsigned}
 use Rattle.spa_text.specs.Options.{◌>>=◌}
 use Rattle.std.proofs.lemmas.Slice.Eq.{bytes_eq-Decides}
-use Rattle.spa_text.specs.Tokens.{after_end_object, number_by_name}
+use Rattle.spa_text.specs.Printed.{HasNoFloat, flags_end, flags_front, name_token, tokens_of}
+use Rattle.spa_text.specs.Tokens.{after_end_object}
 use Rattle.spa_text.specs.Left.{AreAround, Continues, IsLeft, IsWithin, PrintsOrBegins}
-use Rattle.spa_text.specs.Written.{BeginsProperty, Opens, Prints, Puts, PutsKey, closing}
+use Rattle.spa_text.specs.Written.{BeginsProperty, Opens, Prints, PutsKey, PutsName, closing}
 use Rattle.spa_text.specs.declared.printing.Begun.{Begun}
 use Rattle.spa_text.proofs.Appending.{append_on}
+use Rattle.spa_text.proofs.Exactly.{cancel, empty, leaf_whole}
 use Rattle.spa_text.proofs.Listed.{not_ended}
 use Rattle.spa_text.proofs.Numbers.{unsigned-decimal}
 
@@ -42,12 +44,24 @@ property_bare t k o n w = record {
   flagged = λ us vs h e f.
       ap (λ r. r >>= (λ p. if is_flags p.0 then flagged_at p.1 else Some ((0, (false, p.0)), p.1))) e
       ∙ ap (λ b. if b then flagged_at vs else Some ((0, (false, h)), vs)) f;
+  named = w.named;
+  exact = refl;
+  ends = refl;
 }
 
-pub property_braced : (t : Table) (k f : ℕ) (o p q r s : List Token) → f < 2 ^ 32 → PutsKey t k o p →
+flags_printed : (f : ℕ) → f ≢ 0 →
+    Token.begin_object ∷ Token.key (codes "flags") ∷ Token.number (decimal f) ∷ Token.key (codes "value") ∷ [] ≡ flags_front f
+flags_printed zero d = absurd (d refl)
+flags_printed (suc n) d = refl
+
+flags_ended : (f : ℕ) → f ≢ 0 → Token.end_object ∷ [] ≡ flags_end f
+flags_ended zero d = absurd (d refl)
+flags_ended (suc n) d = refl
+
+pub property_braced : (t : Table) (k f : ℕ) (o p q r s : List Token) → f < 2 ^ 32 → f ≢ 0 → PutsKey t k o p →
     q ≡ p ++ Token.begin_object ∷ Token.key (codes "flags") ∷ [] → r ≡ q ++ Token.number (decimal f) ∷ [] →
     s ≡ r ++ Token.key (codes "value") ∷ [] → BeginsProperty true t k f o s
-property_braced t k f o p q r s l w e d g = record {
+property_braced t k f o p q r s l some w e d g = record {
   name = w.name;
   ts = Token.begin_object ∷ Token.key (codes "flags") ∷ Token.number (decimal f) ∷ Token.key (codes "value") ∷ [];
   appended =
@@ -56,6 +70,9 @@ property_braced t k f o p q r s l w e d g = record {
       (append_on q (Token.number (decimal f) ∷ []) (Token.key (codes "value") ∷ []) d g));
   numbered = w.numbered;
   flagged = λ us vs h e f. rw (unsigned-decimal _ l, e) refl;
+  named = w.named;
+  exact = flags_printed f some;
+  ends = flags_ended f some;
 }
 
 -- what begins a value opens something, and is no key of flags
@@ -86,10 +103,6 @@ not_flags c (Token.key s) us p e = by (bytes_eq s (codes "flags")) refl
 not_flags c _ us p e = refl
 
 -- ---- Members
-
-pub empty : {A : Type 0} (m : List A) → length m ≡ 0 → m ≡ []
-empty [] e = refl
-empty (x ∷ m) e = absurd (omega (arith, e))
 
 pub members_ended : (m : List Value) (o n : List Token) → length m ≡ 0 → n ≡ o ++ Token.end_array ∷ [] →
     Continues (λ ts rest. ts ≡ rest) (AreMembers (views m)) o n
@@ -228,7 +241,7 @@ object_left c t i k m l v o n same_keys same e a =
     (sym same) (object_begun c t i (property_views l) v o n e a))
 
 pub object_opened : (t i : ℕ) (o p q r s u w : List Token) → p ≡ o ++ Token.begin_object ∷ Token.key (codes "type") ∷ [] →
-    Puts (number_by_name Types) t p q → r ≡ q ++ Token.key (codes "id") ∷ [] → Puts (number_by_name (ids_of t)) i r s →
+    PutsName Types t p q → r ≡ q ++ Token.key (codes "id") ∷ [] → PutsName (ids_of t) i r s →
     u ≡ s ++ Token.key (codes "props") ∷ [] → w ≡ u ++ Token.begin_object ∷ [] → (c : Expected) → Opens c (an_object t i) o w
 unfolding opens
 object_opened t i o p q r s u w e a d b f g c = record {
@@ -241,17 +254,22 @@ object_opened t i o p q r s u w e a d b f g c = record {
       (append_on q (Token.key (codes "id") ∷ []) (b.token ∷ []) d b.appended)
       (append_on s (Token.key (codes "props") ∷ []) (Token.begin_object ∷ []) f g));
   opened = λ us. (Token.key (codes "type"), _, refl, rw (a.said, b.said) refl);
+  exact =
+      ap (λ x. Token.begin_object ∷ Token.key (codes "type") ∷ x ∷ Token.key (codes "id") ∷ b.token ∷ Token.key (codes "props") ∷ Token.begin_object ∷ []) a.exact
+      ∙ ap (λ x. Token.begin_object ∷ Token.key (codes "type") ∷ name_token Types t ∷ Token.key (codes "id") ∷ x ∷ Token.key (codes "props") ∷ Token.begin_object ∷ []) b.exact;
 }
 
 pub leaf_ended : {E F : Type 0} (c : Expected) (u v : Tree) (o n : List Token) (r : Result (Unit {0}) E) (q : Result (Option Begun) F) → u ≡ v →
     OnOk r (Prints c v o n) → OnOk r (IfOk q (λ b. b ≡ None)) → IfOk q (λ _. IsOk r) → IfOk q (λ b. PrintsOrBegins c u b o n)
 leaf_ended c u v o n (Ok x) (Ok b) s w e d =
-    subst (λ y. PrintsOrBegins c u y o n) (sym e)
-    (record {
+    subst (λ y. PrintsOrBegins c u y o n) (sym e) (reads, leaf_whole c u v o n s w)
+  where
+    reads : Continues (λ ts rest. ts ≡ rest) (ReadsAs c u) o n
+    reads = record {
       ts = w.ts;
       appended = w.appended;
       continued = λ us rest z. subst (λ t. ReadsAs c t (w.ts ++ us) rest) (sym s) (subst (λ t. ReadsAs c v (w.ts ++ us) t) z (w.reads us));
-    })
+    }
 leaf_ended c u v o n (Err y) (Ok b) s w e d = absurd (true≢false (sym d))
 leaf_ended c u v o n (Ok x) (Err z) s w e d = tt
 leaf_ended c u v o n (Err y) (Err z) s w e d = tt
@@ -259,14 +277,22 @@ leaf_ended c u v o n (Err y) (Err z) s w e d = tt
 -- ---- The values that are begun
 
 -- a value that is printed at once
-pub first_printed : (v : Tree) (o n : List Token) → Continues (λ ts rest. ts ≡ rest) (ReadsAs nothing v) o n → Prints nothing v o n
-first_printed v o n w = record { ts = w.ts; appended = w.appended; reads = λ rest. w.continued rest rest refl }
+pub first_printed : (v : Tree) (o n : List Token) → PrintsOrBegins nothing v None o n → Prints nothing v o n
+first_printed v o n w = record {
+  ts = w.0.ts;
+  appended = w.0.appended;
+  reads = λ rest. w.0.continued rest rest refl;
+  exact = λ h. cancel o w.0.ts (tokens_of nothing v) (sym w.0.appended ∙ sym (append-nil n) ∙ (w.1 h).1);
+}
 
 -- the whole text
 pub whole_printed : (v : Tree) (o n ts : List Token) → o ≡ [] → Prints nothing v o n → ts ≡ n → ReadsAs nothing v ts []
 whole_printed v o n ts e w back =
     let same : ts ≡ w.ts = back ∙ w.appended ∙ ap (λ l. l ++ w.ts) e in
     subst (λ l. ReadsAs nothing v l []) (append-nil w.ts ∙ sym same) (w.reads [])
+
+pub whole_exact : (v : Tree) (o n ts : List Token) → o ≡ [] → Prints nothing v o n → ts ≡ n → HasNoFloat v → ts ≡ tokens_of nothing v
+whole_exact v o n ts e w back h = back ∙ w.appended ∙ ap (λ l. l ++ w.ts) e ∙ w.exact h
 
 -- all that is written so far, from what is left
 pub first_within : (v : Tree) (b : Begun) (outer : List Begun) (o n : List Token) → outer ≡ [] → Continues (IsLeft b.left) (ReadsAs nothing v) o n →
@@ -280,10 +306,12 @@ first_within v b outer o n e w = record {
 }
 
 pub last_ended : (v : Tree) (b : Begun) (outer : List Begun) (o m n : List Token) → outer ≡ [] →
-    Continues (IsWithin b (reverse outer)) (ReadsAs nothing v) o m → Continues (λ ts rest. ts ≡ rest) (IsLeft b.left) m n → Prints nothing v o n
-last_ended v b outer o m n e a w = record {
+    Continues (IsWithin b (reverse outer)) (ReadsAs nothing v) o m → Continues (λ ts rest. ts ≡ rest) (IsLeft b.left) m n →
+    (HasNoFloat v → n ≡ o ++ tokens_of nothing v) → Prints nothing v o n
+last_ended v b outer o m n e a w x = record {
   ts = a.ts ++ w.ts;
   appended = append_on o a.ts w.ts a.appended w.appended;
+  exact = λ h. cancel o (a.ts ++ w.ts) (tokens_of nothing v) (sym (append_on o a.ts w.ts a.appended w.appended) ∙ x h);
   reads = λ rest.
       subst (λ z. ReadsAs nothing v z rest) (sym (append_assoc a.ts w.ts rest))
       (a.continued (w.ts ++ rest) rest

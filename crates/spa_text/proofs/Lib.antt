@@ -8,6 +8,7 @@ pub mod Numbers
 pub mod Appending
 pub mod Leaf
 pub mod Listed
+pub mod Exactly
 pub mod Continuing
 pub mod Counting
 pub mod Lines

@@ -1,6 +1,8 @@
 -- Arrays and choices, read from what is printed of them.
-use Rattle.std.proofs.Common.{◌≡◌, inl, inr, ℕ, zero, suc, ◌<◌, ◌^◌, List, [], ◌∷◌, ◌++◌, true, false, refl, sym, ap, subst, ◌∙◌, append-nil, append_assoc, arith}
+use Rattle.std.proofs.Common.{◌≡◌, ◌≢◌, ◌==◌, inl, inr, ℕ, zero, suc, ◌+◌, ◌<◌, length, take, get_or, ◌^◌, List, [], ◌∷◌, ◌++◌, true, false, refl, sym, ap, subst, ◌∙◌, append-nil, append_assoc, arith}
 use Rattle.std.specs.Prelude.{Some, None, codes, decimal, map, if◌then◌else◌}
+use Rattle.std.proofs.lemmas.Bool.{eqb-true}
+use Rattle.std.proofs.lemmas.List.{map-append, take_more}
 use Rattle.json.specs.Token.{Token}
 use Rattle.json.specs.Json.{after_end_array}
 use Rattle.spa_format.specs.Kind.{Kind, Fixed, body_size, kind_of, type_number, none_kind, bool_kind, id_kind, int_kind, long_kind, float_kind, double_kind, rectangle_kind, fraction_kind, fd_kind}
@@ -10,12 +12,13 @@ use Rattle.spa_utils.specs.declared.choice.ChoiceEnum.{ChoiceEnum}
 use Rattle.spa_utils.specs.declared.choice.ChoiceEnum.TheVariants as E
 use Rattle.spa_value.specs.Equality.{kind_eq}
 use Rattle.spa_names.specs.declared.entry.Expected.{Expected}
-use Rattle.spa_names.specs.declared.table.Table.{Table}
 use Rattle.spa_names.specs.declared.table.Table.TheVariants.{Types}
 use Rattle.spa_text.specs.Grammar.{AreElements, a_choice, an_array, chosen, element, opens, shape_named, type_kind}
-use Rattle.spa_text.specs.Tokens.{head, number_by_name}
-use Rattle.spa_text.specs.Written.{Lists, Opens, Prints, Puts, PutsType, flag_tokens, shape_in, values_in}
+use Rattle.spa_text.specs.Printed.{AreNoFloats, fixed_tokens, flag_tokens, front_of, list_tokens, listed, name_token, shape_text, type_tokens}
+use Rattle.spa_text.specs.Tokens.{head}
+use Rattle.spa_text.specs.Written.{Lists, Opens, Prints, PutsName, PutsType, shape_in, values_in}
 use Rattle.spa_text.proofs.Appending.{append_on}
+use Rattle.spa_text.proofs.Leaf.{choose, refuse}
 use Rattle.spa_text.proofs.Numbers.{unsigned-decimal}
 
 -- ---- Values of one kind
@@ -77,10 +80,21 @@ one_listed c k x o n e w = record {
   listed = λ ys us rest more.
       let r = w.reads us in
       (r.0, r.1, us, not_ended (w.ts ++ us) (r.0, r.1) r.2, r.2, r.3, ap (λ j. kind_eq j k) e ∙ same_kind k, more);
+  exact = λ h. w.exact h.0 ∙ sym (append-nil (fixed_tokens c x));
 }
 
 pub none_listed : (c : Expected) (k : Kind) (o : List Token) → Lists c k [] o o
-none_listed c k o = record { ts = []; appended = sym (append-nil o); listed = λ ys us rest more. more }
+none_listed c k o = record { ts = []; appended = sym (append-nil o); listed = λ ys us rest more. more; exact = λ h. refl }
+
+-- of two lists one behind the other
+no_floats : (xs ys : List Fixed) → AreNoFloats (xs ++ ys) → AreNoFloats xs × AreNoFloats ys
+no_floats [] ys h = (tt, h)
+no_floats (x ∷ xs) ys h = let r = no_floats xs ys h.1 in ((h.0, r.0), r.1)
+
+list_tokens-append : (c : Expected) (xs ys : List Fixed) → list_tokens c (xs ++ ys) ≡ list_tokens c xs ++ list_tokens c ys
+list_tokens-append c [] ys = refl
+list_tokens-append c (x ∷ xs) ys =
+    ap (λ l. fixed_tokens c x ++ l) (list_tokens-append c xs ys) ∙ sym (append_assoc (fixed_tokens c x) (list_tokens c xs) (list_tokens c ys))
 
 pub more_listed : (c : Expected) (k : Kind) (xs ys : List Fixed) (o m n : List Token) → Lists c k xs o m → Lists c k ys m n →
     Lists c k (xs ++ ys) o n
@@ -91,7 +105,18 @@ more_listed c k xs ys o m n a b = record {
       subst (λ l. AreElements c k l ((a.ts ++ b.ts) ++ us) rest) (sym (append_assoc xs ys zs))
       (subst (λ l. AreElements c k (xs ++ (ys ++ zs)) l rest) (sym (append_assoc a.ts b.ts us))
       (a.listed (ys ++ zs) (b.ts ++ us) rest (b.listed zs us rest more)));
+  exact = λ h.
+      let n = no_floats xs ys h in
+      ap (λ l. l ++ b.ts) (a.exact n.0) ∙ ap (λ l. list_tokens c xs ++ l) (b.exact n.1) ∙ sym (list_tokens-append c xs ys);
 }
+
+-- the first ones of a list, and the next
+pub next_listed : {T : Type 0} (c : Expected) (k : Kind) (g : T → Fixed) (vs : List T) (i : ℕ) (x : T) (o m n : List Token) →
+    i < length vs → x ≡ get_or vs i x → Lists c k (map g (take i vs)) o m → Lists c k (g x ∷ []) m n →
+    Lists c k (map g (take (i + 1) vs)) o n
+next_listed c k g vs i x o m n l e a b =
+    let next = ap (map g) (take_more vs i x l ∙ ap (λ y. take i vs ++ y ∷ []) (sym e)) ∙ map-append g (take i vs) (x ∷ []) in
+    subst (λ z. Lists c k z o n) (sym next) (more_listed c k (map g (take i vs)) (g x ∷ []) o m n a b)
 
 -- all of them, and the bracket and the brace behind them
 all_listed : (c : Expected) (k : Kind) (xs : List Fixed) (o n : List Token) (w : Lists c k xs o n) (rest : List Token) →
@@ -106,42 +131,50 @@ behind : (a b : List Token) (rest : List Token) →
 behind a b rest =
     append_assoc a (b ++ Token.end_array ∷ Token.end_object ∷ []) rest ∙ ap (λ l. a ++ l) (append_assoc b (Token.end_array ∷ Token.end_object ∷ []) rest)
 
+both_listed : (a b front ts : List Token) → a ≡ front → b ≡ ts → listed a b ≡ listed front ts
+both_listed a b front ts e d = ap (λ l. listed l b) e ∙ ap (λ l. listed front l) d
+
 -- ---- An array
 
-pub array_printed : (c : Expected) (t : Table) (k : Kind) (xs : List Fixed) (o m n p : List Token) → Opens c (an_array t k) o m →
-    Lists (element t k) k xs m n → p ≡ n ++ Token.end_array ∷ Token.end_object ∷ [] → Prints c (array k xs) o p
-array_printed c t k xs o m n p a b e = record {
+pub array_printed : (c : Expected) (k : Kind) (xs : List Fixed) (o m n p : List Token) → Opens c (an_array c.ids k) o m →
+    Lists (element c.ids k) k xs m n → p ≡ n ++ Token.end_array ∷ Token.end_object ∷ [] → Prints c (array k xs) o p
+array_printed c k xs o m n p a b e = record {
   ts = a.ts ++ (b.ts ++ Token.end_array ∷ Token.end_object ∷ []);
   appended = append_on o a.ts (b.ts ++ Token.end_array ∷ Token.end_object ∷ []) a.appended (append_on m b.ts (Token.end_array ∷ Token.end_object ∷ []) b.appended e);
   reads = λ rest.
       let us = b.ts ++ Token.end_array ∷ Token.end_object ∷ rest in
       let d = a.opened us in
-      (d.0, d.1, ap head (behind a.ts b.ts rest) ∙ d.2, (t, us, Token.end_object ∷ rest, d.3, all_listed (element t k) k xs m n b rest, refl));
+      (d.0, d.1, ap head (behind a.ts b.ts rest) ∙ d.2, (c.ids, us, Token.end_object ∷ rest, d.3, all_listed (element c.ids k) k xs m n b rest, refl));
+  exact = λ h. both_listed a.ts b.ts (front_of c (an_array c.ids k)) (list_tokens (element c.ids k) xs) a.exact (b.exact h);
 }
 
 pub array_opened : (c : Expected) (n : ℕ) (o p q r s : List Token) → p ≡ o ++ Token.begin_object ∷ Token.key (codes "array") ∷ [] →
-    Puts (number_by_name Types) n p q → r ≡ q ++ Token.key (codes "values") ∷ [] → s ≡ r ++ Token.begin_array ∷ [] →
-    (k : Kind) → type_kind n ≡ Some k → Opens c (an_array c.ids k) o s
+    PutsName Types n p q → r ≡ q ++ Token.key (codes "values") ∷ [] → s ≡ r ++ Token.begin_array ∷ [] →
+    (k : Kind) → n ≡ type_number k → Opens c (an_array c.ids k) o s
 unfolding opens
-array_opened c n o p q r s e w d f k h = record {
-  ts = Token.begin_object ∷ Token.key (codes "array") ∷ w.token ∷ Token.key (codes "values") ∷ Token.begin_array ∷ [];
-  appended =
-      append_on o (Token.begin_object ∷ Token.key (codes "array") ∷ w.token ∷ []) (Token.key (codes "values") ∷ Token.begin_array ∷ [])
-      (append_on o (Token.begin_object ∷ Token.key (codes "array") ∷ []) (w.token ∷ []) e w.appended)
-      (append_on q (Token.key (codes "values") ∷ []) (Token.begin_array ∷ []) d f);
-  opened = λ us. (Token.key (codes "array"), _, refl, rw (w.said, h) refl);
-}
+array_opened c n o p q r s e w d f k same =
+    let h = ap type_kind same ∙ kind_numbered k in record {
+      ts = Token.begin_object ∷ Token.key (codes "array") ∷ w.token ∷ Token.key (codes "values") ∷ Token.begin_array ∷ [];
+      appended =
+          append_on o (Token.begin_object ∷ Token.key (codes "array") ∷ w.token ∷ []) (Token.key (codes "values") ∷ Token.begin_array ∷ [])
+          (append_on o (Token.begin_object ∷ Token.key (codes "array") ∷ []) (w.token ∷ []) e w.appended)
+          (append_on q (Token.key (codes "values") ∷ []) (Token.begin_array ∷ []) d f);
+      opened = λ us. (Token.key (codes "array"), _, refl, rw (w.said, h) refl);
+      exact =
+          ap (λ x. Token.begin_object ∷ Token.key (codes "array") ∷ x ∷ Token.key (codes "values") ∷ Token.begin_array ∷ [])
+          (w.exact ∙ ap (name_token Types) same);
+    }
 
 -- ---- A choice
 
 -- its values are as many as its shape takes
-pub choice_printed : {T : Type 0} (c : Expected) (t : Table) (k : Kind) (g : T → Fixed) (f : ℕ) (v : ChoiceEnum T) (o m n p : List Token) →
-    0 < body_size k → Opens c (a_choice (shape_in v) f t k) o m → Lists (element t k) k (values_in g v) m n →
+pub choice_printed : {T : Type 0} (c : Expected) (k : Kind) (g : T → Fixed) (f : ℕ) (v : ChoiceEnum T) (o m n p : List Token) →
+    0 < body_size k → Opens c (a_choice (shape_in v) f c.ids k) o m → Lists (element c.ids k) k (values_in g v) m n →
     p ≡ n ++ Token.end_array ∷ Token.end_object ∷ [] → Prints c (choice_enum_tree k g f v) o p
-choice_printed {T = T} c t k g f v o m n p s a b e = by v a b
+choice_printed {T = T} c k g f v o m n p s a b e = by v a b
   where
-    whole : (h : Shape) (x : Fixed) (xs : List Fixed) → chosen h f k (x ∷ xs) ≡ Some (choice h f k x xs) → Opens c (a_choice h f t k) o m →
-        Lists (element t k) k (x ∷ xs) m n → Prints c (choice h f k x xs) o p
+    whole : (h : Shape) (x : Fixed) (xs : List Fixed) → chosen h f k (x ∷ xs) ≡ Some (choice h f k x xs) → Opens c (a_choice h f c.ids k) o m →
+        Lists (element c.ids k) k (x ∷ xs) m n → Prints c (choice h f k x xs) o p
     whole h x xs made a b = record {
       ts = a.ts ++ (b.ts ++ Token.end_array ∷ Token.end_object ∷ []);
       appended = append_on o a.ts (b.ts ++ Token.end_array ∷ Token.end_object ∷ []) a.appended (append_on m b.ts (Token.end_array ∷ Token.end_object ∷ []) b.appended e);
@@ -152,18 +185,20 @@ choice_printed {T = T} c t k g f v o m n p s a b e = by v a b
             d.1,
             ap head (behind a.ts b.ts rest) ∙ d.2,
             (
-              t,
+              c.ids,
               us,
               Token.end_object ∷ rest,
               d.3,
-              all_listed (element t k) k (x ∷ xs) m n b rest,
+              all_listed (element c.ids k) k (x ∷ xs) m n b rest,
               ap (λ z. if z then None else chosen h f k (x ∷ xs)) (not_none k s) ∙ made,
               refl,
             ),
           );
+      exact = λ z.
+          both_listed a.ts b.ts (front_of c (a_choice h f c.ids k)) (list_tokens (element c.ids k) (x ∷ xs)) a.exact (b.exact z);
     }
 
-    by : (v : ChoiceEnum T) → Opens c (a_choice (shape_in v) f t k) o m → Lists (element t k) k (values_in g v) m n →
+    by : (v : ChoiceEnum T) → Opens c (a_choice (shape_in v) f c.ids k) o m → Lists (element c.ids k) k (values_in g v) m n →
         Prints c (choice_enum_tree k g f v) o p
     by (E.None x) = whole none_choice (g x) [] refl
     by (E.Range x y z) = whole range_choice (g x) (g y ∷ g z ∷ []) refl
@@ -171,13 +206,37 @@ choice_printed {T = T} c t k g f v o m n p s a b e = by v a b
     by (E.Enum x xs) = whole enum_choice (g x) (map g xs.items) refl
     by (E.Flags x xs) = whole flags_choice (g x) (map g xs.items) refl
 
-pub choice_opened : (c : Expected) (name : List ℕ) (h : Shape) (f n : ℕ) (o p q r s u w : List Token) → f < 2 ^ 32 → shape_named name ≡ Some h →
+-- the name of a shape
+shape_read : (h : Shape) → shape_named (shape_text h) ≡ Some h
+shape_read none_choice = refl
+shape_read range_choice = refl
+shape_read step_choice = refl
+shape_read enum_choice = refl
+shape_read flags_choice = refl
+
+-- the type is printed where it isn't expected
+eqb-same : (m n : ℕ) → m ≡ n → (m == n) ≡ true
+eqb-same m n e = grind (arith, e)
+
+type_silent : (e t : ℕ) → e ≡ t → type_tokens e t ≡ []
+type_silent e t s = choose (e == t) [] (Token.key (codes "of") ∷ name_token Types t ∷ []) (eqb-same e t s)
+
+type_told : (e t : ℕ) → e ≢ t → type_tokens e t ≡ Token.key (codes "of") ∷ name_token Types t ∷ []
+type_told e t d = refuse (e == t) [] (Token.key (codes "of") ∷ name_token Types t ∷ []) (λ s. d (eqb-true e t s))
+
+pub choice_opened : (c : Expected) (name : List ℕ) (h : Shape) (f n : ℕ) (o p q r s u w : List Token) → f < 2 ^ 32 → name ≡ shape_text h →
     p ≡ o ++ Token.begin_object ∷ Token.key (codes "choice") ∷ [] → q ≡ p ++ Token.string name ∷ [] → r ≡ q ++ flag_tokens f →
     PutsType c.type_.0 n r s → u ≡ s ++ Token.key (codes "values") ∷ [] → w ≡ u ++ Token.begin_array ∷ [] →
-    (k : Kind) → type_kind n ≡ Some k → Opens c (a_choice h f c.ids k) o w
+    (k : Kind) → n ≡ type_number k → Opens c (a_choice h f c.ids k) o w
 unfolding opens
-choice_opened c name h f n o p q r s u w small named e1 e2 e3 typed e5 e6 k kind = by_flags f small e3
+choice_opened c name h f n o p q r s u w small text e1 e2 e3 typed e5 e6 k number = by_flags f small e3
   where
+    named : shape_named name ≡ Some h
+    named = ap shape_named text ∙ shape_read h
+
+    kind : type_kind n ≡ Some k
+    kind = ap type_kind number ∙ kind_numbered k
+
     front : List Token
     front = Token.begin_object ∷ Token.key (codes "choice") ∷ Token.string name ∷ []
 
@@ -189,26 +248,39 @@ choice_opened c name h f n o p q r s u w small named e1 e2 e3 typed e5 e6 k kind
         append_on o front (fs ++ (ts ++ back)) (append_on o (Token.begin_object ∷ Token.key (codes "choice") ∷ []) (Token.string name ∷ []) e1 e2)
         (append_on q fs (ts ++ back) a (append_on r ts back b (append_on s (Token.key (codes "values") ∷ []) (Token.begin_array ∷ []) e5 e6)))
 
+    said : (fs ts : List Token) → ts ≡ type_tokens c.type_.0 n →
+        front ++ (fs ++ (ts ++ back)) ≡ Token.begin_object ∷ Token.key (codes "choice") ∷ Token.string (shape_text h) ∷ (fs ++ (type_tokens c.type_.0 (type_number k) ++ back))
+    said fs ts e =
+        ap (λ x. Token.begin_object ∷ Token.key (codes "choice") ∷ Token.string x ∷ (fs ++ (ts ++ back))) text
+        ∙ ap (λ l. Token.begin_object ∷ Token.key (codes "choice") ∷ Token.string (shape_text h) ∷ (fs ++ (l ++ back))) (e ∙ ap (type_tokens c.type_.0) number)
+
+    told : (x : Token) → x ≡ name_token Types n → c.type_.0 ≢ n → Token.key (codes "of") ∷ x ∷ [] ≡ type_tokens c.type_.0 n
+    told x e d = ap (λ y. Token.key (codes "of") ∷ y ∷ []) e ∙ sym (type_told c.type_.0 n d)
+
     by_type : (g : ℕ) → g < 2 ^ 32 → r ≡ q ++ flag_tokens g → PutsType c.type_.0 n r s → Opens c (a_choice h g c.ids k) o w
     by_type zero l a (inl t) = record {
       ts = front ++ back;
       appended = put [] [] a (t.0 ∙ sym (append-nil r));
       opened = λ us. (Token.key (codes "choice"), _, refl, rw (named, t.1, kind) refl);
+      exact = said [] [] (sym (type_silent c.type_.0 n t.1));
     }
     by_type zero l a (inr t) = record {
       ts = front ++ (Token.key (codes "of") ∷ t.0 ∷ back);
       appended = put [] (Token.key (codes "of") ∷ t.0 ∷ []) a t.1;
       opened = λ us. (Token.key (codes "choice"), _, refl, rw (named, t.2, kind) refl);
+      exact = said [] (Token.key (codes "of") ∷ t.0 ∷ []) (told t.0 t.3 t.4);
     }
     by_type (suc g) l a (inl t) = record {
       ts = front ++ (Token.key (codes "flags") ∷ Token.number (decimal (suc g)) ∷ back);
       appended = put (Token.key (codes "flags") ∷ Token.number (decimal (suc g)) ∷ []) [] a (t.0 ∙ sym (append-nil r));
       opened = λ us. (Token.key (codes "choice"), _, refl, rw (named, unsigned-decimal (suc g) l, t.1, kind) refl);
+      exact = said (Token.key (codes "flags") ∷ Token.number (decimal (suc g)) ∷ []) [] (sym (type_silent c.type_.0 n t.1));
     }
     by_type (suc g) l a (inr t) = record {
       ts = front ++ (Token.key (codes "flags") ∷ Token.number (decimal (suc g)) ∷ Token.key (codes "of") ∷ t.0 ∷ back);
       appended = put (Token.key (codes "flags") ∷ Token.number (decimal (suc g)) ∷ []) (Token.key (codes "of") ∷ t.0 ∷ []) a t.1;
       opened = λ us. (Token.key (codes "choice"), _, refl, rw (named, unsigned-decimal (suc g) l, t.2, kind) refl);
+      exact = said (Token.key (codes "flags") ∷ Token.number (decimal (suc g)) ∷ []) (Token.key (codes "of") ∷ t.0 ∷ []) (told t.0 t.3 t.4);
     }
 
     by_flags : (g : ℕ) → g < 2 ^ 32 → r ≡ q ++ flag_tokens g → Opens c (a_choice h g c.ids k) o w

@@ -1,11 +1,13 @@
 -- What is left to print of the values that are begun. Only the crate's private clauses cite it.
-use Rattle.std.specs.Prelude.{◌≡◌, ◌+◌, ◌≤◌, ℕ, List, [], ◌∷◌, ◌++◌, Option, Some, None}
+use Rattle.std.specs.Prelude.{◌≡◌, ⊤, ◌+◌, ◌≤◌, ℕ, List, [], ◌∷◌, ◌++◌, Option, Some, None}
 use Rattle.json.specs.Token.{Token}
 use Rattle.spa_format.specs.Tree.{Tree, member_node_count, property_node_count}
 use Rattle.spa_value.specs.Views.{property_views, views}
 use Rattle.spa_names.specs.declared.entry.Expected.{Expected}
 use Rattle.spa_text.specs.Grammar.{AreMembers, AreProperties, ReadsAs, close}
+use Rattle.spa_text.specs.Printed.{HasNoFloat, HaveNoFloat, HoldNoFloat, member_tokens, property_tokens, tokens_of}
 use Rattle.spa_text.specs.Tokens.{after_end_object}
+use Rattle.spa_text.specs.Written.{closing}
 use Rattle.spa_text.specs.declared.printing.Begun.{Begun}
 use Rattle.spa_text.specs.declared.printing.Left.{Left}
 use Rattle.spa_text.specs.declared.printing.Left.TheVariants as left
@@ -39,16 +41,49 @@ pub record Continues (P Q : List Token → List Token → Type 0) (old new : Lis
   pub appended : new ≡ old ++ ts
   pub continued : (us rest : List Token) → P us rest → Q (ts ++ us) rest
 
+-- no float is in what is left, of this one and of those around it
+abbrev pub LeavesNoFloat : Left → Type 0
+LeavesNoFloat (left.Members vs) = HaveNoFloat (views vs.now)
+LeavesNoFloat (left.Properties ps t) = HoldNoFloat (property_views ps.now)
+
+abbrev pub AroundNoFloat : List Begun → Type 0
+AroundNoFloat [] = ⊤
+AroundNoFloat (b ∷ bs) = LeavesNoFloat b.left × AroundNoFloat bs
+
+-- the tokens of what is left, and of that with those around it
+abbrev pub left_tokens : Left → List Token
+left_tokens (left.Members vs) = member_tokens (views vs.now)
+left_tokens (left.Properties ps t) = property_tokens t (property_views ps.now)
+
+abbrev pub around_tokens : List Begun → List Token
+around_tokens [] = []
+around_tokens (b ∷ bs) = closing b.braced ++ (left_tokens b.left ++ around_tokens bs)
+
+-- what is written, and the rest behind it, are the whole, where that has no float
+abbrev pub Leaves : (P : Type 0) (whole : List Token) (Q : Type 0) (rest old new : List Token) → Type 0
+Leaves P whole Q rest old new = P → Q × (new ++ rest ≡ old ++ whole)
+
+abbrev pub LeavesWithin : (P : Type 0) (whole : List Token) (inner : Begun) (around : List Begun) (old new : List Token) → Type 0
+LeavesWithin P whole inner around old new =
+    Leaves P whole (LeavesNoFloat inner.left × AroundNoFloat around) (left_tokens inner.left ++ around_tokens around) old new
+
 -- a value is printed, or begun
 abbrev pub PrintsOrBegins : Expected → Tree → Option Begun → List Token → List Token → Type 0
-PrintsOrBegins c v None old new = Continues (λ ts rest. ts ≡ rest) (ReadsAs c v) old new
-PrintsOrBegins c v (Some b) old new = Continues (IsLeft b.left) (ReadsAs c v) old new
+PrintsOrBegins c v None old new =
+    Continues (λ ts rest. ts ≡ rest) (ReadsAs c v) old new × Leaves (HasNoFloat v) (tokens_of c v) ⊤ [] old new
+PrintsOrBegins c v (Some b) old new =
+    Continues (IsLeft b.left) (ReadsAs c v) old new
+    × Leaves (HasNoFloat v) (tokens_of c v) (LeavesNoFloat b.left) (left_tokens b.left) old new
 
 -- the end of what is left is printed, or the next value in it, or that is begun
 abbrev pub PrintsNext : Left → Next → List Token → List Token → Type 0
-PrintsNext l next.Ended old new = Continues (λ ts rest. ts ≡ rest) (IsLeft l) old new
-PrintsNext l (next.Printed b) old new = Continues (IsLeft b.left) (IsLeft l) old new
-PrintsNext l (next.Begun b inner) old new = Continues (IsWithin inner (b ∷ [])) (IsLeft l) old new
+PrintsNext l next.Ended old new =
+    Continues (λ ts rest. ts ≡ rest) (IsLeft l) old new × Leaves (LeavesNoFloat l) (left_tokens l) ⊤ [] old new
+PrintsNext l (next.Printed b) old new =
+    Continues (IsLeft b.left) (IsLeft l) old new
+    × Leaves (LeavesNoFloat l) (left_tokens l) (LeavesNoFloat b.left) (left_tokens b.left) old new
+PrintsNext l (next.Begun b inner) old new =
+    Continues (IsWithin inner (b ∷ [])) (IsLeft l) old new × LeavesWithin (LeavesNoFloat l) (left_tokens l) inner (b ∷ []) old new
 
 -- less is left
 abbrev pub IsLess : Left → Next → Type 0

@@ -6,6 +6,7 @@ pub mod Grammar
 pub mod Steps
 pub mod Laws
 pub mod Line
+pub mod Printed
 pub mod Seen
 pub mod Begun
 pub mod Written

@@ -5,13 +5,14 @@ ghost use Rattle.json.specs.Lex.{tokens};
 ghost use Rattle.spa_format.specs.Tree.{Tree};
 ghost use Rattle.spa_text.specs.Grammar.{ReadsAs, nothing};
 ghost use Rattle.spa_text.specs.Laws.{ReadsOneValue};
+ghost use Rattle.spa_text.specs.Printed.{HasNoFloat};
 ghost use Rattle.spa_value.specs.View.{view};
 
 use crate::cause::Cause;
 use crate::pretty::print_pretty;
 use crate::printing::print;
 use crate::reading::read;
-use spa_value::Value;
+use spa_value::{Value, discard};
 use std::alloc::{AllocError, Global};
 
 /// Tokens read as one value at most, where one thing is expected, and leave the same behind it.
@@ -25,7 +26,7 @@ pub fn print_then_read(alloc: Global, value: &Value) -> Result<Value, AllocError
 {
     let mut bytes = Vec::new(alloc);
     print(alloc, value, &mut bytes)?;
-    read_again(alloc, bytes)
+    read_again(alloc, bytes.as_slice())
 }
 
 /// The same of a value that is printed on lines of its own.
@@ -34,18 +35,32 @@ pub fn print_pretty_then_read(alloc: Global, value: &Value) -> Result<Value, All
 {
     let mut bytes = Vec::new(alloc);
     print_pretty(alloc, value, &mut bytes)?;
-    read_again(alloc, bytes)
+    read_again(alloc, bytes.as_slice())
+}
+
+/// Prints a value, reads what is printed, and prints what is read: of a value without floats the same text, unless memory runs out.
+pub fn print_again(alloc: Global, value: &Value) -> Result<(Vec<u8>, Vec<u8>), AllocError>
+    ensures { IfOk result (λ texts. HasNoFloat (view value.now) → texts.1.items ≡ texts.0.items) }
+{
+    let mut first = Vec::new(alloc);
+    print(alloc, value, &mut first)?;
+    let again = read_again(alloc, first.as_slice())?;
+    let mut second = Vec::new(alloc);
+    let printed = print(alloc, &again, &mut second);
+    discard(again);
+    printed?;
+    Ok((first, second))
 }
 
 /// The value of a text that is one's.
-fn read_again(alloc: Global, bytes: Vec<u8>) -> Result<Value, AllocError>
-    requires { IsUtf8 bytes.items × ((v : Tree) × ReadsAs nothing v (tokens bytes.items) []) }
-    ensures { (v : Tree) → ReadsAs nothing v (tokens bytes.items) [] → IfOk result (λ again. view again ≡ v) }
+fn read_again(alloc: Global, bytes: &[u8]) -> Result<Value, AllocError>
+    requires { IsUtf8 bytes.now × ((v : Tree) × ReadsAs nothing v (tokens bytes.now) []) }
+    ensures { (v : Tree) → ReadsAs nothing v (tokens bytes.now) [] → IfOk result (λ again. view again ≡ v) }
 {
-    let Ok(text) = String::from_utf8(bytes) else {
+    let Ok(text) = str::from_utf8(bytes) else {
         unreachable!()
     };
-    match read(alloc, text.as_str()) {
+    match read(alloc, text) {
         Ok(again) => Ok(again),
         Err(error) => match error.cause {
             Cause::OutOfMemory => Err(AllocError),

@@ -2,11 +2,12 @@
 ghost use Rattle.std.specs.Prelude.{◌≡◌, ◌∷◌, ◌++◌, [], IfOk, OnOk, Some, map};
 ghost use Rattle.json.specs.Token as token;
 ghost use Rattle.spa_fixed.specs.Choices.{choice_tree};
-ghost use Rattle.spa_format.specs.Kind.{Kind};
+ghost use Rattle.spa_format.specs.Kind.{Kind, type_number};
 ghost use Rattle.spa_format.specs.Tree.{array, bitmap, bytes, pointer, string};
-ghost use Rattle.spa_text.specs.Grammar.{a_choice, an_array, element, shape_named, type_kind};
+ghost use Rattle.spa_text.specs.Grammar.{a_choice, an_array, element, type_kind};
+ghost use Rattle.spa_text.specs.Printed.{flag_tokens, shape_text};
 ghost use Rattle.spa_text.specs.Seen.{shape_of};
-ghost use Rattle.spa_text.specs.Written.{Lists, Opens, Prints, PutsType, flag_tokens, shape_in, values_in};
+ghost use Rattle.spa_text.specs.Written.{Lists, Opens, Prints, PutsType, shape_in, values_in};
 ghost use Rattle.spa_value.specs.View.{array_view, choice_view};
 
 use crate::inside::Shape;
@@ -142,7 +143,7 @@ pub(crate) fn print_array(
 
 /// Prints an array of this type up to its elements.
 fn begin_list(out: &mut Out, type_: u32, expected: Expected) -> Result<(), AllocError>
-    ensures { OnOk result ((kind : Kind) → type_kind type_ ≡ Some kind → Opens expected (an_array expected.ids kind) out.old.tokens out.new.tokens) }
+    ensures { OnOk result ((kind : Kind) → type_ ≡ type_number kind → Opens expected (an_array expected.ids kind) out.old.tokens out.new.tokens) }
 {
     begin(out, "array")?;
     print_name(out, Table::Types, type_)?;
@@ -209,7 +210,7 @@ fn shape_in<T>(values: &ChoiceEnum<T>) -> Shape
 
 /// The name of a shape.
 fn shape_name(shape: Shape) -> &'static str
-    ensures { shape_named result.now ≡ Some (shape_of shape) }
+    ensures { result.now ≡ shape_text (shape_of shape) }
 {
     match shape {
         Shape::None => "None",
@@ -250,7 +251,7 @@ fn begin_choice(
     type_: u32,
     expected: Expected,
 ) -> Result<(), AllocError>
-    ensures { OnOk result ((kind : Kind) → type_kind type_ ≡ Some kind → Opens expected (a_choice (shape_of shape) flags expected.ids kind) out.old.tokens out.new.tokens) }
+    ensures { OnOk result ((kind : Kind) → type_ ≡ type_number kind → Opens expected (a_choice (shape_of shape) flags expected.ids kind) out.old.tokens out.new.tokens) }
 {
     begin(out, "choice")?;
     out.string(shape_name(shape))?;

@@ -4,10 +4,9 @@ ghost use Rattle.hex.specs.Hex.{encode_lower};
 ghost use Rattle.json.specs.Token as token;
 ghost use Rattle.spa_format.specs.Kind.{float, double};
 ghost use Rattle.spa_format.specs.Tree.{fixed};
-ghost use Rattle.spa_text.specs.Grammar.{bare, double_of, float_of, tag_named};
-ghost use Rattle.spa_text.specs.Tokens.{number_by_name};
-ghost use Rattle.spa_text.specs.Written.{BeginsNumber, Prints, Puts, closing, two_tokens};
-ghost use Rattle.spa_text.specs.declared.tag.Tag.TheVariants as tag;
+ghost use Rattle.spa_text.specs.Grammar.{bare, double_of, float_of};
+ghost use Rattle.spa_text.specs.Printed.{scalar_text, two_tokens};
+ghost use Rattle.spa_text.specs.Written.{BeginsNumber, Prints, Puts, PutsName, closing};
 
 use crate::names::name_of;
 use crate::out::Out;
@@ -107,7 +106,7 @@ pub(crate) fn begin(out: &mut Out, name: &str) -> Result<(), AllocError>
 
 /// The name of a type whose values are numbers in a text.
 fn scalar_name(scalar: Scalar) -> &'static str
-    ensures { tag_named result.now ≡ tag.Scalar scalar }
+    ensures { result.now ≡ scalar_text scalar }
 {
     match scalar {
         Scalar::Id => "id",
@@ -142,7 +141,7 @@ pub(crate) fn end_braced(out: &mut Out, braced: bool) -> Result<(), AllocError>
 
 /// Prints a number of 32 bits, by its name where the table has one.
 pub(crate) fn print_name(out: &mut Out, table: Table, number: u32) -> Result<(), AllocError>
-    ensures { OnOk result (Puts (number_by_name table) number out.old.tokens out.new.tokens) }
+    ensures { OnOk result (PutsName table number out.old.tokens out.new.tokens) }
 {
     match name_of(table, number) {
         Some(name) => out.string(name),

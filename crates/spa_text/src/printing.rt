@@ -1,11 +1,13 @@
 //! Values printed as text.
-ghost use Rattle.std.specs.Prelude.{◌≡◌, ◌+◌, ◌≤◌, ◌++◌, [], List, ℕ, IfOk, IsOk, OnErr, OnOk, IfSome, MatchOption, Some, None};
+ghost use Rattle.std.specs.Prelude.{◌≡◌, ◌+◌, ◌≤◌, ◌++◌, [], List, ℕ, IfOk, IsOk, OnErr, OnOk, IfSome, MatchOption, Some, None, decimal};
 ghost use Rattle.std.specs.Str.{IsUtf8};
 ghost use Rattle.json.specs.Lex.{tokens};
 ghost use Rattle.spa_format.specs.Tree.{member_node_count, node_count, struct};
 ghost use Rattle.spa_text.specs.Grammar.{ReadsAs, an_object, key_number, nothing};
 ghost use Rattle.spa_text.specs.Line.{AreGood, HasNoEnd};
-ghost use Rattle.spa_text.specs.Left.{Continues, IsLeft, IsLess, PrintsNext, PrintsOrBegins, left_count};
+ghost use Rattle.spa_text.specs.Left.{IsLess, PrintsNext, PrintsOrBegins, left_count};
+ghost use Rattle.spa_text.specs.Printed as printed;
+ghost use Rattle.spa_text.specs.Printed.{HasNoFloat, key_text, tokens_of};
 ghost use Rattle.spa_text.specs.Written.{BeginsProperty, Opens, Prints, PutsKey};
 ghost use Rattle.spa_text.specs.declared.printing.Left.TheVariants as left;
 ghost use Rattle.spa_value.specs.View.{object_view, view};
@@ -53,6 +55,7 @@ enum Next<'a> {
 /// It is refused only where memory runs out, and then leaves `out` as it was. A value that is nested deep is printed too, by a loop.
 pub fn print(alloc: Global, value: &Value, out: &mut Vec<u8>) -> Result<(), AllocError>
     ensures printed { OnOk result ((text : List ℕ) × (out.new.items ≡ out.old.items ++ text) × IsUtf8 text × ReadsAs nothing (view value.now) (tokens text) [] × HasNoEnd text) }
+    ensures exact { OnOk result (HasNoFloat (view value.now) → out.new.items ≡ out.old.items ++ printed.line_of (view value.now)) }
     ensures kept { OnErr result (out.new.items ≡ out.old.items) }
 {
     let line = line_of(alloc, value)?;
@@ -65,6 +68,7 @@ pub(crate) fn line_of(alloc: Global, value: &Value) -> Result<Vec<u8>, AllocErro
     ensures utf8 { IfOk result (λ line. IsUtf8 line.items) }
     ensures no_end { IfOk result (λ line. HasNoEnd line.items) }
     ensures good { IfOk result (λ line. AreGood (tokens line.items)) }
+    ensures exact { IfOk result (λ line. HasNoFloat (view value.now) → (line.items ≡ printed.line_of (view value.now)) × (tokens line.items ≡ tokens_of nothing (view value.now))) }
 {
     let mut out = Out::new(alloc);
     print_value(alloc, &mut out, value)?;
@@ -147,7 +151,7 @@ fn print_or_begin<'a>(
 
 /// Prints a struct up to its members.
 fn begin_struct<'a>(out: &mut Out, members: &'a [Value]) -> Result<Begun<'a>, AllocError>
-    ensures written { IfOk result (λ b. (expected : Expected) → Continues (IsLeft b.left) (ReadsAs expected (struct (views members.now))) out.old.tokens out.new.tokens) }
+    ensures written { IfOk result (λ b. (expected : Expected) → PrintsOrBegins expected (struct (views members.now)) (Some b) out.old.tokens out.new.tokens) }
     ensures fewer { IfOk result (λ b. left_count b.left ≡ member_node_count (views members.now)) }
 {
     out.begin_array()?;
@@ -160,7 +164,7 @@ fn begin_struct<'a>(out: &mut Out, members: &'a [Value]) -> Result<Begun<'a>, Al
 /// Prints an object up to its properties.
 #[tactic(auto, using(crate::proofs::Counting::object_nodes))]
 fn begin_object<'a>(out: &mut Out, object: &'a Object) -> Result<Begun<'a>, AllocError>
-    ensures written { IfOk result (λ b. (expected : Expected) → Continues (IsLeft b.left) (ReadsAs expected (object_view object.now)) out.old.tokens out.new.tokens) }
+    ensures written { IfOk result (λ b. (expected : Expected) → PrintsOrBegins expected (object_view object.now) (Some b) out.old.tokens out.new.tokens) }
     ensures fewer { IfOk result (λ b. left_count b.left + 1 ≡ node_count (object_view object.now)) }
 {
     open_object(out, object.type_, object.id)?;
@@ -248,7 +252,8 @@ fn next_property<'a>(
 
 /// The name that is printed for a key: none that would be read as a number.
 fn key_name(keys: Table, key: u32) -> Option<&'static str>
-    ensures { IfSome result (λ name. key_number keys name.now ≡ Some key) }
+    ensures number { IfSome result (λ name. key_number keys name.now ≡ Some key) }
+    ensures text { MatchOption result (key_text keys key ≡ decimal key) (λ name. key_text keys key ≡ name.now) }
 {
     let name = name_of(keys, key)?;
     match unsigned(name) {

@@ -1,4 +1,4 @@
-use Rattle.std.proofs.Common.{◌≡◌, [], List, ap, subst, sym, ◌∙◌}
+use Rattle.std.proofs.Common.{◌≡◌, [], List, ap, subst, sym}
 use Rattle.std.specs.Prelude.{Option, Some, None}
 use Rattle.json.specs.Lex.{tokens}
 use Rattle.json.specs.Token.{Token}
@@ -18,13 +18,11 @@ the_value v w ts p q = ap (value_or v) (same_follows _ _ _ (comes_to nothing v t
 
 pub returns-in-Ok-read : goal.returns-in-Ok-read
 returns-in-Ok-read c = λ v printed.
-    let said = c.as_str.ensures.value ∙ ap (λ v. v.items) c.in-Ok.ensures.ok in
-    the_value (view c.in-Ok-read.again) v (tokens c.as_str.result.now) c.in-Ok-read.ensures.value
-    (subst (λ l. ReadsAs nothing v (tokens l) []) (sym said) printed)
+    the_value (view c.in-Ok-read.again) v (tokens c.in-Ok.text.now) c.in-Ok-read.ensures.value
+    (subst (λ l. ReadsAs nothing v (tokens l) []) (sym c.in-Ok.ensures.cases.0) printed)
 
 pub unreachable-requires-in_default-cause : goal.unreachable-requires-in_default-cause
 unreachable-requires-in_default-cause c =
-    let said = c.as_str.ensures.value ∙ ap (λ v. v.items) c.in-Ok.ensures.ok in
     let printed = c.requires.1 in
     c.in-Err.ensures.refused c.in_default-cause.not-OutOfMemory printed.0
-    (subst (λ l. ReadsAs nothing printed.0 (tokens l) []) (sym said) printed.1)
+    (subst (λ l. ReadsAs nothing printed.0 (tokens l) []) (sym c.in-Ok.ensures.cases.0) printed.1)

@@ -10,11 +10,10 @@ pub returns : goal.returns
 returns g c =
     let pod = g.T.CanonicalFixedSizedPod in
     let laws = g.met.T.CanonicalFixedSizedPod in
-    let numbered = ap type_kind (c.TYPE.ensures ∙ laws.its_type) ∙ kind_numbered pod.kind in
     let again = ap type_kind (c.TYPE-2.ensures ∙ laws.its_type) ∙ kind_numbered pod.kind in
     let xs = map pod.fixed c.args.values.now in
     on_ok c.end_list.result
-    (array_printed c.args.expected c.args.expected.ids pod.kind xs _ _ _ _ (c.in_ok-begin_list.ensures pod.kind numbered)
+    (array_printed c.args.expected pod.kind xs _ _ _ _ (c.in_ok-begin_list.ensures pod.kind (c.TYPE.ensures ∙ laws.its_type))
     (subst (λ e. Lists e pod.kind xs c.begin_list.new.out.tokens c.print_elements.new.out.tokens) (c.among.ensures pod.kind again)
     c.in_ok-print_elements.ensures))
     c.end_list.ensures

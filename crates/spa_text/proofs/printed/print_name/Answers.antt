@@ -1,7 +1,14 @@
 use Rattle.spa_text.proofs.Numbers.{unsigned-decimal}
-use Rattle.spa_text.proofs.Leaf.{on_ok}
+use Rattle.spa_text.proofs.Leaf.{on_ok, unnamed}
 use Rattle.spa_text.proofs.printed.print_name.Goals as goal
 
 pub returns-in-None : goal.returns-in-None
 returns-in-None c =
-    on_ok c.u64.result (λ e. record { token = _; appended = e; said = unsigned-decimal c.args.number c.ranges.number.fits }) c.u64.ensures.ok
+    on_ok c.u64.result
+    (λ e. record {
+      token = _;
+      appended = e;
+      said = unsigned-decimal c.args.number c.ranges.number.fits;
+      exact = unnamed _ _ c.args.table c.args.number c.in-None.is c.name_of.ensures.name;
+    })
+    c.u64.ensures.ok

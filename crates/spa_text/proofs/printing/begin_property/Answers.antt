@@ -1,4 +1,4 @@
-use Rattle.std.proofs.Common.{subst, sym}
+use Rattle.std.proofs.Common.{rules, subst, sym}
 use Rattle.spa_text.specs.Written.{BeginsProperty}
 use Rattle.std.proofs.Common.{false}
 use Rattle.spa_text.proofs.Continuing.{property_bare, property_braced}
@@ -11,5 +11,5 @@ returns-then-flags-eq0 c =
 
 pub returns : goal.returns
 returns c =
-    property_braced c.args.keys c.args.key c.args.flags _ _ _ _ _ c.ranges.flags.fits c.in_ok-print_key.ensures c.in_ok-begin.ensures
+    property_braced c.args.keys c.args.key c.args.flags _ _ _ _ _ c.ranges.flags.fits (search rules) c.in_ok-print_key.ensures c.in_ok-begin.ensures
     c.in_ok-u64.ensures.ok c.in_ok-key.ensures.ok

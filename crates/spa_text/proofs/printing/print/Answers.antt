@@ -6,6 +6,7 @@ use Rattle.spa_format.specs.Tree.{Tree}
 use Rattle.spa_value.specs.View.{view}
 use Rattle.spa_text.specs.Grammar.{ReadsAs, nothing}
 use Rattle.spa_text.specs.Line.{HasNoEnd}
+use Rattle.spa_text.specs.Printed as printed
 use Rattle.spa_text.proofs.printing.print.Goals as goal
 
 appended : {A E : Type 0} (r : Result A E) (v : Tree) (old new text : List ℕ) → new ≡ (if is_ok r then old ++ text else old) → IsUtf8 text →
@@ -20,3 +21,15 @@ returns-clause-printed c =
     let line = c.in_ok-line.ensures in
     let items = c.extend_from_slice.ensures.items ∙ ap (λ t. if is_ok c.extend_from_slice.result then old ++ t else old) c.as_slice.ensures.value in
     appended c.extend_from_slice.result (view c.args.value.now) old _ c.in_ok-line.line.items items line.utf8 line.reads line.no_end
+
+exactly : {A E P : Type 0} (r : Result A E) (old new text line : List ℕ) → new ≡ (if is_ok r then old ++ text else old) → (P → text ≡ line) →
+    OnOk r (P → new ≡ old ++ line)
+exactly (Ok x) old new text line e l = λ h. e ∙ ap (λ t. old ++ t) (l h)
+exactly (Err x) old new text line e l = tt
+
+pub returns-clause-exact : goal.returns-clause-exact
+returns-clause-exact c =
+    let old = c.args.out.now.items in
+    let items = c.extend_from_slice.ensures.items ∙ ap (λ t. if is_ok c.extend_from_slice.result then old ++ t else old) c.as_slice.ensures.value in
+    exactly c.extend_from_slice.result old _ c.in_ok-line.line.items (printed.line_of (view c.args.value.now)) items
+    (λ h. (c.in_ok-line.ensures.exact h).0)

@@ -7,15 +7,15 @@ use Rattle.spa_format.specs.Tree.{fixed, string, bytes, bitmap, pointer, struct}
 use Rattle.spa_value.specs.View.{array_view, choice_view, view}
 use Rattle.spa_value.specs.Views.{views}
 use Rattle.spa_value.proofs.ViewLaws.{view-struct}
-use Rattle.spa_text.specs.Grammar.{ReadsAs}
-use Rattle.spa_text.specs.Left.{Continues, IsLeft}
+use Rattle.std.specs.Prelude.{Some}
+use Rattle.spa_text.specs.Left.{PrintsOrBegins}
 use Rattle.spa_text.proofs.Continuing.{leaf_ended}
 use Rattle.spa_text.proofs.printing.print_or_begin.Goals as goal
 
 pub returns-in_ok-begin_struct-in-Struct-clause-written : goal.returns-in_ok-begin_struct-in-Struct-clause-written
 returns-in_ok-begin_struct-in-Struct-clause-written c =
     let same = ap view c.in-Struct.is ∙ view-struct c.in-Struct.members ∙ ap (λ l. struct (views l)) (sym c.as_slice.ensures.value) in
-    subst (λ t. Continues (IsLeft c.in_ok-begin_struct-in-Struct.field-0.left) (ReadsAs c.args.expected t) c.args.out.now.tokens c.begin_struct.new.out.tokens)
+    subst (λ t. PrintsOrBegins c.args.expected t (Some c.in_ok-begin_struct-in-Struct.field-0) c.args.out.now.tokens c.begin_struct.new.out.tokens)
     (sym same) (c.in_ok-begin_struct-in-Struct.ensures.written c.args.expected)
 
 pub returns-in-None-clause-written : goal.returns-in-None-clause-written
@@ -97,3 +97,8 @@ pub returns-in-Choice-clause-written : goal.returns-in-Choice-clause-written
 returns-in-Choice-clause-written c =
     leaf_ended c.args.expected (view c.args.value.now) (choice_view c.in-Choice.choice) c.args.out.now.tokens c.print_choice.new.out.tokens c.print_choice.result c.ended-in-Choice.result
     (ap view c.in-Choice.is) c.print_choice.ensures c.ended-in-Choice.ensures.ok c.ended-in-Choice.ensures.err
+
+pub returns-in_ok-begin_object-in-Object-clause-written : goal.returns-in_ok-begin_object-in-Object-clause-written
+returns-in_ok-begin_object-in-Object-clause-written c =
+    subst (λ t. PrintsOrBegins c.args.expected t (Some c.in_ok-begin_object-in-Object.field-0) c.args.out.now.tokens c.begin_object.new.out.tokens)
+    (sym (ap view c.in-Object.is)) (c.in_ok-begin_object-in-Object.ensures.written c.args.expected)

@@ -1,4 +1,4 @@
--- The laws of the text: docs/TEXT.md, "Laws".
+-- The laws of the text: docs/TEXT.md, "What is printed".
 use Rattle.std.specs.Prelude.{◌≡◌, List}
 use Rattle.json.specs.Token.{Token}
 use Rattle.spa_format.specs.Tree.{Tree}

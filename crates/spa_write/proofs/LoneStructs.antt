@@ -135,3 +135,19 @@ pub left_within : {S : Type 0} {appends : Appending S} (a b : S) (vs ws : Trees)
     AreBegun appends a vs b ws n → length (member_encodings ws) ≤ length (member_encodings vs)
 left_within a b vs ws n h =
     omega (arith, ap length h.parts, length-append h.heads (member_encodings ws))
+
+-- So many bytes of headers stand before the second members in the encodings of the first, and a struct of the second can be written.
+pub record IsWritableWithin (vs : Trees) (outer : ℕ) (ws : Trees) : Type 0 where
+  pub size : length (member_encodings vs) ≡ outer + length (member_encodings ws)
+  pub writable : IsWritable (struct ws)
+
+pub writable_within : (vs ws us : Trees) (outer more : ℕ) → IsWritableWithin vs outer ws →
+    ws ≡ member (struct us) no_trees → more ≡ outer + header_size → IsWritableWithin vs more us
+writable_within vs ws us outer more h is sum =
+    record {
+      size = omega (arith, h.size, sum, lone_length ws us is);
+      writable = record {
+        no_nul = λ x. h.writable.no_nul (subst SomeHasNul (sym is) (inl x));
+        fits = λ x. h.writable.fits (subst (λ l. IsTooLarge (struct l)) (sym is) (inr (inl x)));
+      };
+    }

@@ -91,7 +91,7 @@ properties_next_typed ps i p l e kf ff h k =
     (typed_join (property_views (take i ps)) (property_view p) h (kf, ff, k, tt))
 
 -- how many bytes they have
-length-keyed : (p : Property) → length (keyed_encoding p) ≡ 8 + length (encoding_of (view p.value))
+pub length-keyed : (p : Property) → length (keyed_encoding p) ≡ 8 + length (encoding_of (view p.value))
 length-keyed p =
     omega (
       arith,

@@ -2,6 +2,7 @@
 #![tactic(auto)]
 
 mod count;
+mod known;
 mod largest;
 mod left;
 mod nested;

@@ -124,7 +124,7 @@ fn next_sum(total: u64, more: u64) -> Result<u64, GenError>
 
 /// The same of a value that is neither a struct nor an object.
 #[inline(always)]
-fn leaf_len(value: &Value) -> Result<u64, GenError>
+pub(crate) fn leaf_len(value: &Value) -> Result<u64, GenError>
     requires { IsLeaf (view value.now) }
     ensures measured { IfOk result (λ n. IsMeasured (view value.now) n) }
     ensures cause { IfErr result (λ e. RefusesWrite (HasNul (view value.now)) (IsTooLarge (view value.now)) (λ _. ⊥) e) }

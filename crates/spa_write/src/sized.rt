@@ -15,6 +15,7 @@ use crate::count::{is_beyond, is_nested, is_small, only_struct};
 use crate::largest::{largest_member, largest_property};
 use crate::nested::write_by_loop;
 use crate::short::short_encoding;
+use crate::known::writable_len;
 use crate::size::{encoded_len, members_len, properties_len};
 use bitflags::Flags;
 use spa_bytes::{HEADER_LEN, joined, two_words};
@@ -125,10 +126,7 @@ fn len_of(value: &Value, known: Option<u64>) -> u64
 {
     match known {
         Some(len) => len,
-        None => match encoded_len(value) {
-            Ok(len) => len,
-            Err(_) => unreachable!(),
-        },
+        None => writable_len(value),
     }
 }
 

@@ -15,6 +15,7 @@ use spa_value::{Property, Value};
 
 /// How many bytes the encoding of a value has that can be written.
 #[cycle(known)]
+#[inline(always)]
 pub(crate) fn writable_len(value: &Value) -> u64
     requires { IsWritable (view value.now) }
     ensures { result ≡ length (encoding_of (view value.now)) }

@@ -12,10 +12,10 @@ ghost use Rattle.spa_leaf.specs.Written.{IsLeaf, IsPut, Stops};
 ghost use Rattle.spa_format.specs.Words.{header_size, size_limit, word_bytes};
 
 use crate::count::{is_beyond, is_nested, is_small, only_struct};
+use crate::known::writable_len;
 use crate::largest::{largest_member, largest_property};
 use crate::nested::write_by_loop;
 use crate::short::short_encoding;
-use crate::known::writable_len;
 use crate::size::{encoded_len, members_len, properties_len};
 use bitflags::Flags;
 use spa_bytes::{HEADER_LEN, joined, two_words};
@@ -151,8 +151,9 @@ fn put_members<S: PodSink>(sink: &mut S, members: &[Value], size: u64) -> Result
     put_all(sink, left, size)
 }
 
-/// The same of members of which none is a struct that stands alone.
+/// The same of members of which none is a struct that stands alone. It stays apart from the loop above, which is faster so.
 #[cycle(put)]
+#[inline(never)]
 fn put_all<S: PodSink>(sink: &mut S, members: &[Value], size: u64) -> Result<(), GenError>
     requires writable { IsWritable (tree.struct (views members.now)) }
     requires size { size ≡ length (member_encodings (views members.now)) }

@@ -1,20 +1,19 @@
 //! What two values filter to, from pod to pod.
-ghost use Rattle.std.specs.Prelude.{◌≡◌, ◌≢◌, ◌++◌, IfSome, true};
+ghost use Rattle.std.specs.Prelude.{◌≡◌, ◌++◌, IfSome, true};
 ghost use Rattle.spa_format.specs.Front.{Begins};
 ghost use Rattle.spa_format.specs.Normal.{normal_of};
-ghost use Rattle.spa_format.specs.Pod.{IsPod};
-ghost use Rattle.spa_format.specs.Tree.{Tree, choice_type, type_of};
+ghost use Rattle.spa_format.specs.Tree.{Tree};
 ghost use Rattle.spa_value.specs.View.{view};
 ghost use Rattle.spa_filter.specs.CommonPods.{IsAppended, IsCommonAppended, IsWritten};
 
-use libspa::pod::deserialize::PodDeserializer;
-use libspa::pod::laws::readings_are_normal;
-use libspa::pod::serialize::write_value;
-use libspa::pod::{Held, Value};
-use libspa::utils::SpaTypes;
-use spa_bytes::{HEADER_LEN, SECOND_WORD, u32_at};
+use spa_bytes::u32_at;
 use spa_filter::{common, put_common};
-use spa_fronts::put_pod;
+use spa_format::laws::readings_are_normal;
+use spa_fronts::{are_same, is_plain, put_pod};
+use spa_typed_read::PodDeserializer;
+use spa_utils::SpaTypes;
+use spa_value::{Held, Value};
+use spa_write::write_value;
 use std::alloc::Global;
 
 /// How many bytes the words of a choice's pod take that stand before its values.
@@ -72,21 +71,11 @@ fn put_read(alloc: Global, out: &mut Vec<u8>, a: &[u8], b: &[u8]) -> bool
     put_value(alloc, out, &*met)
 }
 
-/// Whether the value of a pod isn't a choice.
-fn is_plain(pod: &[u8]) -> bool
-    ensures { result ≡ true → (v : Tree) → IsPod pod.now v → type_of v ≢ choice_type }
-{
-    if pod.len() < HEADER_LEN {
-        return false;
-    }
-    u32_at(pod, SECOND_WORD) != SpaTypes::Choice.0
-}
-
 /// Appends a pod that is the same as another.
 fn put_same(out: &mut Vec<u8>, pod: &[u8], other: &[u8]) -> bool
     ensures { result ≡ true → (pod.now ≡ other.now) × (out.new.items ≡ out.old.items ++ pod.now) }
 {
-    if pod == other {
+    if are_same(pod, other) {
         return put_pod(out, pod);
     }
     false

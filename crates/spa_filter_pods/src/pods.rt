@@ -9,12 +9,14 @@ ghost use Rattle.spa_filter.specs.Refusals.{AreRefused, OnDisagreement};
 ghost use Rattle.spa_filter_pods.specs.Fronts.{AreFrontsRefused, BeginBoth, FilterIn, IsFrontRefused, IsObject, IsWriteRefused, OnNoFilter, ReadsBack};
 
 use crate::short::filter_short;
-use libspa::pod::deserialize::{DeserializeError, PodDeserializer};
-use libspa::pod::laws::{pods_have_one_value, readings_are_normal};
-use libspa::pod::serialize::{GenError, write_value};
-use libspa::pod::value_laws::{objects_are_their_fields, trees_have_their_types};
-use libspa::pod::{Held, Object, Value};
 use spa_filter::{FilterError, Side, filter};
+use spa_fixed::DeserializeError;
+use spa_format::laws::{pods_have_one_value, readings_are_normal};
+use spa_sink::GenError;
+use spa_typed_read::PodDeserializer;
+use spa_value::laws::{objects_are_their_fields, trees_have_their_types};
+use spa_value::{Held, Object, Value};
+use spa_write::write_value;
 use std::alloc::Global;
 
 /// The encoding of the object to which the objects at the fronts of two inputs are filtered, by the rules of `filter`. What

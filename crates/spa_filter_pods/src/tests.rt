@@ -2,11 +2,11 @@
 use crate::FilterError::{Disjoint, Missing, NotObject, TypeMismatch, Unread, Unsupported};
 use crate::formats::{ANSWERS, AUDIO, FORMATS, VIDEO};
 use crate::{FilterError, Side, filter_pods};
-use libspa::pod::Value;
-use libspa::pod::deserialize::PodDeserializer;
-use libspa::pod::serialize::PodSerializer;
 use spa_filter::settle;
 use spa_spelling::bytes_of;
+use spa_typed_read::PodDeserializer;
+use spa_value::Value;
+use spa_write::write_value;
 use std::alloc::{AllocError, Global};
 use std::test::Fail;
 
@@ -178,8 +178,9 @@ fn settled_bytes(alloc: Global, bytes: &[u8]) -> Result<Vec<u8>, AllocError> {
         return Ok(Vec::new(alloc));
     };
     let value = Value::Object(settle(alloc, &object)?);
-    match PodSerializer::serialize(Vec::new(alloc), &value) {
-        Ok((written, _len)) => Ok(written),
+    let mut written = Vec::new(alloc);
+    match write_value(alloc, &mut written, &value) {
+        Ok(_len) => Ok(written),
         Err(_) => Err(AllocError),
     }
 }

@@ -1,3 +1,4 @@
 pub mod Listed
 pub mod Opening
 pub mod Joined
+pub mod Same

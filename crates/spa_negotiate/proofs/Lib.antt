@@ -12,8 +12,6 @@ pub mod Steps
 pub mod Places
 pub mod Objects
 pub mod Values
-pub mod Listed
-pub mod Opening
 pub mod OfferViews
 pub mod Putting
 pub mod Meetings

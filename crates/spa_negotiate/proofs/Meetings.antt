@@ -1,25 +1,20 @@
 -- Two objects meet where they lie: what is put, and what is left of each side.
-use Rattle.std.proofs.Common.{◌≡◌, ℕ, ◌-◌, ◌<◌, ◌≤◌, ◌^◌, List, [], ◌∷◌, ◌++◌, ◌==◌, not, cond, length, drop, refl, sym, ap, ◌∙◌, subst, arith, append_assoc, length-append, length-drop, Bool, true, false, true≢false, if◌then◌else◌, Some}
-use Rattle.std.specs.Prelude.{replicate}
+use Rattle.std.proofs.Common.{◌≡◌, ℕ, ◌-◌, ◌<◌, ◌^◌, List, [], ◌∷◌, ◌++◌, ◌==◌, not, cond, length, drop, refl, sym, ap, ◌∙◌, subst, arith, append_assoc, Bool, true, false, true≢false, if◌then◌else◌, Some}
 use Rattle.std.specs.List.{All, filter}
 use Rattle.std.proofs.lemmas.List.{append-nil, drop_at}
-use Rattle.spa_format.specs.Words.{word_at, word_bytes, padded_size, padding}
+use Rattle.spa_format.specs.Words.{word_bytes}
 use Rattle.spa_format.specs.Tree.{Tree, object, Properties, no_properties, property, join_properties}
-use Rattle.spa_format.specs.Pod.{AreProperties, IsBody, IsPod, IsWhole}
-use Rattle.spa_format.specs.Encoding.{encoding_of, framed, property_encodings}
 use Rattle.spa_format.specs.Typed.{IsBytes}
-use Rattle.spa_format.proofs.Back.{whole_frame}
-use Rattle.spa_format.proofs.Encodings.{key_words, property_encoding, whole_properties}
-use Rattle.spa_format.proofs.Sequences.{props_joined}
-use Rattle.spa_format.proofs.WordLemmas.{length-word_bytes, word_inside}
 use Rattle.spa_negotiate.specs.Admits.{plain_of}
 use Rattle.spa_negotiate.specs.Fronts.{BeginBoth, MeetIn}
 use Rattle.spa_negotiate.specs.Keys.{value_at, key_list, distinct_of, keys_of}
 use Rattle.spa_negotiate.specs.Meeting.{AgreeAt, CanMeet, Settles, SettlesKeys}
 use Rattle.spa_negotiate.specs.PropertyLists.{contains}
-use Rattle.spa_negotiate.specs.Written.{AreWritten, BeginsWritten, HasFirst, IsMetBehind, IsPut, IsSettledBy, IsWritten}
+use Rattle.spa_fronts.specs.Written.{AreWritten, BeginsWritten, HasFirst, IsWritten, has_key, open_header}
+use Rattle.spa_fronts.proofs.Joined.{header_long, object_written, written_joined, written_one}
+use Rattle.spa_fronts.proofs.Listed.{AreListed, listed}
+use Rattle.spa_negotiate.specs.Written.{IsMetBehind, IsPut, IsSettledBy}
 use Rattle.spa_negotiate.proofs.KeyLists.{test-true}
-use Rattle.spa_negotiate.proofs.Listed.{AreListed, listed}
 use Rattle.spa_negotiate.proofs.Settling.{AgreeAt-settled, SettlesKeys-seen, SettlesKeys-first, SettlesKeys-other}
 use Rattle.spa_negotiate.proofs.Steps.{join_properties-none, join_properties-assoc}
 
@@ -46,39 +41,6 @@ contains-distinct : (k : ℕ) (xs : List ℕ) → contains k (distinct_of xs) �
 contains-distinct k [] = refl
 contains-distinct k (j ∷ xs) = contains-distinct_by j k xs (j == k) refl (contains-distinct k xs)
 
-encodings_joined : (ps qs : Properties) → property_encodings (join_properties ps qs) ≡ property_encodings ps ++ property_encodings qs
-encodings_joined no_properties qs = refl
-encodings_joined (property k f v ps) qs =
-    property_encoding k f v (join_properties ps qs)
-    ∙ ap (λ l. (key_words k f ++ encoding_of v) ++ l) (encodings_joined ps qs)
-    ∙ sym (append_assoc (key_words k f ++ encoding_of v) (property_encodings ps) (property_encodings qs))
-    ∙ ap (λ l. l ++ property_encodings qs) (sym (property_encoding k f v ps))
-
-written_joined : (ps qs : Properties) (b c : List ℕ) → AreWritten ps b → AreWritten qs c → AreWritten (join_properties ps qs) (b ++ c)
-written_joined ps qs b c h k = record {
-  properties = props_joined ps qs b c h.properties k.properties;
-  same = ap (λ x. x ++ c) h.same ∙ ap (λ x. property_encodings ps ++ x) k.same ∙ sym (encodings_joined ps qs);
-}
-
--- one property
-written_one : (k : ℕ) (x : Tree) (pod : List ℕ) → k < 2 ^ 32 → IsWritten x pod → AreWritten (property k 0 x no_properties) ((word_bytes k ++ word_bytes 0) ++ pod)
-written_one k x pod l w =
-    let head = word_bytes k ++ word_bytes 0 in
-    let b = head ++ pod in
-    let e0 = length-append (word_bytes k) (word_bytes 0) in
-    let e1 = length-word_bytes k in
-    let e2 = length-word_bytes 0 in
-    let two : length head ≡ 8 = omega arith in
-    let e3 = length-append head pod in
-    let parts : b ≡ word_bytes k ++ (word_bytes 0 ++ pod) = append_assoc (word_bytes k) (word_bytes 0) pod in
-    let w0 : word_at b 0 ≡ k = ap (λ y. word_at y 0) parts ∙ word_inside [] (word_bytes 0 ++ pod) k 0 refl l in
-    let w4 : word_at b 4 ≡ 0 = ap (λ y. word_at y 4) parts ∙ word_inside (word_bytes k) pod 0 4 e1 (omega arith) in
-    let enough : 8 ≤ length b = omega arith in
-    record {
-      properties = (enough, sym w0, sym w4, pod, [], drop_at head pod 8 two ∙ sym (append-nil pod), w.its_pod, refl);
-      same = ap (λ y. head ++ y) (w.same ∙ sym (append-nil (encoding_of x))) ∙ append_assoc (word_bytes k) (word_bytes 0) (encoding_of x ++ []);
-    }
-
 -- one more property is put
 behind_put : (ps qs done next : Properties) (head old new : List ℕ) (k : ℕ) (x : Tree) → k < 2 ^ 32 → (m : IsMetBehind ps qs done head old) → IsPut k x old new →
     SettlesKeys ps qs next (join_properties m.met (property k 0 x no_properties)) → IsMetBehind ps qs next head new
@@ -88,23 +50,23 @@ behind_put ps qs done next head old new k x l m p s =
       met = join_properties m.met (property k 0 x no_properties);
       bytes = m.bytes ++ piece;
       parts = p.parts ∙ ap (λ y. y ++ piece) m.parts ∙ append_assoc head m.bytes piece;
-      written = written_joined m.met (property k 0 x no_properties) m.bytes piece m.written (written_one k x p.pod l p.written);
+      written = written_joined m.met (property k 0 x no_properties) m.bytes piece m.written (written_one k 0 x p.pod l (omega arith) p.written);
       settles = s;
     }
 
 -- what the search among those that were put says of those whose keys they settle
 abbrev pub SaysSettled : Bool → ℕ → List ℕ → Type 0
-SaysSettled r k out = (ms : Properties) → AreWritten ms (drop 16 out) → r ≡ contains k (key_list ms)
+SaysSettled r k out = (ms : Properties) → AreWritten ms (drop 16 out) → r ≡ has_key k ms
+
+has_contains : (k : ℕ) (ps : Properties) → has_key k ps ≡ contains k (key_list ps)
+has_contains k no_properties = refl
+has_contains k (property j f v ps) = ap (λ y. if j == k then true else y) (has_contains k ps)
 
 said_settled : (ps qs done : Properties) (head out : List ℕ) (r : Bool) (k : ℕ) → length head ≡ 16 → IsMetBehind ps qs done head out → SaysSettled r k out →
     contains k (key_list done) ≡ r
 said_settled ps qs done head out r k l m s =
     let behind : drop 16 out ≡ m.bytes = ap (drop 16) m.parts ∙ drop_at head m.bytes 16 l in
-    sym (s m.met (subst (AreWritten m.met) (sym behind) m.written) ∙ ap (contains k) m.settles.keys ∙ contains-distinct k (key_list done))
-
-pub nothing_put : (k : ℕ) (out : List ℕ) → length out < 16 → SaysSettled false k out
-nothing_put k out l no_properties w = refl
-nothing_put k out l (property j f v ps) w = absurd (let h = w.properties.0 in let d = length-drop 16 out in omega arith)
+    sym (s m.met (subst (AreWritten m.met) (sym behind) m.written) ∙ has_contains k m.met ∙ ap (contains k) m.settles.keys ∙ contains-distinct k (key_list done))
 
 -- the first side, of which this is left
 pub record IsFirstLeft (ps qs : Properties) (head left out : List ℕ) : Type 0 where
@@ -133,9 +95,9 @@ joined_on : (ps done rest : Properties) (j f : ℕ) (v : Tree) → ps ≡ join_p
     ps ≡ join_properties (join_properties done (property j f v no_properties)) rest
 joined_on ps done rest j f v e = e ∙ sym (join_properties-assoc done (property j f v no_properties) rest)
 
-pub first_seen : (ps qs : Properties) (head left pod rest out : List ℕ) (k : ℕ) → length head ≡ 16 → HasFirst left k pod rest → SaysSettled true k out →
+pub first_seen : (ps qs : Properties) (head left pod rest out : List ℕ) (k fl : ℕ) → length head ≡ 16 → HasFirst left k fl pod rest → SaysSettled true k out →
     IsFirstLeft ps qs head left out → IsFirstLeft ps qs head rest out
-first_seen ps qs head left pod rest out k l f s i = of_rest i.rest i.all i.list
+first_seen ps qs head left pod rest out k fl l f s i = of_rest i.rest i.all i.list
   where
     of_rest : (rs : Properties) → ps ≡ join_properties i.done rs → AreListed rs left → IsFirstLeft ps qs head rest out
     of_rest no_properties e m = absurd (let z = ap length m in let h = f.header in omega arith)
@@ -156,10 +118,10 @@ first_seen ps qs head left pod rest out k l f s i = of_rest i.rest i.all i.list
           };
         }
 
-pub first_put : (ps qs : Properties) (head left pod rest out new : List ℕ) (k : ℕ) → length head ≡ 16 → k < 2 ^ 32 → HasFirst left k pod rest → SaysSettled false k out →
+pub first_put : (ps qs : Properties) (head left pod rest out new : List ℕ) (k fl : ℕ) → length head ≡ 16 → k < 2 ^ 32 → HasFirst left k fl pod rest → SaysSettled false k out →
     ((v : Tree) → IsWritten v pod → IsSettledBy (Some v) (value_at k qs) k out new) →
     IsFirstLeft ps qs head left out → IsFirstLeft ps qs head rest new
-first_put ps qs head left pod rest out new k l n f s p i = of_rest i.rest i.all i.list
+first_put ps qs head left pod rest out new k fl l n f s p i = of_rest i.rest i.all i.list
   where
     of_rest : (rs : Properties) → ps ≡ join_properties i.done rs → AreListed rs left → IsFirstLeft ps qs head rest new
     of_rest no_properties e m = absurd (let z = ap length m in let h = f.header in omega arith)
@@ -203,9 +165,9 @@ other_begun ps qs theirs head out h w m = record {
   met = subst (λ ss. IsMetBehind ps qs ss head out) (sym (join_properties-none ps)) m;
 }
 
-pub other_seen : (ps qs : Properties) (head left pod rest out : List ℕ) (k : ℕ) → length head ≡ 16 → HasFirst left k pod rest → SaysSettled true k out →
+pub other_seen : (ps qs : Properties) (head left pod rest out : List ℕ) (k fl : ℕ) → length head ≡ 16 → HasFirst left k fl pod rest → SaysSettled true k out →
     IsOtherLeft ps qs head left out → IsOtherLeft ps qs head rest out
-other_seen ps qs head left pod rest out k l f s i = of_rest i.rest i.all i.list
+other_seen ps qs head left pod rest out k fl l f s i = of_rest i.rest i.all i.list
   where
     of_rest : (rs : Properties) → qs ≡ join_properties i.done rs → AreListed rs left → IsOtherLeft ps qs head rest out
     of_rest no_properties e m = absurd (let z = ap length m in let h = f.header in omega arith)
@@ -227,10 +189,10 @@ other_seen ps qs head left pod rest out k l f s i = of_rest i.rest i.all i.list
           };
         }
 
-pub other_put : (ps qs : Properties) (head left pod rest out new : List ℕ) (k : ℕ) → length head ≡ 16 → k < 2 ^ 32 → HasFirst left k pod rest → SaysSettled false k out →
+pub other_put : (ps qs : Properties) (head left pod rest out new : List ℕ) (k fl : ℕ) → length head ≡ 16 → k < 2 ^ 32 → HasFirst left k fl pod rest → SaysSettled false k out →
     ((v : Tree) → IsWritten v pod → IsPut k (plain_of v) out new) →
     IsOtherLeft ps qs head left out → IsOtherLeft ps qs head rest new
-other_put ps qs head left pod rest out new k l n f s p i = of_rest i.rest i.all i.list
+other_put ps qs head left pod rest out new k fl l n f s p i = of_rest i.rest i.all i.list
   where
     of_rest : (rs : Properties) → qs ≡ join_properties i.done rs → AreListed rs left → IsOtherLeft ps qs head rest new
     of_rest no_properties e m = absurd (let z = ap length m in let h = f.header in omega arith)
@@ -257,64 +219,6 @@ other_ended ps qs head left out z i = of_rest i.rest i.all i.list
     of_rest : (rs : Properties) → qs ≡ join_properties i.done rs → AreListed rs left → IsMetBehind ps qs (join_properties ps qs) head out
     of_rest no_properties e m = subst (λ ss. IsMetBehind ps qs (join_properties ps ss) head out) (sym (e ∙ join_properties-none i.done)) i.met
     of_rest (property j g v rs) e m = absurd (let h = m.0.header in omega arith)
-
--- the header before its size is put there
-abbrev pub open_header : ℕ → ℕ → List ℕ
-open_header t i = (word_bytes 0 ++ word_bytes 15) ++ (word_bytes t ++ word_bytes i)
-
-pub header_long : (t i : ℕ) → length (open_header t i) ≡ 16
-header_long t i =
-    let e0 = length-append (word_bytes 0 ++ word_bytes 15) (word_bytes t ++ word_bytes i) in
-    let e1 = length-append (word_bytes 0) (word_bytes 15) in
-    let e2 = length-append (word_bytes t) (word_bytes i) in
-    let e3 = length-word_bytes 0 in
-    let e4 = length-word_bytes 15 in
-    let e5 = length-word_bytes t in
-    let e6 = length-word_bytes i in
-    omega arith
-
--- an object behind its header is as it is written
-pub record IsWrittenObject (t i : ℕ) (met : Properties) (b : List ℕ) : Type 0 where
-  pub encoding : b ≡ encoding_of (object t i met)
-  pub pod : IsPod b (object t i met)
-
-pub object_written : (t i : ℕ) (met : Properties) (bytes out b : List ℕ) → t < 2 ^ 32 → i < 2 ^ 32 → AreWritten met bytes → out ≡ open_header t i ++ bytes →
-    length out - 8 < 2 ^ 32 → b ≡ word_bytes (length out - 8) ++ drop 4 out → IsWrittenObject t i met b
-object_written t i met bytes out b ft fi w o f e =
-    let body = word_bytes t ++ (word_bytes i ++ property_encodings met) in
-    let head = word_bytes t ++ word_bytes i in
-    let e0 = length-append (word_bytes t) (word_bytes i ++ property_encodings met) in
-    let e1 = length-append (word_bytes i) (property_encodings met) in
-    let e2 = length-word_bytes t in
-    let e3 = length-word_bytes i in
-    let e4 = length-append (open_header t i) bytes in
-    let e5 = header_long t i in
-    let e6 = ap length o in
-    let e7 = ap length w.same in
-    let e8 = whole_properties met in
-    let size : length out - 8 ≡ length body = omega arith in
-    let none : padded_size (length body) - length body ≡ 0 = omega arith in
-    let two : length head ≡ 8 = length-append (word_bytes t) (word_bytes i) ∙ omega arith in
-    let joined : head ++ property_encodings met ≡ body = append_assoc (word_bytes t) (word_bytes i) (property_encodings met) in
-    let inside : drop 8 body ≡ property_encodings met = ap (drop 8) (sym joined) ∙ drop_at head (property_encodings met) 8 two in
-    let front : open_header t i ++ bytes ≡ word_bytes 0 ++ (word_bytes 15 ++ (head ++ bytes)) =
-    append_assoc (word_bytes 0 ++ word_bytes 15) head bytes ∙ append_assoc (word_bytes 0) (word_bytes 15) (head ++ bytes) in
-    let behind : drop 4 out ≡ word_bytes 15 ++ (head ++ bytes) =
-    ap (drop 4) (o ∙ front) ∙ drop_at (word_bytes 0) (word_bytes 15 ++ (head ++ bytes)) 4 (length-word_bytes 0) in
-    let whole : head ++ bytes ≡ body ++ padding (length body) =
-    ap (λ y. head ++ y) w.same ∙ joined ∙ sym (append-nil body) ∙ ap (λ m. body ++ replicate m 0) (sym none) in
-    let encoding : b ≡ framed 15 body =
-    e ∙ ap (λ y. word_bytes (length out - 8) ++ y) (behind ∙ ap (λ y. word_bytes 15 ++ y) whole) ∙ ap (λ m. word_bytes m ++ (word_bytes 15 ++ (body ++ padding (length body)))) size in
-    let w0 : word_at body 0 ≡ t = word_inside [] (word_bytes i ++ property_encodings met) t 0 refl ft in
-    let w4 : word_at body 4 ≡ i = word_inside (word_bytes t) (property_encodings met) i 4 e2 fi in
-    let long : 8 ≤ length body = omega arith in
-    let fits : length body < 2 ^ 32 = omega arith in
-    let list : AreProperties met (drop 8 body) = subst (AreProperties met) (w.same ∙ sym inside) w.properties in
-    let framed_pod : IsWhole (framed 15 body) 15 (IsBody (object t i met)) = whole_frame 15 body (IsBody (object t i met)) (omega arith) fits (long, sym w0, sym w4, list) in
-    record {
-      encoding = encoding;
-      pod = subst (λ c. IsPod c (object t i met)) (sym encoding) framed_pod;
-    }
 
 -- what two short objects meet in
 pub record AreMet (a b bytes : List ℕ) : Type 0 where

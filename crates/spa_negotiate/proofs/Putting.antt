@@ -4,7 +4,7 @@ use Rattle.std.specs.Prelude.{replicate}
 use Rattle.std.proofs.lemmas.List.{length-take-le, take-append-drop, append-nil}
 use Rattle.spa_format.specs.Words.{word_at, word_bytes, wide_at, wide_bytes, padding}
 use Rattle.spa_format.specs.Kind.{Kind, bool_kind, kind_of, content, body_size, type_number}
-use Rattle.spa_format.specs.Tree.{Tree, fixed, choice, Properties, no_properties, property}
+use Rattle.spa_format.specs.Tree.{Tree, fixed, choice, choice_type, type_of, Properties, no_properties, property}
 use Rattle.spa_format.specs.Encoding.{encoding_of}
 use Rattle.spa_format.specs.Pod.{IsPod}
 use Rattle.spa_format.specs.Typed.{IsBytes}
@@ -14,10 +14,10 @@ use Rattle.spa_format.proofs.Unique.{one_value}
 use Rattle.spa_format.proofs.WordLemmas.{IsBytes-take}
 use Rattle.spa_scan.proofs.Words.{content_kept, word_there, wide_back, wide_of_take}
 use Rattle.spa_negotiate.specs.Admits.{Admits, IsPlain, plain_of}
-use Rattle.spa_negotiate.specs.Keys.{value_at, key_list}
+use Rattle.spa_negotiate.specs.Keys.{value_at}
 use Rattle.spa_negotiate.specs.Offering.{IsOffer, IsShared, value_of}
-use Rattle.spa_negotiate.specs.PropertyLists.{contains}
-use Rattle.spa_negotiate.specs.Written.{IsFound, IsPut, IsSettledBy, IsWritten}
+use Rattle.spa_fronts.specs.Written.{Found, IsFound, IsWritten, found_at}
+use Rattle.spa_negotiate.specs.Written.{IsPut, IsSettledBy}
 use Rattle.spa_negotiate.specs.declared.offer_view.OfferView.{OfferView}
 
 -- the encoding of what a body says, truth values aside
@@ -93,6 +93,10 @@ admits_itself : (v : Tree) → IsPlain v → Admits v v
 admits_itself (choice s f k d vs) h = absurd h
 admits_itself _ h = refl
 
+pub plain_typed : (v : Tree) → type_of v ≢ choice_type → IsPlain v
+plain_typed (choice s f k d vs) n = absurd (n refl)
+plain_typed _ n = tt
+
 pub put_plain : (v : Tree) (key : ℕ) (pod old new : List ℕ) → IsPlain v → IsWritten v pod →
     new ≡ old ++ ((word_bytes key ++ word_bytes 0) ++ pod) → IsPut key (plain_of v) old new
 put_plain v key pod old new h w p =
@@ -119,32 +123,27 @@ put_shared v w a key value old new o s p =
       put = p s.kind s.its_type (o.its_size ∙ ap body_size same) s.no_truth;
     }
 
-pub settled_found : (v : Tree) (found : Option Tree) (key : ℕ) (other old new : List ℕ) → IsFound found other →
-    ((w : Tree) → IsWritten w other → IsSettledBy (Some v) (Some w) key old new) → IsSettledBy (Some v) found key old new
-settled_found v found key other old new f p =
-    subst (λ o. IsSettledBy (Some v) o key old new) (sym f.is_found) (p f.value f.written)
+-- the value that was found, by the words of the crate below
+abbrev value_in : Option Found → Option Tree
+value_in None = None
+value_in (Some f) = Some f.value
 
-pub settled_alone : (v : Tree) (found : Option Tree) (key : ℕ) (old new : List ℕ) → found ≡ None → IsPut key (plain_of v) old new →
-    IsSettledBy (Some v) found key old new
-settled_alone v found key old new e p =
+value_found_by : (k f : ℕ) (v : Tree) (ps : Properties) (b : Bool) → value_at k ps ≡ value_in (found_at k ps) →
+    (if b then Some v else value_at k ps) ≡ value_in (if b then Some (record { flags = f; value = v }) else found_at k ps)
+value_found_by k f v ps true more = refl
+value_found_by k f v ps false more = more
+
+value_found : (k : ℕ) (ps : Properties) → value_at k ps ≡ value_in (found_at k ps)
+value_found k no_properties = refl
+value_found k (property j f v ps) = value_found_by k f v ps (j == k) (value_found k ps)
+
+pub settled_found : (v : Tree) (qs : Properties) (key flags : ℕ) (other old new : List ℕ) → IsFound (found_at key qs) flags other →
+    ((w : Tree) → IsWritten w other → IsSettledBy (Some v) (Some w) key old new) → IsSettledBy (Some v) (value_at key qs) key old new
+settled_found v qs key flags other old new f p =
+    subst (λ o. IsSettledBy (Some v) o key old new) (sym (value_found key qs ∙ ap value_in f.is_found)) (p f.value f.written)
+
+pub settled_alone : (v : Tree) (qs : Properties) (key : ℕ) (old new : List ℕ) → found_at key qs ≡ None → IsPut key (plain_of v) old new →
+    IsSettledBy (Some v) (value_at key qs) key old new
+settled_alone v qs key old new e p =
     let alone : IsSettledBy (Some v) None key old new = record { value = plain_of v; settles = refl; put = p } in
-    subst (λ o. IsSettledBy (Some v) o key old new) (sym e) alone
-
--- whether a key is among those of properties, by the value that was found
-absent_by : (key : ℕ) (v : Tree) (ps : Properties) (b : Bool) → (value_at key ps ≡ None → contains key (key_list ps) ≡ false) →
-    (if b then Some v else value_at key ps) ≡ None → (if b then true else contains key (key_list ps)) ≡ false
-absent_by key v ps true more e = cc
-absent_by key v ps false more e = more e
-
-pub contains-none : (key : ℕ) (ps : Properties) → value_at key ps ≡ None → contains key (key_list ps) ≡ false
-contains-none key no_properties e = refl
-contains-none key (property j f v ps) e = absent_by key v ps (j == key) (contains-none key ps) e
-
-there_by : (key : ℕ) (v w : Tree) (ps : Properties) (b : Bool) → (value_at key ps ≡ Some w → contains key (key_list ps) ≡ true) →
-    (if b then Some v else value_at key ps) ≡ Some w → (if b then true else contains key (key_list ps)) ≡ true
-there_by key v w ps true more e = refl
-there_by key v w ps false more e = more e
-
-pub contains-some : (key : ℕ) (w : Tree) (ps : Properties) → value_at key ps ≡ Some w → contains key (key_list ps) ≡ true
-contains-some key w no_properties e = cc
-contains-some key w (property j f v ps) e = there_by key v w ps (j == key) (contains-some key w ps) e
+    subst (λ o. IsSettledBy (Some v) o key old new) (sym (value_found key qs ∙ ap value_in e)) alone

@@ -7,8 +7,8 @@ ghost use Rattle.spa_negotiate.specs.Offers.{BothAdmit, IsIndexed, OfferAdmits, 
 
 use crate::numbers::has;
 use crate::offer::{Offer, Rule};
-use libspa::pod::value_laws::{equal_trees_are_the_same, trees_have_their_types};
-use libspa::pod::{Value, same};
+use spa_value::laws::{equal_trees_are_the_same, trees_have_their_types};
+use spa_value::{Value, same};
 use std::alloc::{AllocError, Global};
 
 /// Whether the first is no greater than the second, where both are ids, both ints or both longs.

@@ -7,8 +7,9 @@ ghost use Rattle.spa_negotiate.specs.Offers.{range_rule};
 
 use crate::numbers::Numbers;
 use crate::offer::Rule;
-use libspa::pod::{CanonicalFixedSizedPod, Value};
-use libspa::utils::{Fd, Float32, Float64, Fraction, Id, Rectangle};
+use spa_fixed::CanonicalFixedSizedPod;
+use spa_utils::{Fd, Float32, Float64, Fraction, Id, Rectangle};
+use spa_value::Value;
 
 /// One of the nine types over which there are choices.
 pub(crate) trait Element: CanonicalFixedSizedPod {

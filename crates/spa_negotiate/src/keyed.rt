@@ -3,7 +3,7 @@ ghost use Rattle.std.specs.Prelude.{◌≡◌, IfOk, MatchOption, None, Some};
 ghost use Rattle.spa_value.specs.View.{view};
 ghost use Rattle.spa_negotiate.specs.PropertyLists.{HasPlaces, IsAdded, found_at};
 
-use libspa::pod::{Property, Value};
+use spa_value::{Property, Value};
 use std::alloc::{AllocError, Global};
 use std::collections::{BTreeMap, BTreeSet};
 

@@ -7,7 +7,6 @@ mod error;
 mod keyed;
 mod negotiation;
 mod numbers;
-mod object_view;
 mod offer;
 mod offer_view;
 mod pods;

@@ -1,6 +1,7 @@
 //! Two objects meet.
-ghost use Rattle.std.specs.Prelude.{◌≡◌, IfErr, IfOk, OnOk, Some};
+ghost use Rattle.std.specs.Prelude.{◌≡◌, IfErr, IfOk, List, OnOk, Some};
 ghost use Rattle.spa_format.specs.Tree.{join_properties};
+ghost use Rattle.spa_value.specs.declared.object.Property.{Property};
 ghost use Rattle.spa_value.specs.View.{object_view, view};
 ghost use Rattle.spa_value.specs.Views.{property_views};
 ghost use Rattle.spa_negotiate.specs.Admits.{IsCommon, IsPlain};
@@ -13,8 +14,8 @@ use crate::admission::first_common;
 use crate::error::NegotiateError;
 use crate::keyed::{Keyed, add_key};
 use crate::offer::{Offer, offer_of, settled};
-use libspa::pod::value_laws::{objects_are_their_fields, property_lists_are_in_order};
-use libspa::pod::{Object, Property, Value, discard};
+use spa_value::laws::{objects_are_their_fields, property_lists_are_in_order};
+use spa_value::{Object, Property, Value, discard};
 use std::alloc::{AllocError, Global};
 use std::collections::BTreeSet;
 
@@ -50,7 +51,7 @@ pub fn negotiate(alloc: Global, a: &Object, b: &Object) -> Result<Object, Negoti
     let theirs = b.properties.as_slice();
     let others = Keyed::new(alloc, theirs)?;
     let first = settle_first(alloc, ours, &others)?;
-    let properties = settle_others(first, ours, theirs)?;
+    let properties = settle_rest(first, theirs)?;
     Ok(Object {
         type_: a.type_,
         id: a.id,
@@ -111,15 +112,9 @@ fn settle_first(alloc: Global, a: &[Property], b: &Keyed<'_>) -> Result<Settled,
     Ok(Settled { met, keys })
 }
 
-/// The settled properties of the first side, and behind them those that the second side alone has. `a` stands in the
-/// contract alone.
-fn settle_others(
-    first: Settled,
-    a: &[Property],
-    b: &[Property],
-) -> Result<Vec<Property>, AllocError>
-    requires { IsSettled a.now b.now (property_views a.now) first }
-    ensures { IfOk result (λ met. SettlesListed a.now b.now (join_properties (property_views a.now) (property_views b.now)) met.items) }
+/// The settled properties of the first side, and behind them those that the second side alone has.
+fn settle_rest(first: Settled, b: &[Property]) -> Result<Vec<Property>, AllocError>
+    ensures { IfOk result (λ met. (a : List Property) → IsSettled a b.now (property_views a) first → SettlesListed a b.now (join_properties (property_views a) (property_views b.now)) met.items) }
 {
     property_lists_are_in_order();
     let Settled { mut met, mut keys } = first;

@@ -5,9 +5,9 @@ ghost use Rattle.spa_value.specs.View.{view};
 ghost use Rattle.spa_negotiate.specs.Numbering.{Has, IsAdded, tree_numbers};
 
 use crate::element::Element;
-use libspa::pod::Value;
-use libspa::pod::value_laws::trees_have_their_types;
-use libspa::utils::SpaTypes;
+use spa_utils::SpaTypes;
+use spa_value::Value;
+use spa_value::laws::trees_have_their_types;
 use std::alloc::AllocError;
 use std::collections::BTreeSet;
 

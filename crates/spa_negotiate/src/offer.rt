@@ -9,9 +9,9 @@ ghost use Rattle.spa_negotiate.specs.Offers.{IsIndexed, IsOfferOf, further_value
 
 use crate::element::Element;
 use crate::numbers::{Numbers, add};
-use libspa::pod::value_laws::trees_have_their_types;
-use libspa::pod::{ChoiceValue, Value, discard};
-use libspa::utils::ChoiceEnum;
+use spa_utils::ChoiceEnum;
+use spa_value::laws::trees_have_their_types;
+use spa_value::{ChoiceValue, Value, discard};
 use std::alloc::{AllocError, Global};
 use std::collections::BTreeSet;
 

@@ -13,12 +13,14 @@ ghost use Rattle.spa_negotiate.specs.Refusals.{AreRefused, OnDisagreement};
 use crate::error::{NegotiateError, Side};
 use crate::negotiation::negotiate;
 use crate::short::meet_short;
-use libspa::pod::deserialize::{DeserializeError, PodDeserializer};
-use libspa::pod::laws::{pods_have_one_value, readings_are_normal};
-use libspa::pod::serialize::{GenError, write_value};
-use libspa::pod::value_laws::{objects_are_their_fields, trees_have_their_types};
-use libspa::pod::view_laws::{settled_properties_are_settled, walks_find_members};
-use libspa::pod::{Held, Object, Value};
+use spa_fixed::DeserializeError;
+use spa_format::laws::{pods_have_one_value, readings_are_normal};
+use spa_format::view_laws::{settled_properties_are_settled, walks_find_members};
+use spa_sink::GenError;
+use spa_typed_read::PodDeserializer;
+use spa_value::laws::{objects_are_their_fields, trees_have_their_types};
+use spa_value::{Held, Object, Value};
+use spa_write::write_value;
 use std::alloc::Global;
 
 /// The encoding of the object in which the objects at the fronts of two inputs meet, by the rules of `negotiate`. What follows

@@ -1,26 +1,23 @@
 //! Two short objects meet where they lie.
-ghost use Rattle.std.specs.Prelude.{◌≡◌, ◌≢◌, ◌+◌, ◌-◌, ◌<◌, ◌≤◌, ◌++◌, IfSome, List, Some, drop, false, length, true, ℕ};
+ghost use Rattle.std.specs.Prelude.{◌≡◌, ◌≢◌, ◌++◌, IfSome, List, Some, length, true, ℕ};
 ghost use Rattle.spa_format.specs.Kind.{Kind, body_size, bool_kind, type_number};
-ghost use Rattle.spa_format.specs.Pod.{IsPod};
 ghost use Rattle.spa_format.specs.Tree.{Properties, Tree, fixed, join_properties};
-ghost use Rattle.spa_format.specs.Words.{size_limit, word_bytes};
-ghost use Rattle.spa_negotiate.specs.Admits.{IsPlain, plain_of};
+ghost use Rattle.spa_format.specs.Words.{word_bytes};
+ghost use Rattle.spa_negotiate.specs.Admits.{plain_of};
 ghost use Rattle.spa_negotiate.specs.Fronts.{BeginBoth, MeetIn};
-ghost use Rattle.spa_negotiate.specs.Keys.{key_list, value_at};
+ghost use Rattle.spa_negotiate.specs.Keys.{value_at};
 ghost use Rattle.spa_negotiate.specs.Meeting.{CanMeet, Settles};
 ghost use Rattle.spa_negotiate.specs.Offering.{value_of};
-ghost use Rattle.spa_negotiate.specs.PropertyLists.{contains};
-ghost use Rattle.spa_negotiate.specs.Written.{AreWritten, IsMetBehind, IsPut, IsSettledBy, IsWritten};
+ghost use Rattle.spa_fronts.specs.Written.{AreWritten, IsWritten};
+ghost use Rattle.spa_negotiate.specs.Written.{IsMetBehind, IsPut, IsSettledBy};
 
-use crate::object_view::{find, first_property, short_object};
 use crate::offer_view::{first_common, offer_view};
-use spa_bytes::{HEADER_LEN, SECOND_WORD, joined, two_words, u32_at, u64_at, wide_body, word_body};
-use spa_sink::PodOutput;
-use spa_utils::SpaTypes;
+use spa_bytes::{joined, two_words, u32_at, u64_at, wide_body, word_body};
+use spa_fronts::{
+    are_same, find, finish, first_property, has_settled, is_plain, put_header, put_key, put_pod,
+    short_object,
+};
 use std::alloc::Global;
-
-/// Where the properties of an object begin in its pod: behind its header, its type and its id.
-const PROPERTIES_AT: usize = 16;
 
 /// The length in bytes of a body of one word.
 const ONE_WORD: usize = 4;
@@ -54,36 +51,13 @@ pub(crate) fn meet_short(alloc: Global, a: &[u8], b: &[u8]) -> Option<Vec<u8>>
     if finish(&mut out) { Some(out) } else { None }
 }
 
-/// Appends the header of an object, whose size is put there at last, its type and its id.
-fn put_header(out: &mut Vec<u8>, type_: u32, id: u32) -> bool
-    ensures { result ≡ true → out.new.items ≡ out.old.items ++ ((word_bytes 0 ++ word_bytes 15) ++ (word_bytes type_ ++ word_bytes id)) }
-{
-    let header = joined(two_words(0, SpaTypes::Object.0), two_words(type_, id));
-    out.extend_from_slice(&header).is_ok()
-}
-
-/// Puts the size into the header.
-fn finish(out: &mut Vec<u8>) -> bool
-    ensures size { result ≡ true → length out.old.items - 8 < size_limit }
-    ensures bytes { result ≡ true → out.new.items ≡ word_bytes (length out.old.items - 8) ++ drop 4 out.old.items }
-{
-    if out.len() < PROPERTIES_AT {
-        return false;
-    }
-    let Ok(size) = u32::try_from(out.len() - HEADER_LEN) else {
-        return false;
-    };
-    out.overwrite(0, size.to_le_bytes());
-    true
-}
-
 /// Settles the keys of the first side.
 fn settle_first(out: &mut Vec<u8>, ours: &[u8], theirs: &[u8]) -> bool
     ensures { result ≡ true → (ps qs : Properties) → length out.old.items ≡ 16 → AreWritten ps ours.now → AreWritten qs theirs.now → IsMetBehind ps qs ps out.old.items out.new.items }
 {
     let mut left = ours;
     while let Some(first) = first_property(left) {
-        if !is_settled(out, first.key) && !settle(out, first.key, first.pod, theirs) {
+        if !has_settled(out, first.key) && !settle(out, first.key, first.pod, theirs) {
             return false;
         }
         left = first.rest;
@@ -97,7 +71,7 @@ fn settle_others(out: &mut Vec<u8>, theirs: &[u8]) -> bool
 {
     let mut left = theirs;
     while let Some(first) = first_property(left) {
-        if !is_settled(out, first.key) && !put_default(out, first.key, first.pod) {
+        if !has_settled(out, first.key) && !put_default(out, first.key, first.pod) {
             return false;
         }
         left = first.rest;
@@ -105,38 +79,14 @@ fn settle_others(out: &mut Vec<u8>, theirs: &[u8]) -> bool
     left.is_empty()
 }
 
-/// Whether a property with this key was put.
-fn is_settled(out: &Vec<u8>, key: u32) -> bool
-    ensures { (ps : Properties) → AreWritten ps (drop 16 out.now.items) → result ≡ contains key (key_list ps) }
-{
-    if out.len() < PROPERTIES_AT {
-        return false;
-    }
-    let (_, properties) = out.as_slice().split_at(PROPERTIES_AT);
-    match find(properties, key) {
-        Some(_) => true,
-        None => false,
-    }
-}
-
 /// Settles the key of a property of the first side.
 fn settle(out: &mut Vec<u8>, key: u32, pod: &[u8], theirs: &[u8]) -> bool
     ensures { result ≡ true → (v : Tree) (qs : Properties) → IsWritten v pod.now → AreWritten qs theirs.now → IsSettledBy (Some v) (value_at key qs) key out.old.items out.new.items }
 {
     match find(theirs, key) {
-        Some(other) => put_common(out, key, pod, other),
+        Some(other) => put_common(out, key, pod, other.pod),
         None => put_default(out, key, pod),
     }
-}
-
-/// Whether the value of a pod isn't a choice.
-fn is_plain(pod: &[u8]) -> bool
-    ensures { result ≡ true → (v : Tree) → IsPod pod.now v → IsPlain v }
-{
-    if pod.len() < HEADER_LEN {
-        return false;
-    }
-    u32_at(pod, SECOND_WORD) != SpaTypes::Choice.0
 }
 
 /// Puts a plain value, or the default of a choice.
@@ -157,7 +107,7 @@ fn put_common(out: &mut Vec<u8>, key: u32, pod: &[u8], other: &[u8]) -> bool
     ensures { result ≡ true → (v w : Tree) → IsWritten v pod.now → IsWritten w other.now → IsSettledBy (Some v) (Some w) key out.old.items out.new.items }
 {
     if is_plain(pod) && is_plain(other) {
-        return pod == other && put(out, key, pod);
+        return are_same(pod, other) && put(out, key, pod);
     }
     let Some(a) = offer_view(pod) else {
         return false;
@@ -197,5 +147,5 @@ fn put_value(out: &mut Vec<u8>, key: u32, type_: u32, size: usize, value: &[u8])
 fn put(out: &mut Vec<u8>, key: u32, pod: &[u8]) -> bool
     ensures { result ≡ true → out.new.items ≡ out.old.items ++ ((word_bytes key ++ word_bytes 0) ++ pod.now) }
 {
-    out.extend_from_slice(&two_words(key, 0)).is_ok() && out.extend_from_slice(pod).is_ok()
+    put_key(out, key, 0) && put_pod(out, pod)
 }

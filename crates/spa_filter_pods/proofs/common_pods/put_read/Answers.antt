@@ -1,7 +1,6 @@
-use Rattle.std.proofs.Common.{◌≡◌, ◌∙◌, ap, subst, sym}
+use Rattle.std.proofs.Common.{◌≡◌, ◌∙◌, subst, sym}
 use Rattle.spa_format.specs.Normal.{normal_of}
 use Rattle.spa_value.specs.View.{view}
-use Rattle.spa_filter.specs.Admits.{AreSupported, IsMeeting}
 use Rattle.spa_filter_pods.proofs.CommonPods.{appended_first, appended_met, appended_second, read_appended, read_meeting, read_supported}
 use Rattle.spa_filter_pods.proofs.Values.{IsNormal-meeting}
 use Rattle.spa_filter_pods.proofs.common_pods.put_read.Goals as goal

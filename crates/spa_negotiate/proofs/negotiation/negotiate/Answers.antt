@@ -41,12 +41,6 @@ returns-in_err-first-clause-cause c =
     (c.in_ok-others.ensures.properties ∙ c.as_slice-theirs.ensures.value) c.if-a-b.false
     _ c.in_err-first.ensures.cause)
 
-pub settle_others-requires : goal.settle_others-requires
-settle_others-requires c =
-    let ours = c.as_slice-ours.result.now in
-    subst (λ ys. IsSettled ours ys (property_views ours) c.in_ok-first.first)
-    c.in_ok-others.ensures.properties c.in_ok-first.ensures.settled
-
 pub returns-in_err-properties-clause-cause : goal.returns-in_err-properties-clause-cause
 returns-in_err-properties-clause-cause c =
     let law = c.objects_are_their_fields.ensures in
@@ -59,7 +53,10 @@ returns-clause-value c =
     let law = c.objects_are_their_fields.ensures in
     objects_meet law.fields law.made c.args.a.now c.args.b.now _ _
     c.as_slice-ours.ensures.value c.as_slice-theirs.ensures.value c.if-a-b.false
-    c.in_ok-properties.properties c.in_ok-properties.ensures
+    c.in_ok-properties.properties
+    (c.in_ok-properties.ensures c.as_slice-ours.result.now
+    (subst (λ ys. IsSettled c.as_slice-ours.result.now ys (property_views c.as_slice-ours.result.now) c.in_ok-first.first)
+    c.in_ok-others.ensures.properties c.in_ok-first.ensures.settled))
 
 pub returns-clause-accepted : goal.returns-clause-accepted
 returns-clause-accepted c =

@@ -1,5 +1,6 @@
 use Rattle.std.proofs.Common.{◌++◌, ◌∙◌, ap}
-use Rattle.spa_negotiate.proofs.Meetings.{are_met, open_header}
+use Rattle.spa_fronts.specs.Written.{open_header}
+use Rattle.spa_negotiate.proofs.Meetings.{are_met}
 use Rattle.spa_negotiate.proofs.short.meet_short.Goals as goal
 
 pub returns-then-finish-clause-accepted : goal.returns-then-finish-clause-accepted

@@ -1,17 +1,16 @@
 use Rattle.std.proofs.Common.{◌∙◌, sym, ap, true≢false}
-use Rattle.std.specs.Cmp.Lexicographic.{same_text}
-use Rattle.spa_negotiate.proofs.Putting.{put_same, put_shared}
-use Rattle.spa_negotiate.proofs.short.put_common.Goals.{then-eq, else-eq}
+use Rattle.spa_negotiate.proofs.Putting.{plain_typed, put_same, put_shared}
+use Rattle.spa_negotiate.proofs.short.put_common.Goals.{then-are_same, else-are_same}
 use Rattle.spa_negotiate.proofs.short.put_common.Goals as goal
 
 pub returns-then-is_plain-2 : goal.returns-then-is_plain-2
 returns-then-is_plain-2 c = λ e v w first second.
-    elim c.if-eq.branch [
-      | then-eq b ↦
-          let same = same_text _ _ (sym b.if-eq.true ∙ c.eq.ensures) in
-          put_same v w _ _ _ _ _ (c.is_plain.ensures c.if-is_plain.true v first.its_pod) same first second
+    elim c.if-are_same.branch [
+      | then-are_same b ↦
+          let same = c.are_same.ensures b.if-are_same.true in
+          put_same v w _ _ _ _ _ (plain_typed v (c.is_plain.ensures c.if-is_plain.true v first.its_pod)) same first second
           (ap (λ o. o.items) b.out-is ∙ b.put.ensures (sym b.result-is ∙ e))
-      | else-eq b ↦ absurd (true≢false (sym e ∙ b.result-is ∙ b.if-eq.false))
+      | else-are_same b ↦ absurd (true≢false (sym e ∙ b.result-is ∙ b.if-are_same.false))
     ]
 
 pub returns-in-Some-first_common : goal.returns-in-Some-first_common

@@ -1,6 +1,6 @@
 use Rattle.std.proofs.Common.{◌≡◌, length}
 use Rattle.spa_format.specs.Tree.{Properties}
-use Rattle.spa_negotiate.specs.Written.{AreWritten}
+use Rattle.spa_fronts.specs.Written.{AreWritten}
 use Rattle.spa_negotiate.proofs.Meetings.{IsFirstLeft}
 use Rattle.spa_negotiate.proofs.short.settle_first.Given as goal
 

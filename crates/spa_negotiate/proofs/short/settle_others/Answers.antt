@@ -2,7 +2,7 @@ use Rattle.std.proofs.Common.{◌∙◌, sym, subst, arith}
 use Rattle.std.proofs.lemmas.Bool.{eqb-true}
 use Rattle.spa_format.specs.Typed.{IsBytes}
 use Rattle.spa_negotiate.proofs.Meetings.{IsOtherLeft, SaysSettled, other_begun, other_seen, other_put, other_ended}
-use Rattle.spa_negotiate.proofs.short.settle_others.Goals.{else-not-is_settled-via-then-not-is_settled+else-not-put_default, else-not-is_settled-via-else-not-is_settled}
+use Rattle.spa_negotiate.proofs.short.settle_others.Goals.{else-not-has_settled-via-then-not-has_settled+else-not-put_default, else-not-has_settled-via-else-not-has_settled}
 use Rattle.spa_negotiate.proofs.short.settle_others.Goals as goal
 
 pub loop-first-init : goal.loop-first-init
@@ -15,16 +15,16 @@ loop-first-preserved c = λ ps qs head l w m.
     let i = c.loop-first.invariant ps qs head l w m in
     let first = c.in-Some.ensures.first in
     let key = c.in-Some.first.key in
-    let said = c.is_settled.ensures in
-    elim c.else-not-is_settled.branch [
-      | else-not-is_settled-via-then-not-is_settled+else-not-put_default b ↦
-          let fresh = subst (λ r. SaysSettled r key c.loop-first.out.items) b.if-not-is_settled.true said in
+    let said = c.has_settled.ensures in
+    elim c.else-not-has_settled.branch [
+      | else-not-has_settled-via-then-not-has_settled+else-not-put_default b ↦
+          let fresh = subst (λ r. SaysSettled r key c.loop-first.out.items) b.if-not-has_settled.true said in
           subst (λ o. IsOtherLeft ps qs head c.in-Some.first.rest.now o.items) (sym b.out-is)
-          (other_put ps qs head _ _ _ _ _ key l c.in-Some.ensures.key first fresh (b.put_default.ensures b.if-not-put_default.false) i)
-      | else-not-is_settled-via-else-not-is_settled b ↦
-          let there = subst (λ r. SaysSettled r key c.loop-first.out.items) b.if-not-is_settled.false said in
+          (other_put ps qs head _ _ _ _ _ key _ l c.in-Some.ensures.words.0 first fresh (b.put_default.ensures b.if-not-put_default.false) i)
+      | else-not-has_settled-via-else-not-has_settled b ↦
+          let there = subst (λ r. SaysSettled r key c.loop-first.out.items) b.if-not-has_settled.false said in
           subst (λ o. IsOtherLeft ps qs head c.in-Some.first.rest.now o.items) (sym b.out-is)
-          (other_seen ps qs head _ _ _ _ key l first there i)
+          (other_seen ps qs head _ _ _ _ key _ l first there i)
     ]
 
 pub returns : goal.returns

@@ -1,6 +1,7 @@
 use Rattle.std.proofs.Common.{◌≡◌, ℕ, List, length}
 use Rattle.spa_format.specs.Tree.{Properties}
-use Rattle.spa_negotiate.specs.Written.{AreWritten, IsMetBehind}
+use Rattle.spa_fronts.specs.Written.{AreWritten}
+use Rattle.spa_negotiate.specs.Written.{IsMetBehind}
 use Rattle.spa_negotiate.proofs.Meetings.{IsOtherLeft}
 use Rattle.spa_negotiate.proofs.short.settle_others.Given as goal
 

@@ -46,7 +46,7 @@ fn first_answer(
 }
 
 /// The answer for two objects. Where memory ran out, they are asked once more: a run of the tests may refuse one request.
-fn answer_of(
+pub(crate) fn answer_of(
     alloc: Global,
     a: &Object,
     b: &Object,

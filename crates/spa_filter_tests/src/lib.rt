@@ -4,9 +4,13 @@
 #[cfg(test)]
 mod answers;
 #[cfg(test)]
+mod grid;
+#[cfg(test)]
 mod keys;
 #[cfg(test)]
 mod objects;
+#[cfg(test)]
+mod other_types;
 #[cfg(test)]
 mod pairs;
 #[cfg(test)]

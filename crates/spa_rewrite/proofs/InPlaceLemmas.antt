@@ -336,6 +336,21 @@ others_deeper input first rest steady others levels i c r s n w =
     n (within_behind s.values steady others levels s.members
     (subst (ArePodsWithin levels) r (within_behind c.values first rest levels c.members (subst (ArePodsWithin levels) i w))))
 
+-- first pods stand before others that are accepted, refused, or nest deeper
+pub accepted_behind : (input first rest : List ℕ) → input ≡ first ++ rest → AreCanonical first → (vs : Trees) × AreMembers vs rest →
+    (vs : Trees) × AreMembers vs input
+accepted_behind input first rest i c r =
+    let vs = join_members c.values r.0 in
+    (vs, subst (AreMembers vs) (sym i) (members_joined c.values r.0 first rest c.members r.1))
+
+pub list_behind : (input first rest left : List ℕ) (told : DeserializeError (Bor (List ℕ))) → input ≡ first ++ rest → AreCanonical first →
+    RefusesList rest left told → RefusesList input left told
+list_behind input first rest left told i c r = list_refused input left told (left_behind_pods input first rest left c.values i c.members r.behind) r.front
+
+pub rest_deeper : (input first rest : List ℕ) (levels : ℕ) → input ≡ first ++ rest → AreCanonical first → ¬ (ArePodsWithin levels rest) →
+    ¬ (ArePodsWithin levels input)
+rest_deeper input first rest levels i c n w = n (within_behind c.values first rest levels c.members (subst (ArePodsWithin levels) i w))
+
 -- pods that are all their own rewritings or became them
 pub across_rewritten : (input first rest steady others all patched : List ℕ) (at k : ℕ) → all ≡ input → input ≡ first ++ rest → AreCanonical first →
     rest ≡ steady ++ others → AreSteady steady → length others ≡ 0 → at ≡ length first → k ≡ length all - at →

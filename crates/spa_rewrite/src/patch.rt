@@ -372,10 +372,7 @@ pub(crate) fn clear_padding(size: usize, pod: &mut [u8])
     let from = HEADER_LEN + size;
     match pod.len() - from {
         0 => (),
-        WORD_LEN => {
-            let zeros = [0; WORD_LEN];
-            pod[from..].copy_from_slice(&zeros);
-        }
+        WORD_LEN => pod[from..].fill(0),
         1 | 2 => clear_ends(1, from, pod),
         3 => clear_ends(2, from, pod),
         5 | 6 | 7 => clear_ends(WORD_LEN, from, pod),
@@ -388,11 +385,9 @@ pub(crate) fn clear_padding(size: usize, pod: &mut [u8])
 fn clear_ends(width: usize, from: usize, pod: &mut [u8])
     requires once { from + width ≤ length pod.old }
     requires twice { length pod.old ≤ from + 2 * width }
-    requires small { width ≤ 4 }
     ensures { pod.new ≡ take from pod.old ++ replicate (length pod.old - from) 0 }
 {
-    let zeros = [0; WORD_LEN];
     let last = pod.len() - width;
-    pod[from..from + width].copy_from_slice(&zeros[..width]);
-    pod[last..].copy_from_slice(&zeros[..width]);
+    pod[from..from + width].fill(0);
+    pod[last..].fill(0);
 }

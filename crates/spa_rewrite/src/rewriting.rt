@@ -6,11 +6,14 @@ ghost use Rattle.spa_format.specs.Pod.{AreMembers};
 ghost use Rattle.spa_format.specs.Tree.{Trees};
 ghost use Rattle.spa_leaf.specs.Reading.{IsShortAt, Names, OnFault, OnMemory};
 ghost use Rattle.spa_rewrite.specs.Rewriting.{AreRewritten, AreRewrittenInParts, IsLeft, IsRewriting, RefusesFront, RefusesList, TakesMembers, TakesStretch};
+ghost use Rattle.spa_rewrite.specs.Shorter.{ArePodsWithin};
 ghost use Rattle.spa_rewrite.specs.Steady.{TakesSteady};
 ghost use Rattle.spa_rewrite.specs.Tails.{KeepsStart};
+ghost use Rattle.spa_scan.specs.Depth.{levels_looked_into};
 
 use crate::pod::rewrite_pod;
 use crate::steady::steady_stretch;
+use crate::surplus::surplus_of_all;
 use crate::tail::Tail;
 use spa_fixed::{DeserializeError, Refusal};
 use spa_leaf::error_at;
@@ -107,8 +110,26 @@ pub fn rewrite_in_parts(
 
 /// Tells whether `rewrite_all` would accept the input, and else refuses it as that call does.
 ///
-/// It makes no rewriting of the whole: it takes memory only for pods that get shorter or nest more than `LEVELS` deep, one at a time.
+/// It makes no rewriting of the whole: it takes memory only where structs and objects stand more than `LEVELS` deep in one another, not
+/// counting those that end where the one around them does, and then for one pod at a time.
 pub fn accept_all(alloc: Global, input: &[u8]) -> Result<(), (&[u8], DeserializeError<&[u8]>)>
+    ensures accepted { OnOk result ((vs : Trees) × AreMembers vs input.now) }
+    ensures refused { IfErr result (λ refusal. RefusesList input.now refusal.0.now refusal.1) }
+    // Pods that nest in 1000 levels at most are never refused: for these memory can't run out.
+    ensures missed { IfErr result (λ _. ¬ (ArePodsWithin levels_looked_into input.now)) }
+{
+    let (_, rest) = canonical_stretch(input);
+    if let Some(_) = surplus_of_all(rest) {
+        return Ok(());
+    }
+    match accept_each(alloc, rest) {
+        Ok(()) => Ok(()),
+        Err(refusal) => Err(refusal),
+    }
+}
+
+/// The same of any pods, by a rewriting of each that gets shorter or nests deeper.
+fn accept_each(alloc: Global, input: &[u8]) -> Result<(), (&[u8], DeserializeError<&[u8]>)>
     ensures accepted { OnOk result ((vs : Trees) × AreMembers vs input.now) }
     ensures refused { IfErr result (λ refusal. RefusesList input.now refusal.0.now refusal.1) }
 {

@@ -4,12 +4,16 @@ ghost use Rattle.spa_format.specs.Kind.{Kind, body_size, type_number};
 ghost use Rattle.spa_format.specs.Tree.{array_type, choice_type, object_type, struct_type};
 ghost use Rattle.spa_format.specs.Words.{header_size};
 ghost use Rattle.spa_rewrite.specs.Steady.{AreSteady, AreSteadyInside, AreSteadyInsideWithin, AreSteadyProperties, AreSteadyPropertiesWithin, AreSteadyWithin, BeginsSteady, IsBehindKey, IsInside, IsSteadyBody};
+ghost use Rattle.spa_scan.specs.Canonical.{IsFixedLen};
 ghost use Rattle.spa_scan.specs.Depth.{depth_of, levels_looked_into};
 
 use crate::elements::{elements_of, values_of};
 use spa_bytes::{HEADER_LEN, POINTER_LEN, SECOND_WORD, SHORT_POINTER_LEN, open, u32_at};
 use spa_scan::{LEVELS, fixed_len, is_text};
 use spa_utils::SpaTypes;
+
+/// The length in bytes of a body of one word.
+const ONE_WORD: u32 = 4;
 
 /// The length in bytes of a body of two words, the longest of fixed size.
 const TWO_WORDS: u32 = 8;
@@ -135,15 +139,24 @@ pub(crate) fn short_front(input: &[u8]) -> Option<&[u8]>
     if input.len() < SHORT_POD {
         return None;
     }
-    let size = u32_at(input, 0);
-    if size == 0 || size > TWO_WORDS {
-        return None;
-    }
-    if size != fixed_len(u32_at(input, SECOND_WORD)) {
+    if !is_short(u32_at(input, 0), u32_at(input, SECOND_WORD)) {
         return None;
     }
     let (_, rest) = input.split_at(SHORT_POD);
     Some(rest)
+}
+
+/// Whether the bodies of this type are one or two words, and have this size.
+#[inline(always)]
+fn is_short(size: u32, type_: u32) -> bool
+    ensures sized { result ≡ true → IsFixedLen type_ size }
+    ensures some { result ≡ true → 0 < size }
+    ensures few { result ≡ true → size < 9 }
+{
+    if size == ONE_WORD {
+        return fixed_len(type_) == ONE_WORD;
+    }
+    size == TWO_WORDS && fixed_len(type_) == TWO_WORDS
 }
 
 /// What follows the first pods whose bodies are one or two words and of a kind of fixed size, with key and flags before each where

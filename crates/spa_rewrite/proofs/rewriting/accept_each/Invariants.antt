@@ -1,6 +1,6 @@
 use Rattle.std.proofs.Common.{length}
 use Rattle.spa_rewrite.proofs.Stretches.{FirstMembers}
-use Rattle.spa_rewrite.proofs.rewriting.accept_all.Given as goal
+use Rattle.spa_rewrite.proofs.rewriting.accept_each.Given as goal
 
 abbrev pub invariant-loop-others : goal.invariant-loop-others
 invariant-loop-others l = FirstMembers l.input l.left

@@ -1,6 +1,6 @@
 //! The bodies of arrays and choices, rewritten as they lie: only truth values, surplus values and the flags of a choice without
 //! alternatives change in them.
-ghost use Rattle.std.specs.Prelude.{◌≡◌, ◌*◌, ◌<◌, ◌≤◌, ◌++◌, IfErr, IfNone, IfSome, List, OnOk, length, take, ℕ};
+ghost use Rattle.std.specs.Prelude.{◌≡◌, ◌%◌, ◌*◌, ◌<◌, ◌≤◌, ◌++◌, IfErr, IfNone, IfSome, List, OnOk, length, take, true, ℕ};
 ghost use Rattle.spa_fixed.specs.Reading.{AreWhole};
 ghost use Rattle.spa_format.specs.Kind.{Fixed, Kind};
 ghost use Rattle.spa_format.specs.Normal.{kept_flags};
@@ -9,6 +9,7 @@ ghost use Rattle.spa_format.specs.Tree.{Shape, array_type, choice_type, shape_nu
 ghost use Rattle.spa_format.specs.Words.{size_limit};
 ghost use Rattle.spa_rewrite.specs.Elements.{AreOfNumber, AreTruths, HasElements, HasValues, IsBeginning, LacksMemory, TakesElements, TakesParts, TakesTruths};
 ghost use Rattle.spa_rewrite.specs.Rewriting.{TakesBody};
+ghost use Rattle.spa_scan.specs.Canonical.{IsFixedLen};
 
 use crate::tail::Tail;
 use spa_bytes::{HEADER_LEN, SECOND_WORD, joined, two_words, u32_at};
@@ -23,6 +24,7 @@ use spa_utils::SpaTypes;
 const WIDE_LEN: u32 = 8;
 
 /// The bodies of the elements in the body of an array, where the sizes in it are right.
+#[inline(always)]
 pub(crate) fn elements_of(body: &[u8]) -> Option<&[u8]>
     ensures there { IfSome result (λ elements. HasElements body.now elements.now) }
     ensures missed { IfNone result ((k : Kind) (xs : List Fixed) → ¬ (IsArray k xs body.now)) }
@@ -32,10 +34,14 @@ pub(crate) fn elements_of(body: &[u8]) -> Option<&[u8]>
     }
     let (_, elements) = body.split_at(HEADER_LEN);
     let size = u32_at(body, 0);
+    let type_ = u32_at(body, SECOND_WORD);
+    if are_words(size, type_, elements.len()) {
+        return Some(elements);
+    }
     if size > WIDE_LEN {
         return None;
     }
-    if size != fixed_len(u32_at(body, SECOND_WORD)) {
+    if size != fixed_len(type_) {
         return None;
     }
     if size == 0 {
@@ -50,7 +56,18 @@ pub(crate) fn elements_of(body: &[u8]) -> Option<&[u8]>
     Some(elements)
 }
 
+/// Whether bodies of this type are words, have this size, and so many bytes are whole ones.
+#[inline(always)]
+fn are_words(size: u32, type_: u32, len: usize) -> bool
+    ensures size { result ≡ true → size ≡ 4 }
+    ensures sized { result ≡ true → IsFixedLen type_ 4 }
+    ensures whole { result ≡ true → len % size ≡ 0 }
+{
+    size as usize == WORD_LEN && fixed_len(type_) as usize == WORD_LEN && len % WORD_LEN == 0
+}
+
 /// The bodies of a choice's default and of the further values that it takes, where the body is one of a choice.
+#[inline(always)]
 pub(crate) fn values_of(body: &[u8]) -> Option<&[u8]>
     ensures there { IfSome result (λ kept. HasValues body.now kept.now) }
     ensures missed { IfNone result ((s : Shape) (f : ℕ) (k : Kind) (x : Fixed) (xs : List Fixed) → ¬ (IsChoice s f k x xs body.now)) }

@@ -52,13 +52,34 @@ fn patch_here(type_: u32, size: usize, pod: &mut [u8])
     ensures { IsPatched pod.old pod.new }
 {
     match SpaTypes(type_) {
-        SpaTypes::Struct => patch_inside(false, &mut pod[HEADER_LEN..]),
+        SpaTypes::Struct => patch(false, &mut pod[HEADER_LEN..]),
         SpaTypes::Object => {
             if size >= HEADER_LEN {
-                patch_inside(true, &mut pod[SECOND_HEADER..]);
+                patch_properties(&mut pod[SECOND_HEADER..]);
             }
         }
         _ => patch_leaf(type_, size, pod),
+    }
+}
+
+/// Makes properties their rewritings in place, with the same promise.
+#[inline(always)]
+fn patch_properties(bytes: &mut [u8])
+    ensures { ArePatched true bytes.old bytes.new }
+{
+    let mut at = 0;
+    loop {
+        let start = behind_word_properties(bytes, at);
+        if bytes.len() - start < HEADER_LEN {
+            return;
+        }
+        let here = start + HEADER_LEN;
+        let Some(front) = open(&bytes[here..]) else {
+            return;
+        };
+        let (type_, size, left) = (front.type_, front.body.len(), front.rest.len());
+        at = bytes.len() - left;
+        patch_pod(type_, size, &mut bytes[here..at]);
     }
 }
 

@@ -266,6 +266,7 @@ fn is_steady_array(body: &[u8]) -> bool
 }
 
 /// The same of choices: what they hold beyond the values that they take is within the padding.
+#[inline(always)]
 fn is_steady_choice(body: &[u8]) -> bool
     ensures steady { result ≡ true → IsSteadyBody choice_type body.now }
     ensures found { IsSteadyBody choice_type body.now → result ≡ true }

@@ -3,12 +3,18 @@ use Rattle.std.proofs.lemmas.Bool.{eqb-false, eqb-true}
 use Rattle.spa_rewrite.proofs.Bodies.{elements_are, elements_counted, elements_even, none_of, whole_of}
 use Rattle.spa_rewrite.proofs.elements.elements_of.Goals as goal
 
+pub returns-then-are_words-clause-there : goal.returns-then-are_words-clause-there
+returns-then-are_words-clause-there c =
+    let is = c.if-are_words.true in
+    elements_are _ _ _ _ _ c.if-body-lt-HEADER_LEN.false c.split_at.ensures.back c.u32_at-size.ensures c.u32_at-type_.ensures
+    (c.are_words.ensures.size is) (c.are_words.ensures.sized is) (whole_of _ _ (c.are_words.ensures.whole is))
+
 pub returns-then-is_empty-clause-there : goal.returns-then-is_empty-clause-there
 returns-then-is_empty-clause-there c =
     let same = c.if-size-fixed_len.false in
     let short = c.if-size-gt-WIDE_LEN.false in
     let none = eqb-true _ _ (sym c.if-is_empty.ensures) in
-    elements_are _ _ _ _ _ c.if-body-lt-HEADER_LEN.false c.split_at.ensures.back c.u32_at-size.ensures c.u32_at.ensures same
+    elements_are _ _ _ _ _ c.if-body-lt-HEADER_LEN.false c.split_at.ensures.back c.u32_at-size.ensures c.u32_at-type_.ensures same
     (c.fixed_len.ensures.is_len (omega arith)) (none_of _ _ none)
 
 pub returns-clause-there : goal.returns-clause-there
@@ -16,7 +22,7 @@ returns-clause-there c =
     let same = c.if-size-fixed_len.false in
     let short = c.if-size-gt-WIDE_LEN.false in
     let even : length c.split_at.result.1.now % c.u32_at-size.result ≡ 0 = omega arith in
-    elements_are _ _ _ _ _ c.if-body-lt-HEADER_LEN.false c.split_at.ensures.back c.u32_at-size.ensures c.u32_at.ensures same
+    elements_are _ _ _ _ _ c.if-body-lt-HEADER_LEN.false c.split_at.ensures.back c.u32_at-size.ensures c.u32_at-type_.ensures same
     (c.fixed_len.ensures.is_len (omega arith)) (whole_of _ _ even)
 
 pub returns-then-size-eq0-clause-missed : goal.returns-then-size-eq0-clause-missed

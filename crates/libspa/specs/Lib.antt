@@ -13,12 +13,14 @@ pub use Rattle.spa_format.specs.Fixation
 pub use Rattle.spa_sink.specs.Writing
 pub use Rattle.spa_device.specs.Counting
 pub use Rattle.spa_value.specs.View
+pub use Rattle.spa_value.specs.Views
 pub use Rattle.spa_value.specs.Equality
 pub use Rattle.spa_leaf.specs.Reading
 pub use Rattle.spa_typed_read.specs.Asking
 pub use Rattle.spa_typed_read.specs.Visiting
 pub use Rattle.spa_typed_read.specs.Members
 pub use Rattle.spa_typed_read.specs.Exactly
+pub use Rattle.spa_typed_read.specs.ExactlyLaws
 pub use Rattle.spa_typed_read.specs.Lookup
 pub use Rattle.spa_visitors.specs.Declining
 pub use Rattle.spa_leaf.specs.Written
@@ -37,5 +39,22 @@ pub use Rattle.spa_builder.specs.Step as BuilderSteps
 pub use Rattle.spa_builder.specs.Held as BuilderHeld
 pub use Rattle.spa_builder.specs.Answers as BuilderAnswers
 pub use Rattle.spa_builder.specs.Replay as BuilderRuns
+pub use Rattle.spa_builder.specs.Making as BuilderMaking
 pub use Rattle.spa_parser.specs.State as ParserState
 pub use Rattle.spa_parser.specs.Steps as ParserSteps
+-- The types that clauses name, and what is named of each: its constants, or its cases.
+pub use Rattle.spa_utils.specs.declared.errno.Errno
+pub use Rattle.spa_utils.specs.declared.errno.TheConstants.Errno as Errnos
+pub use Rattle.spa_utils.specs.declared.id.Id
+pub use Rattle.spa_utils.specs.declared.rectangle.Rectangle
+pub use Rattle.spa_utils.specs.declared.fraction.Fraction
+pub use Rattle.spa_sink.specs.declared.gen_error.GenError
+pub use Rattle.spa_sink.specs.declared.gen_error.GenError.TheVariants as GenErrors
+pub use Rattle.spa_fixed.specs.declared.fault.DeserializeError
+pub use Rattle.spa_fixed.specs.declared.fault.DeserializeError.TheVariants as DeserializeErrors
+pub use Rattle.spa_value.specs.declared.object.Object
+pub use Rattle.spa_value.specs.declared.object.Property
+pub use Rattle.spa_value.specs.declared.value.Value
+pub use Rattle.spa_value.specs.declared.value.Value.TheVariants as Values
+pub use Rattle.spa_value.specs.declared.array.ValueArray
+pub use Rattle.spa_value.specs.declared.choice_value.ChoiceValue

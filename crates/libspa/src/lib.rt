@@ -49,7 +49,7 @@ pub mod pod {
 
     /// Building pods call by call.
     pub mod builder {
-        pub use spa_builder::{BuildCall, Builder, builder_add, replay};
+        pub use spa_builder::{BuildCall, Builder, builder_add, laws, replay};
     }
 
     /// Writing values.

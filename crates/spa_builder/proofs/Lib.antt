@@ -6,8 +6,8 @@ pub mod Runs
 pub mod Members
 pub mod Placing
 pub mod Shapes
-pub mod Pieces
 pub mod Kept
 pub mod Leaving
 pub mod Valued
 pub mod AtHand
+pub mod Making

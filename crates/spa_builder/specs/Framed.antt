@@ -1,6 +1,7 @@
 -- How the list of frames is kept: the outer ones apart from the innermost one, and the outermost one's place beside them.
-use Rattle.std.specs.Prelude.{◌≡◌, ◌+◌, ◌-◌, ◌<◌, ◌^◌, ℕ, List, [], ◌∷◌, ◌++◌, Bool, true, false, cond}
+use Rattle.std.specs.Prelude.{◌≡◌, ◌+◌, ◌-◌, ◌<◌, ℕ, List, [], ◌∷◌, ◌++◌, Bool, true, false, cond}
 use Rattle.spa_format.specs.Words.{header_size, size_limit}
+use Rattle.spa_room.specs.Limits.{vector_limit}
 use Rattle.spa_builder.specs.Innermost.{most_padding}
 use Rattle.spa_builder.specs.declared.begun.BegunPod.{BegunPod}
 use Rattle.spa_builder.specs.declared.begun.What.{What}
@@ -33,14 +34,6 @@ frames_in outer o = cond (is_nothing o.what) outer (outer ++ o ∷ [])
 abbrev pub most_bytes : Bool → ℕ
 most_bytes true = size_limit + header_size
 most_bytes false = size_limit + header_size - most_padding
-
--- the most bytes that are appended at once, of those whose number is fixed
-abbrev pub longest_piece : ℕ
-longest_piece = 64
-
--- a vector's length is below it
-abbrev pub vector_limit : ℕ
-vector_limit = 2 ^ 63
 
 -- Beside them stand the outermost frame's place and the length of the vector from which on its size word can't hold it.
 pub record IsKept (outer : List BegunPod) (innermost : BegunPod) (first end : ℕ) : Type 0 where

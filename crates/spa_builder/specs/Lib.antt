@@ -5,3 +5,4 @@ pub mod Innermost
 pub mod Answers
 pub mod Replay
 pub mod Framed
+pub mod Making

@@ -1,12 +1,13 @@
 //! The builder.
-ghost use Rattle.std.specs.Prelude.{◌≡◌, ◌≢◌, ◌+◌, [], IfErr, IfOk, length, map};
+ghost use Rattle.std.specs.Prelude.{◌≡◌, ◌≢◌, ◌+◌, [], IfErr, IfOk, IsOkAnd, length, map};
 ghost use Rattle.spa_format.specs.Kind.{bool, double, fd, float, fraction, id, int, long, none, rectangle};
-ghost use Rattle.spa_format.specs.Encoding.{member_encodings};
+ghost use Rattle.spa_format.specs.Encoding.{encoding_of, member_encodings};
 ghost use Rattle.spa_format.specs.Tree.{Tree, array, bytes, fixed, pointer, string};
 ghost use Rattle.spa_value.specs.View.{array_view, view};
 ghost use Rattle.spa_builder.specs.State.{State, start};
 ghost use Rattle.spa_builder.specs.Step.{abandon, add, add_prop, pop, push_array, push_choice, push_object, push_struct, step};
 ghost use Rattle.spa_builder.specs.Held.{IsAt};
+ghost use Rattle.spa_builder.specs.Making.{built};
 ghost use Rattle.spa_builder.specs.Answers.{IsCopied, Makes, MakesPod, MakesValue, Spells};
 ghost use Rattle.spa_view.specs.View.{pod_bytes};
 ghost use Rattle.spa_utils.specs.declared.errno.TheConstants.Errno.{INVAL};
@@ -20,9 +21,9 @@ use crate::frames::Frames;
 use crate::heads::{array_head, choice_head, object_head, struct_head};
 use crate::pods::add_seen;
 use crate::values::add_any;
-use crate::written::Written;
 use spa_bytes::POINTER_LEN;
 use spa_fixed::{CanonicalFixedSizedPod, FLAGS_SHAPE};
+use spa_room::Written;
 use spa_utils::{Errno, Fd, Float32, Float64, Fraction, Frame, Id, Rectangle, SpaTypes};
 use spa_value::{Value, ValueArray};
 use spa_view::Pod;
@@ -77,6 +78,8 @@ impl Builder {
     pub fn finish(self) -> Result<Vec<u8>, Errno>
         ensures made { (s : State) → IsAt self s → IfOk result (λ made. (s.opened ≡ []) × (made.items ≡ member_encodings s.closed)) }
         ensures refused { (s : State) → IsAt self s → IfErr result (λ e. (e ≡ INVAL) × (s.opened ≢ [])) }
+        // One value alone is given as its encoding.
+        ensures built { (v : Tree) → IsAt self (built v) → IsOkAnd result (λ made. made.items ≡ encoding_of v) }
     {
         if self.frames.len() > 0 {
             return Err(Errno::INVAL);

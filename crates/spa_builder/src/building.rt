@@ -16,9 +16,9 @@ use crate::begun::{BegunPod, Stage, What};
 use crate::bytes::{put_fixed_pod, put_padding, put_pod};
 use crate::elements::{is_finished, is_first, takes_element, takes_elements, with_element};
 use crate::frames::{Frames, admit, fill, takes_key, takes_trees};
-use crate::written::Written;
 use spa_bytes::{HEADER_LEN, two_words};
 use spa_fixed::{CanonicalFixedSizedPod, put_array};
+use spa_room::Written;
 use spa_utils::{Errno, Frame};
 use spa_value::ValueArray;
 

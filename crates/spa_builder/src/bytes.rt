@@ -7,9 +7,9 @@ ghost use Rattle.spa_format.specs.Tree.{pointer};
 ghost use Rattle.spa_format.specs.Words.{header_size, padding, size_limit, word_bytes};
 ghost use Rattle.spa_utils.specs.declared.errno.TheConstants.Errno.{NOMEM};
 
-use crate::written::Written;
 use spa_bytes::{HEADER_LEN, POINTER_LEN, extent_of, two_words};
 use spa_fixed::{CanonicalFixedSizedPod, pod_bytes};
+use spa_room::Written;
 use spa_utils::{Errno, SpaTypes};
 
 /// The length in bytes of a pointer's pod.

@@ -2,17 +2,18 @@
 ghost use Rattle.std.specs.Prelude.{◌≡◌, ◌+◌, ◌<◌, ◌≤◌, ◌*◌, ◌∷◌, ◌++◌, [], List, ℕ, IfErr, IfSome, IsTrue, OnErr, OnOk, false, length, vec_capacity};
 ghost use Rattle.spa_format.specs.Tree.{Tree};
 ghost use Rattle.spa_format.specs.Words.{size_limit};
+ghost use Rattle.spa_room.specs.Limits.{longest_piece, vector_limit};
 ghost use Rattle.spa_builder.specs.State.{Partial};
 ghost use Rattle.spa_builder.specs.Step.{takes_trees};
 ghost use Rattle.spa_builder.specs.Held.{all_so_far, frames_of, what_of};
-ghost use Rattle.spa_builder.specs.Framed.{at_stage, is_nothing, longest_piece, most_bytes, no_stage, vector_limit};
+ghost use Rattle.spa_builder.specs.Framed.{at_stage, is_nothing, most_bytes, no_stage};
 ghost use Rattle.spa_builder.specs.Innermost.{filled, has_room_for, innermost_of, takes_key, waits};
 ghost use Rattle.spa_builder.specs.Answers.{IsAdmitted};
 ghost use Rattle.spa_utils.specs.declared.errno.TheConstants.Errno.{NOMEM};
 
 use crate::begun::{BegunPod, NO_ELEMENTS, Stage, What};
-use crate::written::Written;
 use spa_bytes::HEADER_LEN;
+use spa_room::Written;
 use spa_utils::Errno;
 use std::alloc::Global;
 use std::marker::Model;

@@ -10,10 +10,10 @@ mod calls;
 mod elements;
 mod frames;
 mod heads;
+pub mod laws;
 mod macros;
 mod pods;
 mod values;
-mod written;
 
 pub use build_call::BuildCall;
 pub use builder::Builder;

@@ -11,7 +11,7 @@ ghost use Rattle.spa_builder.specs.Answers.{MakesValue, RefusesValue, errno_of};
 
 use crate::building::{add_elements, add_fixed};
 use crate::frames::{Frames, fill, takes_trees};
-use crate::written::Written;
+use spa_room::Written;
 use spa_sink::GenError;
 use spa_utils::Errno;
 use spa_value::Value;

@@ -1,18 +1,22 @@
 //! A video format, which a builder makes and a parser reads.
 ghost use Rattle.std.specs.Prelude.{◌≡◌, IfErr, IfOk, IsOk, IsOkAnd, MatchResult, OnOk};
-ghost use Rattle.spa_format.specs.Encoding.{encoding_of};
-ghost use Rattle.spa_format.specs.Front.{Begins};
-ghost use Rattle.spa_format.specs.Typed.{IsTyped};
-ghost use Rattle.spa_builder.specs.State.{start};
-ghost use Rattle.spa_builder.specs.Held.{IsAt};
-ghost use Rattle.spa_parser.specs.Steps.{NextIs};
-ghost use Rattle.spa_callers.specs.Video.{built, video_tree};
+ghost use Rattle.libspa.specs.Encoding.{encoding_of};
+ghost use Rattle.libspa.specs.Front.{Begins};
+ghost use Rattle.libspa.specs.Typed.{IsTyped};
+ghost use Rattle.libspa.specs.BuilderState.{start};
+ghost use Rattle.libspa.specs.BuilderHeld.{IsAt};
+ghost use Rattle.libspa.specs.ParserSteps.{NextIs};
+ghost use Rattle.libspa.specs.BuilderMaking.{built};
+ghost use Rattle.spa_callers.specs.Video.{video_tree};
 ghost use Rattle.spa_callers.specs.declared.video.VideoFormat.{VideoFormat};
 
-use spa_builder::{Builder, builder_add};
-use spa_format::laws::encodings_read_back;
-use spa_parser::{Parser, parser_get};
-use spa_utils::{Errno, Fraction, Id, Rectangle};
+use libspa::pod::builder::laws::{
+    calls_go_on, objects_of_numbers_can_be_written, values_are_made_call_by_call,
+};
+use libspa::pod::builder::{Builder, builder_add};
+use libspa::pod::laws::encodings_read_back;
+use libspa::pod::parser::{Parser, parser_get};
+use libspa::utils::{Errno, Fraction, Id, Rectangle};
 use std::alloc::Global;
 
 /// A video format: a size and a rate, under the number of how pixels are laid out.
@@ -32,6 +36,9 @@ fn add_format(builder: &mut Builder, format: &VideoFormat) -> Result<(), Errno>
     ensures made { OnOk result (IsAt builder.new (built (video_tree format.now))) }
     ensures memory { IfErr result (λ e. e ≡ Errno.NOMEM) }
 {
+    values_are_made_call_by_call();
+    objects_of_numbers_can_be_written();
+    calls_go_on();
     builder_add!(builder, Object(262147, 4) {
         131073 => Id(format.layout),
         131075 => Rectangle(format.size),
@@ -89,6 +96,7 @@ pub fn sent(alloc: Global, format: &VideoFormat) -> Result<VideoFormat, Errno>
     ensures { MatchResult result (λ read. read ≡ format.now) (λ e. e ≡ Errno.NOMEM) }
 {
     encodings_read_back();
+    objects_of_numbers_can_be_written();
     are_within(*format);
     let bytes = format_pod(Vec::new(alloc), format)?;
     read_format(alloc, bytes.as_slice())

@@ -1,128 +1,94 @@
-use Rattle.std.proofs.Common.{[], length}
-use Rattle.spa_format.specs.Kind.{fraction, id, rectangle}
-use Rattle.spa_format.specs.Tree.{fixed, no_properties}
-use Rattle.spa_builder.specs.State.{start}
-use Rattle.spa_builder.specs.Step.{add, add_prop, pop, push_object, step}
-use Rattle.spa_callers.specs.Video.{built, object_with}
-use Rattle.spa_callers.proofs.Building.{adds_one, adds_three, adds_two, begins, ends, inside, key_one, key_three, key_two, last, last_wants, next, one, three, two, waiting, wants}
+use Rattle.std.proofs.Common.{ap, ◌∙◌, ◌+◌, arith}
+use Rattle.spa_callers.specs.Video.{video_tree}
 use Rattle.spa_callers.proofs.video.add_format.Goals as goal
 
 pub returns-in-Err-builder_add-clause-memory : goal.returns-in-Err-builder_add-clause-memory
 returns-in-Err-builder_add-clause-memory c =
-    let l = c.args.format.now.layout.0 in
-    let w = c.args.format.now.size.width in
-    let h = c.args.format.now.size.height in
-    let n = c.args.format.now.rate.num in
-    let d = c.args.format.now.rate.denom in
-    wants _ (step start (push_object 262147 4)) (inside no_properties) _ _ _ begins (c.in-Err-builder_add.ensures.step start c.requires)
+    let a0 = c.values_are_made_call_by_call.ensures.begins (video_tree c.args.format.now) c.args.builder.now
+    (c.objects_of_numbers_can_be_written.ensures _ _ _ tt (omega arith)) c.requires in
+    (c.calls_go_on.ensures.begun _ _ _ _ _ _ _ a0 c.in-Err-builder_add.ensures.step).0
 
 pub returns-in-Err-builder_add-builder_add-clause-memory : goal.returns-in-Err-builder_add-builder_add-clause-memory
 returns-in-Err-builder_add-builder_add-clause-memory c =
-    let l = c.args.format.now.layout.0 in
-    let w = c.args.format.now.size.width in
-    let h = c.args.format.now.size.height in
-    let n = c.args.format.now.rate.num in
-    let d = c.args.format.now.rate.denom in
-    let a1 = next (step start (push_object 262147 4)) (inside no_properties) _ _ _ begins (c.in-Ok-builder_add.ensures.step start c.requires) in
-    wants _ (step (inside no_properties) (add_prop 131073 0)) (waiting no_properties 131073) _ _ _ key_one (c.in-Err-builder_add-builder_add.ensures (inside no_properties) a1)
+    let a0 = c.values_are_made_call_by_call.ensures.begins (video_tree c.args.format.now) c.args.builder.now
+    (c.objects_of_numbers_can_be_written.ensures _ _ _ tt (omega arith)) c.requires in
+    let a1 = c.calls_go_on.ensures.begun _ _ _ _ _ _ _ a0 c.in-Ok-builder_add.ensures.step in
+    (c.calls_go_on.ensures.answered _ _ _ _ _ _ _ a1 c.in-Err-builder_add-builder_add.ensures).0
 
 pub returns-in-Err-builder_add-builder_add-2-clause-memory : goal.returns-in-Err-builder_add-builder_add-2-clause-memory
 returns-in-Err-builder_add-builder_add-2-clause-memory c =
-    let l = c.args.format.now.layout.0 in
-    let w = c.args.format.now.size.width in
-    let h = c.args.format.now.size.height in
-    let n = c.args.format.now.rate.num in
-    let d = c.args.format.now.rate.denom in
-    let a1 = next (step start (push_object 262147 4)) (inside no_properties) _ _ _ begins (c.in-Ok-builder_add.ensures.step start c.requires) in
-    let a2 = next (step (inside no_properties) (add_prop 131073 0)) (waiting no_properties 131073) _ _ _ key_one (c.in-Ok-builder_add-builder_add.ensures (inside no_properties) a1) in
-    wants _ (step (waiting no_properties 131073) (add (fixed (id l)))) (inside (one l)) _ _ _ (adds_one l) (c.in-Err-builder_add-builder_add-2.ensures (waiting no_properties 131073) a2)
+    let a0 = c.values_are_made_call_by_call.ensures.begins (video_tree c.args.format.now) c.args.builder.now
+    (c.objects_of_numbers_can_be_written.ensures _ _ _ tt (omega arith)) c.requires in
+    let a1 = c.calls_go_on.ensures.begun _ _ _ _ _ _ _ a0 c.in-Ok-builder_add.ensures.step in
+    let a2 = c.calls_go_on.ensures.answered _ _ _ _ _ _ _ a1 c.in-Ok-builder_add-builder_add.ensures in
+    (c.calls_go_on.ensures.answered _ _ _ _ _ _ _ a2 c.in-Err-builder_add-builder_add-2.ensures).0
 
 pub returns-in-Err-builder_add-builder_add-3-clause-memory : goal.returns-in-Err-builder_add-builder_add-3-clause-memory
 returns-in-Err-builder_add-builder_add-3-clause-memory c =
-    let l = c.args.format.now.layout.0 in
-    let w = c.args.format.now.size.width in
-    let h = c.args.format.now.size.height in
-    let n = c.args.format.now.rate.num in
-    let d = c.args.format.now.rate.denom in
-    let a1 = next (step start (push_object 262147 4)) (inside no_properties) _ _ _ begins (c.in-Ok-builder_add.ensures.step start c.requires) in
-    let a2 = next (step (inside no_properties) (add_prop 131073 0)) (waiting no_properties 131073) _ _ _ key_one (c.in-Ok-builder_add-builder_add.ensures (inside no_properties) a1) in
-    let a3 = next (step (waiting no_properties 131073) (add (fixed (id l)))) (inside (one l)) _ _ _ (adds_one l) (c.in-Ok-builder_add-builder_add-2.ensures (waiting no_properties 131073) a2) in
-    wants _ (step (inside (one l)) (add_prop 131075 0)) (waiting (one l) 131075) _ _ _ (key_two l) (c.in-Err-builder_add-builder_add-3.ensures (inside (one l)) a3)
+    let a0 = c.values_are_made_call_by_call.ensures.begins (video_tree c.args.format.now) c.args.builder.now
+    (c.objects_of_numbers_can_be_written.ensures _ _ _ tt (omega arith)) c.requires in
+    let a1 = c.calls_go_on.ensures.begun _ _ _ _ _ _ _ a0 c.in-Ok-builder_add.ensures.step in
+    let a2 = c.calls_go_on.ensures.answered _ _ _ _ _ _ _ a1 c.in-Ok-builder_add-builder_add.ensures in
+    let a3 = c.calls_go_on.ensures.answered _ _ _ _ _ _ _ a2 c.in-Ok-builder_add-builder_add-2.ensures in
+    (c.calls_go_on.ensures.answered _ _ _ _ _ _ _ a3 c.in-Err-builder_add-builder_add-3.ensures).0
 
 pub returns-in-Err-builder_add-builder_add-4-clause-memory : goal.returns-in-Err-builder_add-builder_add-4-clause-memory
 returns-in-Err-builder_add-builder_add-4-clause-memory c =
-    let l = c.args.format.now.layout.0 in
-    let w = c.args.format.now.size.width in
-    let h = c.args.format.now.size.height in
-    let n = c.args.format.now.rate.num in
-    let d = c.args.format.now.rate.denom in
-    let a1 = next (step start (push_object 262147 4)) (inside no_properties) _ _ _ begins (c.in-Ok-builder_add.ensures.step start c.requires) in
-    let a2 = next (step (inside no_properties) (add_prop 131073 0)) (waiting no_properties 131073) _ _ _ key_one (c.in-Ok-builder_add-builder_add.ensures (inside no_properties) a1) in
-    let a3 = next (step (waiting no_properties 131073) (add (fixed (id l)))) (inside (one l)) _ _ _ (adds_one l) (c.in-Ok-builder_add-builder_add-2.ensures (waiting no_properties 131073) a2) in
-    let a4 = next (step (inside (one l)) (add_prop 131075 0)) (waiting (one l) 131075) _ _ _ (key_two l) (c.in-Ok-builder_add-builder_add-3.ensures (inside (one l)) a3) in
-    wants _ (step (waiting (one l) 131075) (add (fixed (rectangle w h)))) (inside (two l w h)) _ _ _ (adds_two l w h) (c.in-Err-builder_add-builder_add-4.ensures (waiting (one l) 131075) a4)
+    let a0 = c.values_are_made_call_by_call.ensures.begins (video_tree c.args.format.now) c.args.builder.now
+    (c.objects_of_numbers_can_be_written.ensures _ _ _ tt (omega arith)) c.requires in
+    let a1 = c.calls_go_on.ensures.begun _ _ _ _ _ _ _ a0 c.in-Ok-builder_add.ensures.step in
+    let a2 = c.calls_go_on.ensures.answered _ _ _ _ _ _ _ a1 c.in-Ok-builder_add-builder_add.ensures in
+    let a3 = c.calls_go_on.ensures.answered _ _ _ _ _ _ _ a2 c.in-Ok-builder_add-builder_add-2.ensures in
+    let a4 = c.calls_go_on.ensures.answered _ _ _ _ _ _ _ a3 c.in-Ok-builder_add-builder_add-3.ensures in
+    (c.calls_go_on.ensures.answered _ _ _ _ _ _ _ a4 c.in-Err-builder_add-builder_add-4.ensures).0
 
 pub returns-in-Err-builder_add-builder_add-5-clause-memory : goal.returns-in-Err-builder_add-builder_add-5-clause-memory
 returns-in-Err-builder_add-builder_add-5-clause-memory c =
-    let l = c.args.format.now.layout.0 in
-    let w = c.args.format.now.size.width in
-    let h = c.args.format.now.size.height in
-    let n = c.args.format.now.rate.num in
-    let d = c.args.format.now.rate.denom in
-    let a1 = next (step start (push_object 262147 4)) (inside no_properties) _ _ _ begins (c.in-Ok-builder_add.ensures.step start c.requires) in
-    let a2 = next (step (inside no_properties) (add_prop 131073 0)) (waiting no_properties 131073) _ _ _ key_one (c.in-Ok-builder_add-builder_add.ensures (inside no_properties) a1) in
-    let a3 = next (step (waiting no_properties 131073) (add (fixed (id l)))) (inside (one l)) _ _ _ (adds_one l) (c.in-Ok-builder_add-builder_add-2.ensures (waiting no_properties 131073) a2) in
-    let a4 = next (step (inside (one l)) (add_prop 131075 0)) (waiting (one l) 131075) _ _ _ (key_two l) (c.in-Ok-builder_add-builder_add-3.ensures (inside (one l)) a3) in
-    let a5 = next (step (waiting (one l) 131075) (add (fixed (rectangle w h)))) (inside (two l w h)) _ _ _ (adds_two l w h) (c.in-Ok-builder_add-builder_add-4.ensures (waiting (one l) 131075) a4) in
-    wants _ (step (inside (two l w h)) (add_prop 131076 0)) (waiting (two l w h) 131076) _ _ _ (key_three l w h) (c.in-Err-builder_add-builder_add-5.ensures (inside (two l w h)) a5)
+    let a0 = c.values_are_made_call_by_call.ensures.begins (video_tree c.args.format.now) c.args.builder.now
+    (c.objects_of_numbers_can_be_written.ensures _ _ _ tt (omega arith)) c.requires in
+    let a1 = c.calls_go_on.ensures.begun _ _ _ _ _ _ _ a0 c.in-Ok-builder_add.ensures.step in
+    let a2 = c.calls_go_on.ensures.answered _ _ _ _ _ _ _ a1 c.in-Ok-builder_add-builder_add.ensures in
+    let a3 = c.calls_go_on.ensures.answered _ _ _ _ _ _ _ a2 c.in-Ok-builder_add-builder_add-2.ensures in
+    let a4 = c.calls_go_on.ensures.answered _ _ _ _ _ _ _ a3 c.in-Ok-builder_add-builder_add-3.ensures in
+    let a5 = c.calls_go_on.ensures.answered _ _ _ _ _ _ _ a4 c.in-Ok-builder_add-builder_add-4.ensures in
+    (c.calls_go_on.ensures.answered _ _ _ _ _ _ _ a5 c.in-Err-builder_add-builder_add-5.ensures).0
 
 pub returns-in-Err-builder_add-builder_add-6-clause-memory : goal.returns-in-Err-builder_add-builder_add-6-clause-memory
 returns-in-Err-builder_add-builder_add-6-clause-memory c =
-    let l = c.args.format.now.layout.0 in
-    let w = c.args.format.now.size.width in
-    let h = c.args.format.now.size.height in
-    let n = c.args.format.now.rate.num in
-    let d = c.args.format.now.rate.denom in
-    let a1 = next (step start (push_object 262147 4)) (inside no_properties) _ _ _ begins (c.in-Ok-builder_add.ensures.step start c.requires) in
-    let a2 = next (step (inside no_properties) (add_prop 131073 0)) (waiting no_properties 131073) _ _ _ key_one (c.in-Ok-builder_add-builder_add.ensures (inside no_properties) a1) in
-    let a3 = next (step (waiting no_properties 131073) (add (fixed (id l)))) (inside (one l)) _ _ _ (adds_one l) (c.in-Ok-builder_add-builder_add-2.ensures (waiting no_properties 131073) a2) in
-    let a4 = next (step (inside (one l)) (add_prop 131075 0)) (waiting (one l) 131075) _ _ _ (key_two l) (c.in-Ok-builder_add-builder_add-3.ensures (inside (one l)) a3) in
-    let a5 = next (step (waiting (one l) 131075) (add (fixed (rectangle w h)))) (inside (two l w h)) _ _ _ (adds_two l w h) (c.in-Ok-builder_add-builder_add-4.ensures (waiting (one l) 131075) a4) in
-    let a6 = next (step (inside (two l w h)) (add_prop 131076 0)) (waiting (two l w h) 131076) _ _ _ (key_three l w h) (c.in-Ok-builder_add-builder_add-5.ensures (inside (two l w h)) a5) in
-    wants _ (step (waiting (two l w h) 131076) (add (fixed (fraction n d)))) (inside (three l w h n d)) _ _ _ (adds_three l w h n d) (c.in-Err-builder_add-builder_add-6.ensures (waiting (two l w h) 131076) a6)
+    let a0 = c.values_are_made_call_by_call.ensures.begins (video_tree c.args.format.now) c.args.builder.now
+    (c.objects_of_numbers_can_be_written.ensures _ _ _ tt (omega arith)) c.requires in
+    let a1 = c.calls_go_on.ensures.begun _ _ _ _ _ _ _ a0 c.in-Ok-builder_add.ensures.step in
+    let a2 = c.calls_go_on.ensures.answered _ _ _ _ _ _ _ a1 c.in-Ok-builder_add-builder_add.ensures in
+    let a3 = c.calls_go_on.ensures.answered _ _ _ _ _ _ _ a2 c.in-Ok-builder_add-builder_add-2.ensures in
+    let a4 = c.calls_go_on.ensures.answered _ _ _ _ _ _ _ a3 c.in-Ok-builder_add-builder_add-3.ensures in
+    let a5 = c.calls_go_on.ensures.answered _ _ _ _ _ _ _ a4 c.in-Ok-builder_add-builder_add-4.ensures in
+    let a6 = c.calls_go_on.ensures.answered _ _ _ _ _ _ _ a5 c.in-Ok-builder_add-builder_add-5.ensures in
+    (c.calls_go_on.ensures.answered _ _ _ _ _ _ _ a6 c.in-Err-builder_add-builder_add-6.ensures).0
 
 pub returns-in-Ok-builder_add-builder_add-6-clause-made : goal.returns-in-Ok-builder_add-builder_add-6-clause-made
 returns-in-Ok-builder_add-builder_add-6-clause-made c =
-    let l = c.args.format.now.layout.0 in
-    let w = c.args.format.now.size.width in
-    let h = c.args.format.now.size.height in
-    let n = c.args.format.now.rate.num in
-    let d = c.args.format.now.rate.denom in
-    let a1 = next (step start (push_object 262147 4)) (inside no_properties) _ _ _ begins (c.in-Ok-builder_add.ensures.step start c.requires) in
-    let a2 = next (step (inside no_properties) (add_prop 131073 0)) (waiting no_properties 131073) _ _ _ key_one (c.in-Ok-builder_add-builder_add.ensures (inside no_properties) a1) in
-    let a3 = next (step (waiting no_properties 131073) (add (fixed (id l)))) (inside (one l)) _ _ _ (adds_one l) (c.in-Ok-builder_add-builder_add-2.ensures (waiting no_properties 131073) a2) in
-    let a4 = next (step (inside (one l)) (add_prop 131075 0)) (waiting (one l) 131075) _ _ _ (key_two l) (c.in-Ok-builder_add-builder_add-3.ensures (inside (one l)) a3) in
-    let a5 = next (step (waiting (one l) 131075) (add (fixed (rectangle w h)))) (inside (two l w h)) _ _ _ (adds_two l w h) (c.in-Ok-builder_add-builder_add-4.ensures (waiting (one l) 131075) a4) in
-    let a6 = next (step (inside (two l w h)) (add_prop 131076 0)) (waiting (two l w h) 131076) _ _ _ (key_three l w h) (c.in-Ok-builder_add-builder_add-5.ensures (inside (two l w h)) a5) in
-    let a7 = next (step (waiting (two l w h) 131076) (add (fixed (fraction n d)))) (inside (three l w h n d)) _ _ _ (adds_three l w h n d) (c.in-Ok-builder_add-builder_add-6.ensures (waiting (two l w h) 131076) a6) in
-    let e = c.in-Ok-builder_add.ensures.frame start c.requires in
-    last _ (built (object_with l w h n d)) _ _ _ (ends l w h n d _ e)
-    (c.builder_add-pop.ensures (inside (three l w h n d)) a7)
+    let a0 = c.values_are_made_call_by_call.ensures.begins (video_tree c.args.format.now) c.args.builder.now
+    (c.objects_of_numbers_can_be_written.ensures _ _ _ tt (omega arith)) c.requires in
+    let a1 = c.calls_go_on.ensures.begun _ _ _ _ _ _ _ a0 c.in-Ok-builder_add.ensures.step in
+    let a2 = c.calls_go_on.ensures.answered _ _ _ _ _ _ _ a1 c.in-Ok-builder_add-builder_add.ensures in
+    let a3 = c.calls_go_on.ensures.answered _ _ _ _ _ _ _ a2 c.in-Ok-builder_add-builder_add-2.ensures in
+    let a4 = c.calls_go_on.ensures.answered _ _ _ _ _ _ _ a3 c.in-Ok-builder_add-builder_add-3.ensures in
+    let a5 = c.calls_go_on.ensures.answered _ _ _ _ _ _ _ a4 c.in-Ok-builder_add-builder_add-4.ensures in
+    let a6 = c.calls_go_on.ensures.answered _ _ _ _ _ _ _ a5 c.in-Ok-builder_add-builder_add-5.ensures in
+    let a7 = c.calls_go_on.ensures.answered _ _ _ _ _ _ _ a6 c.in-Ok-builder_add-builder_add-6.ensures in
+    let frame = c.in-Ok-builder_add.ensures.frame a0.state a0.at ∙ ap (λ n. n + 1) a0.depth in
+    (c.calls_go_on.ensures.last _ _ _ _ _ _ (c.calls_go_on.ensures.frame _ _ _ _ _ _ frame a7) c.builder_add-pop.ensures).0
 
 pub returns-in-Ok-builder_add-builder_add-6-clause-memory : goal.returns-in-Ok-builder_add-builder_add-6-clause-memory
 returns-in-Ok-builder_add-builder_add-6-clause-memory c =
-    let l = c.args.format.now.layout.0 in
-    let w = c.args.format.now.size.width in
-    let h = c.args.format.now.size.height in
-    let n = c.args.format.now.rate.num in
-    let d = c.args.format.now.rate.denom in
-    let a1 = next (step start (push_object 262147 4)) (inside no_properties) _ _ _ begins (c.in-Ok-builder_add.ensures.step start c.requires) in
-    let a2 = next (step (inside no_properties) (add_prop 131073 0)) (waiting no_properties 131073) _ _ _ key_one (c.in-Ok-builder_add-builder_add.ensures (inside no_properties) a1) in
-    let a3 = next (step (waiting no_properties 131073) (add (fixed (id l)))) (inside (one l)) _ _ _ (adds_one l) (c.in-Ok-builder_add-builder_add-2.ensures (waiting no_properties 131073) a2) in
-    let a4 = next (step (inside (one l)) (add_prop 131075 0)) (waiting (one l) 131075) _ _ _ (key_two l) (c.in-Ok-builder_add-builder_add-3.ensures (inside (one l)) a3) in
-    let a5 = next (step (waiting (one l) 131075) (add (fixed (rectangle w h)))) (inside (two l w h)) _ _ _ (adds_two l w h) (c.in-Ok-builder_add-builder_add-4.ensures (waiting (one l) 131075) a4) in
-    let a6 = next (step (inside (two l w h)) (add_prop 131076 0)) (waiting (two l w h) 131076) _ _ _ (key_three l w h) (c.in-Ok-builder_add-builder_add-5.ensures (inside (two l w h)) a5) in
-    let a7 = next (step (waiting (two l w h) 131076) (add (fixed (fraction n d)))) (inside (three l w h n d)) _ _ _ (adds_three l w h n d) (c.in-Ok-builder_add-builder_add-6.ensures (waiting (two l w h) 131076) a6) in
-    let e = c.in-Ok-builder_add.ensures.frame start c.requires in
-    last_wants _ (built (object_with l w h n d)) _ _ _ (ends l w h n d _ e)
-    (c.builder_add-pop.ensures (inside (three l w h n d)) a7)
+    let a0 = c.values_are_made_call_by_call.ensures.begins (video_tree c.args.format.now) c.args.builder.now
+    (c.objects_of_numbers_can_be_written.ensures _ _ _ tt (omega arith)) c.requires in
+    let a1 = c.calls_go_on.ensures.begun _ _ _ _ _ _ _ a0 c.in-Ok-builder_add.ensures.step in
+    let a2 = c.calls_go_on.ensures.answered _ _ _ _ _ _ _ a1 c.in-Ok-builder_add-builder_add.ensures in
+    let a3 = c.calls_go_on.ensures.answered _ _ _ _ _ _ _ a2 c.in-Ok-builder_add-builder_add-2.ensures in
+    let a4 = c.calls_go_on.ensures.answered _ _ _ _ _ _ _ a3 c.in-Ok-builder_add-builder_add-3.ensures in
+    let a5 = c.calls_go_on.ensures.answered _ _ _ _ _ _ _ a4 c.in-Ok-builder_add-builder_add-4.ensures in
+    let a6 = c.calls_go_on.ensures.answered _ _ _ _ _ _ _ a5 c.in-Ok-builder_add-builder_add-5.ensures in
+    let a7 = c.calls_go_on.ensures.answered _ _ _ _ _ _ _ a6 c.in-Ok-builder_add-builder_add-6.ensures in
+    let frame = c.in-Ok-builder_add.ensures.frame a0.state a0.at ∙ ap (λ n. n + 1) a0.depth in
+    (c.calls_go_on.ensures.last _ _ _ _ _ _ (c.calls_go_on.ensures.frame _ _ _ _ _ _ frame a7) c.builder_add-pop.ensures).1

@@ -1,13 +1,13 @@
 use Rattle.std.proofs.Common.{refl}
-use Rattle.spa_format.specs.Kind.{fraction, id, rectangle}
-use Rattle.spa_format.specs.Tree.{fixed}
-use Rattle.spa_callers.proofs.Building.{three}
+use Rattle.libspa.specs.Kind.{fraction, id, rectangle}
+use Rattle.libspa.specs.Tree.{fixed}
+use Rattle.spa_callers.specs.Video.{format_properties}
 use Rattle.spa_callers.proofs.Reading.{same_format}
 use Rattle.spa_callers.proofs.video.take_format.Goals as goal
 
 pub returns : goal.returns
 returns c f next =
-    let ps = three f.layout.0 f.size.width f.size.height f.rate.num f.rate.denom in
+    let ps = format_properties f in
     let p = c.in-Ok-parser_get.ensures.accepted 4 ps next in
     let n1 = c.in-Ok-parser_get-2.ensures.accepted 262147 4 ps (fixed (id f.layout.0)) p refl in
     let v1 = c.in-Ok-parser_get-3.ensures.accepted f.layout.0 n1 in
@@ -19,7 +19,7 @@ returns c f next =
 
 pub returns-2 : goal.returns-2
 returns-2 c f next =
-    let ps = three f.layout.0 f.size.width f.size.height f.rate.num f.rate.denom in
+    let ps = format_properties f in
     let p = c.in-Ok-parser_get.ensures.accepted 4 ps next in
     let n1 = c.in-Ok-parser_get-2.ensures.accepted 262147 4 ps (fixed (id f.layout.0)) p refl in
     let v1 = c.in-Ok-parser_get-3.ensures.accepted f.layout.0 n1 in
@@ -30,7 +30,7 @@ returns-2 c f next =
 
 pub returns-3 : goal.returns-3
 returns-3 c f next =
-    let ps = three f.layout.0 f.size.width f.size.height f.rate.num f.rate.denom in
+    let ps = format_properties f in
     let p = c.in-Ok-parser_get.ensures.accepted 4 ps next in
     let n1 = c.in-Ok-parser_get-2.ensures.accepted 262147 4 ps (fixed (id f.layout.0)) p refl in
     let v1 = c.in-Ok-parser_get-3.ensures.accepted f.layout.0 n1 in
@@ -40,7 +40,7 @@ returns-3 c f next =
 
 pub returns-4 : goal.returns-4
 returns-4 c f next =
-    let ps = three f.layout.0 f.size.width f.size.height f.rate.num f.rate.denom in
+    let ps = format_properties f in
     let p = c.in-Ok-parser_get.ensures.accepted 4 ps next in
     let n1 = c.in-Ok-parser_get-2.ensures.accepted 262147 4 ps (fixed (id f.layout.0)) p refl in
     let v1 = c.in-Ok-parser_get-3.ensures.accepted f.layout.0 n1 in
@@ -49,7 +49,7 @@ returns-4 c f next =
 
 pub returns-5 : goal.returns-5
 returns-5 c f next =
-    let ps = three f.layout.0 f.size.width f.size.height f.rate.num f.rate.denom in
+    let ps = format_properties f in
     let p = c.in-Ok-parser_get.ensures.accepted 4 ps next in
     let n1 = c.in-Ok-parser_get-2.ensures.accepted 262147 4 ps (fixed (id f.layout.0)) p refl in
     let v1 = c.in-Ok-parser_get-3.ensures.accepted f.layout.0 n1 in
@@ -57,13 +57,13 @@ returns-5 c f next =
 
 pub returns-6 : goal.returns-6
 returns-6 c f next =
-    let ps = three f.layout.0 f.size.width f.size.height f.rate.num f.rate.denom in
+    let ps = format_properties f in
     let p = c.in-Ok-parser_get.ensures.accepted 4 ps next in
     let n1 = c.in-Ok-parser_get-2.ensures.accepted 262147 4 ps (fixed (id f.layout.0)) p refl in
     absurd (c.in-Err-parser_get-3.ensures.accepted f.layout.0 n1)
 
 pub returns-7 : goal.returns-7
 returns-7 c f next =
-    let ps = three f.layout.0 f.size.width f.size.height f.rate.num f.rate.denom in
+    let ps = format_properties f in
     let p = c.in-Ok-parser_get.ensures.accepted 4 ps next in
     absurd (c.in-Err-parser_get-2.ensures.accepted 262147 4 ps (fixed (id f.layout.0)) p refl)

@@ -1,5 +1,8 @@
-use Rattle.std.proofs.Common.{◌≡◌, [], length, ap, ◌∙◌, arith}
+use Rattle.std.proofs.Common.{◌≡◌, [], length, refl, ap, ◌∙◌, arith}
+use Rattle.std.proofs.lemmas.List.{append-nil}
+use Rattle.spa_format.specs.Encoding.{encoding_of}
 use Rattle.spa_builder.specs.Held.{Held}
+use Rattle.spa_builder.specs.Making.{built}
 use Rattle.spa_builder.proofs.Leaving.{count_of, none_opened}
 use Rattle.spa_builder.proofs.Steps.{spells}
 use Rattle.spa_builder.proofs.builder.Builder.finish.Goals as goal
@@ -14,3 +17,8 @@ returns-clause-made c s at =
       c.into_inner.ensures ∙ ap (λ (h : Held). h.bytes) c.self.view_is
           ∙ (spells c.args.self s at).all none,
     )
+
+pub returns-clause-built : goal.returns-clause-built
+returns-clause-built c v at =
+    c.into_inner.ensures ∙ ap (λ (h : Held). h.bytes) c.self.view_is
+    ∙ (spells c.args.self (built v) at).all refl ∙ append-nil (encoding_of v)

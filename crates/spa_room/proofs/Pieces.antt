@@ -1,4 +1,5 @@
 -- Pieces of lists of bytes.
+use Rattle.spa_format.specs.Words.{word_bytes}
 use Rattle.std.proofs.Common.{◌≡◌, ℕ, ◌+◌, ◌≤◌, List, [], ◌∷◌, ◌++◌, length, replicate, take, drop, refl, sym, ap, suc, ◌∙◌, arith, append_assoc, length-append, length-take, length-drop}
 use Rattle.std.proofs.lemmas.List.{append-nil, drop-append-le, length-take-le, take_at, take-append-drop, take-append-le, take-replicate, take-take}
 
@@ -55,3 +56,8 @@ zeros_over xs ys n k l h e =
     ∙ ap (take (n + k)) (e ∙ ap (λ r. take n xs ++ r) (sym (append-nil (replicate 8 0))))
     ∙ take_into (take n xs) (replicate 8 0) [] n k m h
     ∙ ap (λ r. take n xs ++ r) (take-replicate k 8 0 h)
+
+-- two words
+pub length-two : (a b : ℕ) → length (word_bytes a ++ word_bytes b) ≡ 8
+unfolding word_bytes
+length-two a b = refl

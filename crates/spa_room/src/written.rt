@@ -4,7 +4,7 @@ ghost use Rattle.std.specs.Prelude.{◌≡◌, ◌+◌, ◌<◌, ◌≤◌, ◌+
 ghost use Rattle.std.proofs.Common.{append_assoc};
 ghost use Rattle.spa_sink.specs.declared.gen_error.GenError.TheVariants.{OutOfMemory};
 ghost use Rattle.spa_format.specs.Words.{header_size, size_limit, word_bytes};
-ghost use Rattle.spa_builder.specs.Framed.{longest_piece, vector_limit};
+ghost use Rattle.spa_room.specs.Limits.{longest_piece, vector_limit};
 ghost use Rattle.spa_utils.specs.declared.errno.TheConstants.Errno.{NOMEM};
 
 use spa_bytes::{HEADER_LEN, two_words};
@@ -16,7 +16,7 @@ use std::mem;
 
 /// Bytes, one behind another. A refused call changes nothing.
 #[derive(Drop)]
-pub(crate) struct Written {
+pub struct Written {
     bytes: Vec<u8>,
     count: usize,
 }
@@ -83,7 +83,8 @@ fn write_over(bytes: &mut Vec<u8>, at: usize, piece: &[u8])
 
 impl Written {
     /// None yet, in this vector.
-    pub(crate) fn new(bytes: Vec<u8>) -> Written
+    #[inline]
+    pub fn new(bytes: Vec<u8>) -> Written
         ensures { result ≡ [] }
     {
         Written { bytes, count: 0 }
@@ -91,7 +92,7 @@ impl Written {
 
     /// How many there are.
     #[inline(always)]
-    pub(crate) fn len(&self) -> usize
+    pub fn len(&self) -> usize
         ensures { result ≡ length self.now }
     {
         self.count
@@ -99,7 +100,7 @@ impl Written {
 
     /// Where the next one will stand.
     #[inline(always)]
-    pub(crate) fn place(&self) -> usize
+    pub fn place(&self) -> usize
         ensures at { result ≡ length self.now }
         ensures low { result < vector_limit }
     {
@@ -107,14 +108,16 @@ impl Written {
     }
 
     /// All of them.
-    pub(crate) fn as_slice(&self) -> &[u8]
+    #[inline]
+    pub fn as_slice(&self) -> &[u8]
         ensures { result.now ≡ self.now }
     {
         &self.bytes[..self.count]
     }
 
     /// The vector, which holds them and nothing else.
-    pub(crate) fn into_inner(self) -> Vec<u8>
+    #[inline]
+    pub fn into_inner(self) -> Vec<u8>
         ensures { result.items ≡ self }
     {
         let Written { mut bytes, count } = self;
@@ -124,7 +127,7 @@ impl Written {
 
     /// Keeps the first ones alone, as many as are asked for.
     #[inline(always)]
-    pub(crate) fn truncate(&mut self, count: usize)
+    pub fn truncate(&mut self, count: usize)
         requires { count ≤ length self.old }
         ensures { self.new ≡ take count self.old }
     {
@@ -132,12 +135,14 @@ impl Written {
     }
 
     /// What the vector takes memory from.
-    pub(crate) fn allocator(&self) -> Global {
+    #[inline]
+    pub fn allocator(&self) -> Global {
         *self.bytes.allocator()
     }
 
     /// Appends these bytes.
-    pub(crate) fn append(&mut self, piece: &[u8]) -> Result<(), Errno>
+    #[inline]
+    pub fn append(&mut self, piece: &[u8]) -> Result<(), Errno>
         ensures ok { OnOk result (self.new ≡ self.old ++ piece.now) }
         ensures unchanged { OnErr result (self.new ≡ self.old) }
         ensures memory { IfErr result (λ e. e ≡ NOMEM) }
@@ -153,7 +158,7 @@ impl Written {
     /// Appends the first of these bytes, as many as are asked for.
     #[inline(always)]
     #[tactic(auto, using(crate::proofs::Pieces::take_into))]
-    pub(crate) fn append_first<const N: usize>(
+    pub fn append_first<const N: usize>(
         &mut self,
         piece: [u8; N],
         count: usize,
@@ -173,7 +178,7 @@ impl Written {
 
     /// Appends these bytes, whose number is known.
     #[inline(always)]
-    pub(crate) fn append_array<const N: usize>(&mut self, piece: [u8; N]) -> Result<(), Errno>
+    pub fn append_array<const N: usize>(&mut self, piece: [u8; N]) -> Result<(), Errno>
         requires { N ≤ longest_piece }
         ensures ok { OnOk result (self.new ≡ self.old ++ piece.entry) }
         ensures unchanged { OnErr result (self.new ≡ self.old) }
@@ -184,7 +189,7 @@ impl Written {
 
     /// Appends a header, a body that is at hand in two parts, and so many zeros, into room that is made once.
     #[inline(always)]
-    pub(crate) fn append_parts(
+    pub fn append_parts(
         &mut self,
         header: [u8; HEADER_LEN],
         front: &[u8],
@@ -213,7 +218,8 @@ impl Written {
 
     /// Writes a word over four of them.
     #[tactic(auto, unfolding(spa_format::specs::Words::word_bytes))]
-    pub(crate) fn patch(&mut self, at: usize, n: u32)
+    #[inline]
+    pub fn patch(&mut self, at: usize, n: u32)
         requires { at + 4 ≤ length self.old }
         ensures { self.new ≡ take at self.old ++ (word_bytes n ++ drop (at + 4) self.old) }
     {
@@ -221,7 +227,8 @@ impl Written {
     }
 
     /// Writes two words over eight of them.
-    pub(crate) fn patch_two(&mut self, at: usize, first: u32, second: u32)
+    #[inline]
+    pub fn patch_two(&mut self, at: usize, first: u32, second: u32)
         requires { at + 8 ≤ length self.old }
         ensures { self.new ≡ take at self.old ++ ((word_bytes first ++ word_bytes second) ++ drop (at + 8) self.old) }
     {

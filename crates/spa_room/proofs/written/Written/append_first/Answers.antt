@@ -1,8 +1,8 @@
 use Rattle.std.proofs.Common.{◌≡◌, ◌+◌, ◌-◌, ◌++◌, length, take, drop, ap, ◌∙◌, arith, length-take, length-drop}
 use borrow.Rule.Slice.PartMut.{Post-is}
 use Rattle.std.proofs.lemmas.List.{with_items_is}
-use Rattle.spa_builder.proofs.Pieces.{length-over, take_into}
-use Rattle.spa_builder.proofs.written.Written.append_first.Goals as goal
+use Rattle.spa_room.proofs.Pieces.{length-over, take_into}
+use Rattle.spa_room.proofs.written.Written.append_first.Goals as goal
 
 pub returns-clause-ok : goal.returns-clause-ok
 returns-clause-ok g c =

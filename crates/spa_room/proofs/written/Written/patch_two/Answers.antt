@@ -1,9 +1,8 @@
 use Rattle.std.proofs.Common.{◌≡◌, ◌+◌, ◌-◌, ◌++◌, length, take, drop, ap, sym, ◌∙◌, arith, length-take}
 use borrow.Rule.Slice.PartMut.{Post-is}
 use Rattle.std.proofs.lemmas.List.{with_items_is}
-use Rattle.spa_builder.proofs.Lengths.{length-two}
-use Rattle.spa_builder.proofs.Pieces.{length-over, take_over}
-use Rattle.spa_builder.proofs.written.Written.patch_two.Goals as goal
+use Rattle.spa_room.proofs.Pieces.{length-over, length-two, take_over}
+use Rattle.spa_room.proofs.written.Written.patch_two.Goals as goal
 
 pub returns : goal.returns
 returns c =

@@ -1,6 +1,6 @@
 use Rattle.std.proofs.Common.{◌≡◌, ◌+◌, ◌++◌, length, replicate, take, ap, ◌∙◌, arith}
-use Rattle.spa_builder.proofs.Pieces.{zeros_over}
-use Rattle.spa_builder.proofs.written.Written.append_parts.Goals as goal
+use Rattle.spa_room.proofs.Pieces.{zeros_over}
+use Rattle.spa_room.proofs.written.Written.append_parts.Goals as goal
 
 pub returns-clause-ok : goal.returns-clause-ok
 returns-clause-ok c =

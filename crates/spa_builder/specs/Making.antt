@@ -1,0 +1,50 @@
+-- Values made call by call: docs/FORMAT.md, "Making pods call by call".
+use Rattle.std.specs.Prelude.{◌≡◌, ℕ, ◌+◌, ◌-◌, List, [], ◌∷◌, ◌++◌, length, Some}
+use Rattle.spa_format.specs.Tree.{Tree, fixed, struct, object, Trees, no_trees, member, Properties, no_properties, property}
+use Rattle.spa_builder.specs.State.{State}
+use Rattle.spa_builder.specs.Step.{Call, abandon, add, add_prop, pop, push_array, push_choice, push_object, push_struct}
+use Rattle.spa_builder.specs.Held.{Held, IsAt}
+use Rattle.spa_builder.specs.Replay.{spelled_from}
+
+-- this value is closed and nothing else, and nothing is begun
+abbrev pub built : Tree → State
+built v = record { closed = member v no_trees; opened = [] }
+
+-- the calls that make a value where so many trees are open: a struct and an object are begun, get what is in them, and are closed
+abbrev mutual
+  pub calls_for : ℕ → Tree → List Call
+  calls_for n (struct vs) = push_struct ∷ (member_calls (n + 1) vs ++ pop (n + 1) ∷ [])
+  calls_for n (object t i ps) = push_object t i ∷ (property_calls (n + 1) ps ++ pop (n + 1) ∷ [])
+  calls_for n v = add v ∷ []
+
+  pub member_calls : ℕ → Trees → List Call
+  member_calls n no_trees = []
+  member_calls n (member v vs) = calls_for n v ++ member_calls n vs
+
+  pub property_calls : ℕ → Properties → List Call
+  property_calls n no_properties = []
+  property_calls n (property k f v ps) = add_prop k f ∷ (calls_for n v ++ property_calls n ps)
+
+-- how many trees are open behind such a call
+abbrev pub open_behind : ℕ → Call → ℕ
+open_behind n (add v) = n
+open_behind n (add_prop k f) = n
+open_behind n push_struct = n + 1
+open_behind n (push_object t i) = n + 1
+open_behind n push_array = n + 1
+open_behind n (push_choice h f) = n + 1
+open_behind n (pop frame) = n - 1
+open_behind n (abandon frame) = n - 1
+
+-- with so many trees open, these calls, each of which the model accepts, bring the builder to this state
+pub record ComesTo (n : ℕ) (t : State) (calls : List Call) (builder : Held) : Type 0 where
+  pub state : State
+  pub at : IsAt builder state
+  pub depth : length state.opened ≡ n
+  pub run : spelled_from state calls ≡ Some t
+
+-- each value is of fixed size
+abbrev pub AreFixed : Properties → Type 0
+AreFixed no_properties = Unit {0}
+AreFixed (property k f (fixed x) ps) = AreFixed ps
+AreFixed (property k f v ps) = ⊥

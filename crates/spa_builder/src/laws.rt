@@ -1,0 +1,35 @@
+//! Laws.
+ghost use Rattle.std.specs.Prelude.{◌≡◌, ◌<◌, ◌^◌, ◌∷◌, [], ℕ, List, IfErr, MatchResult, OnOk, Result, Some, length};
+ghost use Rattle.spa_format.specs.Tree.{Properties, Tree, object, property_node_count};
+ghost use Rattle.spa_format.specs.Writable.{IsWritable};
+ghost use Rattle.spa_builder.specs.State.{State, start};
+ghost use Rattle.spa_builder.specs.Step.{Accepts, Call, add, pop, step};
+ghost use Rattle.spa_builder.specs.Held.{Held, IsAt};
+ghost use Rattle.spa_builder.specs.Answers.{Makes};
+ghost use Rattle.spa_builder.specs.Replay.{spelled, spelled_from};
+ghost use Rattle.spa_builder.specs.Making.{AreFixed, ComesTo, built, calls_for, open_behind};
+ghost use Rattle.spa_utils.specs.declared.errno.Errno.{Errno};
+ghost use Rattle.spa_utils.specs.declared.frame.Frame.{Frame};
+ghost use Rattle.spa_utils.specs.declared.errno.TheConstants.Errno.{NOMEM};
+
+/// Made call by call, a value comes to what it comes to as one: each call is accepted where the value would be.
+pub fn values_are_made_call_by_call()
+    ensures made { (s t : State) (v : Tree) → step s (add v) ≡ Accepts t → spelled_from s (calls_for (length s.opened) v) ≡ Some t }
+    ensures begins { (v : Tree) (b : Held) → IsWritable v → IsAt b start → ComesTo 0 (built v) (calls_for 0 v) b }
+    ensures built { (v : Tree) → IsWritable v → spelled (calls_for 0 v) ≡ Some (built v) }
+{}
+
+/// A builder that comes to a state by some calls goes on with each that it answers by `Ok`, and refuses none but for want of
+/// memory. The last one brings it there.
+pub fn calls_go_on()
+    ensures answered { (n : ℕ) (t : State) (c : Call) (cs : List Call) (old new : Held) (r : Result (Unit {0}) Errno) → ComesTo n t (c ∷ cs) old → ((s : State) → IsAt old s → Makes (step s c) old new r) → MatchResult r (λ _. ComesTo (open_behind n c) t cs new) (λ e. (e ≡ NOMEM) × (new ≡ old)) }
+    ensures begun { (n : ℕ) (t : State) (c : Call) (cs : List Call) (old new : Held) (r : Result Frame Errno) → ComesTo n t (c ∷ cs) old → ((s : State) → IsAt old s → Makes (step s c) old new r) → MatchResult r (λ _. ComesTo (open_behind n c) t cs new) (λ e. (e ≡ NOMEM) × (new ≡ old)) }
+    ensures last { (n : ℕ) (t : State) (c : Call) (old new : Held) (r : Result (Unit {0}) Errno) → ComesTo n t (c ∷ []) old → ((s : State) → IsAt old s → Makes (step s c) old new r) → OnOk r (IsAt new t) × IfErr r (λ e. e ≡ NOMEM) }
+    // What is closed is named by the frame that its push answered.
+    ensures frame { (n m frame : ℕ) (t : State) (cs : List Call) (b : Held) → frame ≡ m → ComesTo n t (pop m ∷ cs) b → ComesTo n t (pop frame ∷ cs) b }
+{}
+
+/// An object of fewer than 134,217,728 properties, whose values are of fixed size, can be written.
+pub fn objects_of_numbers_can_be_written()
+    ensures { (t i : ℕ) (ps : Properties) → AreFixed ps → property_node_count ps < 2 ^ 27 → IsWritable (object t i ps) }
+{}

@@ -1,0 +1,6 @@
+//! Bytes with room behind them.
+#![tactic(auto)]
+
+mod written;
+
+pub use written::Written;

@@ -1,4 +1,4 @@
--- What is written behind other tokens, by what is read of it. Only the crate's private clauses cite it.
+-- What is written behind other tokens: what is read of it, and of what has no float which tokens. Only the private clauses cite it.
 use Rattle.std.specs.Prelude.{◌≡◌, ◌≢◌, ◌⊎◌, ℕ, List, [], ◌∷◌, ◌++◌, Bool, true, false, Option, Some, codes, map}
 use Rattle.json.specs.Token.{Token}
 use Rattle.spa_format.specs.Kind.{Kind, Fixed}

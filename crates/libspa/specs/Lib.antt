@@ -10,6 +10,7 @@ pub use Rattle.spa_format.specs.Typed
 pub use Rattle.spa_format.specs.Faults
 pub use Rattle.spa_format.specs.Walk
 pub use Rattle.spa_format.specs.Fixation
+pub use Rattle.spa_fixed.specs.Choices
 pub use Rattle.spa_sink.specs.Writing
 pub use Rattle.spa_device.specs.Counting
 pub use Rattle.spa_value.specs.View

@@ -6,6 +6,7 @@ ghost use Rattle.spa_format.specs.Kind.{type_number};
 ghost use Rattle.spa_format.specs.Tree.{array, bitmap, bitmap_type, bytes, bytes_type, fixed, pointer, pointer_type, string, string_type};
 ghost use Rattle.spa_typed_read.specs.Asking.{RefusesAsked, array_of, choice_of, of_type};
 
+use crate::array_element::ArrayElement;
 use crate::deserializer::{DeserializeSuccess, PodDeserialize, PodDeserializer};
 use spa_fixed::{ChoiceElement, DeserializeError};
 use spa_utils::{Choice, Fd, Float32, Float64, Fraction, Id, Rectangle};
@@ -224,133 +225,16 @@ impl<'de> PodDeserialize<'de> for Fd {
     }
 }
 
-/// The elements of an array over `()`, which has none.
-impl<'de> PodDeserialize<'de> for Vec<()> {
-    ghost reads = { λ value xs. value ≡ array k.none_kind (map (λ _. k.none) xs.items) };
+/// The elements of an array.
+impl<'de, T: ArrayElement> PodDeserialize<'de> for Vec<T> {
+    ghost reads = { λ value xs. value ≡ array T.kind (map T.fixed xs.items) };
 
-    ghost refuses = { RefusesAsked (array_of k.none_kind) ⊤ };
-
-    fn deserialize(
-        deserializer: PodDeserializer<'de>,
-    ) -> Result<(Vec<()>, DeserializeSuccess<'de>), DeserializeError<&'de [u8]>> {
-        deserializer.array_pod::<()>()
-    }
-}
-
-/// The elements of an array over `bool`.
-impl<'de> PodDeserialize<'de> for Vec<bool> {
-    ghost reads = { λ value xs. value ≡ array k.bool_kind (map (λ x. k.bool x) xs.items) };
-
-    ghost refuses = { RefusesAsked (array_of k.bool_kind) ⊤ };
+    ghost refuses = { RefusesAsked (array_of T.kind) ⊤ };
 
     fn deserialize(
         deserializer: PodDeserializer<'de>,
-    ) -> Result<(Vec<bool>, DeserializeSuccess<'de>), DeserializeError<&'de [u8]>> {
-        deserializer.array_pod::<bool>()
-    }
-}
-
-/// The elements of an array over `Id`.
-impl<'de> PodDeserialize<'de> for Vec<Id> {
-    ghost reads = { λ value xs. value ≡ array k.id_kind (map (λ x. k.id x.0) xs.items) };
-
-    ghost refuses = { RefusesAsked (array_of k.id_kind) ⊤ };
-
-    fn deserialize(
-        deserializer: PodDeserializer<'de>,
-    ) -> Result<(Vec<Id>, DeserializeSuccess<'de>), DeserializeError<&'de [u8]>> {
-        deserializer.array_pod::<Id>()
-    }
-}
-
-/// The elements of an array over `i32`.
-impl<'de> PodDeserialize<'de> for Vec<i32> {
-    ghost reads = { λ value xs. value ≡ array k.int_kind (map (λ x. k.int x) xs.items) };
-
-    ghost refuses = { RefusesAsked (array_of k.int_kind) ⊤ };
-
-    fn deserialize(
-        deserializer: PodDeserializer<'de>,
-    ) -> Result<(Vec<i32>, DeserializeSuccess<'de>), DeserializeError<&'de [u8]>> {
-        deserializer.array_pod::<i32>()
-    }
-}
-
-/// The elements of an array over `i64`.
-impl<'de> PodDeserialize<'de> for Vec<i64> {
-    ghost reads = { λ value xs. value ≡ array k.long_kind (map (λ x. k.long x) xs.items) };
-
-    ghost refuses = { RefusesAsked (array_of k.long_kind) ⊤ };
-
-    fn deserialize(
-        deserializer: PodDeserializer<'de>,
-    ) -> Result<(Vec<i64>, DeserializeSuccess<'de>), DeserializeError<&'de [u8]>> {
-        deserializer.array_pod::<i64>()
-    }
-}
-
-/// The elements of an array over `Float32`.
-impl<'de> PodDeserialize<'de> for Vec<Float32> {
-    ghost reads = { λ value xs. value ≡ array k.float_kind (map (λ x. k.float x.0) xs.items) };
-
-    ghost refuses = { RefusesAsked (array_of k.float_kind) ⊤ };
-
-    fn deserialize(
-        deserializer: PodDeserializer<'de>,
-    ) -> Result<(Vec<Float32>, DeserializeSuccess<'de>), DeserializeError<&'de [u8]>> {
-        deserializer.array_pod::<Float32>()
-    }
-}
-
-/// The elements of an array over `Float64`.
-impl<'de> PodDeserialize<'de> for Vec<Float64> {
-    ghost reads = { λ value xs. value ≡ array k.double_kind (map (λ x. k.double x.0) xs.items) };
-
-    ghost refuses = { RefusesAsked (array_of k.double_kind) ⊤ };
-
-    fn deserialize(
-        deserializer: PodDeserializer<'de>,
-    ) -> Result<(Vec<Float64>, DeserializeSuccess<'de>), DeserializeError<&'de [u8]>> {
-        deserializer.array_pod::<Float64>()
-    }
-}
-
-/// The elements of an array over `Rectangle`.
-impl<'de> PodDeserialize<'de> for Vec<Rectangle> {
-    ghost reads = { λ value xs. value ≡ array k.rectangle_kind (map (λ x. k.rectangle x.width x.height) xs.items) };
-
-    ghost refuses = { RefusesAsked (array_of k.rectangle_kind) ⊤ };
-
-    fn deserialize(
-        deserializer: PodDeserializer<'de>,
-    ) -> Result<(Vec<Rectangle>, DeserializeSuccess<'de>), DeserializeError<&'de [u8]>> {
-        deserializer.array_pod::<Rectangle>()
-    }
-}
-
-/// The elements of an array over `Fraction`.
-impl<'de> PodDeserialize<'de> for Vec<Fraction> {
-    ghost reads = { λ value xs. value ≡ array k.fraction_kind (map (λ x. k.fraction x.num x.denom) xs.items) };
-
-    ghost refuses = { RefusesAsked (array_of k.fraction_kind) ⊤ };
-
-    fn deserialize(
-        deserializer: PodDeserializer<'de>,
-    ) -> Result<(Vec<Fraction>, DeserializeSuccess<'de>), DeserializeError<&'de [u8]>> {
-        deserializer.array_pod::<Fraction>()
-    }
-}
-
-/// The elements of an array over `Fd`.
-impl<'de> PodDeserialize<'de> for Vec<Fd> {
-    ghost reads = { λ value xs. value ≡ array k.fd_kind (map (λ x. k.fd x.0) xs.items) };
-
-    ghost refuses = { RefusesAsked (array_of k.fd_kind) ⊤ };
-
-    fn deserialize(
-        deserializer: PodDeserializer<'de>,
-    ) -> Result<(Vec<Fd>, DeserializeSuccess<'de>), DeserializeError<&'de [u8]>> {
-        deserializer.array_pod::<Fd>()
+    ) -> Result<(Vec<T>, DeserializeSuccess<'de>), DeserializeError<&'de [u8]>> {
+        deserializer.array_pod()
     }
 }
 

@@ -10,6 +10,7 @@ ghost use Rattle.spa_typed_read.specs.Asking.{array_of, choice_of, of_type};
 ghost use Rattle.spa_typed_read.specs.Exactly.{RefusesExactly};
 ghost use Rattle.spa_typed_read.specs.ExactlyLaws.{any_exactly, asked_exactly, choice_asked};
 
+use crate::array_element::ArrayElement;
 use crate::deserializer::PodDeserialize;
 use spa_fixed::ChoiceElement;
 use spa_utils::{Choice, Fd, Float32, Float64, Fraction, Id, Rectangle};
@@ -123,44 +124,8 @@ impl<'de> ExactDeserialize<'de> for Fd {
     ghost exactly = { λ b e r. asked_exactly (of_type (type_number k.fd_kind)) ⊥ _ (λ v x h. ap type_of h) b e r };
 }
 
-impl<'de> ExactDeserialize<'de> for Vec<()> {
-    ghost exactly = { λ b e r. asked_exactly (array_of k.none_kind) ⊤ _ (λ v x h. (_, h)) b e r };
-}
-
-impl<'de> ExactDeserialize<'de> for Vec<bool> {
-    ghost exactly = { λ b e r. asked_exactly (array_of k.bool_kind) ⊤ _ (λ v x h. (_, h)) b e r };
-}
-
-impl<'de> ExactDeserialize<'de> for Vec<Id> {
-    ghost exactly = { λ b e r. asked_exactly (array_of k.id_kind) ⊤ _ (λ v x h. (_, h)) b e r };
-}
-
-impl<'de> ExactDeserialize<'de> for Vec<i32> {
-    ghost exactly = { λ b e r. asked_exactly (array_of k.int_kind) ⊤ _ (λ v x h. (_, h)) b e r };
-}
-
-impl<'de> ExactDeserialize<'de> for Vec<i64> {
-    ghost exactly = { λ b e r. asked_exactly (array_of k.long_kind) ⊤ _ (λ v x h. (_, h)) b e r };
-}
-
-impl<'de> ExactDeserialize<'de> for Vec<Float32> {
-    ghost exactly = { λ b e r. asked_exactly (array_of k.float_kind) ⊤ _ (λ v x h. (_, h)) b e r };
-}
-
-impl<'de> ExactDeserialize<'de> for Vec<Float64> {
-    ghost exactly = { λ b e r. asked_exactly (array_of k.double_kind) ⊤ _ (λ v x h. (_, h)) b e r };
-}
-
-impl<'de> ExactDeserialize<'de> for Vec<Rectangle> {
-    ghost exactly = { λ b e r. asked_exactly (array_of k.rectangle_kind) ⊤ _ (λ v x h. (_, h)) b e r };
-}
-
-impl<'de> ExactDeserialize<'de> for Vec<Fraction> {
-    ghost exactly = { λ b e r. asked_exactly (array_of k.fraction_kind) ⊤ _ (λ v x h. (_, h)) b e r };
-}
-
-impl<'de> ExactDeserialize<'de> for Vec<Fd> {
-    ghost exactly = { λ b e r. asked_exactly (array_of k.fd_kind) ⊤ _ (λ v x h. (_, h)) b e r };
+impl<'de, T: ArrayElement> ExactDeserialize<'de> for Vec<T> {
+    ghost exactly = { λ b e r. asked_exactly (array_of T.kind) ⊤ _ (λ v x h. (_, h)) b e r };
 }
 
 impl<'de, T: ChoiceElement> ExactDeserialize<'de> for Choice<T> {

@@ -1,6 +1,7 @@
 //! Typed reads: from the pod at the front of an input to a type of one's own, member by member or by a visitor.
 #![tactic(auto)]
 
+mod array_element;
 mod builtin;
 mod content;
 mod deserializer;
@@ -14,6 +15,7 @@ mod properties;
 mod typed;
 mod visitor;
 
+pub use array_element::ArrayElement;
 pub use content::{DeserializeAs, DeserializeMembers, StructOf};
 pub use deserializer::{DeserializeSuccess, PodDeserialize, PodDeserializer};
 pub use exact::ExactDeserialize;

@@ -2,19 +2,19 @@
 use Rattle.std.proofs.Common.{◌≡◌, ◌≢◌, ◌++◌, ◌∷◌, ℕ, List, refl, sym, ◌∙◌, subst}
 use Rattle.std.specs.Borrow.{Bor}
 use Rattle.std.specs.List.{All}
-use Rattle.spa_fixed.specs.declared.fault.DeserializeError.{DeserializeError}
-use Rattle.spa_fixed.specs.declared.fault.DeserializeError.TheVariants as error
-use Rattle.spa_sink.specs.declared.gen_error.GenError.{GenError}
-use Rattle.spa_sink.specs.declared.gen_error.GenError.TheVariants as gen_error
-use Rattle.spa_sink.specs.Writing.{RefusedFor}
+use Rattle.libspa.specs.DeserializeError.{DeserializeError}
+use Rattle.libspa.specs.DeserializeErrors as error
+use Rattle.libspa.specs.GenError.{GenError}
+use Rattle.libspa.specs.GenErrors as gen_error
+use Rattle.libspa.specs.Writing.{RefusedFor}
 use Rattle.libspa.specs.Front.{Begins}
 use Rattle.libspa.specs.Kind.{float}
 use Rattle.libspa.specs.Reading.{OnFault}
 use Rattle.libspa.specs.Tree.{Tree, fixed, object}
 use Rattle.libspa.specs.View.{view}
 use Rattle.libspa.specs.Writable.{HasNul, IsTooLarge, IsWritable}
-use Rattle.spa_value.specs.Views.{property_views}
-use Rattle.spa_value.specs.declared.object.Property.{Property}
+use Rattle.libspa.specs.Views.{property_views}
+use Rattle.libspa.specs.Property.{Property}
 use Rattle.spa_uses.specs.Control.{BeginsNoControl, IsControl, IsNoControl, IsObject, volume_key}
 use Rattle.spa_uses.proofs.Lists.{key_there, same_first}
 

@@ -7,9 +7,9 @@ use Rattle.std.proofs.lemmas.List.Sums.{fails_before_first}
 use Rattle.std.proofs.lemmas.List.{take-append-drop, get_or-drop, get_or-take}
 use Rattle.std.proofs.lemmas.List.Quantifiers.{position-Some}
 use Rattle.libspa.specs.Tree.{Tree, Properties, join_properties, no_properties, property}
-use Rattle.spa_value.specs.declared.object.Property.{Property}
-use Rattle.spa_value.specs.View.{view}
-use Rattle.spa_value.specs.Views.{property_views}
+use Rattle.libspa.specs.Property.{Property}
+use Rattle.libspa.specs.View.{view}
+use Rattle.libspa.specs.Views.{property_views}
 
 -- a list that grows by one property, and then by others
 pub put_back : (before more all behind : List Property) (p : Property) → more ≡ before ++ p ∷ [] → all ≡ more ++ behind → all ≡ before ++ p ∷ behind

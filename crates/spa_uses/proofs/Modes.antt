@@ -9,8 +9,8 @@ use Rattle.libspa.specs.Words.{word_bytes, wide_bytes}
 use Rattle.libspa.specs.Writable.{IsWritable}
 use Rattle.libspa.specs.Exactly.{IsUnread, ReadsFirst, ReadsStruct, RefusesExactly}
 use Rattle.libspa.specs.Reading.{OnFault, OnMemory}
-use Rattle.spa_fixed.specs.declared.fault.DeserializeError.{DeserializeError}
-use Rattle.spa_fixed.specs.declared.fault.DeserializeError.TheVariants as error
+use Rattle.libspa.specs.DeserializeError.{DeserializeError}
+use Rattle.libspa.specs.DeserializeErrors as error
 use Rattle.spa_uses.specs.declared.mode.Mode.{Mode}
 use Rattle.spa_uses.specs.declared.mode.Size.{Size}
 

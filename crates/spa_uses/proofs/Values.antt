@@ -2,11 +2,11 @@
 use Rattle.std.proofs.Common.{◌≡◌, ◌≢◌, ◌∙◌, ℕ, refl, sym, subst, arith}
 use Rattle.libspa.specs.Kind.{float, float_kind, type_number}
 use Rattle.libspa.specs.Tree.{Tree, fixed, object, type_of, array_type, choice_type, object_type}
-use Rattle.spa_value.specs.declared.array.ValueArray.{ValueArray}
-use Rattle.spa_value.specs.declared.choice_value.ChoiceValue.{ChoiceValue}
-use Rattle.spa_value.specs.declared.object.Object.{Object}
-use Rattle.spa_value.specs.declared.value.Value.{Value}
-use Rattle.spa_value.specs.declared.value.Value.TheVariants as V
+use Rattle.libspa.specs.ValueArray.{ValueArray}
+use Rattle.libspa.specs.ChoiceValue.{ChoiceValue}
+use Rattle.libspa.specs.Object.{Object}
+use Rattle.libspa.specs.Value.{Value}
+use Rattle.libspa.specs.Values as V
 use Rattle.libspa.specs.View.{view, array_view, choice_view, object_view}
 use Rattle.spa_uses.specs.Control.{IsObject}
 

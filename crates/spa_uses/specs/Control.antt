@@ -6,7 +6,7 @@ use Rattle.libspa.specs.Encoding.{encoding_of}
 use Rattle.libspa.specs.Front.{Begins}
 use Rattle.libspa.specs.Tree.{Tree, fixed, object, join_properties, property}
 use Rattle.libspa.specs.Writable.{IsWritable}
-use Rattle.spa_value.specs.Views.{property_views}
+use Rattle.libspa.specs.Views.{property_views}
 use Rattle.spa_uses.specs.declared.control.Control.{Control}
 
 -- the key of a volume, which PipeWire calls SPA_PROP_volume

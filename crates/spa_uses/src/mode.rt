@@ -5,7 +5,7 @@ ghost use Rattle.libspa.specs.Front.{Begins, rest_of};
 ghost use Rattle.libspa.specs.Kind as kind;
 ghost use Rattle.libspa.specs.Tree.{Tree, fixed, member, no_trees, struct};
 ghost use Rattle.spa_uses.specs.declared.mode.Mode.{Mode};
-ghost use Rattle.spa_sink.specs.declared.gen_error.GenError.TheVariants.{Full};
+ghost use Rattle.libspa.specs.GenErrors.{Full};
 
 use arrayvec::ArrayVec;
 use libspa::pod::deserialize::{DeserializeAs, DeserializeError, PodDeserializer, StructOf};

@@ -3,13 +3,14 @@
 #![tactic(auto)]
 
 mod array;
+mod bodies;
 mod choice;
 mod fixed;
 mod handed;
-mod plain;
 mod value_visitor;
 
 pub use array::VecVisitor;
+pub use bodies::{BitmapVisitor, BytesVisitor, PointerVisitor, StringVisitor};
 pub use choice::{
     ChoiceBoolVisitor, ChoiceDoubleVisitor, ChoiceFdVisitor, ChoiceFloatVisitor,
     ChoiceFractionVisitor, ChoiceIdVisitor, ChoiceIntVisitor, ChoiceLongVisitor,
@@ -20,5 +21,4 @@ pub use fixed::{
     LongVisitor, NoneVisitor, RectangleVisitor,
 };
 pub use handed::{Handed, HandedVisitor};
-pub use plain::{BitmapVisitor, BytesVisitor, PointerVisitor, StringVisitor};
 pub use value_visitor::ValueVisitor;

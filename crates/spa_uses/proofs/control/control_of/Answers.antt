@@ -4,9 +4,9 @@ use Rattle.std.specs.Prelude.{position}
 use Rattle.std.specs.Cmp.{unsigned_Decides}
 use Rattle.libspa.specs.Tree.{object}
 use Rattle.libspa.specs.View.{object_view}
-use Rattle.spa_value.specs.declared.object.Object.{out-Object}
-use Rattle.spa_value.specs.declared.object.Property.{Property}
-use Rattle.spa_value.specs.Views.{property_views}
+use Rattle.libspa.specs.Object.{out-Object}
+use Rattle.libspa.specs.Property.{Property}
+use Rattle.libspa.specs.Views.{property_views}
 use Rattle.spa_uses.specs.Control.{volume_key}
 use Rattle.spa_uses.proofs.Controls.{of_other_volume, without_volume}
 use Rattle.spa_uses.proofs.Lists.{at_cut, none_before, none_found, parted, with_key}

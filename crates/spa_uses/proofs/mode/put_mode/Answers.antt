@@ -1,8 +1,8 @@
 use Rattle.std.proofs.Common.{◌≡◌, ℕ, ◌+◌, ◌<◌, ◌≤◌, Result, Ok, Err, length, refl, sym, subst}
 use Rattle.std.specs.Prelude.{IsOk, OnOk}
 use Rattle.std.proofs.lemmas.Result.{IfErr-weaker}
-use Rattle.spa_sink.specs.declared.gen_error.GenError.{GenError}
-use Rattle.spa_sink.specs.declared.gen_error.GenError.TheVariants as error
+use Rattle.libspa.specs.GenError.{GenError}
+use Rattle.libspa.specs.GenErrors as error
 use Rattle.spa_uses.specs.declared.mode.Mode.{Mode}
 use Rattle.libspa.specs.Complete.{RefusesAtLimit}
 use Rattle.spa_uses.proofs.Modes.{mode_length, mode_value, mode_writable}

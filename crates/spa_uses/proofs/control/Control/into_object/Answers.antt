@@ -1,6 +1,6 @@
 use Rattle.std.proofs.Common.{ap, ◌∙◌}
 use Rattle.libspa.specs.Tree.{object}
-use Rattle.spa_value.specs.Views.{property_views}
+use Rattle.libspa.specs.Views.{property_views}
 use Rattle.spa_uses.proofs.Lists.{put_back}
 use Rattle.spa_uses.proofs.control.Control.into_object.Goals as goal
 

@@ -1,7 +1,7 @@
 use Rattle.std.proofs.lemmas.Result.{err_from_is_err_and}
 use Rattle.libspa.specs.Front.{IsRefused}
 use Rattle.libspa.specs.View.{view}
-use Rattle.spa_typed_read.specs.ExactlyLaws.{fault_to}
+use Rattle.libspa.specs.ExactlyLaws.{fault_to}
 use Rattle.spa_uses.specs.Control.{BeginsNoControl, IsNoControl}
 use Rattle.spa_uses.proofs.Controls.{front_refused}
 use Rattle.spa_uses.proofs.control.ControlPodDeserialize.deserialize.Goals as goal

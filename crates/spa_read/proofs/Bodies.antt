@@ -25,7 +25,7 @@ use Rattle.spa_read.specs.Nesting.{IsAlike, IsReadUpTo, LacksKey, Reaches, Reads
 use Rattle.spa_read.specs.declared.inside.Inside.{Inside}
 use Rattle.spa_read.specs.declared.inside.Inside.TheVariants as inside
 use Rattle.spa_read.specs.declared.inside.OpenObject.{OpenObject}
-use Rattle.spa_read.proofs.Counting.{count_with, is_one, plain_at, short_at}
+use Rattle.spa_read.proofs.Counting.{count_with, is_one, leaf_at, short_at}
 use Rattle.spa_read.proofs.Remainders.{HasKey, first_property}
 use Rattle.spa_leaf.proofs.Refusals.{says_through}
 use Rattle.spa_leaf.proofs.Steps.{parted, pod_read}
@@ -188,13 +188,13 @@ short_behind from i reached left now place opened before all h s x c =
     refused_behind from i reached left now place place opened before c.opened all refusal.Short h s x c.count
     (short_at place before all c)
 
-pub plain_behind : (from i reached : Inside) (left now place body rest : List ℕ) (type opened before all : ℕ) (why : Refusal) →
+pub leaf_behind : (from i reached : Inside) (left now place body rest : List ℕ) (type opened before all : ℕ) (why : Refusal) →
     Reads from left opened i now before → so_far reached ≡ so_far i → Reaches reached now place →
     Opens place type body rest → (type ≢ struct_type) × (type ≢ object_type) → RefusesBody type body why →
     all ≡ before + 1 → RefusesBehind (so_far from) left opened place all why
-plain_behind from i reached left now place body rest type opened before all why h s x o n q e =
+leaf_behind from i reached left now place body rest type opened before all why h s x o n q e =
     refused_behind from i reached left now place place opened before 1 all why h s x e
-    (plain_at place body rest type why o n.0 n.1 q)
+    (leaf_at place body rest type why o n.0 n.1 q)
 
 pub key_short_behind : (from i : Inside) (left now : List ℕ) (opened before : ℕ) → Reads from left opened i now before →
     now ≢ [] → LacksKey i now → RefusesBehind (so_far from) left opened now before refusal.Short

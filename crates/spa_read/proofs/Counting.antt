@@ -72,9 +72,9 @@ pub short_at : (input : List ℕ) (old new : ℕ) (c : CountsShort input old new
     RefusesAt input input c.opened refusal.Short
 short_at input old new c = (at_front input refl c.short, c.opens)
 
-pub plain_at : (input body rest : List ℕ) (type : ℕ) (why : Refusal) → Opens input type body rest →
+pub leaf_at : (input body rest : List ℕ) (type : ℕ) (why : Refusal) → Opens input type body rest →
     type ≢ struct_type → type ≢ object_type → RefusesBody type body why → RefusesAt input input 1 why
-plain_at input body rest type why o n m h =
+leaf_at input body rest type why o n m h =
     refuses_at input input 1 why (body_refused input body rest type why o h)
     (headers.one_header input o.there.header
     (headers.no_parts (λ e. n (o.its_type ∙ e)) (λ e. m (o.its_type ∙ e))))
@@ -132,9 +132,9 @@ one_front input place old new why z e h =
     let same : 1 ≡ new = omega arith in
     subst (λ n. RefusesAt input place n why) same h
 
-pub plain_read : (input body rest : List ℕ) (type old new : ℕ) (v : Tree) → Opens input type body rest →
+pub leaf_read : (input body rest : List ℕ) (type old new : ℕ) (v : Tree) → Opens input type body rest →
     (type ≢ struct_type) × (type ≢ object_type) → type_of v ≡ type → IsBody v body → old ≡ 0 → new ≡ old + 1 →
     IsReadCounted input v rest new
-plain_read input body rest type old new v o n t b z e =
+leaf_read input body rest type old new v o n t b z e =
     let one = is_one v (λ x. n.0 (sym t ∙ x)) (λ x. n.1 (sym t ∙ x)) in
     record { begins = pod_read input body rest type v o t b; count = omega arith }

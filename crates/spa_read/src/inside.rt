@@ -8,7 +8,7 @@ ghost use Rattle.spa_read.specs.declared.inside.Inside.TheVariants as inside_var
 ghost use Rattle.spa_value.specs.View.{view};
 
 use crate::front::open_counted;
-use crate::plain::put_plain;
+use crate::leaves::read_leaf_into;
 use crate::refused::Refused;
 use bitflags::Flags;
 use spa_bytes::{Front, HEADER_LEN, SECOND_WORD, extent_of, u32_at};
@@ -139,7 +139,7 @@ fn pods_from(behind: &[u8], between: usize) -> usize
 /// Reads pods up to the end of a body, where it answers nothing, or up to a struct or an object, which it answers opened and
 /// where it then stands.
 #[inline(always)]
-pub(crate) fn read_plain_pods<'de, G: Grows>(
+pub(crate) fn read_leaves<'de, G: Grows>(
     alloc: Global,
     left: &mut &'de [u8],
     opened: &mut u64,
@@ -171,7 +171,7 @@ pub(crate) fn read_plain_pods<'de, G: Grows>(
         if to.reserve(front.rest).is_err() {
             return Err(Refused::lacking_memory());
         }
-        if let Err(why) = put_plain(alloc, front.type_, front.body, to) {
+        if let Err(why) = read_leaf_into(alloc, front.type_, front.body, to) {
             return Err(Refused { place, why });
         }
         *left = front.rest;
@@ -195,8 +195,8 @@ impl Inside {
         ensures refused { IfErr result (λ refused. RefusesBehind (so_far self.old) left.old.now opened.old refused.place.now opened.new refused.why) }
     {
         match self {
-            Inside::Struct(members) => read_plain_pods(alloc, left, opened, members),
-            Inside::Object(object) => read_plain_pods(alloc, left, opened, object),
+            Inside::Struct(members) => read_leaves(alloc, left, opened, members),
+            Inside::Object(object) => read_leaves(alloc, left, opened, object),
         }
     }
 

@@ -18,7 +18,7 @@ use std::mem;
 
 /// A struct or an object whose header is read and whose body isn't yet read to its end.
 #[derive(Drop)]
-pub(crate) struct Open<'de> {
+pub(crate) struct PartlyRead<'de> {
     /// What follows it in the input, which is what remains of the body around it.
     pub(crate) rest: &'de [u8],
     pub(crate) inside: Inside,
@@ -26,16 +26,16 @@ pub(crate) struct Open<'de> {
 
 /// The struct or the object of a front, with what is left of its body. An object's body may lack its type and its id.
 #[inline(always)]
-pub(crate) fn begin<'de>(
+pub(crate) fn begin_reading<'de>(
     alloc: Global,
     front: Front<'de>,
-) -> Result<(Open<'de>, &'de [u8]), Refusal>
+) -> Result<(PartlyRead<'de>, &'de [u8]), Refusal>
     requires { (front.type_ ≡ struct_type) ⊎ (front.type_ ≡ object_type) }
     ensures begun { IfOk result (λ begun. IsBegunAs front.entry.type_ front.entry.body.now front.entry.rest.now begun.0 begun.1.now) }
     ensures refused { IfErr result (λ why. (why ≡ refusal.WrongSize) × (front.entry.type_ ≡ object_type) × (length front.entry.body.now < header_size)) }
 {
     if front.type_ == SpaTypes::Struct.0 {
-        let begun = Open {
+        let begun = PartlyRead {
             rest: front.rest,
             inside: Inside::Struct(Vec::new(alloc)),
         };
@@ -52,7 +52,7 @@ pub(crate) fn begin<'de>(
         key: 0,
         flags: PropertyFlags::from_bits_retain(0),
     };
-    let begun = Open {
+    let begun = PartlyRead {
         rest: front.rest,
         inside: Inside::Object(object),
     };
@@ -63,17 +63,17 @@ pub(crate) fn begin<'de>(
 #[derive(Drop)]
 pub(crate) struct Nest<'de> {
     /// The innermost.
-    inner: Open<'de>,
+    inner: PartlyRead<'de>,
     /// Those between it and the outermost, the innermost last.
-    between: Vec<Open<'de>>,
+    between: Vec<PartlyRead<'de>>,
     /// The outermost, where that is another one: so two levels take no memory for the list.
-    outermost: Option<Open<'de>>,
+    outermost: Option<PartlyRead<'de>>,
 }
 
 impl<'de> Nest<'de> {
     /// One alone.
     #[inline(always)]
-    pub(crate) fn new(alloc: Global, inner: Open<'de>) -> Nest<'de>
+    pub(crate) fn new(alloc: Global, inner: PartlyRead<'de>) -> Nest<'de>
         ensures inner { result.inner ≡ inner.entry }
         ensures alone { around result ≡ [] }
     {
@@ -104,7 +104,7 @@ impl<'de> Nest<'de> {
             *left = self.inner.rest;
             return self.end();
         };
-        match begin(alloc, front) {
+        match begin_reading(alloc, front) {
             Ok((begun, body)) => {
                 let Ok(()) = self.push(begun) else {
                     return Err(Refused::lacking_memory());
@@ -118,7 +118,7 @@ impl<'de> Nest<'de> {
 
     /// Goes into the one that is begun.
     #[inline(always)]
-    fn push(&mut self, begun: Open<'de>) -> Result<(), AllocError>
+    fn push(&mut self, begun: PartlyRead<'de>) -> Result<(), AllocError>
         ensures inner { OnOk result (self.new.inner ≡ begun.entry) }
         ensures around { OnOk result (around self.new ≡ around self.old ++ self.old.inner ∷ []) }
     {
@@ -134,7 +134,7 @@ impl<'de> Nest<'de> {
 
     /// The one around the innermost, where there is one.
     #[inline(always)]
-    fn pop(&mut self) -> Option<Open<'de>>
+    fn pop(&mut self) -> Option<PartlyRead<'de>>
         ensures inner { self.new.inner ≡ self.old.inner }
         ensures some { IfSome result (λ last. around self.old ≡ around self.new ++ last ∷ []) }
         ensures none { IfNone result (around self.old ≡ []) }

@@ -1,7 +1,7 @@
 use Rattle.std.proofs.Common.{refl, sym, subst}
 use Rattle.spa_read.specs.Nesting.{IsBegunAs, around}
 use Rattle.spa_read.specs.declared.nest.Nest.{Nest}
-use Rattle.spa_read.specs.declared.nest.Open.{Open}
+use Rattle.spa_read.specs.declared.nest.PartlyRead.{PartlyRead}
 use Rattle.spa_read.proofs.Nesting.{begin_inside, is_at_end, is_at_front, lacks_memory, short_object_inside, step_lacks_memory, step_refused, step_to_end}
 use Rattle.spa_read.proofs.nest.Nest.step.Goals as goal
 
@@ -13,7 +13,7 @@ returns-in_err-front-clause-refused c =
 pub returns-in_default-clause-taken : goal.returns-in_default-clause-taken
 returns-in_default-clause-taken c =
     let was = c.args.self.now in
-    let inner : Open = record { rest = was.inner.rest; inside = c.read_on.new.self } in
+    let inner : PartlyRead = record { rest = was.inner.rest; inside = c.read_on.new.self } in
     let from : Nest = record { inner = inner; between = was.between; outermost = was.outermost } in
     step_to_end c.end.result was.inner (around was) from _ _ c.read_on.new.left.now _ _ _ c.end.ensures.ended
     (is_at_end _ _ _ _ _ _ _ c.in_default.is c.in_ok-front.ensures.read) refl refl refl
@@ -29,7 +29,7 @@ returns-in_default-push-clause-refused c = λ input u.
 pub returns-in-Ok-push-clause-taken : goal.returns-in-Ok-push-clause-taken
 returns-in-Ok-push-clause-taken c =
     let was = c.args.self.now in
-    let inner : Open = record { rest = was.inner.rest; inside = c.read_on.new.self } in
+    let inner : PartlyRead = record { rest = was.inner.rest; inside = c.read_on.new.self } in
     let front = is_at_front _ c.in-Some.front _ _ _ _ _ _ c.in-Some.is c.in_ok-front.ensures.read in
     let pushed = c.in-Ok-push.ensures in
     λ input u. begin_inside input c.in-Some.front was.inner inner c.push.new.self.inner (around was) _ _ _ _ _ _ u front refl
@@ -39,7 +39,7 @@ returns-in-Ok-push-clause-taken c =
 pub returns-in-Err-clause-refused : goal.returns-in-Err-clause-refused
 returns-in-Err-clause-refused c =
     let was = c.args.self.now in
-    let inner : Open = record { rest = was.inner.rest; inside = c.read_on.new.self } in
+    let inner : PartlyRead = record { rest = was.inner.rest; inside = c.read_on.new.self } in
     let r = c.in-Err.ensures.refused in
     λ input u. short_object_inside input c.in-Some.front was.inner inner _ _ _ _ _ _ u
     (is_at_front _ _ _ _ _ _ _ _ c.in-Some.is c.in_ok-front.ensures.read) refl r.0 r.1 r.2

@@ -1,6 +1,6 @@
 use Rattle.spa_read.proofs.Remainders.{filled}
-use Rattle.spa_read.proofs.Bodies.{key_short_behind, one_read, plain_behind, short_behind}
-use Rattle.spa_read.proofs.inside.read_plain_pods.Goals as goal
+use Rattle.spa_read.proofs.Bodies.{key_short_behind, one_read, leaf_behind, short_behind}
+use Rattle.spa_read.proofs.inside.read_leaves.Goals as goal
 
 pub returns-in_default-clause-refused : goal.returns-in_default-clause-refused
 returns-in_default-clause-refused g c =
@@ -15,7 +15,7 @@ returns-in_default-open_counted-clause-refused g c =
 
 pub returns-in-Err-clause-refused : goal.returns-in-Err-clause-refused
 returns-in-Err-clause-refused g c =
-    plain_behind _ _ (g.G.Grows.inside c.reach.new.self) _ _ _ _ _ _ _ _ _ _ c.loop-alloc.invariant c.reach.ensures.same
+    leaf_behind _ _ (g.G.Grows.inside c.reach.new.self) _ _ _ _ _ _ _ _ _ _ c.loop-alloc.invariant c.reach.ensures.same
     c.in-Some.ensures.reached c.in-Some-open_counted.ensures.there
     (c.if-front.false, c.if-front-2.false) c.in-Err.ensures.refused
     c.in-Some-open_counted.ensures.counted
@@ -23,7 +23,7 @@ returns-in-Err-clause-refused g c =
 pub loop-alloc-preserved : goal.loop-alloc-preserved
 loop-alloc-preserved g c =
     let inside = g.G.Grows.inside in
-    let taken = c.in_default-put_plain.ensures.taken in
+    let taken = c.in_default-read_leaf_into.ensures.taken in
     one_read _ _ (inside c.reach.new.self) (inside c.reserve.new.self) _ _ _ _ _ _ _ _ _ _ taken.value
     c.loop-alloc.invariant c.reach.ensures.same c.in-Some.ensures.reached c.in-Some-open_counted.ensures.there
     (c.if-front.false, c.if-front-2.false) taken.its_type taken.read c.reserve.ensures.same

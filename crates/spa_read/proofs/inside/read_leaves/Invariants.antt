@@ -1,6 +1,6 @@
 use Rattle.std.proofs.Common.{length}
 use Rattle.spa_read.specs.Nesting.{Reads}
-use Rattle.spa_read.proofs.inside.read_plain_pods.Given as goal
+use Rattle.spa_read.proofs.inside.read_leaves.Given as goal
 
 abbrev pub invariant-loop-alloc : goal.invariant-loop-alloc
 invariant-loop-alloc g l =

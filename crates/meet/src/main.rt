@@ -1,17 +1,8 @@
 //! `meet [filter] [FILE FILE]`: the object on which two objects agree, from standard input or from two lists, on standard output.
 #![tactic(auto)]
 
-mod answer;
-mod files;
-mod lists;
-mod output;
-mod pair;
-mod request;
-mod run;
-#[cfg(test)]
-mod tests;
-
-use crate::answer::{Answer, Failure};
+use spa_meet_commands::answer::{Answer, Failure, tell};
+use spa_meet_commands::run::run;
 use std::alloc::AllocError;
 use std::env;
 use std::io::{self, ErrorKind};
@@ -21,7 +12,7 @@ use std::process::ExitCode;
 /// status. Where the line can't be written, nothing changes.
 fn main(rt: HostRuntime) -> ExitCode {
     let answer = outcome(&rt);
-    let _ = answer::tell(&mut rt.stderr(), &answer);
+    let _ = tell(&mut rt.stderr(), &answer);
     ExitCode::from(answer.status())
 }
 
@@ -37,7 +28,7 @@ fn outcome(rt: &HostRuntime) -> Answer {
     let Ok(words) = words else {
         return Answer::Refused(Failure::OutOfMemory);
     };
-    let (answer, _) = run::run(
+    let (answer, _) = run(
         rt.alloc(),
         words.as_slice(),
         &mut rt.stdin(),

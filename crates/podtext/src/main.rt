@@ -2,23 +2,8 @@
 //! `podtext diff FILE FILE`: the texts that differ of the pods of two files.
 #![tactic(auto)]
 
-mod answer;
-mod comparing;
-mod extent;
-mod files;
-mod inside;
-mod lines;
-mod listing;
-mod output;
-mod page;
-mod parts;
-mod printing;
-mod reading;
-mod run;
-#[cfg(test)]
-mod tests;
-
-use crate::answer::{Answer, Failure};
+use spa_text_commands::answer::{Answer, Failure, tell};
+use spa_text_commands::run::run;
 use std::alloc::AllocError;
 use std::env;
 use std::io::{self, ErrorKind};
@@ -28,7 +13,7 @@ use std::process::ExitCode;
 /// status. Where the line can't be written, nothing changes.
 fn main(rt: HostRuntime) -> ExitCode {
     let answer = outcome(&rt);
-    let _ = answer::tell(&mut rt.stderr(), &answer);
+    let _ = tell(&mut rt.stderr(), &answer);
     ExitCode::from(answer.status())
 }
 
@@ -44,7 +29,7 @@ fn outcome(rt: &HostRuntime) -> Answer {
     let Ok(words) = words else {
         return Answer::Refused(Failure::OutOfMemory);
     };
-    let (answer, _) = run::run(
+    let (answer, _) = run(
         rt.alloc(),
         words.as_slice(),
         &mut rt.stdin(),

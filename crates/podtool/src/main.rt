@@ -1,17 +1,8 @@
 //! `podtool rewrite|fixate|show`: pods from standard input are rewritten, fixated or listed on standard output.
 #![tactic(auto)]
 
-mod answer;
-#[cfg(test)]
-mod example_pods;
-mod listing;
-mod output;
-mod pods;
-mod run;
-#[cfg(test)]
-mod tests;
-
-use crate::answer::{Answer, Failure};
+use spa_pod_commands::answer::{Answer, Failure, tell};
+use spa_pod_commands::run::run;
 use std::alloc::AllocError;
 use std::env;
 use std::io::{self, ErrorKind};
@@ -21,7 +12,7 @@ use std::process::ExitCode;
 /// status. Where the line can't be written, nothing changes.
 fn main(rt: HostRuntime) -> ExitCode {
     let answer = outcome(&rt);
-    let _ = answer::tell(&mut rt.stderr(), &answer);
+    let _ = tell(&mut rt.stderr(), &answer);
     ExitCode::from(answer.status())
 }
 
@@ -37,7 +28,7 @@ fn outcome(rt: &HostRuntime) -> Answer {
     let Ok(words) = words else {
         return Answer::Refused(Failure::OutOfMemory);
     };
-    let (answer, _) = run::run(rt.alloc(), words.as_slice(), &mut rt.stdin(), rt.stdout());
+    let (answer, _) = run(rt.alloc(), words.as_slice(), &mut rt.stdin(), rt.stdout());
     answer
 }
 

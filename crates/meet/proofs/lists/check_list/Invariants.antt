@@ -1,9 +1,0 @@
-use Rattle.std.proofs.Common.{length}
-use Rattle.meet.proofs.Seeking.{Passed}
-use Rattle.meet.proofs.lists.check_list.Given as goal
-
-abbrev pub invariant-loop-left : goal.invariant-loop-left
-invariant-loop-left l = Passed l.bytes l.left
-
-abbrev pub decreases-loop-left : goal.decreases-loop-left
-decreases-loop-left l = length l.left

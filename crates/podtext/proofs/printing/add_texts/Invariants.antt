@@ -1,9 +1,0 @@
-use Rattle.std.proofs.Common.{length}
-use Rattle.podtext.proofs.PrintedPods.{PrintedSoFar}
-use Rattle.podtext.proofs.printing.add_texts.Given as goal
-
-abbrev pub invariant-loop-left : goal.invariant-loop-left
-invariant-loop-left l = PrintedSoFar l.layout l.mark l.start l.left l.fn.lines.items l.lines.items
-
-abbrev pub decreases-loop-left : goal.decreases-loop-left
-decreases-loop-left l = length l.left

@@ -1,9 +1,0 @@
-use Rattle.std.proofs.Common.{length}
-use Rattle.podtext.proofs.ReadTexts.{ReadSoFar}
-use Rattle.podtext.proofs.reading.read_all.Given as goal
-
-abbrev pub invariant-loop-left : goal.invariant-loop-left
-invariant-loop-left l = ReadSoFar l.bytes l.left l.pods.items l.line
-
-abbrev pub decreases-loop-left : goal.decreases-loop-left
-decreases-loop-left l = length l.left

@@ -1,8 +1,0 @@
-use Rattle.std.proofs.Common.{refl}
-use Rattle.podtool.proofs.Fixating.{short_turn}
-use Rattle.podtool.proofs.pods.first_short.Goals as goal
-
-pub loop-extent-preserved : goal.loop-extent-preserved
-loop-extent-preserved c =
-    short_turn c.args.bytes.now c.loop-extent.left.now c.in-Some.extent c.in-Some.ensures.there c.in-Some.ensures.extent c.loop-extent.invariant.0
-    c.loop-extent.invariant.1 _ refl

@@ -1,0 +1,16 @@
+//! Tests of what the three programs do, over streams that break off and files that are held, and of the names that texts have.
+//! There is nothing here but tests.
+#![tactic(auto)]
+
+#[cfg(test)]
+mod example_pods;
+#[cfg(test)]
+mod meetings;
+#[cfg(test)]
+mod names;
+#[cfg(test)]
+mod pods;
+#[cfg(test)]
+mod streams;
+#[cfg(test)]
+mod texts;

@@ -1,0 +1,104 @@
+-- Two lists of objects, and the first pair of them that agrees: docs/NEGOTIATION.md, "The program".
+use Rattle.std.specs.Prelude.{◌≡◌, ◌<◌, ◌⊎◌, ⊤, ℕ, List, [], ◌∷◌, ◌++◌, Result, Ok, Err, drop, length}
+use Rattle.spa_format.specs.Tree.{Tree}
+use Rattle.spa_format.specs.Pod.{IsPod}
+use Rattle.spa_format.specs.Front.{IsRefused}
+use Rattle.spa_format.specs.Walk.{walk}
+use Rattle.spa_format.specs.Fixation.{walk_size}
+use Rattle.spa_negotiate.specs.Fronts.{BeginsOther, IsObject}
+use Rattle.spa_filter.specs.declared.error.FilterError.{FilterError}
+use Rattle.spa_filter.specs.declared.error.FilterError.TheVariants.{TypeMismatch, Missing, Unsupported, Disjoint}
+use Rattle.spa_filter.specs.declared.error.Side.{Side}
+use Rattle.spa_filter.specs.declared.error.Side.TheVariants.{First, Second}
+use Rattle.spa_meet_commands.specs.Agreeing.{Agree, AgreeIn, ArentAgreed}
+use Rattle.spa_meet_commands.specs.declared.pair.Work.{Work}
+use Rattle.spa_meet_commands.specs.declared.answer.Failure.{Failure}
+use Rattle.spa_meet_commands.specs.declared.answer.Failure.TheVariants.{Apart, NoPair, NoPod, NoObject, OutOfMemory}
+
+-- a pod of an object
+pub record IsOfObject (p : List ℕ) : Type 0 where
+  pub value : Tree
+  pub pod : IsPod p value
+  pub object : IsObject value
+
+-- each of these is one
+abbrev pub AreOfObjects : List (List ℕ) → Type 0
+AreOfObjects [] = ⊤
+AreOfObjects (p ∷ ps) = IsOfObject p × AreOfObjects ps
+
+-- pods of objects one after another, without remainder
+pub record IsList (input : List ℕ) : Type 0 where
+  pub whole : walk_size (walk input) ≡ length input
+  pub objects : AreOfObjects (walk input)
+
+-- in the input some first pods, all of objects, end at this place, and the walk goes on there
+pub record IsBehindObjects (input : List ℕ) (place : ℕ) : Type 0 where
+  pub before : List (List ℕ)
+  pub objects : AreOfObjects before
+  pub order : walk input ≡ before ++ walk (drop place input)
+  pub its_place : place ≡ walk_size before
+  pub some : place < length input
+
+-- what a list of this side stops for at this place, where this is left of it
+abbrev pub StopsAt : Side → ℕ → Failure → List ℕ → Type 0
+StopsAt side place (NoPod s k) left = (s ≡ side) × (k ≡ place) × IsRefused left
+StopsAt side place (NoObject s k) left = (s ≡ side) × (k ≡ place) × BeginsOther left
+StopsAt side place OutOfMemory left = ⊤
+StopsAt side place _ left = ⊥
+
+-- what the input of this side isn't a list for
+abbrev pub IsNoList : Side → Failure → List ℕ → Type 0
+IsNoList side (NoPod s place) input = IsBehindObjects input place × StopsAt side place (NoPod s place) (drop place input)
+IsNoList side (NoObject s place) input = IsBehindObjects input place × StopsAt side place (NoObject s place) (drop place input)
+IsNoList side OutOfMemory input = ⊤
+IsNoList side _ input = ⊥
+
+-- this refusal says that two objects don't agree
+abbrev pub IsOfDisagreement : FilterError → Type 0
+IsOfDisagreement TypeMismatch = ⊤
+IsOfDisagreement (Missing key) = ⊤
+IsOfDisagreement (Unsupported key) = ⊤
+IsOfDisagreement (Disjoint key) = ⊤
+IsOfDisagreement _ = ⊥
+
+-- what comes of two pods: this encoding of an object on which they agree, or this refusal, which doesn't say that they don't
+abbrev pub Gives : Work → (p q : List ℕ) → Result (List ℕ) FilterError → Type 0
+Gives work p q (Ok out) = AgreeIn work p q out
+Gives work p q (Err e) = ArentAgreed work p q e × ¬ (IsOfDisagreement e)
+
+-- the pod agrees with none of these
+abbrev pub AgreesWithNone : Work → List ℕ → List (List ℕ) → Type 0
+AgreesWithNone work p [] = ⊤
+AgreesWithNone work p (q ∷ qs) = (¬ (Agree work p q)) × AgreesWithNone work p qs
+
+-- this comes of the pod and the first of these that it doesn't disagree with
+abbrev pub FirstGives : Work → List ℕ → List (List ℕ) → Result (List ℕ) FilterError → Type 0
+FirstGives work p [] r = ⊥
+FirstGives work p (q ∷ qs) r = Gives work p q r ⊎ ((¬ (Agree work p q)) × FirstGives work p qs r)
+
+-- no two of these and those agree
+abbrev pub NoneAgree : Work → (ps qs : List (List ℕ)) → Type 0
+NoneAgree work [] qs = ⊤
+NoneAgree work (p ∷ ps) qs = AgreesWithNone work p qs × NoneAgree work ps qs
+
+-- this comes of the first of these that agrees with one of those, and of the first of those with which it does
+abbrev pub FirstPairGives : Work → (ps qs : List (List ℕ)) → Result (List ℕ) FilterError → Type 0
+FirstPairGives work [] qs r = ⊥
+FirstPairGives work (p ∷ ps) qs r = FirstGives work p qs r ⊎ (AgreesWithNone work p qs × FirstPairGives work ps qs r)
+
+-- the inputs are two lists, of whose first pair comes this
+pub record ListsGive (work : Work) (r : Result (List ℕ) FilterError) (a b : List ℕ) : Type 0 where
+  pub ours : IsList a
+  pub theirs : IsList b
+  pub pair : FirstPairGives work (walk a) (walk b) r
+
+-- what two inputs are refused for: the first is settled before the second, and both before any pair
+abbrev pub AreListsRefused : Work → Failure → (a b : List ℕ) → Type 0
+AreListsRefused work (NoPod First place) a b = IsNoList First (NoPod First place) a
+AreListsRefused work (NoPod Second place) a b = IsList a × IsNoList Second (NoPod Second place) b
+AreListsRefused work (NoObject First place) a b = IsNoList First (NoObject First place) a
+AreListsRefused work (NoObject Second place) a b = IsList a × IsNoList Second (NoObject Second place) b
+AreListsRefused work NoPair a b = IsList a × IsList b × NoneAgree work (walk a) (walk b)
+AreListsRefused work (Apart e) a b = ListsGive work (Err e) a b
+AreListsRefused work OutOfMemory a b = ⊤
+AreListsRefused work _ a b = ⊥

@@ -1,0 +1,194 @@
+-- Known bytes that stay, and then stay or grow.
+use Rattle.std.specs.Io.KnownBytes.{Appends, Keeps}
+use Rattle.std.proofs.Common.{◌≡◌, ◌≤◌, ℕ, ◌+◌, length-append, length-drop, drop, List, [], Option, Some, None, refl, sym, inl, inr, append-nil, arith, take, length, ◌∙◌, ◌++◌, ap, subst}
+use Rattle.std.specs.Borrow.{Bor}
+use Rattle.std.specs.Prelude.{⊤, Result, Ok, Err, OnOk, IfErr, OnErr}
+use Rattle.std.proofs.lemmas.Bool.{cases_lt}
+use Rattle.std.proofs.lemmas.List.{nil_from_length, take_all}
+use Rattle.spa_format.specs.Tree.{Trees}
+use Rattle.spa_format.specs.Pod.{AreMembers}
+use Rattle.spa_leaf.specs.Reading.{OnFault}
+use Rattle.spa_fixed.specs.Faults.{kind_text}
+use Rattle.spa_fixed.specs.declared.fault.DeserializeError.{DeserializeError}
+use Rattle.spa_fixed.specs.declared.fault.DeserializeError.TheVariants as error
+use Rattle.spa_rewrite.specs.Rewriting.{IsLeft, RefusesFront, RefusesList}
+use Rattle.spa_rewrite.specs.InPlace.{RefusesListAt}
+use Rattle.spa_pod_commands.specs.Answers.{Answers, BeginsToWrite, IsAllOf, IsCutOff, IsNotListed, IsRefusalAt, IsTold, IsUndone, OnAnswer, RefusesInput, Writes}
+use Rattle.spa_pod_commands.specs.declared.answer.Answer.{Answer}
+use Rattle.spa_pod_commands.specs.declared.answer.Answer.TheVariants.{Refused}
+use Rattle.spa_pod_commands.specs.declared.answer.Failure.{Failure}
+use Rattle.spa_pod_commands.specs.declared.answer.Failure.TheVariants.{Pod, OutOfMemory, ReadFailed, WriteFailed}
+
+pub keeps_first : (a : Option (List ℕ)) → Keeps a a
+keeps_first None = tt
+keeps_first (Some a) = refl
+
+pub keeps_keeps : (a b c : Option (List ℕ)) → Keeps a b → Keeps b c → Keeps a c
+keeps_keeps None b c k l = tt
+keeps_keeps (Some a) None c k l = absurd k
+keeps_keeps (Some a) (Some b) None k l = absurd l
+keeps_keeps (Some a) (Some b) (Some c) k l = l ∙ k
+
+pub keeps_appends : (a b c : Option (List ℕ)) (xs : List ℕ) → Keeps a b → Appends b c xs → Appends a c xs
+keeps_appends None b c xs k l = tt
+keeps_appends (Some a) None c xs k l = absurd k
+keeps_appends (Some a) (Some b) None xs k l = absurd l
+keeps_appends (Some a) (Some b) (Some c) xs k l = l ∙ ap (λ ys. ys ++ xs) k
+
+pub appends_keeps : (a b c : Option (List ℕ)) (xs : List ℕ) → Appends a b xs → Keeps b c → Appends a c xs
+appends_keeps None b c xs k l = tt
+appends_keeps (Some a) None c xs k l = absurd k
+appends_keeps (Some a) (Some b) None xs k l = absurd l
+appends_keeps (Some a) (Some b) (Some c) xs k l = l ∙ k
+
+pub keeps_nothing : (a b : Option (List ℕ)) (xs : List ℕ) → Keeps a b → Appends a b (take 0 xs)
+keeps_nothing None b xs k = tt
+keeps_nothing (Some a) None xs k = absurd k
+keeps_nothing (Some a) (Some b) xs k = k ∙ sym (append-nil a)
+
+pub appends_nothing : (a : Option (List ℕ)) → Appends a a []
+appends_nothing None = tt
+appends_nothing (Some a) = sym (append-nil a)
+
+-- so many first bytes are followed by something
+pub some_left : (input : List ℕ) (place : ℕ) → IsLeft input (drop place input) → place + length (drop place input) ≡ length input
+some_left input place h =
+    let d = length-drop place input in
+    elim (cases_lt place (length input)) [
+      | inl l ↦ omega arith
+      | inr l ↦ absurd (h.4 (nil_from_length (drop place input) (omega arith)))
+    ]
+
+-- what is left is no longer than the whole
+pub left_fits : (input left : List ℕ) → IsLeft input left → length left ≤ length input
+left_fits input left h = let e = ap length h.2 in let l = length-append h.1 left in omega (arith, e, l)
+
+-- where the input isn't pods one after another, its refusal is told, and nothing is written
+at_place : (Makes : List ℕ → List ℕ → Type 0) (remaining old : Option (List ℕ)) (input left : List ℕ) (place : ℕ) (name : List ℕ)
+    (told : DeserializeError (Bor (List ℕ))) (why : Failure) → IsAllOf remaining input → IsLeft input left → place + length left ≡ length input →
+    ((vs : Trees) → ¬ (AreMembers vs input)) → RefusesFront left told → name ≡ kind_text told → IsRefusalAt place name why →
+    IsUndone Makes remaining old old why
+at_place Makes remaining old input left place name told (Pod p kind) all behind eq refuses front named t = (
+  record {
+    input = input;
+    read = all;
+    left = left;
+    behind = behind;
+    its_place = subst (λ n. n + length left ≡ length input) (sym t.0) eq;
+    refused = refuses;
+    told = told;
+    front = front;
+    its_kind = t.1 ∙ named;
+  },
+  keeps_first old,
+)
+at_place Makes remaining old input left place name told OutOfMemory all behind eq refuses front named t = absurd t
+at_place Makes remaining old input left place name told ReadFailed all behind eq refuses front named t = absurd t
+at_place Makes remaining old input left place name told WriteFailed all behind eq refuses front named t = absurd t
+
+-- the same of any error that may be told, memory's among them
+pub refusal_undone : {I : Type 0} (Makes : List ℕ → List ℕ → Type 0) (remaining old : Option (List ℕ)) (input left : List ℕ) (place : ℕ)
+    (e : DeserializeError I) (told : DeserializeError (Bor (List ℕ))) (why : Failure) → IsAllOf remaining input → IsLeft input left →
+    place + length left ≡ length input → OnFault ((vs : Trees) → ¬ (AreMembers vs input)) e → RefusesFront left told →
+    kind_text e ≡ kind_text told → IsTold place e why → IsUndone Makes remaining old old why
+refusal_undone Makes remaining old input left place error.OutOfMemory told why all behind eq refuses front named t =
+    subst (λ w. IsUndone Makes remaining old old w) (sym t.told) (keeps_first old)
+refusal_undone Makes remaining old input left place (error.Nom f) told why all behind eq refuses front named t =
+    at_place Makes remaining old input left place _ told why all behind eq refuses front named t.told
+refusal_undone Makes remaining old input left place (error.PropertyWrongKey k) told why all behind eq refuses front named t =
+    at_place Makes remaining old input left place _ told why all behind eq refuses front named t.told
+refusal_undone Makes remaining old input left place error.UnsupportedType told why all behind eq refuses front named t =
+    at_place Makes remaining old input left place _ told why all behind eq refuses front named t.told
+refusal_undone Makes remaining old input left place error.InvalidType told why all behind eq refuses front named t =
+    at_place Makes remaining old input left place _ told why all behind eq refuses front named t.told
+refusal_undone Makes remaining old input left place error.PropertyMissing told why all behind eq refuses front named t =
+    at_place Makes remaining old input left place _ told why all behind eq refuses front named t.told
+refusal_undone Makes remaining old input left place error.InvalidChoiceType told why all behind eq refuses front named t =
+    at_place Makes remaining old input left place _ told why all behind eq refuses front named t.told
+refusal_undone Makes remaining old input left place error.MissingChoiceValues told why all behind eq refuses front named t =
+    at_place Makes remaining old input left place _ told why all behind eq refuses front named t.told
+refusal_undone Makes remaining old input left place error.WrongSize told why all behind eq refuses front named t =
+    at_place Makes remaining old input left place _ told why all behind eq refuses front named t.told
+refusal_undone Makes remaining old input left place error.UnreadMembers told why all behind eq refuses front named t =
+    at_place Makes remaining old input left place _ told why all behind eq refuses front named t.told
+refusal_undone Makes remaining old input left place error.NoElementLeft told why all behind eq refuses front named t =
+    at_place Makes remaining old input left place _ told why all behind eq refuses front named t.told
+refusal_undone Makes remaining old input left place error.FailedReader told why all behind eq refuses front named t =
+    at_place Makes remaining old input left place _ told why all behind eq refuses front named t.told
+
+-- what stays after a write was written
+pub writes_kept : (Makes : List ℕ → List ℕ → Type 0) (remaining old mid new : Option (List ℕ)) → Writes Makes remaining old mid → Keeps mid new →
+    Writes Makes remaining old new
+writes_kept Makes remaining old mid new w k = record {
+  input = w.input;
+  read = w.read;
+  out = w.out;
+  made = w.made;
+  written = appends_keeps old mid new w.out w.written k;
+}
+
+-- and where the output fails then, all that had to be written is there
+pub writes_begun : (Makes : List ℕ → List ℕ → Type 0) (remaining old mid new : Option (List ℕ)) → Writes Makes remaining old mid → Keeps mid new →
+    BeginsToWrite Makes remaining old new
+writes_begun Makes remaining old mid new w k = record {
+  input = w.input;
+  read = w.read;
+  out = w.out;
+  made = w.made;
+  count = length w.out;
+  written = subst (Appends old new) (sym (take_all (length w.out) w.out (omega arith))) (appends_keeps old mid new w.out w.written k);
+}
+
+pub undone_kept : (Makes : List ℕ → List ℕ → Type 0) (remaining old mid new : Option (List ℕ)) (why : Failure) →
+    IsUndone Makes remaining old mid why → Keeps mid new → IsUndone Makes remaining old new why
+undone_kept Makes remaining old mid new (Pod p kind) u k = (u.0, keeps_keeps old mid new u.1 k)
+undone_kept Makes remaining old mid new OutOfMemory u k = keeps_keeps old mid new u k
+undone_kept Makes remaining old mid new ReadFailed u k = keeps_keeps old mid new u k
+undone_kept Makes remaining old mid new WriteFailed u k = record {
+  input = u.input;
+  read = u.read;
+  out = u.out;
+  made = u.made;
+  count = u.count;
+  written = appends_keeps old mid new (take u.count u.out) u.written k;
+}
+
+-- the work's answer, once the output is flushed
+pub answered : {T : Type 0} (Makes : List ℕ → List ℕ → Type 0) (remaining old mid new : Option (List ℕ)) (done : Result T Failure) (answer : Answer) →
+    Keeps mid new → Answers done answer → OnOk done (Writes Makes remaining old mid) → IfErr done (IsUndone Makes remaining old mid) →
+    OnAnswer answer (Writes Makes remaining old new) (IsUndone Makes remaining old new)
+answered Makes remaining old mid new (Ok x) answer k (inl e) w u =
+    subst (λ a. OnAnswer a (Writes Makes remaining old new) (IsUndone Makes remaining old new)) (sym e) (writes_kept Makes remaining old mid new w k)
+answered Makes remaining old mid new (Ok x) answer k (inr e) w u =
+    subst (λ a. OnAnswer a (Writes Makes remaining old new) (IsUndone Makes remaining old new)) (sym e) (writes_begun Makes remaining old mid new w k)
+answered Makes remaining old mid new (Err why) answer k e w u =
+    subst (λ a. OnAnswer a (Writes Makes remaining old new) (IsUndone Makes remaining old new)) (sym e) (undone_kept Makes remaining old mid new why u k)
+
+list_kept : (remaining old mid new : Option (List ℕ)) (why : Failure) → IsNotListed remaining old mid why → Keeps mid new → IsNotListed remaining old new why
+list_kept remaining old mid new (Pod p kind) u k = (u.0, keeps_keeps old mid new u.1 k)
+list_kept remaining old mid new OutOfMemory u k = tt
+list_kept remaining old mid new ReadFailed u k = keeps_keeps old mid new u k
+list_kept remaining old mid new WriteFailed u k = tt
+
+pub answered_list : {T : Type 0} (Makes : List ℕ → List ℕ → Type 0) (remaining old mid new : Option (List ℕ)) (done : Result T Failure) (answer : Answer) →
+    Keeps mid new → Answers done answer → OnOk done (Writes Makes remaining old mid) → IfErr done (IsNotListed remaining old mid) →
+    OnAnswer answer (Writes Makes remaining old new) (IsNotListed remaining old new)
+answered_list Makes remaining old mid new (Ok x) answer k (inl e) w u =
+    subst (λ a. OnAnswer a (Writes Makes remaining old new) (IsNotListed remaining old new)) (sym e) (writes_kept Makes remaining old mid new w k)
+answered_list Makes remaining old mid new (Ok x) answer k (inr e) w u =
+    subst (λ a. OnAnswer a (Writes Makes remaining old new) (IsNotListed remaining old new)) (sym e) tt
+answered_list Makes remaining old mid new (Err why) answer k e w u =
+    subst (λ a. OnAnswer a (Writes Makes remaining old new) (IsNotListed remaining old new)) (sym e) (list_kept remaining old mid new why u k)
+
+pub cut_off : (remaining old new : Option (List ℕ)) (why : Failure) → IsCutOff why → IsNotListed remaining old new why
+cut_off remaining old new why (inl e) = subst (IsNotListed remaining old new) (sym e) tt
+cut_off remaining old new why (inr e) = subst (IsNotListed remaining old new) (sym e) tt
+
+-- a write of what had to be written failed
+pub write_undone : {T : Type 0} (Makes : List ℕ → List ℕ → Type 0) (remaining old new : Option (List ℕ)) (r : Result T Failure) (input out : List ℕ) →
+    IsAllOf remaining input → Makes input out → OnErr r ((n : ℕ) × Appends old new (take n out)) → IfErr r (λ why. why ≡ WriteFailed) →
+    IfErr r (IsUndone Makes remaining old new)
+write_undone Makes remaining old new (Ok x) input out all made begun cause = tt
+write_undone Makes remaining old new (Err e) input out all made begun cause =
+    subst (IsUndone Makes remaining old new) (sym cause)
+    (record { input = input; read = all; out = out; made = made; count = begun.0; written = begun.1 })

@@ -1,0 +1,153 @@
+-- What a run writes, and what it says of that: docs/PROVED.md, "The programs".
+use Rattle.std.specs.Prelude.{◌≡◌, ◌<◌, ◌+◌, ◌⊎◌, ⊤, ℕ, codes, List, [], ◌∷◌, ◌++◌, Option, IfSome, Result, Ok, Err, length, take}
+use Rattle.std.specs.Borrow.{Bor}
+use Rattle.std.specs.Fmt.{decimal}
+use Rattle.std.specs.Io.KnownBytes.{Appends, Keeps}
+use Rattle.spa_format.specs.Tree.{Trees}
+use Rattle.spa_format.specs.Pod.{AreMembers}
+use Rattle.spa_format.specs.Walk.{HasObject, walk}
+use Rattle.spa_format.specs.Fixation.{fixated_bytes, walk_size}
+use Rattle.spa_rewrite.specs.Rewriting.{AreRewritten, IsLeft, RefusesFront}
+use Rattle.spa_fixed.specs.Faults.{kind_text}
+use Rattle.spa_fixed.specs.declared.fault.DeserializeError.{DeserializeError}
+use Rattle.spa_fixed.specs.declared.fault.DeserializeError.TheVariants as error
+use Rattle.spa_pod_commands.specs.declared.output.Output.{Output}
+use Rattle.spa_pod_commands.specs.declared.answer.Answer.{Answer}
+use Rattle.spa_pod_commands.specs.declared.answer.Answer.TheVariants.{Done, Refused, Misused}
+use Rattle.spa_pod_commands.specs.declared.answer.Failure.{Failure}
+use Rattle.spa_pod_commands.specs.declared.answer.Failure.TheVariants.{Pod, OutOfMemory, ReadFailed, WriteFailed}
+
+-- the bytes that the device of an output holds, where they are known
+abbrev pub held : {W : Type 0} → (W → Option (List ℕ)) → Output W → Option (List ℕ)
+held contents output = contents output.sink.device.device
+
+-- the words are this one alone
+abbrev pub IsOneWord : List (Bor (List ℕ)) → List ℕ → Type 0
+IsOneWord [] word = ⊥
+IsOneWord (x ∷ []) word = x.now ≡ word
+IsOneWord (x ∷ y ∷ more) word = ⊥
+
+-- the program's words
+abbrev pub IsUse : List (Bor (List ℕ)) → Type 0
+IsUse words = IsOneWord words (codes "rewrite") ⊎ IsOneWord words (codes "fixate") ⊎ IsOneWord words (codes "show")
+
+-- the one fact where the work was done, and the other of the reason where it was refused
+abbrev pub OnAnswer : Answer → Type 0 → (Failure → Type 0) → Type 0
+OnAnswer Done WasDone WasRefused = WasDone
+OnAnswer (Refused why) WasDone WasRefused = WasRefused why
+OnAnswer Misused WasDone WasRefused = ⊥
+
+-- the answer where the work was done, unless the output can't be flushed then, and where it was refused
+abbrev pub Answers : {T : Type 0} → Result T Failure → Answer → Type 0
+Answers (Ok done) answer = (answer ≡ Done) ⊎ (answer ≡ Refused WriteFailed)
+Answers (Err why) answer = answer ≡ Refused why
+
+-- the program's status
+abbrev pub status_of : Answer → ℕ
+status_of Done = 0
+status_of (Refused why) = 1
+status_of Misused = 2
+
+-- what is said of a refusal
+abbrev pub failure_text : Failure → List ℕ
+failure_text (Pod place kind) = codes "podtool: byte " ++ (decimal place ++ (codes ": " ++ kind.now))
+failure_text OutOfMemory = codes "podtool: out of memory"
+failure_text ReadFailed = codes "podtool: read failed"
+failure_text WriteFailed = codes "podtool: write failed"
+
+-- the line that is written of an answer: none where the work was done
+abbrev pub line_of : Answer → List ℕ
+line_of Done = []
+line_of (Refused why) = failure_text why ++ 10 ∷ []
+line_of Misused = codes "usage: podtool rewrite|fixate|show" ++ 10 ∷ []
+
+-- the rewritings of the pods that the input consists of
+abbrev pub Rewrites : List ℕ → List ℕ → Type 0
+Rewrites input out = AreRewritten input [] out
+
+-- a pod after fixation: an object's is fixated, and any other stays as it was
+abbrev pub IsFixatedPod : List ℕ → List ℕ → Type 0
+IsFixatedPod b out = (HasObject b × (out ≡ fixated_bytes b)) ⊎ ((¬ (HasObject b)) × (out ≡ b))
+
+-- each of these pods so, one after another
+abbrev pub AreFixated : List (List ℕ) → List ℕ → Type 0
+AreFixated [] out = out ≡ []
+AreFixated (p ∷ ps) out = (first : List ℕ) × (others : List ℕ) × (out ≡ first ++ others) × IsFixatedPod p first × AreFixated ps others
+
+-- the pods that the input consists of, each after fixation
+pub record Fixates (input out : List ℕ) : Type 0 where
+  pub values : Trees
+  pub accepted : AreMembers values input
+  pub fixated : AreFixated (walk input) out
+
+-- all that a reader had left is read, where that is known
+abbrev pub IsAllOf : Option (List ℕ) → List ℕ → Type 0
+IsAllOf remaining bytes = IfSome remaining (λ xs. bytes ≡ xs)
+
+-- the input was read whole, and what is made of it was written
+pub record Writes (Makes : List ℕ → List ℕ → Type 0) (remaining old new : Option (List ℕ)) : Type 0 where
+  pub input : List ℕ
+  pub read : IsAllOf remaining input
+  pub out : List ℕ
+  pub made : Makes input out
+  pub written : Appends old new out
+
+-- the same, but that only so many first bytes of it were written, maybe all, and then the output failed
+pub record BeginsToWrite (Makes : List ℕ → List ℕ → Type 0) (remaining old new : Option (List ℕ)) : Type 0 where
+  pub input : List ℕ
+  pub read : IsAllOf remaining input
+  pub out : List ℕ
+  pub made : Makes input out
+  pub count : ℕ
+  pub written : Appends old new (take count out)
+
+-- The input was read whole, and isn't pods one after another: behind some first pods, at this place, begins none, for a reason of this name.
+pub record RefusesInput (remaining : Option (List ℕ)) (place : ℕ) (kind : List ℕ) : Type 0 where
+  pub input : List ℕ
+  pub read : IsAllOf remaining input
+  pub left : List ℕ
+  pub behind : IsLeft input left
+  pub its_place : place + length left ≡ length input
+  pub refused : (vs : Trees) → ¬ (AreMembers vs input)
+  pub told : DeserializeError (Bor (List ℕ))
+  pub front : RefusesFront left told
+  pub its_kind : kind ≡ kind_text told
+
+-- Why the work on an input that has to consist of pods wasn't done, and what was written: nothing, unless a write failed.
+abbrev pub IsUndone : (List ℕ → List ℕ → Type 0) → Option (List ℕ) → Option (List ℕ) → Option (List ℕ) → Failure → Type 0
+IsUndone Makes remaining old new (Pod place kind) = RefusesInput remaining place kind.now × Keeps old new
+IsUndone Makes remaining old new OutOfMemory = Keeps old new
+IsUndone Makes remaining old new ReadFailed = Keeps old new
+IsUndone Makes remaining old new WriteFailed = BeginsToWrite Makes remaining old new
+
+-- the input was read whole, and behind its first whole pods, at this place, begins none
+pub record HasRemainder (remaining : Option (List ℕ)) (place : ℕ) : Type 0 where
+  pub input : List ℕ
+  pub read : IsAllOf remaining input
+  pub behind : place ≡ walk_size (walk input)
+  pub some : place < length input
+
+-- a reason that ends a listing after it has begun
+abbrev pub IsCutOff : Failure → Type 0
+IsCutOff why = (why ≡ OutOfMemory) ⊎ (why ≡ WriteFailed)
+
+-- Why pods weren't listed, and what was written: nothing, where they weren't whole or weren't read.
+abbrev pub IsNotListed : Option (List ℕ) → Option (List ℕ) → Option (List ℕ) → Failure → Type 0
+IsNotListed remaining old new (Pod place kind) = HasRemainder remaining place × Keeps old new
+IsNotListed remaining old new OutOfMemory = ⊤
+IsNotListed remaining old new ReadFailed = Keeps old new
+IsNotListed remaining old new WriteFailed = ⊤
+
+-- the refusal of the top-level pod at this place, by this name
+abbrev pub IsRefusalAt : ℕ → List ℕ → Failure → Type 0
+IsRefusalAt place name (Pod p kind) = (p ≡ place) × (kind.now ≡ name)
+IsRefusalAt place name _ = ⊥
+
+-- what is told for this error
+abbrev pub Tells : {I : Type 0} → ℕ → DeserializeError I → Failure → Type 0
+Tells place error.OutOfMemory failure = failure ≡ OutOfMemory
+Tells place e failure = IsRefusalAt place (kind_text e) failure
+
+-- this error of the pod at this place is told so
+pub record IsTold {I : Type 0} (place : ℕ) (e : DeserializeError I) (failure : Failure) : Type 0 where
+  pub told : Tells place e failure

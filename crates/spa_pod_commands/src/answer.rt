@@ -1,0 +1,72 @@
+//! What becomes of a run, and what is said of it.
+ghost use Rattle.std.specs.Prelude.{◌≡◌, OnOk};
+ghost use Rattle.std.specs.Io.KnownBytes.{Appends};
+ghost use Rattle.spa_pod_commands.specs.Answers.{line_of, status_of};
+
+use std::fmt;
+use std::io::{self, Write};
+
+/// What became of a run.
+#[derive(Debug, Drop)]
+pub enum Answer {
+    /// The work was done.
+    Done,
+    /// It was refused, for this reason.
+    Refused(Failure),
+    /// The words are none of the program's.
+    Misused,
+}
+
+impl Answer {
+    /// The program's status: 0 where the work was done, 1 where it was refused, 2 where the words are none of the program's.
+    pub fn status(&self) -> u8
+        ensures { result ≡ status_of self.now }
+    {
+        match self {
+            Answer::Done => 0,
+            Answer::Refused(_) => 1,
+            Answer::Misused => 2,
+        }
+    }
+}
+
+/// Why a run was refused.
+#[derive(Debug, Drop)]
+pub enum Failure {
+    /// The name of a refusal, and the byte of the input where the refused top-level pod begins.
+    Pod { place: usize, kind: &'static str },
+    /// A growth was refused.
+    OutOfMemory,
+    /// The standard input couldn't be read.
+    ReadFailed,
+    /// The answer couldn't be written.
+    WriteFailed,
+}
+
+impl fmt::Display for Failure {
+    ghost use Rattle.std.specs.Prelude.{Some};
+    ghost use Rattle.spa_pod_commands.specs.Answers.{failure_text};
+
+    ghost output = { λ failure. Some (failure_text failure) };
+
+    fn fmt<W: fmt::Write>(&self, f: &mut fmt::Formatter<W>) -> fmt::Result {
+        match self {
+            Failure::Pod { place, kind } => write!(f, "podtool: byte {place}: {kind}"),
+            Failure::OutOfMemory => write!(f, "podtool: out of memory"),
+            Failure::ReadFailed => write!(f, "podtool: read failed"),
+            Failure::WriteFailed => write!(f, "podtool: write failed"),
+        }
+    }
+}
+
+/// Writes the line of this answer, of work that was done nothing.
+#[tactic(auto, using(crate::proofs::Keeping::appends_nothing))]
+pub fn tell<E: Write>(faults: &mut E, answer: &Answer) -> io::Result<()>
+    ensures told { OnOk result (Appends (E.contents faults.old) (E.contents faults.new) (line_of answer.now)) }
+{
+    match answer {
+        Answer::Done => Ok(()),
+        Answer::Refused(why) => writeln!(faults, "{why}"),
+        Answer::Misused => writeln!(faults, "usage: podtool rewrite|fixate|show"),
+    }
+}

@@ -1,0 +1,8 @@
+//! What `podtool` does: the pods of a reader are rewritten, fixated or listed on a writer.
+#![tactic(auto)]
+
+pub mod answer;
+mod listing;
+mod output;
+mod pods;
+pub mod run;

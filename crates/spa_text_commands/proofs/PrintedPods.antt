@@ -1,0 +1,186 @@
+-- What is printed, pod by pod.
+use Rattle.std.proofs.Common.{◌≡◌, ◌≢◌, ◌≤◌, ℕ, ◌-◌, List, [], ◌∷◌, ◌++◌, Option, refl, sym, inl, inr, arith, length, ◌∙◌, ap, subst, length-append, append_assoc, append-nil}
+use Rattle.std.specs.Borrow.{Bor}
+use Rattle.std.specs.Prelude.{◌⊎◌}
+use Rattle.std.proofs.lemmas.List.{take-append-drop}
+use Rattle.spa_format.specs.Words.{extent, word_at}
+use Rattle.spa_format.specs.Front.{Begins, IsRefused, front_of, rest_of}
+use Rattle.spa_format.specs.Faults.{Stands}
+use Rattle.spa_format.specs.Pod.{AreMembers}
+use Rattle.spa_format.specs.Tree.{Tree, Trees, no_trees, member, join_members}
+use Rattle.spa_format.proofs.Refused.{refused_behind_members}
+use Rattle.spa_format.proofs.Sequences.{members_joined, members_push}
+use Rattle.spa_fixed.specs.Faults.{kind_text}
+use Rattle.spa_fixed.specs.declared.fault.DeserializeError.{DeserializeError}
+use Rattle.spa_fixed.specs.declared.fault.DeserializeError.TheVariants as error
+use Rattle.spa_leaf.specs.Reading.{Names, OnFault}
+use Rattle.spa_text_commands.specs.Answers.{IsAllOf, IsInputRefused, IsRun, IsUndone, OfInput}
+use Rattle.spa_text_commands.specs.Unread.{AddsTexts, IsNoFront, IsStopped, IsWritten, NoFront}
+use Rattle.spa_text_commands.specs.declared.answer.Answer.{Answer}
+use Rattle.spa_text_commands.specs.declared.answer.Answer.TheVariants.{Done}
+use Rattle.spa_text_commands.specs.declared.answer.Origin.{Origin}
+use Rattle.spa_text_commands.specs.declared.answer.Origin.TheVariants.{Input}
+use Rattle.spa_text_commands.specs.Texts.{AreTexts, IsTextIn, Prints, RefusesPods, RefusesTexts}
+use Rattle.spa_text_commands.specs.declared.printing.Layout.{Layout}
+use Rattle.spa_text_commands.specs.declared.answer.Failure.{Failure}
+use Rattle.spa_text_commands.specs.declared.answer.Failure.TheVariants.{Pod, Line, OutOfMemory, ReadFailed, WriteFailed}
+use Rattle.spa_text_commands.proofs.Saying.{keeps_itself}
+
+-- how far the loop over pods is: some first ones are printed, and this is left
+pub record PrintedSoFar (layout : Layout) (mark start left old out : List ℕ) : Type 0 where
+  pub first : List ℕ
+  pub values : Trees
+  pub lines : List ℕ
+  pub whole : start ≡ first ++ left
+  pub members : AreMembers values first
+  pub texts : AreTexts layout mark values lines
+  pub made : out ≡ old ++ lines
+
+pub begins : (layout : Layout) (mark start old out : List ℕ) → out ≡ old → PrintedSoFar layout mark start start old out
+begins layout mark start old out e =
+    record { first = []; values = no_trees; lines = []; whole = refl; members = refl; texts = refl; made = e ∙ sym (append-nil old) }
+
+-- one line more
+pub texts_push : (layout : Layout) (mark : List ℕ) (vs : Trees) (v : Tree) (out text : List ℕ) → AreTexts layout mark vs out → IsTextIn layout v text →
+    AreTexts layout mark (join_members vs (member v no_trees)) (out ++ (mark ++ (text ++ 10 ∷ [])))
+texts_push layout mark no_trees v out text e t = (text, [], ap (λ l. l ++ (mark ++ (text ++ 10 ∷ []))) e, t, refl)
+texts_push layout mark (member w vs) v out text h t =
+    let more = mark ++ (text ++ 10 ∷ []) in (
+      h.0,
+      h.1 ++ more,
+      ap (λ l. l ++ more) h.2
+          ∙ append_assoc mark (h.0 ++ 10 ∷ h.1) more
+          ∙ ap (λ l. mark ++ l) (append_assoc h.0 (10 ∷ h.1) more),
+      h.3,
+      texts_push layout mark vs v h.1 text h.4 t,
+    )
+
+-- the front is passed
+pub front_passed : (input first left rest : List ℕ) → input ≡ first ++ left → rest ≡ rest_of left → input ≡ (first ++ front_of left) ++ rest
+front_passed input first left rest whole behind =
+    whole
+    ∙ ap (λ l. first ++ l) (sym (take-append-drop (extent (word_at left 0)) left) ∙ ap (λ l. front_of left ++ l) (sym behind))
+    ∙ sym (append_assoc first (front_of left) rest)
+
+pub goes_on : (layout : Layout) (mark start left rest old out more text : List ℕ) (v : Tree) → PrintedSoFar layout mark start left old out → Begins left v →
+    rest ≡ rest_of left → more ≡ out ++ (mark ++ (text ++ 10 ∷ [])) → IsTextIn layout v text → PrintedSoFar layout mark start rest old more
+goes_on layout mark start left rest old out more text v so b behind e t = record {
+  first = so.first ++ front_of left;
+  values = join_members so.values (member v no_trees);
+  lines = so.lines ++ (mark ++ (text ++ 10 ∷ []));
+  whole = front_passed start so.first left rest so.whole behind;
+  members = members_push so.values v so.first (front_of left) so.members b.pod;
+  texts = texts_push layout mark so.values v so.lines text so.texts t;
+  made = e ∙ ap (λ l. l ++ (mark ++ (text ++ 10 ∷ []))) so.made ∙ append_assoc old so.lines (mark ++ (text ++ 10 ∷ []));
+}
+
+pub empty : (xs : List ℕ) → length xs ≡ 0 → xs ≡ []
+empty [] e = refl
+empty (x ∷ xs) e = absurd (omega (arith, e))
+
+pub ends : (layout : Layout) (mark start left old out : List ℕ) → PrintedSoFar layout mark start left old out → length left ≡ 0 →
+    AddsTexts layout mark start old out
+ends layout mark start left old out so e =
+    let all : start ≡ so.first = so.whole ∙ ap (λ l. so.first ++ l) (empty left e) ∙ append-nil so.first in
+    (so.values, so.lines, subst (AreMembers so.values) (sym all) so.members, so.texts, so.made)
+
+-- a refusal that isn't for lack of memory
+fault_holds : {I : Type 0} (P : Type 0) (e : DeserializeError I) → e ≢ error.OutOfMemory → OnFault P e → P
+fault_holds P error.OutOfMemory h p = absurd (h refl)
+fault_holds P _ h p = p
+
+pub no_front : (left kind : List ℕ) (e : DeserializeError (Bor (List ℕ))) → e ≢ error.OutOfMemory → OnFault (IsRefused left) e →
+    Names (λ fault at. Stands fault at left) e → kind ≡ kind_text e → NoFront left kind
+no_front left kind e fault refused named its_kind =
+    record { refused = fault_holds (IsRefused left) e fault refused; told = e; named = named; its_kind = its_kind }
+
+pub stops : (layout : Layout) (mark start left old out : List ℕ) (origin : Origin) (place size : ℕ) (why : Failure) → PrintedSoFar layout mark start left old out →
+    ¬ (length left ≡ 0) → length start ≤ size → place ≡ size - length left → IsNoFront origin place left why → IsStopped origin start size why
+stops layout mark start left old out origin place size (Pod from at kind) so some fits is h =
+    let l = ap length so.whole in
+    let a = length-append so.first left in
+    let same = h.1 in (
+      h.0,
+      record {
+        left = left;
+        behind = (so.values, so.first, so.whole, so.members, λ d. some (ap length d));
+        its_place = omega (arith, same, is, l, a, fits);
+        front = h.2;
+      },
+    )
+stops layout mark start left old out origin place size (Line n c k p) so some fits is h = absurd h
+stops layout mark start left old out origin place size OutOfMemory so some fits is h = tt
+stops layout mark start left old out origin place size (ReadFailed o) so some fits is h = absurd h
+stops layout mark start left old out origin place size WriteFailed so some fits is h = absurd h
+
+pub runs_out : (origin : Origin) (start : List ℕ) (size : ℕ) (why : Failure) → why ≡ OutOfMemory → IsStopped origin start size why
+runs_out origin start size why e = subst (IsStopped origin start size) (sym e) tt
+
+-- behind first pods it stops in the whole
+pub stops_whole : (origin : Origin) (input first left : List ℕ) (vs : Trees) (why : Failure) → input ≡ first ++ left → AreMembers vs first →
+    IsStopped origin left (length input) why → RefusesPods origin input why
+stops_whole origin input first left vs (Pod from place kind) whole members h =
+    let s = h.1 in
+    let b = s.behind in
+    let all : input ≡ (first ++ b.1) ++ s.left = whole ∙ ap (λ l. first ++ l) b.2 ∙ sym (append_assoc first b.1 s.left) in
+    let both = members_joined vs b.0 first b.1 members b.3 in (
+      h.0,
+      record {
+        left = s.left;
+        behind = (join_members vs b.0, first ++ b.1, all, both, b.4);
+        its_place = s.its_place;
+        refused = λ us m.
+            refused_behind_members (join_members vs b.0) us (first ++ b.1) s.left both b.4 s.front.refused (subst (AreMembers us) all m);
+        told = s.front.told;
+        named = s.front.named;
+        its_kind = s.front.its_kind;
+      },
+    )
+stops_whole origin input first left vs (Line n c k p) whole members h = absurd h
+stops_whole origin input first left vs OutOfMemory whole members h = tt
+stops_whole origin input first left vs (ReadFailed o) whole members h = absurd h
+stops_whole origin input first left vs WriteFailed whole members h = absurd h
+
+-- all of an input
+pub prints_all : (layout : Layout) (mark input old out : List ℕ) → AddsTexts layout mark input old out → mark ≡ [] → old ≡ [] →
+    Prints layout input out
+prints_all layout mark input old out h m o =
+    (h.0, h.2, subst (AreTexts layout [] h.0) (sym (h.4 ∙ ap (λ l. l ++ h.1) o)) (subst (λ k. AreTexts layout k h.0 h.1) m h.3))
+
+pub refuses_all : (origin : Origin) (input : List ℕ) (why : Failure) → IsStopped origin input (length input) why → RefusesPods origin input why
+refuses_all origin input why h = stops_whole origin input [] input no_trees why refl refl h
+
+-- ---- The run
+
+pub not_read : (Made : List ℕ → Type 0) (Refuses : List ℕ → Failure → Type 0) (remaining old : Option (List ℕ)) (why : Failure) →
+    (why ≡ OutOfMemory) ⊎ (why ≡ ReadFailed Input) → IsUndone Made (IsInputRefused Refuses remaining) old old why
+not_read Made Refuses remaining old why (inl e) =
+    subst (IsUndone Made (IsInputRefused Refuses remaining) old old) (sym e) (tt, keeps_itself old)
+not_read Made Refuses remaining old why (inr e) =
+    subst (IsUndone Made (IsInputRefused Refuses remaining) old old) (sym e) (refl, keeps_itself old)
+
+pub not_printed : (Made : List ℕ → Type 0) (remaining old : Option (List ℕ)) (input : List ℕ) (why : Failure) → IsAllOf remaining input →
+    RefusesPods Input input why → IsUndone Made (IsInputRefused (RefusesPods Input) remaining) old old why
+not_printed Made remaining old input (Pod o p k) all r = ((input, all, r), keeps_itself old)
+not_printed Made remaining old input (Line n c k p) all r = absurd r
+not_printed Made remaining old input OutOfMemory all r = (tt, keeps_itself old)
+not_printed Made remaining old input (ReadFailed o) all r = absurd r
+not_printed Made remaining old input WriteFailed all r = absurd r
+
+pub texts_not_read : (Made : List ℕ → Type 0) (remaining old : Option (List ℕ)) (input : List ℕ) (why : Failure) → IsAllOf remaining input →
+    RefusesTexts input why → IsUndone Made (IsInputRefused RefusesTexts remaining) old old why
+texts_not_read Made remaining old input (Pod o p k) all r = absurd r
+texts_not_read Made remaining old input (Line n c k p) all r = ((input, all, r), keeps_itself old)
+texts_not_read Made remaining old input OutOfMemory all r = (tt, keeps_itself old)
+texts_not_read Made remaining old input (ReadFailed o) all r = absurd r
+texts_not_read Made remaining old input WriteFailed all r = absurd r
+
+pub answered : (Makes : List ℕ → List ℕ → Type 0) (IsRefused : Failure → Type 0) (remaining old new : Option (List ℕ)) (input out : List ℕ)
+    (answer : Answer) → IsAllOf remaining input → Makes input out → IsWritten out Done answer old new →
+    IsRun answer (OfInput Makes remaining) IsRefused old new
+answered Makes IsRefused remaining old new input out answer all is (inl w) =
+    subst (λ a. IsRun a (OfInput Makes remaining) IsRefused old new) (sym w.0)
+    (record { out = out; made = (input, all, is); written = w.1 })
+answered Makes IsRefused remaining old new input out answer all is (inr w) =
+    subst (λ a. IsRun a (OfInput Makes remaining) IsRefused old new) (sym w.0)
+    (record { out = out; made = (input, all, is); count = w.1; written = w.2 })

@@ -1,0 +1,147 @@
+-- Texts that are read, one by one.
+use Rattle.std.proofs.Common.{◌≡◌, ◌≢◌, ◌≤◌, ℕ, ◌+◌, List, [], ◌∷◌, ◌++◌, refl, sym, inl, inr, arith, length, take, drop, ◌∙◌, ap, subst, length-append, append_assoc, append-nil}
+use Rattle.std.specs.Prelude.{◌⊎◌}
+use Rattle.std.specs.Str.{IsUtf8}
+use Rattle.spa_format.specs.Encoding.{encoding_of, member_encodings}
+use Rattle.spa_format.specs.Tree.{Tree, Trees, no_trees, member, join_members}
+use Rattle.spa_format.specs.Writable.{HasNul, IsTooLarge}
+use Rattle.std.proofs.lemmas.List.{take-append-drop}
+use Rattle.spa_text_commands.specs.Extent.{BeginsText, column_behind, line_behind}
+use Rattle.spa_text_commands.specs.Texts.{BeginTexts, HasNoPod, IsRefusedAt, IsText, Reads, RefusesTexts}
+use Rattle.spa_text_commands.specs.Unread.{IsFor, IsNoPod, IsNoText}
+use Rattle.spa_text_commands.specs.declared.answer.Failure.{Failure}
+use Rattle.spa_text_commands.specs.declared.answer.Failure.TheVariants.{Pod, Line, OutOfMemory, ReadFailed, WriteFailed}
+use Rattle.spa_text_commands.specs.declared.reading.Unread.{Unread}
+use Rattle.spa_text_commands.specs.declared.reading.Unread.TheVariants as unread
+use Rattle.spa_text.specs.declared.cause.Cause.{Cause}
+use Rattle.spa_text.specs.declared.cause.Cause.TheVariants as cause
+use Rattle.spa_text_commands.proofs.Extents.{line_bound, lines_append, some_item, text_fits, whole_of}
+use Rattle.spa_text_commands.proofs.PrintedPods.{empty}
+
+-- ---- Values
+
+-- how far the loop over texts is: the values of some first ones are encoded, and this is left, which begins with this line
+pub record ReadSoFar (input left pods : List ℕ) (line : ℕ) : Type 0 where
+  pub values : Trees
+  pub before : List ℕ
+  pub whole : input ≡ before ++ left
+  pub texts : BeginTexts values input left
+  pub made : pods ≡ member_encodings values
+  pub placed : left ≢ [] → (line ≡ line_behind 1 before) × (line + length left ≤ length input + 1)
+
+pub begins : (input pods : List ℕ) → pods ≡ [] → ReadSoFar input input pods 1
+begins input pods e =
+    record { values = no_trees; before = []; whole = refl; texts = refl; made = e; placed = λ _. (refl, omega arith) }
+
+encodings_push : (vs : Trees) (v : Tree) → member_encodings (join_members vs (member v no_trees)) ≡ member_encodings vs ++ encoding_of v
+encodings_push no_trees v = append-nil (encoding_of v)
+encodings_push (member w vs) v = ap (λ l. encoding_of w ++ l) (encodings_push vs v) ∙ sym (append_assoc (encoding_of w) (member_encodings vs) (encoding_of v))
+
+-- one text more
+texts_push : (vs : Trees) (v : Tree) (bytes left text others : List ℕ) → BeginTexts vs bytes left → BeginsText left text others → IsText v text →
+    BeginTexts (join_members vs (member v no_trees)) bytes others
+texts_push no_trees v bytes left text others e b t = (text, others, subst (λ l. BeginsText l text others) (sym e) b, t, refl)
+texts_push (member w vs) v bytes left text others h b t = (h.0, h.1, h.2, h.3, texts_push vs v h.1 left text others h.4 b t)
+
+more_made : (vs : Trees) (v : Tree) (pods more : List ℕ) → pods ≡ member_encodings vs → more ≡ pods ++ encoding_of v →
+    more ≡ member_encodings (join_members vs (member v no_trees))
+more_made vs v pods more e m = m ∙ ap (λ l. l ++ encoding_of v) e ∙ sym (encodings_push vs v)
+
+-- the line behind a text and its end
+next_line : (before text : List ℕ) (line last next : ℕ) → line ≡ line_behind 1 before → last ≡ line_behind line text → next ≡ last + 1 →
+    next ≡ line_behind 1 (before ++ (text ++ 10 ∷ []))
+next_line before text line last next e is n =
+    n
+    ∙ ap (λ k. k + 1) (is ∙ ap (λ k. line_behind k text) e)
+    ∙ sym (lines_append 1 before (text ++ 10 ∷ []) ∙ lines_append (line_behind 1 before) text (10 ∷ []))
+
+pub goes_on : (input left text behind pods more : List ℕ) (line last next : ℕ) (v : Tree) → ReadSoFar input left pods line →
+    BeginsText left text behind → IsText v text → more ≡ pods ++ encoding_of v → last ≡ line_behind line text → next ≡ last + 1 →
+    ReadSoFar input behind more next
+goes_on input left text [] pods more line last next v so b t m is n = record {
+  values = join_members so.values (member v no_trees);
+  before = input;
+  whole = sym (append-nil input);
+  texts = texts_push so.values v input left text [] so.texts b t;
+  made = more_made so.values v pods more so.made m;
+  placed = λ some. absurd (some refl);
+}
+goes_on input left text (y ∷ ys) pods more line last next v so b t m is n =
+    let e : left ≡ text ++ 10 ∷ y ∷ ys = whole_of left text (y ∷ ys) b (some_item y ys) in
+    let l = ap length e ∙ length-append text (10 ∷ y ∷ ys) in
+    let p = so.placed b.some in
+    let r = p.1 in
+    let k = line_bound line text in
+    record {
+      values = join_members so.values (member v no_trees);
+      before = so.before ++ (text ++ 10 ∷ []);
+      whole =
+          so.whole
+          ∙ ap (λ l. so.before ++ l) (e ∙ sym (append_assoc text (10 ∷ []) (y ∷ ys)))
+          ∙ sym (append_assoc so.before (text ++ 10 ∷ []) (y ∷ ys));
+      texts = texts_push so.values v input left text (y ∷ ys) so.texts b t;
+      made = more_made so.values v pods more so.made m;
+      placed = λ _. (next_line so.before text line last next p.0 is n, omega (arith, is, n, l, r, k));
+    }
+
+-- lines can be counted
+pub counted : (input left text behind pods : List ℕ) (line : ℕ) → ReadSoFar input left pods line → BeginsText left text behind →
+    line + length text ≤ length input + 1
+counted input left text behind pods line so b =
+    let p = so.placed b.some in
+    let r = p.1 in
+    let f = text_fits left text behind b in omega (arith, r, f)
+
+pub ends : (input left pods : List ℕ) (line : ℕ) → ReadSoFar input left pods line → length left ≡ 0 → Reads input pods
+ends input left pods line so e = (so.values, subst (BeginTexts so.values input) (empty left e) so.texts, so.made)
+
+-- ---- Refusals
+
+pub refused_at : (text part : List ℕ) (k first line column : ℕ) → HasNoPod text → part ≡ take k text → line ≡ line_behind first part →
+    column ≡ column_behind 1 part → IsRefusedAt text first line column
+refused_at text part k first line column none cut l c = record {
+  against = none;
+  part = part;
+  rest = drop k text;
+  cut = sym (ap (λ p. p ++ drop k text) cut ∙ take-append-drop k text);
+  its_line = l;
+  its_column = c;
+}
+
+pub not_read : (input left text behind pods : List ℕ) (line : ℕ) (why : Failure) → ReadSoFar input left pods line → BeginsText left text behind →
+    IsNoText text line why → RefusesTexts input why
+not_read input left text behind pods line (Pod o p k) so b h = absurd h
+not_read input left text behind pods line (Line l c k p) so b h = record {
+  values = so.values;
+  before = so.before;
+  left = left;
+  whole = so.whole;
+  texts = so.texts;
+  text = text;
+  others = behind;
+  begins = b;
+  refused = subst (λ f. IsRefusedAt text f l c) (so.placed b.some).0 h;
+}
+not_read input left text behind pods line OutOfMemory so b h = tt
+not_read input left text behind pods line (ReadFailed o) so b h = absurd h
+not_read input left text behind pods line WriteFailed so b h = absurd h
+
+-- ---- Why a text has no pod
+
+pub not_utf8 : (line : List ℕ) → ¬ (IsUtf8 line) → HasNoPod line
+not_utf8 line h = inl h
+
+pub no_text : (line : List ℕ) → ((v : Tree) → ¬ (IsText v line)) → HasNoPod line
+no_text line h = inr (inl h)
+
+pub no_encoding : (line : List ℕ) (v : Tree) → IsText v line → HasNul v ⊎ IsTooLarge v → HasNoPod line
+no_encoding line v t h = inr (inr (v, t, h))
+
+-- a refusal that memory isn't the cause of
+pub is_for : (line : List ℕ) (u : Unread) → HasNoPod line → IsFor u → IsNoPod line u
+is_for line unread.OutOfMemory h w = tt
+is_for line (unread.For kind offset path) h w = h
+
+pub no_value : (line text : List ℕ) (c : Cause) → text ≡ line → (c ≢ cause.OutOfMemory → (v : Tree) → ¬ (IsText v text)) → c ≢ cause.OutOfMemory →
+    HasNoPod line
+no_value line text c e h w = no_text line (λ v t. h w v (subst (IsText v) (sym e) t))

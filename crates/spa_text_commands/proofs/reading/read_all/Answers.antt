@@ -1,0 +1,17 @@
+use Rattle.std.proofs.Common.{◌+◌, ap, arith, length, refl}
+use Rattle.spa_text_commands.proofs.Extents.{shorter}
+use Rattle.spa_text_commands.proofs.ReadTexts.{goes_on}
+use Rattle.spa_text_commands.proofs.reading.read_all.Goals as goal
+
+pub loop-left-smaller : goal.loop-left-smaller
+loop-left-smaller c =
+    shorter c.loop-left.left.now c.split_text.result.0.now c.split_text.result.1.now
+    (c.split_text.ensures (λ e. let l = ap length e in grind (arith, l, c.loop-left-test.true, c.is_empty.ensures)))
+
+pub loop-left-preserved : goal.loop-left-preserved
+loop-left-preserved c =
+    goes_on c.args.bytes.now c.loop-left.left.now c.split_text.result.0.now c.split_text.result.1.now c.loop-left.pods.items
+    c.add_pod.new.pods.items c.loop-left.line c.position_behind-last.result.0 (c.position_behind-last.result.0 + 1)
+    c.in-Ok.ensures.added.0 c.loop-left.invariant
+    (c.split_text.ensures (λ e. let l = ap length e in grind (arith, l, c.loop-left-test.true, c.is_empty.ensures)))
+    c.in-Ok.ensures.added.1 c.in-Ok.ensures.added.2 c.position_behind-last.ensures.line refl

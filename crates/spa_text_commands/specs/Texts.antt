@@ -1,0 +1,100 @@
+-- Pods as lines of text: docs/TEXT.md, "The grammar".
+use Rattle.std.specs.Prelude.{◌≡◌, ◌⊎◌, ⊤, ℕ, List, [], ◌∷◌, ◌++◌, length, ◌+◌}
+use Rattle.std.specs.Str.{IsUtf8}
+use Rattle.std.specs.Borrow.{Bor}
+use Rattle.json.specs.Layout.{pretty}
+use Rattle.json.specs.Lex.{tokens}
+use Rattle.spa_format.specs.Tree.{Tree, Trees, no_trees, member}
+use Rattle.spa_format.specs.Pod.{AreMembers}
+use Rattle.spa_format.specs.Encoding.{member_encodings}
+use Rattle.spa_format.specs.Faults.{Stands}
+use Rattle.spa_format.specs.Writable.{HasNul, IsTooLarge}
+use Rattle.spa_fixed.specs.Faults.{kind_text}
+use Rattle.spa_fixed.specs.declared.fault.DeserializeError.{DeserializeError}
+use Rattle.spa_leaf.specs.Reading.{Names}
+use Rattle.spa_rewrite.specs.Rewriting.{IsLeft}
+use Rattle.spa_text.specs.Grammar.{ReadsAs, nothing}
+use Rattle.spa_text.specs.Line.{HasNoEnd}
+use Rattle.spa_text_commands.specs.Extent.{BeginsText, column_behind, line_behind}
+use Rattle.spa_text_commands.specs.declared.answer.Failure.{Failure}
+use Rattle.spa_text_commands.specs.declared.answer.Failure.TheVariants.{Pod, Line, OutOfMemory}
+use Rattle.spa_text_commands.specs.declared.answer.Origin.{Origin}
+use Rattle.spa_text_commands.specs.declared.printing.Layout.{Layout}
+use Rattle.spa_text_commands.specs.declared.printing.Layout.TheVariants.{OneLine, Indented}
+
+-- the text reads as this value, and nothing follows it
+abbrev pub IsText : Tree → List ℕ → Type 0
+IsText v text = ReadsAs nothing v (tokens text) []
+
+-- the same on one line, or with each member and each property on one of its own
+abbrev pub IsTextIn : Layout → Tree → List ℕ → Type 0
+IsTextIn OneLine v text = IsText v text × HasNoEnd text
+IsTextIn Indented v text = IsText v text × (text ≡ pretty (tokens text))
+
+-- a text in this layout behind this mark for each of these values, in order, and the end of its last line
+abbrev pub AreTexts : Layout → (mark : List ℕ) → Trees → List ℕ → Type 0
+AreTexts layout mark no_trees out = out ≡ []
+AreTexts layout mark (member v vs) out =
+    (text : List ℕ) × (others : List ℕ) × (out ≡ mark ++ (text ++ 10 ∷ others)) × IsTextIn layout v text × AreTexts layout mark vs others
+
+-- a text for each pod that the input consists of
+abbrev pub Prints : Layout → List ℕ → List ℕ → Type 0
+Prints layout input out = (vs : Trees) × AreMembers vs input × AreTexts layout [] vs out
+
+-- the bytes begin with texts of these values, in order, and this is left
+abbrev pub BeginTexts : Trees → (bytes left : List ℕ) → Type 0
+BeginTexts no_trees bytes left = bytes ≡ left
+BeginTexts (member v vs) bytes left =
+    (text : List ℕ) × (others : List ℕ) × BeginsText bytes text others × IsText v text × BeginTexts vs others left
+
+-- the pods of the values of which the input is texts, one after another
+abbrev pub Reads : List ℕ → List ℕ → Type 0
+Reads input out = (vs : Trees) × BeginTexts vs input [] × (out ≡ member_encodings vs)
+
+-- the bytes aren't UTF-8, or no text of a value, or one of a value that has no pod
+abbrev pub HasNoPod : List ℕ → Type 0
+HasNoPod text =
+    ¬ (IsUtf8 text) ⊎ ((v : Tree) → ¬ (IsText v text)) ⊎ ((v : Tree) × IsText v text × (HasNul v ⊎ IsTooLarge v))
+
+-- the text, which begins with this line, has no pod, and what is read of it ends in this line and this column
+pub record IsRefusedAt (text : List ℕ) (first line column : ℕ) : Type 0 where
+  pub against : HasNoPod text
+  pub part : List ℕ
+  pub rest : List ℕ
+  pub cut : text ≡ part ++ rest
+  pub its_line : line ≡ line_behind first part
+  pub its_column : column ≡ column_behind 1 part
+
+-- behind some first texts stands one that has no pod; lines and columns are counted from 1
+pub record HasNoTextAt (input : List ℕ) (line column : ℕ) : Type 0 where
+  pub values : Trees
+  pub before : List ℕ
+  pub left : List ℕ
+  pub whole : input ≡ before ++ left
+  pub texts : BeginTexts values input left
+  pub text : List ℕ
+  pub others : List ℕ
+  pub begins : BeginsText left text others
+  pub refused : IsRefusedAt text (line_behind 1 before) line column
+
+-- why texts aren't read
+abbrev pub RefusesTexts : List ℕ → Failure → Type 0
+RefusesTexts input (Line line column kind path) = HasNoTextAt input line column
+RefusesTexts input OutOfMemory = ⊤
+RefusesTexts input _ = ⊥
+
+-- The input isn't pods one after another: behind some first pods, at this place, begins none, for a reason of this name.
+pub record HasNoPodAt (input : List ℕ) (place : ℕ) (kind : List ℕ) : Type 0 where
+  pub left : List ℕ
+  pub behind : IsLeft input left
+  pub its_place : place + length left ≡ length input
+  pub refused : (vs : Trees) → ¬ (AreMembers vs input)
+  pub told : DeserializeError (Bor (List ℕ))
+  pub named : Names (λ fault at. Stands fault at left) told
+  pub its_kind : kind ≡ kind_text told
+
+-- why what comes from there isn't pods
+abbrev pub RefusesPods : Origin → List ℕ → Failure → Type 0
+RefusesPods origin input (Pod from place kind) = (from ≡ origin) × HasNoPodAt input place kind.now
+RefusesPods origin input OutOfMemory = ⊤
+RefusesPods origin input _ = ⊥

@@ -1,0 +1,135 @@
+//! Texts read as pods.
+ghost use Rattle.std.specs.Prelude.{◌≡◌, ◌≢◌, ◌+◌, ◌<◌, ◌^◌, ◌++◌, IfErr, IfOk, IfSome, OnOk, length};
+ghost use Rattle.spa_text_commands.specs.Texts.{IsText, Reads, RefusesTexts};
+ghost use Rattle.spa_text_commands.specs.Unread.{IsFor, IsNoPod, IsNoText};
+ghost use Rattle.spa_format.specs.Encoding.{encoding_of};
+ghost use Rattle.spa_format.specs.Tree.{Tree};
+ghost use Rattle.spa_text.specs.declared.cause.Cause as Cause;
+
+use crate::answer::Failure;
+use crate::extent::{position_behind, split_text};
+use spa_sink::GenError;
+use spa_text::{Cause, TextReader};
+use spa_value::Held;
+use spa_write::write_value;
+use std::alloc::Global;
+
+/// Why a text isn't read.
+#[derive(Drop)]
+enum Unread {
+    OutOfMemory,
+    For {
+        kind: &'static str,
+        /// How many bytes of it stand before the place up to which it was read.
+        offset: usize,
+        path: String,
+    },
+}
+
+/// The pods of the values of which the bytes are texts.
+#[tactic(auto, using(crate::proofs::ReadTexts::begins, crate::proofs::ReadTexts::goes_on, crate::proofs::ReadTexts::ends, crate::proofs::Extents::shorter, crate::proofs::ReadTexts::counted, crate::proofs::ReadTexts::not_read))]
+pub(crate) fn read_all(alloc: Global, bytes: &[u8]) -> Result<Vec<u8>, Failure>
+    ensures read { IfOk result (λ pods. Reads bytes.now pods.items) }
+    ensures refused { IfErr result (RefusesTexts bytes.now) }
+{
+    let mut reader = TextReader::new(alloc);
+    let mut pods = Vec::new(alloc);
+    let mut left = bytes;
+    let mut line = 1;
+    while !left.is_empty() {
+        let (text, behind) = split_text(left);
+        match add_pod(alloc, &mut reader, text, &mut pods) {
+            Ok(()) => {
+                let (last, _) = position_behind(text, line);
+                line = last + 1;
+                left = behind;
+            }
+            Err(why) => return Err(failure_at(why, text, line)),
+        }
+    }
+    Ok(pods)
+}
+
+/// The refusal of a text that begins with this line.
+#[tactic(auto, using(crate::proofs::ReadTexts::refused_at))]
+fn failure_at(why: Unread, text: &[u8], first: usize) -> Failure
+    requires { first + length text.now < 2 ^ 64 }
+    ensures { IsNoPod text.now why → IsNoText text.now first result }
+{
+    match why {
+        Unread::OutOfMemory => Failure::OutOfMemory,
+        Unread::For { kind, offset, path } => {
+            let part = &text[..offset.min(text.len())];
+            let (line, column) = position_behind(part, first);
+            Failure::Line {
+                line,
+                column,
+                kind,
+                path,
+            }
+        }
+    }
+}
+
+/// Adds the pod of the value of which these bytes are a text.
+#[tactic(auto, using(crate::proofs::ReadTexts::not_utf8, crate::proofs::ReadTexts::no_text, crate::proofs::ReadTexts::no_encoding))]
+fn add_pod(
+    alloc: Global,
+    reader: &mut TextReader,
+    bytes: &[u8],
+    pods: &mut Vec<u8>,
+) -> Result<(), Unread>
+    ensures added { OnOk result ((v : Tree) × IsText v bytes.now × (pods.new.items ≡ pods.old.items ++ encoding_of v)) }
+    ensures refused { IfErr result (λ why. IsNoPod bytes.now why) }
+{
+    let text = match str::from_utf8(bytes) {
+        Ok(text) => text,
+        Err(error) => return Err(unread_at(alloc, "Text", error.valid_up_to())),
+    };
+    let value = match reader.read(text) {
+        Ok(value) => Held::from(value),
+        Err(error) => {
+            let Some(kind) = kind_of(error.cause) else {
+                return Err(Unread::OutOfMemory);
+            };
+            return Err(Unread::For {
+                kind,
+                offset: error.offset,
+                path: error.path,
+            });
+        }
+    };
+    match write_value(alloc, pods, &*value) {
+        Ok(_) => Ok(()),
+        Err(error) => match error {
+            GenError::NulInText => Err(unread_at(alloc, "NulInText", 0)),
+            GenError::TooLarge => Err(unread_at(alloc, "TooLarge", 0)),
+            _ => Err(Unread::OutOfMemory),
+        },
+    }
+}
+
+/// A refusal behind so many bytes of a text, for which no path is known.
+fn unread_at(alloc: Global, kind: &'static str, offset: usize) -> Unread
+    ensures { IsFor result }
+{
+    Unread::For {
+        kind,
+        offset,
+        path: String::new(alloc),
+    }
+}
+
+/// The name of a cause, but for want of memory.
+fn kind_of(cause: Cause) -> Option<&'static str>
+    ensures { IfSome result (λ _. cause ≢ Cause.OutOfMemory) }
+{
+    match cause {
+        Cause::OutOfMemory => None,
+        Cause::Token => Some("Token"),
+        Cause::Number => Some("Number"),
+        Cause::Type => Some("Type"),
+        Cause::Count => Some("Count"),
+        Cause::End => Some("End"),
+    }
+}

@@ -1,0 +1,208 @@
+//! The program's work, over a reader, files and a writer.
+ghost use Rattle.std.specs.Prelude.{◌≡◌, ◌≤◌, ◌⊎◌, ℕ, codes, IfErr, IfOk, List, OnOk, string_bytes};
+ghost use Rattle.std.specs.Io.KnownBytes.{Keeps};
+ghost use Rattle.spa_text_commands.specs.Answers.{AreFilesRefused, AreTwoWords, AsksDiff, IsAllOf, IsCompared, IsCutOff, IsInputRefused, IsNotShown, IsOneWord, IsRun, IsUse, OfInput, OnAnswer, ShowsAll};
+ghost use Rattle.spa_text_commands.specs.declared.answer.Answer.TheVariants.{Misused};
+ghost use Rattle.spa_text_commands.specs.declared.answer.Failure as Failure;
+ghost use Rattle.spa_text_commands.specs.declared.answer.Origin.TheVariants.{Input};
+ghost use Rattle.spa_text_commands.specs.declared.printing.Layout as Layout;
+ghost use Rattle.spa_text_commands.specs.Lines.{Lists};
+ghost use Rattle.spa_text_commands.specs.Texts.{Prints, Reads, RefusesPods, RefusesTexts};
+ghost use Rattle.spa_text_commands.specs.Unread.{ComparesFiles, IsWritten};
+
+use crate::answer::{Answer, Failure, Origin};
+use crate::comparing::differences;
+use crate::files::{Sources, read_named};
+use crate::listing::list;
+use crate::output::write_whole;
+use crate::page::Page;
+use crate::printing::{Layout, print_all};
+use crate::reading::read_all;
+use spa_view::split_first;
+use std::alloc::Global;
+use std::io::{ErrorKind, Read, Write};
+
+/// Does what the arguments ask for. By `show` the lines of the whole pods that the input begins with are written, by `print` the
+/// texts of the pods that it consists of, each on one line, or by `print --pretty` indented, by `read` the pods of the texts that it
+/// consists of, and by `diff` and two names the texts that differ of the pods that these files consist of.
+///
+/// The arguments are settled before anything is read, and what is asked for is read whole before anything is written.
+#[tactic(auto, using(crate::proofs::Saying::keeps_itself, crate::proofs::Compared::as_asked))]
+pub fn run<R: Read, S: Sources, W: Write + Drop>(
+    alloc: Global,
+    words: &[&str],
+    input: &mut R,
+    files: &S,
+    device: W,
+) -> (Answer, W)
+    ensures show { IsOneWord words.now (codes "show") → OnAnswer result.0
+        (ShowsAll (R.remaining input.old) (W.contents device) (W.contents result.1))
+        (IsNotShown (R.remaining input.old) (W.contents device) (W.contents result.1)) }
+    ensures print { IsOneWord words.now (codes "print") → IsRun result.0 (OfInput (Prints Layout.OneLine) (R.remaining input.old))
+        (IsInputRefused (RefusesPods Input) (R.remaining input.old)) (W.contents device) (W.contents result.1) }
+    ensures pretty { AreTwoWords words.now (codes "print") (codes "--pretty") → IsRun result.0 (OfInput (Prints Layout.Indented) (R.remaining input.old))
+        (IsInputRefused (RefusesPods Input) (R.remaining input.old)) (W.contents device) (W.contents result.1) }
+    ensures read { IsOneWord words.now (codes "read") → IsRun result.0 (OfInput Reads (R.remaining input.old))
+        (IsInputRefused RefusesTexts (R.remaining input.old)) (W.contents device) (W.contents result.1) }
+    ensures diff { (ours theirs : List ℕ) → AsksDiff words.now ours theirs →
+        IsCompared result.0 (S.holds files.now ours) (S.holds files.now theirs) (W.contents device) (W.contents result.1) }
+    ensures misuse { ¬ (IsUse words.now) → (result.0 ≡ Misused) × Keeps (W.contents device) (W.contents result.1) }
+{
+    match words {
+        ["show"] => show(alloc, input, device),
+        ["print"] => print(alloc, Layout::OneLine, input, device),
+        ["print", "--pretty"] => print(alloc, Layout::Indented, input, device),
+        ["read"] => read(alloc, input, device),
+        ["diff", ours, theirs] => diff(alloc, files, *ours, *theirs, device),
+        _ => (Answer::Misused, device),
+    }
+}
+
+#[tactic(auto, using(crate::proofs::Saying::not_read, crate::proofs::Saying::cut_off, crate::proofs::Saying::shows_all, crate::proofs::Saying::shows_begin, crate::proofs::Saying::keeps_itself))]
+/// Shows the pods that the input begins with, refused ones too. What follows them is refused.
+fn show<R: Read, W: Write + Drop>(alloc: Global, input: &mut R, device: W) -> (Answer, W)
+    ensures { OnAnswer result.0
+        (ShowsAll (R.remaining input.old) (W.contents device) (W.contents result.1))
+        (IsNotShown (R.remaining input.old) (W.contents device) (W.contents result.1)) }
+{
+    let bytes = match read_whole(alloc, input) {
+        Ok(bytes) => bytes,
+        Err(why) => return (Answer::Refused(why), device),
+    };
+    let mut page = Page::new(alloc, device);
+    let left = match list_all(alloc, bytes.as_slice(), &mut page) {
+        Ok(left) => left,
+        Err(why) => return (Answer::Refused(why), page.device),
+    };
+    if page.device.flush().is_err() {
+        return (Answer::Refused(Failure::WriteFailed), page.device);
+    }
+    if left == 0 {
+        return (Answer::Done, page.device);
+    }
+    let why = Failure::Pod {
+        origin: Origin::Input,
+        place: bytes.len() - left,
+        kind: "Short",
+    };
+    (Answer::Refused(why), page.device)
+}
+
+#[tactic(auto, using(crate::proofs::Saying::begins, crate::proofs::Saying::goes_on, crate::proofs::Saying::ends))]
+/// Lists the pods that the bytes begin with, and answers how many bytes follow them.
+fn list_all<W: Write + Drop>(
+    alloc: Global,
+    bytes: &[u8],
+    page: &mut Page<W>,
+) -> Result<usize, Failure>
+    ensures listed { IfOk result (Lists bytes.now (W.contents page.old.device) (string_bytes page.old.waiting) (W.contents page.new.device)) }
+    ensures cause { IfErr result IsCutOff }
+{
+    let mut left = bytes;
+    while let Some((pod, behind)) = split_first(left) {
+        list(alloc, page, pod, bytes.len() - left.len())?;
+        left = behind;
+    }
+    page.write()?;
+    Ok(left.len())
+}
+
+/// Writes a text for each pod that the input consists of, once all are printed.
+#[tactic(auto, using(crate::proofs::PrintedPods::not_read, crate::proofs::PrintedPods::not_printed, crate::proofs::PrintedPods::answered))]
+fn print<R: Read, W: Write + Drop>(
+    alloc: Global,
+    layout: Layout,
+    input: &mut R,
+    device: W,
+) -> (Answer, W)
+    ensures { IsRun result.0 (OfInput (Prints layout) (R.remaining input.old)) (IsInputRefused (RefusesPods Input) (R.remaining input.old))
+        (W.contents device) (W.contents result.1) }
+{
+    let bytes = match read_whole(alloc, input) {
+        Ok(bytes) => bytes,
+        Err(why) => return (Answer::Refused(why), device),
+    };
+    let lines = match print_all(alloc, layout, bytes.as_slice()) {
+        Ok(lines) => lines,
+        Err(why) => return (Answer::Refused(why), device),
+    };
+    write_made(device, lines.as_slice(), Answer::Done)
+}
+
+/// Writes the pods of the texts that the input consists of, once all are read.
+#[tactic(auto, using(crate::proofs::PrintedPods::not_read, crate::proofs::PrintedPods::texts_not_read, crate::proofs::PrintedPods::answered))]
+fn read<R: Read, W: Write + Drop>(alloc: Global, input: &mut R, device: W) -> (Answer, W)
+    ensures { IsRun result.0 (OfInput Reads (R.remaining input.old)) (IsInputRefused RefusesTexts (R.remaining input.old))
+        (W.contents device) (W.contents result.1) }
+{
+    let bytes = match read_whole(alloc, input) {
+        Ok(bytes) => bytes,
+        Err(why) => return (Answer::Refused(why), device),
+    };
+    let pods = match read_all(alloc, bytes.as_slice()) {
+        Ok(pods) => pods,
+        Err(why) => return (Answer::Refused(why), device),
+    };
+    write_made(device, pods.as_slice(), Answer::Done)
+}
+
+/// Writes the lines of text that differ of the pods that the files of these names consist of, once all are compared.
+#[tactic(auto, using(crate::proofs::Compared::not_compared, crate::proofs::Compared::same, crate::proofs::Compared::differ))]
+fn diff<S: Sources, W: Write + Drop>(
+    alloc: Global,
+    files: &S,
+    ours: &str,
+    theirs: &str,
+    device: W,
+) -> (Answer, W)
+    ensures { IsCompared result.0 (S.holds files.now ours.now) (S.holds files.now theirs.now) (W.contents device) (W.contents result.1) }
+{
+    let lines = match compare(alloc, files, ours, theirs) {
+        Ok(lines) => lines,
+        Err(why) => return (Answer::Refused(why), device),
+    };
+    if lines.is_empty() {
+        return (Answer::Done, device);
+    }
+    write_made(device, lines.as_slice(), Answer::Differs)
+}
+
+/// The lines of text that differ of the pods that the files of these names consist of.
+#[tactic(auto, using(crate::proofs::Compared::unread, crate::proofs::Compared::refused, crate::proofs::Compared::compared))]
+fn compare<S: Sources>(
+    alloc: Global,
+    files: &S,
+    ours: &str,
+    theirs: &str,
+) -> Result<Vec<u8>, Failure>
+    ensures compared { IfOk result (λ lines. ComparesFiles (S.holds files.now ours.now) (S.holds files.now theirs.now) lines.items) }
+    ensures refused { IfErr result (AreFilesRefused (S.holds files.now ours.now) (S.holds files.now theirs.now)) }
+{
+    let first = read_named(alloc, files, Origin::First, ours)?;
+    let second = read_named(alloc, files, Origin::Second, theirs)?;
+    differences(alloc, first.as_slice(), second.as_slice())
+}
+
+/// Writes what was made, and answers this, unless the write fails.
+fn write_made<W: Write + Drop>(device: W, made: &[u8], done: Answer) -> (Answer, W)
+    ensures { IsWritten made.now done result.0 (W.contents device) (W.contents result.1) }
+{
+    let (taken, device) = write_whole(device, made);
+    match taken {
+        Ok(()) => (done, device),
+        Err(why) => (Answer::Refused(why), device),
+    }
+}
+
+/// All bytes that the reader gives.
+fn read_whole<R: Read>(alloc: Global, input: &mut R) -> Result<Vec<u8>, Failure>
+    ensures all { IfOk result (λ bytes. IsAllOf (R.remaining input.old) bytes.items) }
+    ensures cause { IfErr result (λ failure. (failure ≡ Failure.OutOfMemory) ⊎ (failure ≡ Failure.ReadFailed Input)) }
+{
+    let mut bytes = Vec::new(alloc);
+    match input.read_to_end(&mut bytes) {
+        Ok(_) => Ok(bytes),
+        Err(error) if error.kind() == ErrorKind::OutOfMemory => Err(Failure::OutOfMemory),
+        Err(_) => Err(Failure::ReadFailed(Origin::Input)),
+    }
+}

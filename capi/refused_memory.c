@@ -217,7 +217,7 @@ int main(void) {
 		refuse_each(noisy, sizeof noisy, written, true);
 		refuse_each(own, written, written, false);
 		refuse_each(noisy, 16, 1024, false);
-		refuse_check(noisy, sizeof noisy, true);
+		refuse_check(noisy, sizeof noisy, false);
 		refuse_check(own, written, false);
 		refuse_check(noisy, 16, false);
 		refuse_in_place(noisy, 16, false);

@@ -3,8 +3,9 @@
  *
  * What a caller keeps to. A region is `n` bytes that may be read, or written where it isn't const, and n is at most PTRDIFF_MAX. NULL
  * is taken where its length is 0. A region that is written overlaps no other argument; a const one may be read by others meanwhile.
- * What a call answers through a pointer (`written`, `at`, a value) is aligned and isn't NULL. The program's malloc, realloc and free
- * come from one allocator. No call is made from a signal handler, or in the forked child of a process with threads.
+ * What a call answers through a pointer (`written`, `at`, a value) is aligned and isn't NULL; a list of calls or events is aligned, too.
+ * The program's malloc, realloc and free come from one allocator. No call is made from a signal handler, or in the forked child of a
+ * process with threads.
  *
  * What a call keeps to. It reads no byte outside of the regions, and writes none but what is said. It ends, on any bytes. It keeps no
  * pointer, holds no state between calls, takes no lock, prints nothing and never ends the process, so calls on different memory
@@ -45,7 +46,7 @@ int32_t spav_rewrite(const void *in, size_t n, void *out, size_t cap, size_t *wr
 int32_t spav_rewrite_in_place(void *bytes, size_t n, size_t *written, size_t *at);
 
 /* Whether `in` is pods one after another, and so can be rewritten. 0: it is. -EINVAL: the refused pod begins at the byte *at.
- * -ENOMEM: as above. */
+ * -ENOMEM: memory was asked for and refused; none is asked for where `in` is pods that nest in 1000 levels at most. */
 int32_t spav_check(const void *in, size_t n, size_t *at);
 
 /* Whether the pod at the front of `in` is its own rewriting: 1 or 0. -ENOMEM: memory was asked for and refused, which is asked for only
@@ -85,7 +86,8 @@ int32_t spav_float(const void *in, size_t n, uint32_t key, uint32_t *bits);
 int32_t spav_double(const void *in, size_t n, uint32_t key, uint64_t *bits);
 
 /* The same of a text: what stands before the first NUL of a string goes to the front of `out`, with one NUL behind it. *len is how
- * long it is without that. -ENOSPC: `cap` isn't more than *len. -EPROTO also says that the string's body doesn't end in NUL. */
+ * long it is without that. -ENOSPC: `cap` isn't more than *len, which alone is written. -EPROTO also says that the string's body
+ * doesn't end in NUL. */
 int32_t spav_string(const void *in, size_t n, uint32_t key, char *out, size_t cap, size_t *len);
 
 /* Writes the object in which the objects at the fronts of `a` and `b` meet to the front of `out`, by the rules of docs/NEGOTIATION.md: under

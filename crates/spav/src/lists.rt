@@ -98,18 +98,15 @@ fn put_across(input: &[u8], out: &mut [u8], written: &mut usize) -> bool
 /// Whether the input is pods one after another.
 ///
 /// 0: it is. -EINVAL: it isn't; the pod that begins at the byte `at` is refused. -ENOMEM: memory was asked for and refused, which
-/// isn't asked for where the input is its own rewriting.
+/// isn't asked for where the input is pods that nest in 1000 levels at most.
 #[unsafe(no_mangle)]
 pub extern "C" fn spav_check(alloc: Global, input: &[u8], at: &mut usize) -> i32
     ensures done { IsDone result → (values : Trees) × AreMembers values input.now }
     ensures refused { IsInvalid result → ListIsRefused input.now at.new }
     ensures memory { IsNoMemory result → ¬ (AreShallow levels_looked_into input.now) }
+    ensures shallow { IsNoMemory result → ¬ (ArePodsWithin levels_looked_into input.now) }
     ensures answers { IsChecked result }
 {
-    let (_, others) = canonical_stretch(input);
-    if others.is_empty() {
-        return DONE;
-    }
     match accept_all(alloc, input) {
         Ok(()) => DONE,
         Err((_left, DeserializeError::OutOfMemory)) => NO_MEMORY,

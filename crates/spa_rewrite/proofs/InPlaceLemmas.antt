@@ -336,20 +336,16 @@ others_deeper input first rest steady others levels i c r s n w =
     n (within_behind s.values steady others levels s.members
     (subst (ArePodsWithin levels) r (within_behind c.values first rest levels c.members (subst (ArePodsWithin levels) i w))))
 
--- first pods stand before others that are accepted, refused, or nest deeper
-pub accepted_behind : (input first rest : List ℕ) → input ≡ first ++ rest → AreCanonical first → (vs : Trees) × AreMembers vs rest →
-    (vs : Trees) × AreMembers vs input
-accepted_behind input first rest i c r =
-    let vs = join_members c.values r.0 in
-    (vs, subst (AreMembers vs) (sym i) (members_joined c.values r.0 first rest c.members r.1))
+-- first pods stand before others that are accepted or refused
+pub accepted_behind : (input first rest : List ℕ) (vs : Trees) → input ≡ first ++ rest → AreMembers vs first → (ws : Trees) × AreMembers ws rest →
+    (ws : Trees) × AreMembers ws input
+accepted_behind input first rest vs i m r =
+    let all = join_members vs r.0 in
+    (all, subst (AreMembers all) (sym i) (members_joined vs r.0 first rest m r.1))
 
-pub list_behind : (input first rest left : List ℕ) (told : DeserializeError (Bor (List ℕ))) → input ≡ first ++ rest → AreCanonical first →
+pub list_behind : (input first rest left : List ℕ) (vs : Trees) (told : DeserializeError (Bor (List ℕ))) → input ≡ first ++ rest → AreMembers vs first →
     RefusesList rest left told → RefusesList input left told
-list_behind input first rest left told i c r = list_refused input left told (left_behind_pods input first rest left c.values i c.members r.behind) r.front
-
-pub rest_deeper : (input first rest : List ℕ) (levels : ℕ) → input ≡ first ++ rest → AreCanonical first → ¬ (ArePodsWithin levels rest) →
-    ¬ (ArePodsWithin levels input)
-rest_deeper input first rest levels i c n w = n (within_behind c.values first rest levels c.members (subst (ArePodsWithin levels) i w))
+list_behind input first rest left vs told i m r = list_refused input left told (left_behind_pods input first rest left vs i m r.behind) r.front
 
 -- pods that are all their own rewritings or became them
 pub across_rewritten : (input first rest steady others all patched : List ℕ) (at k : ℕ) → all ≡ input → input ≡ first ++ rest → AreCanonical first →

@@ -119,10 +119,11 @@ pub fn accept_all(alloc: Global, input: &[u8]) -> Result<(), (&[u8], Deserialize
     ensures missed { IfErr result (λ _. ¬ (ArePodsWithin levels_looked_into input.now)) }
 {
     let (_, rest) = canonical_stretch(input);
-    if let Some(_) = surplus_of_all(rest) {
+    let (_, others) = steady_stretch(rest);
+    if let Some(_) = surplus_of_all(others) {
         return Ok(());
     }
-    match accept_each(alloc, rest) {
+    match accept_each(alloc, others) {
         Ok(()) => Ok(()),
         Err(refusal) => Err(refusal),
     }

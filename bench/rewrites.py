@@ -1,10 +1,9 @@
 #!/usr/bin/env python3
 """rewrites.py OUTDIR: writes the inputs of bench/rewrites.rt.txt, pods that aren't their own rewriting."""
 import os
-import struct
 import sys
 
-from make import ARRAY, INT, NO_FLAGS, OBJECT, STRUCT, examples, pod, words
+from make import ARRAY, INT, NO_FLAGS, OBJECT, STRUCT, examples, noisy, pod, words
 
 BOOL, CHOICE = 2, 19
 NONE, RANGE, ENUM = 0, 1, 3
@@ -18,24 +17,6 @@ def objects(count, values):
     """Objects of ten properties, going round these pods."""
     one = pod(OBJECT, words(262147, 3) + b"".join(words(key, NO_FLAGS) + values[key % len(values)] for key in range(10)))
     return one * count
-
-
-def noisy(pods, keyed=False):
-    """These pods, or properties, with other bytes than zeros as padding, at each depth."""
-    made, at = bytearray(), 0
-    while at < len(pods):
-        if keyed:
-            made += pods[at : at + 8]
-            at += 8
-        size, type_ = struct.unpack_from("<2I", pods, at)
-        body = pods[at + 8 : at + 8 + size]
-        if type_ == STRUCT:
-            body = noisy(body)
-        elif type_ == OBJECT:
-            body = body[:8] + noisy(body[8:], keyed=True)
-        made += words(size, type_) + body + b"\xa5" * (-size % 8)
-        at += 8 + size + -size % 8
-    return bytes(made)
 
 
 INPUTS = {

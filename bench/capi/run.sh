@@ -1,7 +1,7 @@
 #!/usr/bin/env bash
 # run.sh: instructions of a rewriting by libspav (make -C capi) and by the second implementation in C, counted by callgrind: 1,000 pods of
-# examples/, as they are and with noise in their padding, all in one call; and a call for each of 1,000 Props of about 100 bytes. Then those of
-# a list of all that lies inside, beside a function in C that calls itself.
+# examples/, as they are and with noise in their padding, all in one call; and a call for each of 1,000 Props of about 100 bytes. Then a
+# question and a fixation for each pod, and a list of all that lies inside, beside a function in C that calls itself.
 # Without the tunables valgrind counts long copies by their bytes. A count is the difference of two runs that rewrite 2 and 12 times, a tenth of it: the start of the program is in neither.
 set -eu
 here=$(dirname "$(readlink -f "${BASH_SOURCE[0]}")")
@@ -40,6 +40,9 @@ for row in mixed: mixed-noise: small:_each small-noise:_each shrinking: shrinkin
   ours=$(count "library$each" "$file")
   place=$(count "place$each" "$file")
   echo "| $file$each | $one | $ours | $((ours * 100 / one))% | $place | $((place * 100 / one))% |"
+done
+for row in mixed:canonical mixed-noise:canonical mixed:fixate; do
+  echo "| ${row%:*}, ${row#*:} | | $(count "${row#*:}" "${row%:*}") | | | |"
 done
 "$room/calls" events_check "$room/mixed" 1
 one=$(count events_by_calls mixed)

@@ -23,7 +23,7 @@ pub(crate) struct Inside<'a> {
 }
 
 /// Prints a value that holds no others, and of a struct or of an object what comes before what it holds, which is answered.
-pub(crate) fn begin<'a, W: fmt::Write>(
+pub(crate) fn begin_printing<'a, W: fmt::Write>(
     f: &mut fmt::Formatter<W>,
     value: &'a Value,
 ) -> Result<Option<Left<'a>>, fmt::Error>
@@ -97,7 +97,7 @@ fn print_members<'a, W: fmt::Write>(
 {
     let mut left = members;
     while let Some((member, behind)) = left.split_first() {
-        if let Some(inner) = begin(f, member)? {
+        if let Some(inner) = begin_printing(f, member)? {
             return Ok(Some(Inside {
                 inner,
                 behind: Left::Members(behind),
@@ -121,7 +121,7 @@ fn print_properties<'a, W: fmt::Write>(
     while let Some((property, behind)) = left.split_first() {
         let (key, flags) = (property.key, property.flags);
         write!(f, "Property {{ key: {key}, flags: {flags:?}, value: ")?;
-        if let Some(inner) = begin(f, &property.value)? {
+        if let Some(inner) = begin_printing(f, &property.value)? {
             return Ok(Some(Inside {
                 inner,
                 behind: Left::Properties(behind),

@@ -1,7 +1,7 @@
 //! A value that is printed by a loop.
 ghost use Rattle.std.specs.Prelude.{◌≡◌};
 
-use crate::left::begin;
+use crate::left::begin_printing;
 use spa_value::Value;
 use std::alloc::Global;
 use std::fmt;
@@ -25,7 +25,7 @@ impl<'a> Printed<'a> {
 
 impl fmt::Debug for Printed<'_> {
     fn fmt<W: fmt::Write>(&self, f: &mut fmt::Formatter<W>) -> fmt::Result {
-        let Some(outermost) = begin(f, self.value)? else {
+        let Some(outermost) = begin_printing(f, self.value)? else {
             return Ok(());
         };
         let mut outer = Vec::new(self.alloc);

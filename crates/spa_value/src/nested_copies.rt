@@ -77,7 +77,7 @@ impl<'a> Takes for CopiedObject<'a> {
 
 /// Begins the copy of a struct or of an object.
 #[inline(always)]
-fn begin(nested: Nested<'_>) -> Result<Copying<'_>, AllocError>
+fn begin_copy(nested: Nested<'_>) -> Result<Copying<'_>, AllocError>
     ensures { IfOk result (λ begun. Begins (nested_view nested.entry) begun) }
 {
     match nested {
@@ -242,7 +242,7 @@ impl<'a> Copies<'a> {
         let Some(nested) = self.inner.copy_on()? else {
             return self.end();
         };
-        let begun = begin(nested)?;
+        let begun = begin_copy(nested)?;
         if let Err(error) = self.around.reserve(1) {
             drop(begun);
             return Err(error);
@@ -333,7 +333,7 @@ fn copy_within<'a>(outermost: Copying<'a>, nested: Nested<'a>) -> Result<Value, 
             return Err(error);
         }
     };
-    let inner = match begin(nested) {
+    let inner = match begin_copy(nested) {
         Ok(inner) => inner,
         Err(error) => {
             drop(around);

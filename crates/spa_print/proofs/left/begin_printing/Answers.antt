@@ -4,7 +4,7 @@ use Rattle.spa_value.specs.declared.object.Object.{out-Object}
 use Rattle.spa_value.specs.View.{view}
 use Rattle.spa_value.specs.Views.{property_views, views}
 use Rattle.spa_value.proofs.ViewLaws.{view-fields, view-struct}
-use Rattle.spa_print.proofs.left.begin.Goals as goal
+use Rattle.spa_print.proofs.left.begin_printing.Goals as goal
 
 pub returns-in_ok-write_str-in-Struct : goal.returns-in_ok-write_str-in-Struct
 returns-in_ok-write_str-in-Struct o c =

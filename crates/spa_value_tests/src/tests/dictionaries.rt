@@ -7,12 +7,37 @@ use std::fmt::Debug;
 use std::process::Abort;
 use std::test::Fail;
 
+/// Two pairs.
+const PAIRS: [(&[u8], &[u8]); 2] = [(b"K0", b"V0"), (b"K1", b"V1")];
+
+/// The texts of the pairs are these.
+fn assert_texts(rt: &impl Abort, dict: &DictRef<'_>, wanted: &[Option<(&str, &str)>]) {
+    let mut texts = dict.iter();
+    for each in wanted {
+        assert_same(rt, &texts.next(), each, "the pairs");
+    }
+}
+
+/// The texts of the keys are these.
+fn assert_keys(rt: &impl Abort, dict: &DictRef<'_>, wanted: &[Option<&str>]) {
+    let mut keys = dict.keys();
+    for each in wanted {
+        assert_same(rt, &keys.next(), each, "the keys");
+    }
+}
+
+/// The texts of the values are these.
+fn assert_values(rt: &impl Abort, dict: &DictRef<'_>, wanted: &[Option<&str>]) {
+    let mut values = dict.values();
+    for each in wanted {
+        assert_same(rt, &values.next(), each, "the values");
+    }
+}
+
 #[test]
 fn pairs_come_in_order(rt: HostRuntime) -> Result<(), Fail> {
-    let items: [(&[u8], &[u8]); 2] = [(b"K0", b"V0"), (b"K1", b"V1")];
+    let items = PAIRS;
     let dict = DictRef::new(&items, Flags::empty());
-    assert_same(&rt, &dict.len(), &2, "two pairs");
-    assert_holds(&rt, !dict.is_empty(), "two pairs");
     let mut pairs = dict.iter_cstr();
     assert_same(
         &rt,
@@ -34,19 +59,22 @@ fn pairs_come_in_order(rt: HostRuntime) -> Result<(), Fail> {
         "two pairs",
     );
     assert_same(&rt, &pairs.next(), &None, "two pairs");
-    let mut texts = dict.iter();
-    for wanted in [Some(("K0", "V0")), Some(("K1", "V1")), None, None] {
-        assert_same(&rt, &texts.next(), &wanted, "two pairs");
-    }
-    let mut keys = dict.keys();
-    for wanted in [Some("K0"), Some("K1"), None, None] {
-        assert_same(&rt, &keys.next(), &wanted, "two pairs");
-    }
-    let mut values = dict.values();
-    for wanted in [Some("V0"), Some("V1"), None, None] {
-        assert_same(&rt, &values.next(), &wanted, "two pairs");
-    }
     Ok(())
+}
+
+#[test]
+fn texts_of_pairs_come_in_order(rt: HostRuntime) {
+    let items = PAIRS;
+    let dict = DictRef::new(&items, Flags::empty());
+    assert_same(&rt, &dict.len(), &2, "two pairs");
+    assert_holds(&rt, !dict.is_empty(), "two pairs");
+    assert_texts(
+        &rt,
+        &dict,
+        &[Some(("K0", "V0")), Some(("K1", "V1")), None, None],
+    );
+    assert_keys(&rt, &dict, &[Some("K0"), Some("K1"), None, None]);
+    assert_values(&rt, &dict, &[Some("V0"), Some("V1"), None, None]);
 }
 
 #[test]
@@ -59,38 +87,30 @@ fn an_empty_dictionary_has_nothing(rt: HostRuntime) {
     assert_same(&rt, &dict.parse::<bool>("a"), &None, "no pairs");
 }
 
+/// Two pairs of which one side is no text, and two of texts.
+const BROKEN: [(&[u8], &[u8]); 4] = [(b"a", b"\xff"), (b"\xc3", b"0"), (b"a", b"1"), (b"a", b"2")];
+
 #[test]
-fn what_is_no_text_is_passed_over(rt: HostRuntime) {
-    let items: [(&[u8], &[u8]); 4] = [(b"a", b"\xff"), (b"\xc3", b"0"), (b"a", b"1"), (b"a", b"2")];
+fn what_is_no_text_is_not_found(rt: HostRuntime) {
+    let items = BROKEN;
     let dict = DictRef::new(&items, Flags::empty());
+    let sorted = DictRef::new(&items, Flags::SORTED);
     assert_same(&rt, &dict.get("a"), &Some("1"), "bytes that are no text");
     assert_same(&rt, &dict.get("b"), &None, "bytes that are no text");
-    let read = dict.parse::<bool>("a");
-    assert_holds(
-        &rt,
-        matches!(read, Some(Ok(true))),
-        "bytes that are no text",
-    );
-    assert_same(
-        &rt,
-        &DictRef::new(&items, Flags::SORTED).get("a"),
-        &Some("1"),
-        "bytes that are no text",
-    );
+    assert_same(&rt, &sorted.get("a"), &Some("1"), "bytes that are no text");
+    let is_true = matches!(dict.parse::<bool>("a"), Some(Ok(true)));
+    assert_holds(&rt, is_true, "bytes that are no text");
+}
+
+#[test]
+fn what_is_no_text_is_passed_over(rt: HostRuntime) {
+    let items = BROKEN;
+    let dict = DictRef::new(&items, Flags::empty());
     assert_same(&rt, &dict.as_ref().len(), &4, "bytes that are no text");
     assert_same(&rt, &dict.iter_cstr().count(), &4, "bytes that are no text");
-    let mut texts = dict.iter();
-    for wanted in [Some(("a", "1")), Some(("a", "2")), None] {
-        assert_same(&rt, &texts.next(), &wanted, "bytes that are no text");
-    }
-    let mut keys = dict.keys();
-    for wanted in [Some("a"), Some("a"), Some("a"), None] {
-        assert_same(&rt, &keys.next(), &wanted, "bytes that are no text");
-    }
-    let mut values = dict.values();
-    for wanted in [Some("0"), Some("1"), Some("2"), None] {
-        assert_same(&rt, &values.next(), &wanted, "bytes that are no text");
-    }
+    assert_texts(&rt, &dict, &[Some(("a", "1")), Some(("a", "2")), None]);
+    assert_keys(&rt, &dict, &[Some("a"), Some("a"), Some("a"), None]);
+    assert_values(&rt, &dict, &[Some("0"), Some("1"), Some("2"), None]);
 }
 
 #[test]
@@ -119,17 +139,27 @@ fn flags_keep_all_bits(rt: HostRuntime) {
     }
 }
 
+/// What each iterator expects of three pairs, and what that of the keys expects behind the first.
+fn hints(dict: &DictRef<'_>) -> [(usize, Option<usize>); 5] {
+    let mut keys = dict.keys();
+    let _ = keys.next();
+    [
+        dict.iter_cstr().size_hint(),
+        dict.iter().size_hint(),
+        dict.keys().size_hint(),
+        dict.values().size_hint(),
+        keys.size_hint(),
+    ]
+}
+
 #[test]
 fn hints_count_the_pairs_that_are_left(rt: HostRuntime) {
     let items: [(&[u8], &[u8]); 3] = [(b"a", b"1"), (b"b", b"2"), (b"c", b"3")];
     let dict = DictRef::new(&items, Flags::empty());
-    assert_same(&rt, &dict.iter_cstr().size_hint(), &(3, Some(3)), "hints");
-    assert_same(&rt, &dict.iter().size_hint(), &(0, Some(3)), "hints");
-    assert_same(&rt, &dict.keys().size_hint(), &(0, Some(3)), "hints");
-    assert_same(&rt, &dict.values().size_hint(), &(0, Some(3)), "hints");
-    let mut keys = dict.keys();
-    assert_same(&rt, &keys.next(), &Some("a"), "hints");
-    assert_same(&rt, &keys.size_hint(), &(0, Some(2)), "hints");
+    let three = (0, Some(3));
+    let wanted = [(3, Some(3)), three, three, three, (0, Some(2))];
+    assert_same(&rt, &hints(&dict).as_slice(), &wanted.as_slice(), "hints");
+    assert_keys(&rt, &dict, &[Some("a")]);
 }
 
 /// Reads each text as a `T`, by itself and out of a dictionary.
@@ -248,47 +278,48 @@ fn texts_read_as_signed_numbers(rt: HostRuntime) {
     );
 }
 
-#[test]
-fn refusals_name_the_text_and_the_type(rt: HostRuntime) -> Result<(), Fail> {
-    let items: [(&[u8], &[u8]); 1] = [(b"i64-max", b"9223372036854775807")];
-    let Some(Err(refusal)) = DictRef::new(&items, Flags::empty()).parse::<i32>("i64-max") else {
-        assert!(rt; false, "it is too large");
-        return Ok(());
-    };
-    let printed = format!(in rt.alloc(); "{refusal}")?;
-    assert_eq!(rt;
-        printed.as_str(),
-        "'9223372036854775807' cannot be parsed to i32"
-    );
-    // A truth value is never refused, so its name is printed by no refusal.
-    assert_eq!(rt; bool::name(), "bool");
-    Ok(())
-}
-
-/// What `parse` answers for a text that is no number, printed.
-fn printed_refusal<T: ParsableValue>(alloc: Global) -> Result<Option<String>, AllocError> {
-    let items: [(&[u8], &[u8]); 1] = [(b"key", b"ten")];
-    match DictRef::new(&items, Flags::empty()).parse::<T>("key") {
+/// What `parse` answers for a text that is refused, printed.
+fn printed_refusal<T: ParsableValue>(
+    alloc: Global,
+    key: &str,
+    text: &str,
+) -> Result<Option<String>, AllocError> {
+    let items: [(&[u8], &[u8]); 1] = [(key.as_bytes(), text.as_bytes())];
+    match DictRef::new(&items, Flags::empty()).parse::<T>(key) {
         Some(Err(refusal)) => Ok(Some(format!(in alloc; "{refusal}")?)),
         _ => Ok(None),
     }
 }
 
+#[test]
+fn refusals_name_the_text_and_the_type(rt: HostRuntime) -> Result<(), Fail> {
+    let printed = printed_refusal::<i32>(rt.alloc(), "i64-max", "9223372036854775807")?;
+    let wanted = "'9223372036854775807' cannot be parsed to i32";
+    assert_same(&rt, &printed.as_deref(), &Some(wanted), "it is too large");
+    // A truth value is never refused, so its name is printed by no refusal.
+    assert_same(&rt, &bool::name(), &"bool", "its name");
+    Ok(())
+}
+
 /// A type's refusal prints its name.
 fn check_name<T: ParsableValue>(rt: &impl Abort, alloc: Global, wanted: &str) -> Result<(), Fail> {
-    let printed = printed_refusal::<T>(alloc)?;
+    let printed = printed_refusal::<T>(alloc, "key", "ten")?;
     assert_same(rt, &printed.as_deref(), &Some(wanted), "a refusal");
     Ok(())
 }
 
 #[test]
-fn refusals_print_the_name_of_each_type(rt: HostRuntime) -> Result<(), Fail> {
+fn refusals_print_the_name_of_each_signed_type(rt: HostRuntime) -> Result<(), Fail> {
     check_name::<i8>(&rt, rt.alloc(), "'ten' cannot be parsed to i8")?;
     check_name::<i16>(&rt, rt.alloc(), "'ten' cannot be parsed to i16")?;
     check_name::<i32>(&rt, rt.alloc(), "'ten' cannot be parsed to i32")?;
     check_name::<i64>(&rt, rt.alloc(), "'ten' cannot be parsed to i64")?;
     check_name::<i128>(&rt, rt.alloc(), "'ten' cannot be parsed to i128")?;
-    check_name::<isize>(&rt, rt.alloc(), "'ten' cannot be parsed to isize")?;
+    check_name::<isize>(&rt, rt.alloc(), "'ten' cannot be parsed to isize")
+}
+
+#[test]
+fn refusals_print_the_name_of_each_unsigned_type(rt: HostRuntime) -> Result<(), Fail> {
     check_name::<u8>(&rt, rt.alloc(), "'ten' cannot be parsed to u8")?;
     check_name::<u16>(&rt, rt.alloc(), "'ten' cannot be parsed to u16")?;
     check_name::<u32>(&rt, rt.alloc(), "'ten' cannot be parsed to u32")?;

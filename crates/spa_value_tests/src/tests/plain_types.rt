@@ -6,6 +6,8 @@ use spa_utils::{
     Choice, ChoiceEnum, ChoiceFlags, Direction, Errno, Fd, Float32, Float64, Fraction, Id,
     Rectangle, SpaTypes,
 };
+use std::alloc::{AllocError, Global};
+use std::process::Abort;
 use std::test::Fail;
 
 #[test]
@@ -50,9 +52,19 @@ fn errors_have_their_numbers(rt: HostRuntime) -> Result<(), Fail> {
     for (error, number, text) in rows {
         assert_same(&rt, &error.raw_os_error(), &number, text);
         assert_same(&rt, &Errno::from_raw(number), &error, text);
-        let printed = format!(in rt.alloc(); "{error}")?;
-        assert_same(&rt, &printed.as_str(), &text, text);
+        assert_printed(&rt, format!(in rt.alloc(); "{error}"), text)?;
     }
+    Ok(())
+}
+
+/// What is printed is this text.
+fn assert_printed(
+    rt: &impl Abort,
+    printed: Result<String, AllocError>,
+    text: &str,
+) -> Result<(), Fail> {
+    let printed = printed?;
+    assert_same(rt, &printed.as_str(), &text, text);
     Ok(())
 }
 
@@ -68,8 +80,7 @@ fn directions_turn_and_print(rt: HostRuntime) -> Result<(), Fail> {
         assert_same(&rt, &direction.as_raw(), &number, text);
         assert_same(&rt, &Direction::from_raw(number), &direction, text);
         assert_same(&rt, &direction.reverse().as_raw(), &reversed, text);
-        let printed = format!(in rt.alloc(); "{direction:?}")?;
-        assert_same(&rt, &printed.as_str(), &text, text);
+        assert_printed(&rt, format!(in rt.alloc(); "{direction:?}"), text)?;
     }
     Ok(())
 }
@@ -127,42 +138,74 @@ fn plain_types_are_their_fields(rt: HostRuntime) {
     );
 }
 
+/// A choice of each shape.
+fn five_choices(alloc: Global) -> Result<[ChoiceEnum<i32>; 5], AllocError> {
+    let default = 5;
+    let alternatives = [2, 10].to_vec(alloc)?;
+    let flags = [2, 10].to_vec(alloc)?;
+    let (min, max) = (2, 10);
+    let step = 1;
+    Ok([
+        ChoiceEnum::None(default),
+        ChoiceEnum::Range { default, min, max },
+        ChoiceEnum::Step {
+            default,
+            min,
+            max,
+            step,
+        },
+        ChoiceEnum::Enum {
+            default,
+            alternatives,
+        },
+        ChoiceEnum::Flags { default, flags },
+    ])
+}
+
+/// Whether a copy is like its source.
+fn is_like_its_copy<T: Clone + PartialEq>(source: &T) -> Result<bool, AllocError> {
+    let copy = source.clone()?;
+    Ok(*source == copy)
+}
+
+/// A choice is like its copy, and of these only like the one at this place.
+fn assert_choice(
+    rt: &impl Abort,
+    choice: &ChoiceEnum<i32>,
+    choices: &[ChoiceEnum<i32>],
+    place: usize,
+) -> Result<(), Fail> {
+    let is_like = is_like_its_copy(choice)?;
+    assert_holds(rt, is_like, "a copy is like its source");
+    for (other_place, other) in choices.iter().enumerate() {
+        let is_same = *choice == *other;
+        assert_same(rt, &is_same, &(other_place == place), "two choices");
+    }
+    Ok(())
+}
+
 #[test]
 fn choices_are_copied_and_compared(rt: HostRuntime) -> Result<(), Fail> {
-    let none = ChoiceEnum::None(5);
-    let range = ChoiceEnum::Range {
-        default: 5,
-        min: 2,
-        max: 10,
-    };
-    let step = ChoiceEnum::Step {
-        default: 5,
-        min: 2,
-        max: 10,
-        step: 1,
-    };
-    let either = ChoiceEnum::Enum {
-        default: 5,
-        alternatives: [2, 10].to_vec(rt.alloc())?,
-    };
-    let together = ChoiceEnum::Flags {
-        default: 5,
-        flags: [2, 10].to_vec(rt.alloc())?,
-    };
-    let choices = [none, range, step, either, together];
-    for (i, choice) in choices.iter().enumerate() {
-        let copy = choice.clone()?;
-        assert_holds(&rt, *choice == copy, "a copy is like its source");
-        for (j, other) in choices.iter().enumerate() {
-            assert_same(&rt, &(*choice == *other), &(i == j), "two choices");
-        }
+    let choices = five_choices(rt.alloc())?;
+    for (place, choice) in choices.iter().enumerate() {
+        assert_choice(&rt, choice, choices.as_slice(), place)?;
     }
-    let choice = Choice(ChoiceFlags::_FAKE, ChoiceEnum::None(5));
-    let copy = choice.clone()?;
-    assert_holds(&rt, choice == copy, "a copy has its flags");
-    let other = Choice(ChoiceFlags::empty(), ChoiceEnum::None(5));
-    assert_holds(&rt, choice != other, "flags differ");
-    let other = Choice(ChoiceFlags::_FAKE, ChoiceEnum::None(6));
-    assert_holds(&rt, choice != other, "values differ");
+    Ok(())
+}
+
+/// A choice of this one value, with these flags.
+fn one(flags: ChoiceFlags, value: i32) -> Choice<i32> {
+    Choice(flags, ChoiceEnum::None(value))
+}
+
+#[test]
+fn flags_of_choices_are_copied_and_compared(rt: HostRuntime) -> Result<(), Fail> {
+    let choice = one(ChoiceFlags::_FAKE, 5);
+    let is_like = is_like_its_copy(&choice)?;
+    assert_holds(&rt, is_like, "a copy has its flags");
+    let flags_differ = choice != one(ChoiceFlags::empty(), 5);
+    assert_holds(&rt, flags_differ, "flags differ");
+    let values_differ = choice != one(ChoiceFlags::_FAKE, 6);
+    assert_holds(&rt, values_differ, "values differ");
     Ok(())
 }

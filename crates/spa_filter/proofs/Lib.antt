@@ -21,3 +21,4 @@ pub mod Masks
 pub mod Stepping
 pub mod StepKinds
 pub mod CommonPods
+pub mod EnumValues

@@ -1,6 +1,7 @@
 -- What two values filter to, from pod to pod.
-use Rattle.std.specs.Prelude.{◌≡◌, ℕ, List, ◌++◌}
-use Rattle.spa_format.specs.Tree.{Tree, type_of}
+use Rattle.std.specs.Prelude.{◌≡◌, ℕ, List, ◌∷◌, ◌++◌, map}
+use Rattle.spa_format.specs.Kind.{Kind, Fixed, content}
+use Rattle.spa_format.specs.Tree.{Tree, choice, enum_choice, type_of}
 use Rattle.spa_format.specs.Pod.{IsBody, IsPod}
 use Rattle.spa_format.specs.Encoding.{encoding_of}
 use Rattle.spa_filter.specs.Admits.{Admits, AreSupported, IsMeeting, IsPlain, IsSupported}
@@ -33,3 +34,10 @@ pub record IsOffered (v w : Tree) : Type 0 where
   pub plain : IsPlain v
   pub supported : IsSupported w
   pub admitted : Admits w v
+
+-- these are the bodies of the values of an Enum with this body, its default first
+pub record AreEnumValues (k : Kind) (default : Fixed) (values : List (List ℕ)) (body : List ℕ) : Type 0 where
+  pub flags : ℕ
+  pub others : List Fixed
+  pub contents : map (content k) values ≡ default ∷ others
+  pub its_body : IsBody (choice enum_choice flags k default others) body

@@ -8,6 +8,7 @@ ghost use Rattle.spa_filter.specs.Admits.{choice_flags_of};
 ghost use Rattle.spa_filter.specs.CommonPods.{HasBody, IsAppended, IsCommonAppended, IsOffered, IsWritten};
 
 use crate::element::Element;
+use crate::enums::{is_short_enum, put_shared};
 use crate::meeting::meet;
 use crate::offer::{admits, offer_of};
 use crate::values::{are_meetable, is_shape_supported};
@@ -19,6 +20,12 @@ use std::alloc::Global;
 
 /// Where the values of a choice begin in its body: behind its shape and flags, and their size and type.
 const VALUES_AT: usize = 16;
+
+/// The length in bytes of a body of one word.
+const ONE_WORD: usize = 4;
+
+/// The length in bytes of a body of two words.
+const TWO_WORDS: usize = 8;
 
 /// Appends the pod of a value that admits exactly what the values of two pods admit, which are written as their values are, where these
 /// are of a type that travels much: Id, Int, Rectangle or Fraction. `false` says nothing of these: bytes may have been appended, then,
@@ -118,18 +125,27 @@ fn put_choices(alloc: Global, out: &mut Vec<u8>, a: &[u8], b: &[u8]) -> bool
         return false;
     }
     match SpaTypes(u32_at(a, HEADER_LEN + SECOND_WORD)) {
-        SpaTypes::Id => put_over::<Id>(alloc, out, a, b),
-        SpaTypes::Int => put_over::<i32>(alloc, out, a, b),
-        SpaTypes::Rectangle => put_over::<Rectangle>(alloc, out, a, b),
-        SpaTypes::Fraction => put_over::<Fraction>(alloc, out, a, b),
+        SpaTypes::Id => put_over::<Id, ONE_WORD>(alloc, out, a, b),
+        SpaTypes::Int => put_over::<i32, ONE_WORD>(alloc, out, a, b),
+        SpaTypes::Rectangle => put_over::<Rectangle, TWO_WORDS>(alloc, out, a, b),
+        SpaTypes::Fraction => put_over::<Fraction, TWO_WORDS>(alloc, out, a, b),
         _ => false,
     }
 }
 
-/// The same of choices over one type.
-fn put_over<T: Element>(alloc: Global, out: &mut Vec<u8>, a: &[u8], b: &[u8]) -> bool
+/// The same of choices over one type, whose values have so many bytes each.
+fn put_over<T: Element, const N: usize>(
+    alloc: Global,
+    out: &mut Vec<u8>,
+    a: &[u8],
+    b: &[u8],
+) -> bool
+    requires { T.SIZE ≡ N }
     ensures { result ≡ true → (v w : Tree) → HasBody v choice_type a.now → HasBody w choice_type b.now → IsCommonAppended v w out.old.items out.new.items }
 {
+    if is_short_enum(a) && is_short_enum(b) {
+        return put_shared::<T, N>(alloc, out, a, b);
+    }
     let Some(ours) = choice_over::<T>(alloc, a) else {
         return false;
     };

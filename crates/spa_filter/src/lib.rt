@@ -4,6 +4,7 @@
 mod common_pods;
 mod element;
 mod elements;
+mod enums;
 mod error;
 mod filtering;
 mod kept;

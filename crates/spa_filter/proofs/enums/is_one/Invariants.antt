@@ -1,0 +1,9 @@
+use Rattle.std.proofs.Common.{map, take}
+use Rattle.std.specs.List.{Contains}
+use Rattle.spa_format.specs.Kind.{content}
+use Rattle.spa_filter.proofs.enums.is_one.Given as goal
+
+abbrev pub invariant-loop-value : goal.invariant-loop-value
+invariant-loop-value g l =
+    let pod = g.T.CanonicalFixedSizedPod in
+    ¬ (Contains (map (content pod.kind) (take l.value-index l.values)) (pod.fixed l.x))

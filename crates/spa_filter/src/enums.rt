@@ -1,0 +1,144 @@
+//! Two Enums, looked at where they lie.
+ghost use Rattle.std.specs.Prelude.{◌≡◌, ◌↔◌, Contains, IfOk, IfSome, IsTrue, OnOk, map, true};
+ghost use Rattle.spa_format.specs.Kind.{content};
+ghost use Rattle.spa_format.specs.Tree.{Tree, choice_type};
+ghost use Rattle.spa_filter.specs.CommonPods.{AreEnumValues, HasBody, IsCommonAppended};
+ghost use Rattle.spa_filter.specs.Offers.{IsDefault, IsKept, IsOneMoreKept};
+
+use crate::element::Element;
+use crate::offer::{is_among, is_same};
+use bitflags::Flags;
+use spa_bytes::{HEADER_LEN, SECOND_WORD, u32_at};
+use spa_fixed::{ENUM_SHAPE, open_array, put_choice};
+use spa_utils::{Choice, ChoiceEnum, ChoiceFlags};
+use std::alloc::{AllocError, Global};
+
+/// How long the body of an Enum is, at most, whose values are looked for one by one: 17 values of two words each.
+const SHORT_LEN: usize = 152;
+
+/// Whether the body of a choice is a short one of an Enum.
+pub(crate) fn is_short_enum(body: &[u8]) -> bool {
+    body.len() >= HEADER_LEN && body.len() <= SHORT_LEN && u32_at(body, 0) == ENUM_SHAPE
+}
+
+/// The default of an Enum and the bodies of its values, the default's first, of so many bytes each.
+fn enum_view<T: Element, const N: usize>(body: &[u8]) -> Option<(T, &[[u8; N]])>
+    requires size { T.SIZE ≡ N }
+    ensures { IfSome result (λ found. AreEnumValues T.kind (T.fixed found.0) found.1.now body.now) }
+{
+    if body.len() < 2 * HEADER_LEN || u32_at(body, HEADER_LEN + SECOND_WORD) != T::TYPE {
+        return None;
+    }
+    if u32_at(body, 0) != ENUM_SHAPE {
+        return None;
+    }
+    let (_, array) = body.split_at(HEADER_LEN);
+    let elements = open_array::<T>(array)?;
+    let (values, _) = elements.as_chunks::<N>();
+    let first = values.first()?;
+    Some((T::of_body(first), values))
+}
+
+/// Whether an element is one of these values.
+fn is_one<T: Element, const N: usize>(x: &T, values: &[[u8; N]]) -> bool
+    requires { T.SIZE ≡ N }
+    ensures { IsTrue result ↔ Contains (map (content T.kind) values.now) (T.fixed x.now) }
+{
+    for value in values {
+        if is_same(x, &T::of_body(value)) {
+            return true;
+        }
+    }
+    false
+}
+
+/// Those of an Enum's values that another Enum admits, each once, in order.
+fn shared<T: Element, const N: usize>(
+    alloc: Global,
+    ours: &[[u8; N]],
+    theirs: &[[u8; N]],
+) -> Result<Vec<T>, AllocError>
+    requires { T.SIZE ≡ N }
+    ensures { IfOk result (λ kept. IsKept (Contains (map (content T.kind) theirs.now)) (map (content T.kind) ours.now) (map T.fixed kept.items)) }
+{
+    let mut values = Vec::with_capacity(alloc, ours.len())?;
+    for value in ours {
+        keep_shared(&mut values, &T::of_body(value), theirs)?;
+    }
+    Ok(values)
+}
+
+/// Keeps an element that an Enum admits, where it isn't kept yet.
+fn keep_shared<T: Element, const N: usize>(
+    values: &mut Vec<T>,
+    value: &T,
+    theirs: &[[u8; N]],
+) -> Result<(), AllocError>
+    requires { T.SIZE ≡ N }
+    ensures { OnOk result (IsOneMoreKept (Contains (map (content T.kind) theirs.now)) (T.fixed value.now) (map T.fixed values.old.items) (map T.fixed values.new.items)) }
+{
+    if !is_one(value, theirs) {
+        return Ok(());
+    }
+    if is_among(value, values.as_slice()) {
+        return Ok(());
+    }
+    values.push(*value)?;
+    Ok(())
+}
+
+/// The first of these that both Enums admit: the default of the one, that of the other, and an element that both admit.
+fn shared_default<T: Element, const N: usize>(
+    first: &T,
+    ours: &[[u8; N]],
+    second: &T,
+    theirs: &[[u8; N]],
+    other: &T,
+) -> T
+    requires size { T.SIZE ≡ N }
+    requires first { Contains (map (content T.kind) ours.now) (T.fixed first.now) }
+    requires second { Contains (map (content T.kind) theirs.now) (T.fixed second.now) }
+    requires other { Contains (map (content T.kind) ours.now) (T.fixed other.now) × Contains (map (content T.kind) theirs.now) (T.fixed other.now) }
+    ensures { IsDefault (Contains (map (content T.kind) ours.now)) (Contains (map (content T.kind) theirs.now)) (T.fixed first.now) (T.fixed second.now) (T.fixed result) }
+{
+    if is_one(first, theirs) {
+        return *first;
+    }
+    if is_one(second, ours) {
+        return *second;
+    }
+    *other
+}
+
+/// Appends the pod of an Enum of the values that the Enums of two bodies share.
+pub(crate) fn put_shared<T: Element, const N: usize>(
+    alloc: Global,
+    out: &mut Vec<u8>,
+    a: &[u8],
+    b: &[u8],
+) -> bool
+    requires { T.SIZE ≡ N }
+    ensures { result ≡ true → (v w : Tree) → HasBody v choice_type a.now → HasBody w choice_type b.now → IsCommonAppended v w out.old.items out.new.items }
+{
+    let Some(ours) = enum_view::<T, N>(a) else {
+        return false;
+    };
+    let Some(theirs) = enum_view::<T, N>(b) else {
+        return false;
+    };
+    let Ok(values) = shared::<T, N>(alloc, ours.1, theirs.1) else {
+        return false;
+    };
+    let Some(other) = values.first() else {
+        return false;
+    };
+    let default = shared_default(&ours.0, ours.1, &theirs.0, theirs.1, other);
+    let values = ChoiceEnum::Enum {
+        default,
+        alternatives: values,
+    };
+    match put_choice(out, &Choice(ChoiceFlags::empty(), values)) {
+        Ok(()) => true,
+        Err(_) => false,
+    }
+}

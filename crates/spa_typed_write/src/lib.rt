@@ -1,12 +1,11 @@
 //! Typed writers: a type of one's own is written as a pod, at once or member by member.
 #![tactic(auto)]
 
-mod arrays;
+mod array_element;
 mod borrowed;
 mod choices;
 mod elements;
 mod exact;
-mod fixed_types;
 pub mod laws;
 mod listed;
 mod members;
@@ -15,6 +14,7 @@ mod owned;
 mod serializer;
 mod whole;
 
+pub use array_element::ArrayElement;
 pub use elements::ArrayPodSerializer;
 pub use exact::{ExactSerialize, SerializeAs};
 pub use listed::{Maybe, SerializeMembers, SerializeProperties, write_object, write_struct};

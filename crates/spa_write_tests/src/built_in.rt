@@ -69,7 +69,7 @@ fn lists(alloc: Global) -> Result<Vec<u8>, GenError> {
     let out = put(Vec::new(alloc), &[(); 5].as_slice())?;
     let out = put(out, &[false, true].as_slice())?;
     let out = put(out, &[Id(1), Id(2)].as_slice())?;
-    let out = put(out, &[10, 15, 19].as_slice())?;
+    let out = put(out, &[10i32, 15, 19].as_slice())?;
     let out = put(out, &[1i64, 2, 3].as_slice())?;
     let out = put(out, &[Float32(1065353216), Float32(1074580685)].as_slice())?;
     let doubles = [Float64(4607182418800017408), Float64(4612136378390124954)];
@@ -212,7 +212,7 @@ fn refusal<P: PodSerialize, const N: usize>(out: ArrayVec<u8, N>, pod: &P) -> Op
 fn what_fits_is_written(rt: HostRuntime) {
     assert!(rt; refusal(ArrayVec::<u8, 16>::new(), &"foo").is_none());
     assert!(rt; refusal(ArrayVec::<u8, 40>::new(), &steps()).is_none());
-    assert!(rt; refusal(ArrayVec::<u8, 32>::new(), &[10, 15, 19].as_slice()).is_none());
+    assert!(rt; refusal(ArrayVec::<u8, 32>::new(), &[10i32, 15, 19].as_slice()).is_none());
     assert!(rt; refusal(ArrayVec::<u8, 24>::new(), &(7u32, 4096u64)).is_none());
 }
 
@@ -230,7 +230,7 @@ fn what_does_not_fit_is_refused(rt: HostRuntime) {
     );
     assert_refused(
         &rt,
-        refusal(ArrayVec::<u8, 31>::new(), &[10, 15, 19].as_slice()),
+        refusal(ArrayVec::<u8, 31>::new(), &[10i32, 15, 19].as_slice()),
         GenError::Full,
     );
     assert_refused(

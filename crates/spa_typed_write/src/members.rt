@@ -56,7 +56,7 @@ impl<O: PodOutput> PodSerializer<O> {
     {
         let PodSerializer { out } = self;
         Ok(StructPodSerializer {
-            pod: OpenPod::begin(out, SpaTypes::Struct.0)?,
+            pod: OpenPod::begin_pod(out, SpaTypes::Struct.0)?,
         })
     }
 
@@ -69,7 +69,7 @@ impl<O: PodOutput> PodSerializer<O> {
         ensures cause { IfErr result (λ e. MayRefuse O.refuses self header_size e ⊎ MayRefuseBehind O.content O.refuses (O.content self ++ (word_bytes 0 ++ word_bytes object_type)) header_size e) }
     {
         let PodSerializer { out } = self;
-        let mut pod = OpenPod::begin(out, SpaTypes::Object.0)?;
+        let mut pod = OpenPod::begin_pod(out, SpaTypes::Object.0)?;
         pod.put_words(type_, id)?;
         Ok(ObjectPodSerializer { pod })
     }

@@ -35,7 +35,7 @@ impl<O: PodOutput> Model for OpenPod<O> {
 impl<O: PodOutput> OpenPod<O> {
     /// Begins a pod of this type.
     #[inline(always)]
-    pub(crate) fn begin(mut out: O, type_: u32) -> Result<OpenPod<O>, GenError>
+    pub(crate) fn begin_pod(mut out: O, type_: u32) -> Result<OpenPod<O>, GenError>
         ensures begun { IfOk result (λ w. w ≡ Some (record { type = type_; before = O.content out; body = [] })) }
         ensures cause { IfErr result (MayRefuse O.refuses out header_size) }
     {

@@ -1,6 +1,6 @@
 use Rattle.std.proofs.Common.{Some, ap}
 use Rattle.spa_typed_write.proofs.OpenPods.{begun_at, begun_is}
-use Rattle.spa_typed_write.proofs.open_pod.OpenPod.begin.Goals as goal
+use Rattle.spa_typed_write.proofs.open_pod.OpenPod.begin_pod.Goals as goal
 
 pub invariant_of-result : goal.invariant_of-result
 invariant_of-result g c =

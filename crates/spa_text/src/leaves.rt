@@ -12,7 +12,7 @@ ghost use Rattle.spa_value.specs.View.{array_view, choice_view};
 
 use crate::inside::Shape;
 use crate::out::Out;
-use crate::printed::{Printed, begin, print_bits, print_name};
+use crate::printed::{Printed, begin_keyed_object, print_bits, print_name};
 use crate::scalars::takes_text;
 use bitflags::Flags;
 use spa_fixed::ChoiceElement;
@@ -28,7 +28,7 @@ pub(crate) fn print_text(out: &mut Out, text: &str, expected: Expected) -> Resul
     if !takes_text(expected.type_.0) {
         return out.string(text);
     }
-    begin(out, "string")?;
+    begin_keyed_object(out, "string")?;
     out.string(text)?;
     out.end_object()
 }
@@ -43,7 +43,7 @@ pub(crate) fn print_bytes(
     ensures { OnOk result (Prints expected (bytes content.now) out.old.tokens out.new.tokens) }
 {
     let text = hex::encode(alloc, content)?;
-    begin(out, "bytes")?;
+    begin_keyed_object(out, "bytes")?;
     out.string(text.as_str())?;
     out.end_object()
 }
@@ -58,7 +58,7 @@ pub(crate) fn print_bitmap(
     ensures { OnOk result (Prints expected (bitmap content.now) out.old.tokens out.new.tokens) }
 {
     let text = hex::encode(alloc, content)?;
-    begin(out, "bitmap")?;
+    begin_keyed_object(out, "bitmap")?;
     out.string(text.as_str())?;
     out.end_object()
 }
@@ -73,7 +73,7 @@ pub(crate) fn print_pointer(
 ) -> Result<(), AllocError>
     ensures { OnOk result (Prints expected (pointer type_ address) out.old.tokens out.new.tokens) }
 {
-    begin(out, "pointer")?;
+    begin_keyed_object(out, "pointer")?;
     print_name(out, Table::Types, type_)?;
     out.key("address")?;
     print_bits(alloc, out, &address.to_be_bytes())?;
@@ -145,7 +145,7 @@ pub(crate) fn print_array(
 fn begin_list(out: &mut Out, type_: u32, expected: Expected) -> Result<(), AllocError>
     ensures { OnOk result ((kind : Kind) → type_ ≡ type_number kind → Opens expected (an_array expected.ids kind) out.old.tokens out.new.tokens) }
 {
-    begin(out, "array")?;
+    begin_keyed_object(out, "array")?;
     print_name(out, Table::Types, type_)?;
     out.key("values")?;
     out.begin_array()
@@ -253,7 +253,7 @@ fn begin_choice(
 ) -> Result<(), AllocError>
     ensures { OnOk result ((kind : Kind) → type_ ≡ type_number kind → Opens expected (a_choice (shape_of shape) flags expected.ids kind) out.old.tokens out.new.tokens) }
 {
-    begin(out, "choice")?;
+    begin_keyed_object(out, "choice")?;
     out.string(shape_name(shape))?;
     print_flags(out, flags)?;
     print_type(out, type_, expected.type_.0)?;

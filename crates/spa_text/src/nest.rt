@@ -36,13 +36,13 @@ impl Nest {
     {
         match self.inner.next(reader)? {
             Next::Ended => self.end(reader),
-            Next::Wants(head, expected) => self.begin(alloc, reader, head, expected),
+            Next::Wants(head, expected) => self.begin_value(alloc, reader, head, expected),
         }
     }
 
     /// Reads the value that begins with this token, or goes into it. Something is left to read.
     #[tactic(auto, using(crate::proofs::Nesting::leaf_put, crate::proofs::Nesting::leaf_not_put, crate::proofs::Nesting::begun_pushed, crate::proofs::Nesting::not_begun))]
-    fn begin(
+    fn begin_value(
         &mut self,
         alloc: Global,
         reader: &mut Reader<'_>,

@@ -97,7 +97,7 @@ impl Printed for Fraction {
 }
 
 /// Begins an object of this first key.
-pub(crate) fn begin(out: &mut Out, name: &str) -> Result<(), AllocError>
+pub(crate) fn begin_keyed_object(out: &mut Out, name: &str) -> Result<(), AllocError>
     ensures { OnOk result (out.new.tokens ≡ out.old.tokens ++ (token.begin_object ∷ token.key name.now ∷ [])) }
 {
     out.begin_object()?;
@@ -125,7 +125,7 @@ fn begin_number(out: &mut Out, scalar: Scalar, expected: u32) -> Result<bool, Al
     if bare(expected) == scalar {
         return Ok(false);
     }
-    begin(out, scalar_name(scalar))?;
+    begin_keyed_object(out, scalar_name(scalar))?;
     Ok(true)
 }
 
@@ -153,7 +153,7 @@ pub(crate) fn print_name(out: &mut Out, table: Table, number: u32) -> Result<(),
 fn print_two(out: &mut Out, first: &str, m: u32, second: &str, n: u32) -> Result<(), AllocError>
     ensures { OnOk result (out.new.tokens ≡ out.old.tokens ++ two_tokens first.now m second.now n) }
 {
-    begin(out, first)?;
+    begin_keyed_object(out, first)?;
     out.u64(m as u64)?;
     out.key(second)?;
     out.u64(n as u64)?;

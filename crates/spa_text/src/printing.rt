@@ -19,7 +19,7 @@ use crate::leaves::{
 use crate::names::{expected_under, ids_of, keys_of, name_of};
 use crate::numerals::unsigned;
 use crate::out::Out;
-use crate::printed::{Printed, begin, end_braced, print_name};
+use crate::printed::{Printed, begin_keyed_object, end_braced, print_name};
 use bitflags::Flags;
 use spa_names::{Expected, Table};
 use spa_value::{Object, Property, Value};
@@ -178,7 +178,7 @@ fn begin_object<'a>(out: &mut Out, object: &'a Object) -> Result<Begun<'a>, Allo
 fn open_object(out: &mut Out, type_: u32, id: u32) -> Result<(), AllocError>
     ensures { OnOk result ((expected : Expected) → Opens expected (an_object type_ id) out.old.tokens out.new.tokens) }
 {
-    begin(out, "type")?;
+    begin_keyed_object(out, "type")?;
     print_name(out, Table::Types, type_)?;
     out.key("id")?;
     print_name(out, ids_of(type_), id)?;
@@ -283,7 +283,7 @@ fn begin_property(out: &mut Out, keys: Table, key: u32, flags: u32) -> Result<bo
     if flags == 0 {
         return Ok(false);
     }
-    begin(out, "flags")?;
+    begin_keyed_object(out, "flags")?;
     out.u64(flags as u64)?;
     out.key("value")?;
     Ok(true)

@@ -6,5 +6,5 @@ pub returns : goal.returns
 returns c =
     on_ok c.end_object.result
     (bitmap_printed c.args.expected c.args.content.now _ _ _ _ _ (λ i. omega (arith, c.type_inv.content i))
-    (c.as_str.ensures.value ∙ c.in_ok-text.ensures) c.in_ok-begin.ensures c.in_ok-string.ensures.ok)
+    (c.as_str.ensures.value ∙ c.in_ok-text.ensures) c.in_ok-begin_keyed_object.ensures c.in_ok-string.ensures.ok)
     c.end_object.ensures.ok

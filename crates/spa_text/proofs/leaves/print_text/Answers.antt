@@ -9,5 +9,5 @@ returns-then-not-takes_text c =
 pub returns : goal.returns
 returns c =
     on_ok c.end_object.result
-    (text_tagged c.args.expected c.args.text.now _ _ _ _ (search rules) c.in_ok-begin.ensures c.in_ok-string.ensures.ok)
+    (text_tagged c.args.expected c.args.text.now _ _ _ _ (search rules) c.in_ok-begin_keyed_object.ensures c.in_ok-string.ensures.ok)
     c.end_object.ensures.ok

@@ -11,5 +11,5 @@ returns-then-flags-eq0 c =
 
 pub returns : goal.returns
 returns c =
-    property_braced c.args.keys c.args.key c.args.flags _ _ _ _ _ c.ranges.flags.fits (search rules) c.in_ok-print_key.ensures c.in_ok-begin.ensures
-    c.in_ok-u64.ensures.ok c.in_ok-key.ensures.ok
+    property_braced c.args.keys c.args.key c.args.flags _ _ _ _ _ c.ranges.flags.fits (search rules) c.in_ok-print_key.ensures
+    c.in_ok-begin_keyed_object.ensures c.in_ok-u64.ensures.ok c.in_ok-key.ensures.ok

@@ -23,14 +23,14 @@ pub returns-in-Wants-clause-taken : goal.returns-in-Wants-clause-taken
 returns-in-Wants-clause-taken c =
     let was = c.args.self.now in
     let mid : Nest = record { inner = c.next.new.self; outer = was.outer } in
-    to_begin c.begin.result was mid _ _ _ _ _ _
+    to_begin c.begin_value.result was mid _ _ _ _ _ _
     (c.in_ok-next.ensures.next ∙ ap (λ n. Some (next_of (frame_of c.next.new.self) n, c.next.new.reader)) c.in-Wants.is) refl
-    c.begin.ensures.taken
+    c.begin_value.ensures.taken
 
 pub returns-in-Wants-clause-refused : goal.returns-in-Wants-clause-refused
 returns-in-Wants-clause-refused c =
     let was = c.args.self.now in
     let mid : Nest = record { inner = c.next.new.self; outer = was.outer } in
-    to_begin_refused c.begin.result was mid _ _ _ _
+    to_begin_refused c.begin_value.result was mid _ _ _ _
     (c.in_ok-next.ensures.next ∙ ap (λ n. Some (next_of (frame_of c.next.new.self) n, c.next.new.reader)) c.in-Wants.is) refl
-    c.begin.ensures.refused
+    c.begin_value.ensures.refused

@@ -17,13 +17,13 @@ enum Place {
 
 /// How far brackets are open behind some bytes.
 #[derive(Clone, Copy)]
-struct Open {
+struct OpenBrackets {
     place: Place,
     /// How many.
     count: usize,
 }
 
-impl Open {
+impl OpenBrackets {
     /// Whether this byte ends the text.
     fn ends(self, byte: u8) -> bool
         ensures { result ≡ (byte == 10 && self.count == 0) }
@@ -32,12 +32,12 @@ impl Open {
     }
 
     /// What is open behind this byte.
-    fn pass(self, byte: u8) -> Open
+    fn pass(self, byte: u8) -> OpenBrackets
         requires { self.count + 1 < 2 ^ 64 }
         ensures place { place_of result.place ≡ spec.place_behind (place_of self.place) byte }
         ensures count { result.count ≡ spec.open_behind (place_of self.place) byte self.count }
     {
-        Open {
+        OpenBrackets {
             place: place_behind(self.place, byte),
             count: open_behind(self.place, byte, self.count),
         }
@@ -100,7 +100,7 @@ fn open_behind(place: Place, byte: u8, count: usize) -> usize
 pub(crate) fn split_text(bytes: &[u8]) -> (&[u8], &[u8])
     ensures { bytes.now ≢ [] → BeginsText bytes.now result.0.now result.1.now }
 {
-    let mut open = Open {
+    let mut open = OpenBrackets {
         place: Place::Outside,
         count: 0,
     };

@@ -1,6 +1,8 @@
-//! A sink over a device, which counts what the device took.
+//! A sink over a device, which counts what the device took, and inputs read whole.
 #![tactic(auto)]
 
 mod device;
+mod input;
 
 pub use device::IoSink;
+pub use input::{ReadError, read_whole};

@@ -13,7 +13,8 @@ use Rattle.spa_fixed.specs.declared.fault.DeserializeError.{DeserializeError}
 use Rattle.spa_fixed.specs.declared.fault.DeserializeError.TheVariants as error
 use Rattle.spa_rewrite.specs.Rewriting.{IsLeft, RefusesFront, RefusesList}
 use Rattle.spa_rewrite.specs.InPlace.{RefusesListAt}
-use Rattle.spa_pod_commands.specs.Answers.{Answers, BeginsToWrite, IsAllOf, IsCutOff, IsNotListed, IsRefusalAt, IsTold, IsUndone, OnAnswer, RefusesInput, Writes}
+use Rattle.spa_device.specs.Whole.{IsAllOf}
+use Rattle.spa_pod_commands.specs.Answers.{Answers, BeginsToWrite, IsCutOff, IsNotListed, IsRefusalAt, IsTold, IsUndone, OnAnswer, RefusesInput, Writes}
 use Rattle.spa_pod_commands.specs.declared.answer.Answer.{Answer}
 use Rattle.spa_pod_commands.specs.declared.answer.Answer.TheVariants.{Refused}
 use Rattle.spa_pod_commands.specs.declared.answer.Failure.{Failure}

@@ -1,8 +1,9 @@
 -- What a run writes, and what it says of that: docs/PROVED.md, "The programs".
-use Rattle.std.specs.Prelude.{◌≡◌, ◌<◌, ◌+◌, ◌⊎◌, ⊤, ℕ, codes, List, [], ◌∷◌, ◌++◌, Option, IfSome, Result, Ok, Err, length, take}
+use Rattle.std.specs.Prelude.{◌≡◌, ◌<◌, ◌+◌, ◌⊎◌, ⊤, ℕ, codes, List, [], ◌∷◌, ◌++◌, Option, Result, Ok, Err, length, take}
 use Rattle.std.specs.Borrow.{Bor}
 use Rattle.std.specs.Fmt.{decimal}
 use Rattle.std.specs.Io.KnownBytes.{Appends, Keeps}
+use Rattle.spa_device.specs.Whole.{IsAllOf}
 use Rattle.spa_format.specs.Tree.{Trees}
 use Rattle.spa_format.specs.Pod.{AreMembers}
 use Rattle.spa_format.specs.Walk.{HasObject, walk}
@@ -79,10 +80,6 @@ pub record Fixates (input out : List ℕ) : Type 0 where
   pub values : Trees
   pub accepted : AreMembers values input
   pub fixated : AreFixated (walk input) out
-
--- all that a reader had left is read, where that is known
-abbrev pub IsAllOf : Option (List ℕ) → List ℕ → Type 0
-IsAllOf remaining bytes = IfSome remaining (λ xs. bytes ≡ xs)
 
 -- the input was read whole, and what is made of it was written
 pub record Writes (Makes : List ℕ → List ℕ → Type 0) (remaining old new : Option (List ℕ)) : Type 0 where

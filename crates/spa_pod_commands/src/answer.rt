@@ -3,6 +3,7 @@ ghost use Rattle.std.specs.Prelude.{◌≡◌, OnOk};
 ghost use Rattle.std.specs.Io.KnownBytes.{Appends};
 ghost use Rattle.spa_pod_commands.specs.Answers.{line_of, status_of};
 
+use spa_device::ReadError;
 use std::fmt;
 use std::io::{self, Write};
 
@@ -55,6 +56,20 @@ impl fmt::Display for Failure {
             Failure::OutOfMemory => write!(f, "podtool: out of memory"),
             Failure::ReadFailed => write!(f, "podtool: read failed"),
             Failure::WriteFailed => write!(f, "podtool: write failed"),
+        }
+    }
+}
+
+impl From<ReadError> for Failure {
+    ghost use Rattle.std.specs.Prelude.{◌≡◌, ◌⊎◌};
+    ghost use Rattle.spa_pod_commands.specs.declared.answer.Failure.TheVariants.{OutOfMemory, ReadFailed};
+
+    ghost from_gives = { λ _ failure. (failure ≡ OutOfMemory) ⊎ (failure ≡ ReadFailed) };
+
+    fn from(error: ReadError) -> Failure {
+        match error {
+            ReadError::OutOfMemory => Failure::OutOfMemory,
+            ReadError::Failed => Failure::ReadFailed,
         }
     }
 }

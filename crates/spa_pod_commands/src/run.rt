@@ -1,19 +1,19 @@
 //! The program's work, over a reader and two writers.
-ghost use Rattle.std.specs.Prelude.{◌≡◌, ◌⊎◌, codes, IfErr, IfOk, OnOk};
+ghost use Rattle.std.specs.Prelude.{◌≡◌, codes, IfErr, OnOk};
 ghost use Rattle.std.specs.Io.KnownBytes.{Keeps};
-ghost use Rattle.spa_pod_commands.specs.Answers.{Fixates, IsAllOf, IsNotListed, IsOneWord, IsTold, IsUndone, IsUse, OnAnswer, Rewrites, Writes, held};
+ghost use Rattle.spa_pod_commands.specs.Answers.{Fixates, IsNotListed, IsOneWord, IsTold, IsUndone, IsUse, OnAnswer, Rewrites, Writes, held};
 ghost use Rattle.spa_pod_commands.specs.Lines.{Lists};
 ghost use Rattle.spa_pod_commands.specs.declared.answer.Answer.TheVariants.{Misused};
-ghost use Rattle.spa_pod_commands.specs.declared.answer.Failure as Failure;
 
 use crate::answer::{Answer, Failure};
 use crate::listing::list;
 use crate::output::Output;
 use crate::pods::{first_short, fixate_all};
+use spa_device::read_whole;
 use spa_fixed::DeserializeError;
 use spa_rewrite::{accept_all, rewrite_in_place};
 use std::alloc::Global;
-use std::io::{ErrorKind, Read, Write};
+use std::io::{Read, Write};
 
 /// Does what the arguments ask for: exactly one of `rewrite`, `fixate` and `show`.
 ///
@@ -122,18 +122,5 @@ fn refused<I>(place: usize, error: &DeserializeError<I>) -> Failure
             place,
             kind: error.kind(),
         },
-    }
-}
-
-/// All bytes that the reader gives.
-fn read_whole<R: Read>(alloc: Global, input: &mut R) -> Result<Vec<u8>, Failure>
-    ensures all { IfOk result (λ bytes. IsAllOf (R.remaining input.old) bytes.items) }
-    ensures cause { IfErr result (λ failure. (failure ≡ Failure.OutOfMemory) ⊎ (failure ≡ Failure.ReadFailed)) }
-{
-    let mut bytes = Vec::new(alloc);
-    match input.read_to_end(&mut bytes) {
-        Ok(_) => Ok(bytes),
-        Err(error) if error.kind() == ErrorKind::OutOfMemory => Err(Failure::OutOfMemory),
-        Err(_) => Err(Failure::ReadFailed),
     }
 }

@@ -14,7 +14,8 @@ use Rattle.spa_fixed.specs.Faults.{kind_text}
 use Rattle.spa_fixed.specs.declared.fault.DeserializeError.{DeserializeError}
 use Rattle.spa_fixed.specs.declared.fault.DeserializeError.TheVariants as error
 use Rattle.spa_leaf.specs.Reading.{Names, OnFault}
-use Rattle.spa_text_commands.specs.Answers.{IsAllOf, IsInputRefused, IsRun, IsUndone, OfInput}
+use Rattle.spa_device.specs.Whole.{IsAllOf}
+use Rattle.spa_text_commands.specs.Answers.{IsInputRefused, IsRun, IsUndone, OfInput}
 use Rattle.spa_text_commands.specs.Unread.{AddsTexts, IsNoFront, IsStopped, IsWritten, NoFront}
 use Rattle.spa_text_commands.specs.declared.answer.Answer.{Answer}
 use Rattle.spa_text_commands.specs.declared.answer.Answer.TheVariants.{Done}

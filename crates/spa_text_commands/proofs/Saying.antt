@@ -8,7 +8,8 @@ use Rattle.spa_format.specs.Front.{HasFront, front_of, rest_of}
 use Rattle.spa_format.specs.Walk.{walk}
 use Rattle.spa_format.specs.Fixation.{walk_size}
 use Rattle.spa_format.proofs.WalkLemmas.{walk-end, walk-there}
-use Rattle.spa_text_commands.specs.Answers.{IsAllOf, IsCutOff, IsNotShown, ShowsAll, ShowsBegin, ShowsTo, path_text}
+use Rattle.spa_device.specs.Whole.{IsAllOf}
+use Rattle.spa_text_commands.specs.Answers.{IsCutOff, IsNotShown, ShowsAll, ShowsBegin, ShowsTo, path_text}
 use Rattle.spa_text_commands.specs.declared.answer.Failure.{Failure}
 use Rattle.spa_text_commands.specs.declared.answer.Failure.TheVariants.{OutOfMemory, ReadFailed}
 use Rattle.spa_text_commands.specs.declared.answer.Origin.TheVariants.{Input}

@@ -1,8 +1,9 @@
 -- What a run writes, and what it says of that: docs/PROVED.md, "The programs".
-use Rattle.std.specs.Prelude.{◌≡◌, ◌<◌, ◌⊎◌, ⊤, ℕ, codes, List, [], ◌∷◌, ◌++◌, Option, IfSome, length, string_bytes, take}
+use Rattle.std.specs.Prelude.{◌≡◌, ◌<◌, ◌⊎◌, ⊤, ℕ, codes, List, [], ◌∷◌, ◌++◌, Option, length, string_bytes, take}
 use Rattle.std.specs.Borrow.{Bor}
 use Rattle.std.specs.Fmt.{decimal}
 use Rattle.std.specs.Io.KnownBytes.{Appends, Keeps}
+use Rattle.spa_device.specs.Whole.{IsAllOf}
 use Rattle.spa_format.specs.Walk.{walk}
 use Rattle.spa_format.specs.Fixation.{walk_size}
 use Rattle.spa_text_commands.specs.Differences.{Differ, RefusesEither, SayTheSame}
@@ -81,10 +82,6 @@ line_of Done = []
 line_of Differs = []
 line_of (Refused why) = failure_text why ++ 10 ∷ []
 line_of Misused = codes "usage: podtext print [--pretty]|read|show, podtext diff FILE FILE" ++ 10 ∷ []
-
--- all that a reader had left is read, where that is known
-abbrev pub IsAllOf : Option (List ℕ) → List ℕ → Type 0
-IsAllOf remaining bytes = IfSome remaining (λ xs. bytes ≡ xs)
 
 -- the input was read whole, its whole pods end at this place, and their lines were written
 pub record ShowsTo (remaining old new : Option (List ℕ)) (place : ℕ) (input : List ℕ) : Type 0 where

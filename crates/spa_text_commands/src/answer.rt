@@ -3,6 +3,7 @@ ghost use Rattle.std.specs.Prelude.{◌≡◌, OnOk};
 ghost use Rattle.std.specs.Io.KnownBytes.{Appends};
 ghost use Rattle.spa_text_commands.specs.Answers.{file_text, line_of, status_of};
 
+use spa_device::ReadError;
 use std::alloc::AllocError;
 use std::fmt;
 use std::io::{self, Write};
@@ -139,6 +140,21 @@ impl From<AllocError> for Failure {
 
     fn from(_refused: AllocError) -> Failure {
         Failure::OutOfMemory
+    }
+}
+
+impl From<ReadError> for Failure {
+    ghost use Rattle.spa_text_commands.specs.declared.answer.Failure.TheVariants.{OutOfMemory, ReadFailed};
+    ghost use Rattle.spa_text_commands.specs.declared.answer.Origin.TheVariants.{Input};
+    ghost use Rattle.std.specs.Prelude.{◌≡◌, ◌⊎◌};
+
+    ghost from_gives = { λ _ e. (e ≡ OutOfMemory) ⊎ (e ≡ ReadFailed Input) };
+
+    fn from(error: ReadError) -> Failure {
+        match error {
+            ReadError::OutOfMemory => Failure::OutOfMemory,
+            ReadError::Failed => Failure::ReadFailed(Origin::Input),
+        }
     }
 }
 

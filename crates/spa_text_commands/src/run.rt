@@ -1,9 +1,8 @@
 //! The program's work, over a reader, files and a writer.
-ghost use Rattle.std.specs.Prelude.{◌≡◌, ◌≤◌, ◌⊎◌, ℕ, codes, IfErr, IfOk, List, OnOk, string_bytes};
+ghost use Rattle.std.specs.Prelude.{◌≡◌, ◌≤◌, ℕ, codes, IfErr, IfOk, List, OnOk, string_bytes};
 ghost use Rattle.std.specs.Io.KnownBytes.{Keeps};
-ghost use Rattle.spa_text_commands.specs.Answers.{AreFilesRefused, AreTwoWords, AsksDiff, IsAllOf, IsCompared, IsCutOff, IsInputRefused, IsNotShown, IsOneWord, IsRun, IsUse, OfInput, OnAnswer, ShowsAll};
+ghost use Rattle.spa_text_commands.specs.Answers.{AreFilesRefused, AreTwoWords, AsksDiff, IsCompared, IsCutOff, IsInputRefused, IsNotShown, IsOneWord, IsRun, IsUse, OfInput, OnAnswer, ShowsAll};
 ghost use Rattle.spa_text_commands.specs.declared.answer.Answer.TheVariants.{Misused};
-ghost use Rattle.spa_text_commands.specs.declared.answer.Failure as Failure;
 ghost use Rattle.spa_text_commands.specs.declared.answer.Origin.TheVariants.{Input};
 ghost use Rattle.spa_text_commands.specs.declared.printing.Layout as Layout;
 ghost use Rattle.spa_text_commands.specs.Lines.{Lists};
@@ -18,9 +17,10 @@ use crate::output::write_whole;
 use crate::page::Page;
 use crate::printing::{Layout, print_all};
 use crate::reading::read_all;
+use spa_device::read_whole;
 use spa_view::split_first;
 use std::alloc::Global;
-use std::io::{ErrorKind, Read, Write};
+use std::io::{Read, Write};
 
 /// Does what the arguments ask for. By `show` the lines of the whole pods that the input begins with are written, by `print` the
 /// texts of the pods that it consists of, each on one line, or by `print --pretty` indented, by `read` the pods of the texts that it
@@ -67,7 +67,7 @@ fn show<R: Read, W: Write + Drop>(alloc: Global, input: &mut R, device: W) -> (A
 {
     let bytes = match read_whole(alloc, input) {
         Ok(bytes) => bytes,
-        Err(why) => return (Answer::Refused(why), device),
+        Err(why) => return (Answer::Refused(Failure::from(why)), device),
     };
     let mut page = Page::new(alloc, device);
     let left = match list_all(alloc, bytes.as_slice(), &mut page) {
@@ -120,7 +120,7 @@ fn print<R: Read, W: Write + Drop>(
 {
     let bytes = match read_whole(alloc, input) {
         Ok(bytes) => bytes,
-        Err(why) => return (Answer::Refused(why), device),
+        Err(why) => return (Answer::Refused(Failure::from(why)), device),
     };
     let lines = match print_all(alloc, layout, bytes.as_slice()) {
         Ok(lines) => lines,
@@ -137,7 +137,7 @@ fn read<R: Read, W: Write + Drop>(alloc: Global, input: &mut R, device: W) -> (A
 {
     let bytes = match read_whole(alloc, input) {
         Ok(bytes) => bytes,
-        Err(why) => return (Answer::Refused(why), device),
+        Err(why) => return (Answer::Refused(Failure::from(why)), device),
     };
     let pods = match read_all(alloc, bytes.as_slice()) {
         Ok(pods) => pods,
@@ -191,18 +191,5 @@ fn write_made<W: Write + Drop>(device: W, made: &[u8], done: Answer) -> (Answer,
     match taken {
         Ok(()) => (done, device),
         Err(why) => (Answer::Refused(why), device),
-    }
-}
-
-/// All bytes that the reader gives.
-fn read_whole<R: Read>(alloc: Global, input: &mut R) -> Result<Vec<u8>, Failure>
-    ensures all { IfOk result (λ bytes. IsAllOf (R.remaining input.old) bytes.items) }
-    ensures cause { IfErr result (λ failure. (failure ≡ Failure.OutOfMemory) ⊎ (failure ≡ Failure.ReadFailed Input)) }
-{
-    let mut bytes = Vec::new(alloc);
-    match input.read_to_end(&mut bytes) {
-        Ok(_) => Ok(bytes),
-        Err(error) if error.kind() == ErrorKind::OutOfMemory => Err(Failure::OutOfMemory),
-        Err(_) => Err(Failure::ReadFailed(Origin::Input)),
     }
 }

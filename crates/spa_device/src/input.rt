@@ -1,0 +1,27 @@
+//! An input, read whole.
+ghost use Rattle.std.specs.Prelude.{IfOk};
+ghost use Rattle.spa_device.specs.Whole.{IsAllOf};
+
+use std::alloc::Global;
+use std::io::{ErrorKind, Read};
+
+/// Why an input wasn't read whole.
+#[derive(Clone, Copy, Debug)]
+pub enum ReadError {
+    /// A growth was refused.
+    OutOfMemory,
+    /// The reader failed.
+    Failed,
+}
+
+/// All bytes that the reader gives.
+pub fn read_whole<R: Read>(alloc: Global, input: &mut R) -> Result<Vec<u8>, ReadError>
+    ensures { IfOk result (λ bytes. IsAllOf (R.remaining input.old) bytes.items) }
+{
+    let mut bytes = Vec::new(alloc);
+    match input.read_to_end(&mut bytes) {
+        Ok(_) => Ok(bytes),
+        Err(error) if error.kind() == ErrorKind::OutOfMemory => Err(ReadError::OutOfMemory),
+        Err(_) => Err(ReadError::Failed),
+    }
+}

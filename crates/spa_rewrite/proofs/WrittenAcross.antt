@@ -119,6 +119,14 @@ writes_more all keyed pods old left now keyed_out sub_old sub here body rest pod
     (writes_one all keyed pods old left now keyed_out sub here body rest pod to at len type w b o n fits put same
     (subst (λ x. WritesPod pod x sub len) is p) (y ∙ ap length is))
 
+-- one without a key
+pub writes_next : (pods old left now sub_old sub body rest pod : List ℕ) (to len k type : ℕ) → WritesOn false false pods old left now to →
+    Opens left type body rest → pod ≡ take (length left - length rest) left → length pods ≤ length old → WritesPod pod sub_old sub len →
+    sub_old ≡ drop to now → length sub ≡ length sub_old → k ≡ length now - to → WritesOn false false pods old rest (put_mid to k now sub) (to + len)
+writes_next pods old left now sub_old sub body rest pod to len k type w o n fits p is y e =
+    let put : PutsKey false left now now to to = record { at = omega arith; front = sym (append-nil (take to now)); behind = refl } in
+    writes_more false false pods old left now now sub_old sub left body rest pod to to len k type w refl o n fits put refl p is y e
+
 -- a word, and one more
 pub word_pod : (here : List ℕ) → BeginsWord here → IsPodOf (take 16 here) (word_at here 4) 4
 word_pod here w =
@@ -300,23 +308,23 @@ pub record IntoIsWritten (input old new : List ℕ) (n : ℕ) : Type 0 where
   pub rewritten : AreRewritten input [] (take (length input - n) new)
   pub behind : drop (length input - n) new ≡ drop (length input - n) old
 
-pub into_written : (input first rest out front sub_old sub : List ℕ) (k m n : ℕ) → input ≡ first ++ rest → AreCanonical first → AreShorter rest n →
-    k ≡ length first → front ≡ first → m ≡ length (front ++ drop k out) - k → length input ≤ length out → sub_old ≡ drop k (front ++ drop k out) →
+pub into_written : (input first rest out xs sub_old sub : List ℕ) (k m n : ℕ) → input ≡ first ++ rest → AreCanonical first → AreShorter rest n →
+    k ≡ length first → xs ≡ first ++ drop k out → m ≡ length xs - k → length input ≤ length out → sub_old ≡ drop k xs →
     AreRewritten rest [] (take (length rest - n) sub) → drop (length rest - n) sub ≡ drop (length rest - n) sub_old →
-    IntoIsWritten input out (put_mid k m (front ++ drop k out) sub) n
-into_written input first rest out front sub_old sub k m n e c s kl f ml room so r b =
-    let xs = front ++ drop k out in
-    let l : length front ≡ k = ap length f ∙ sym kl in
+    IntoIsWritten input out (put_mid k m xs sub) n
+into_written input first rest out xs sub_old sub k m n e c s kl f ml room so r b =
+    let l : length first ≡ k = sym kl in
     let a = ap length e ∙ length-append first rest in
     let long = s.long in
     let at : length input - n ≡ k + (length rest - n) = omega arith in
-    let new : put_mid k m xs sub ≡ first ++ sub = put_end k m xs sub ml ∙ ap (λ z. z ++ sub) (take_at front (drop k out) k l ∙ f) in
-    let d : drop k xs ≡ drop k out = drop_at front (drop k out) k l in
+    let new : put_mid k m xs sub ≡ first ++ sub =
+    put_end k m xs sub ml ∙ ap (λ z. z ++ sub) (ap (take k) f ∙ take_at first (drop k out) k l) in
+    let d : drop k xs ≡ drop k out = ap (drop k) f ∙ drop_at first (drop k out) k l in
     record {
       rewritten = subst (AreRewritten input [])
-          (sym (ap (take (length input - n)) new ∙ ap (λ i. take i (first ++ sub)) at ∙ take_past first sub k (length rest - n) (sym kl)))
+          (sym (ap (take (length input - n)) new ∙ ap (λ i. take i (first ++ sub)) at ∙ take_past first sub k (length rest - n) l))
           (both_rewritten input first rest (take (length rest - n) sub) e c r);
-      behind = ap (drop (length input - n)) new ∙ ap (λ i. drop i (first ++ sub)) at ∙ drop_past first sub k (length rest - n) (sym kl) ∙ b
+      behind = ap (drop (length input - n)) new ∙ ap (λ i. drop i (first ++ sub)) at ∙ drop_past first sub k (length rest - n) l ∙ b
           ∙ ap (drop (length rest - n)) (so ∙ d) ∙ drop-drop (length rest - n) k out ∙ ap (λ i. drop i out) (sym at);
     }
 

@@ -1,5 +1,5 @@
 //! Rewritings written elsewhere, of pods that may get shorter.
-ghost use Rattle.std.specs.Prelude.{◌≡◌, ◌≢◌, ◌+◌, ◌-◌, ◌<◌, ◌≤◌, Bool, IfNone, IfSome, [], drop, length, take};
+ghost use Rattle.std.specs.Prelude.{◌≡◌, ◌≢◌, ◌+◌, ◌-◌, ◌<◌, ◌≤◌, ◌++◌, Bool, IfNone, IfSome, [], drop, false, length, take};
 ghost use Rattle.spa_format.specs.Tree.{choice_type};
 ghost use Rattle.spa_format.specs.Words.{header_size};
 ghost use Rattle.spa_rewrite.specs.Rewriting.{AreRewritten};
@@ -12,9 +12,9 @@ use crate::patch::{
     taken_len,
 };
 use crate::steady::behind_key;
-use crate::surplus::surplus_of;
+use crate::surplus::surplus_of_each;
 use spa_bytes::{HEADER_LEN, extent_of, open, two_words, u32_at};
-use spa_scan::{LEVELS, canonical_stretch};
+use spa_scan::canonical_stretch;
 use spa_utils::SpaTypes;
 
 /// Puts the rewritings of all pods that the input is at the front of an output that is at least as long as the input, and answers how many
@@ -38,9 +38,20 @@ pub fn rewrite_into(input: &[u8], out: &mut [u8]) -> Option<usize>
     if out.len() < input.len() {
         return Some(len);
     }
-    out[..first.len()].copy_from_slice(first);
+    put_first(first, out);
     write_rest(surplus, rest, &mut out[first.len()..]);
     Some(len)
+}
+
+/// Copies bytes to the front of an output, where there are any.
+#[inline(always)]
+fn put_first(bytes: &[u8], out: &mut [u8])
+    requires { length bytes.now ≤ length out.old }
+    ensures { out.new ≡ bytes.now ++ drop (length bytes.now) out.old }
+{
+    if !bytes.is_empty() {
+        out[..bytes.len()].copy_from_slice(bytes);
+    }
 }
 
 /// By how many bytes the rewritings of all pods that the bytes are are shorter than these. `None` says what it says there.
@@ -52,10 +63,7 @@ pub(crate) fn surplus_behind(pods: &[u8]) -> Option<usize>
     if pods.is_empty() {
         return Some(0);
     }
-    match surplus_of(false, pods, LEVELS) {
-        Some(surplus) => Some(surplus),
-        None => None,
-    }
+    surplus_of_each(pods)
 }
 
 /// Writes the rewritings of pods, which are so many bytes shorter, to the front of an output that is as long as the pods at least: patched in a
@@ -71,12 +79,67 @@ fn write_rest(surplus: usize, pods: &[u8], out: &mut [u8])
         return;
     }
     if surplus > 0 {
-        write_pods(false, pods, out);
+        write_all(pods, out);
         return;
     }
-    let len = pods.len();
+    write_steady(surplus, pods, out);
+}
+
+/// The same of pods that aren't shorter: patched in a copy.
+#[inline(never)]
+fn write_steady(surplus: usize, pods: &[u8], out: &mut [u8])
+    requires room { length pods.now ≤ length out.old }
+    requires shorter { AreShorter pods.now surplus }
+    requires none { surplus ≡ 0 }
+    ensures rewritten { AreRewritten pods.now [] (take (length pods.now - surplus) out.new) }
+    ensures behind { drop (length pods.now - surplus) out.new ≡ drop (length pods.now - surplus) out.old }
+{
+    let len = pods.len() - surplus;
     out[..len].copy_from_slice(pods);
     patch_all(&mut out[..len]);
+}
+
+/// Writes the rewritings of pods one after another to the front of an output that is at least as long, and answers how many bytes they take.
+/// What stands in the outermost ones takes one call each.
+#[inline(always)]
+fn write_all(pods: &[u8], out: &mut [u8]) -> usize
+    requires { length pods.now ≤ length out.old }
+    ensures { WritesPods false pods.now out.old out.new result }
+{
+    let mut to = 0;
+    let mut left = pods;
+    loop {
+        let Some(front) = open(left) else {
+            return to;
+        };
+        let pod = &left[..left.len() - front.rest.len()];
+        to += write_front(front.type_, front.body.len(), pod, &mut out[to..]);
+        left = front.rest;
+    }
+}
+
+/// Writes the rewriting of one pod there.
+#[inline(always)]
+fn write_front(type_: u32, size: usize, pod: &[u8], out: &mut [u8]) -> usize
+    requires pod { IsPodOf pod.now type_ size }
+    requires room { length pod.now ≤ length out.old }
+    ensures { WritesPod pod.now out.old out.new result }
+{
+    match holds_whole(type_, size) {
+        Some(keyed) => write_inner(keyed, pod, out),
+        None => write_alone(type_, size, pod, out),
+    }
+}
+
+/// The same of a pod that holds no others, or of one that no value says.
+#[inline(never)]
+fn write_alone(type_: u32, size: usize, pod: &[u8], out: &mut [u8]) -> usize
+    requires pod { IsPodOf pod.now type_ size }
+    requires no_inner { (keyed : Bool) → ¬ (HoldsWhole type_ size keyed) }
+    requires room { length pod.now ≤ length out.old }
+    ensures { WritesPod pod.now out.old out.new result }
+{
+    write_leaf(type_, size, pod, out)
 }
 
 /// Writes the rewritings of pods one after another to the front of an output that is at least as long, with key and flags before each where
@@ -137,6 +200,7 @@ fn put_key(keyed: bool, bytes: &[u8], out: &mut [u8], to: usize) -> usize
 
 /// The same of one pod.
 #[cycle(writing)]
+#[inline(always)]
 fn write_pod(type_: u32, size: usize, pod: &[u8], out: &mut [u8]) -> usize
     requires pod { IsPodOf pod.now type_ size }
     requires room { length pod.now ≤ length out.old }
@@ -168,6 +232,7 @@ pub(crate) fn holds_whole(type_: u32, size: usize) -> Option<bool>
 
 /// The same of a struct or an object: what it holds, and then its header.
 #[cycle(writing)]
+#[inline(always)]
 fn write_inner(keyed: bool, pod: &[u8], out: &mut [u8]) -> usize
     requires pod { IsInner pod.now keyed }
     requires room { length pod.now ≤ length out.old }
@@ -193,6 +258,7 @@ pub(crate) fn inner_type(keyed: bool) -> u32
 }
 
 /// The same of a pod that holds no others, or of one that no value says.
+#[inline(always)]
 fn write_leaf(type_: u32, size: usize, pod: &[u8], out: &mut [u8]) -> usize
     requires pod { IsPodOf pod.now type_ size }
     requires no_inner { (keyed : Bool) → ¬ (HoldsWhole type_ size keyed) }
@@ -214,6 +280,7 @@ fn write_leaf(type_: u32, size: usize, pod: &[u8], out: &mut [u8]) -> usize
 }
 
 /// The same of a choice: copied without its surplus values, and patched there.
+#[inline(always)]
 fn write_choice(size: usize, pod: &[u8], out: &mut [u8]) -> usize
     requires pod { IsPodOf pod.now choice_type size }
     requires room { length pod.now ≤ length out.old }

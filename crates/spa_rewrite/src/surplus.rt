@@ -15,7 +15,7 @@ use spa_utils::SpaTypes;
 /// By how many bytes the rewritings of pods one after another are shorter than these, with key and flags before each where `keyed` is set.
 /// `None` says that the bytes aren't such pods, or that structs and objects stand more than `levels` deep in one another in them.
 #[cycle(looking)]
-pub(crate) fn surplus_of(keyed: bool, pods: &[u8], levels: u32) -> Option<usize>
+fn surplus_of(keyed: bool, pods: &[u8], levels: u32) -> Option<usize>
     ensures there { IfSome result (λ surplus. AreShorterInside keyed pods.now surplus) }
     ensures missed { IfNone result (¬ (AreInsideWithin levels keyed pods.now)) }
 {
@@ -39,6 +39,41 @@ pub(crate) fn surplus_of(keyed: bool, pods: &[u8], levels: u32) -> Option<usize>
         }
     }
     Some(surplus)
+}
+
+/// The same of all pods of an input.
+pub(crate) fn surplus_of_each(pods: &[u8]) -> Option<usize>
+    ensures there { IfSome result (λ surplus. AreShorter pods.now surplus) }
+    ensures missed { IfNone result (¬ (ArePodsWithin levels_looked_into pods.now)) }
+{
+    let mut surplus = 0;
+    let mut left = pods;
+    while !left.is_empty() {
+        let Some(front) = open(left) else {
+            return None;
+        };
+        let Some(more) = front_surplus(front.type_, front.body) else {
+            return None;
+        };
+        surplus += more;
+        left = front.rest;
+    }
+    Some(surplus)
+}
+
+/// By how many bytes a pod with a body of this type gets shorter: what stands in it takes one call.
+#[inline(always)]
+fn front_surplus(type_: u32, body: &[u8]) -> Option<usize>
+    ensures there { IfSome result (λ surplus. IsShorterBody type_ body.now surplus) }
+    ensures missed { IfNone result (¬ (IsBodyWithin levels_looked_into type_ body.now)) }
+{
+    match inside_of(type_, body) {
+        Some(inside) => match surplus_of(inside.keyed, inside.pods, LEVELS - 1) {
+            Some(surplus) => Some(surplus),
+            None => None,
+        },
+        None => body_surplus(type_, body, LEVELS),
+    }
 }
 
 /// The same of all pods of an input, where structs and objects may stand at any depth that end where the one around them does.

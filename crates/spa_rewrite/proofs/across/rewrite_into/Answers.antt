@@ -1,4 +1,4 @@
-use Rattle.std.proofs.Common.{◌≤◌, ◌++◌, arith, drop, length, refl, subst}
+use Rattle.std.proofs.Common.{◌≤◌, arith, length, refl, subst}
 use Rattle.std.proofs.lemmas.List.{take_rest}
 use Rattle.spa_scan.specs.Depth.{levels_looked_into}
 use Rattle.spa_rewrite.specs.Shorter.{ArePodsWithin}
@@ -23,7 +23,7 @@ returns-clause-told c =
 pub returns-clause-rewritten : goal.returns-clause-rewritten
 returns-clause-rewritten c = λ room.
     let w = into_written _ _ _ _ _ _ _ _ _ _ c.canonical_stretch.ensures.parts c.canonical_stretch.ensures.canonical c.in-Some.ensures.there refl
-    c.copy_from_slice.ensures.after refl room (take_rest (c.copy_from_slice.new.self ++ drop (length c.canonical_stretch.result.0.now) c.args.out.now) (length c.canonical_stretch.result.0.now)) c.write_rest.ensures.rewritten c.write_rest.ensures.behind in
+    c.put_first.ensures refl room (take_rest c.put_first.new.out (length c.canonical_stretch.result.0.now)) c.write_rest.ensures.rewritten c.write_rest.ensures.behind in
     w.rewritten
 
 pub returns-clause-behind : goal.returns-clause-behind
@@ -31,5 +31,5 @@ returns-clause-behind c =
     let no = c.if-out-input.false in
     let room : length c.args.input.now ≤ length c.args.out.now = omega arith in
     let w = into_written _ _ _ _ _ _ _ _ _ _ c.canonical_stretch.ensures.parts c.canonical_stretch.ensures.canonical c.in-Some.ensures.there refl
-    c.copy_from_slice.ensures.after refl room (take_rest (c.copy_from_slice.new.self ++ drop (length c.canonical_stretch.result.0.now) c.args.out.now) (length c.canonical_stretch.result.0.now)) c.write_rest.ensures.rewritten c.write_rest.ensures.behind in
+    c.put_first.ensures refl room (take_rest c.put_first.new.out (length c.canonical_stretch.result.0.now)) c.write_rest.ensures.rewritten c.write_rest.ensures.behind in
     w.behind

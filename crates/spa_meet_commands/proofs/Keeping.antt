@@ -3,7 +3,8 @@ use Rattle.std.specs.Io.KnownBytes.{Appends, Keeps}
 use Rattle.std.proofs.Common.{◌≡◌, ℕ, List, [], Option, Some, None, refl, sym, inl, inr, append-nil, arith, take, length, ◌∙◌, ◌++◌, ap, subst, ◌⊎◌}
 use Rattle.std.specs.Prelude.{Result, Ok, Err, OnOk, IfErr, OnErr, IfOk}
 use Rattle.std.proofs.lemmas.List.{take_all}
-use Rattle.spa_meet_commands.specs.Answers.{BeginsToWrite, IsAllOf, IsAnswer, IsRun, IsUndone, Writes}
+use Rattle.spa_device.specs.Whole.{IsAllOf}
+use Rattle.spa_meet_commands.specs.Answers.{BeginsToWrite, IsAnswer, IsRun, IsUndone, Writes}
 use Rattle.spa_meet_commands.specs.declared.answer.Answer.{Answer}
 use Rattle.spa_meet_commands.specs.declared.answer.Answer.TheVariants.{Refused}
 use Rattle.spa_meet_commands.specs.declared.answer.Failure.{Failure}

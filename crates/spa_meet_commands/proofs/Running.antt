@@ -5,7 +5,8 @@ use Rattle.std.specs.Prelude.{Result, Ok, Err, OnOk, IfErr}
 use Rattle.std.proofs.Common.{◌≡◌, ◌⊎◌, ◌∙◌, ◌∷◌, [], ℕ, List, Option, inl, inr, subst, sym}
 use Rattle.spa_filter.specs.declared.error.Side.{Side}
 use Rattle.spa_meet_commands.specs.Lists.{AreListsRefused, ListsGive}
-use Rattle.spa_meet_commands.specs.Answers.{AreFilesRefused, Asks, IsAllOf, IsAnswer, IsInputRefused, IsPairRefused, IsRun, IsUndone, Makes, OfFiles, Refuses, Writes}
+use Rattle.spa_device.specs.Whole.{IsAllOf}
+use Rattle.spa_meet_commands.specs.Answers.{AreFilesRefused, Asks, IsAnswer, IsInputRefused, IsPairRefused, IsRun, IsUndone, Makes, OfFiles, Refuses, Writes}
 use Rattle.spa_meet_commands.specs.declared.pair.Work.{Work}
 use Rattle.spa_meet_commands.specs.declared.request.Request.{Request}
 use Rattle.spa_meet_commands.specs.declared.request.Request.TheVariants.{OfPair, OfLists}

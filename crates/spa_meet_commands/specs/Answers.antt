@@ -1,8 +1,9 @@
 -- What a run writes, and what it says of that: docs/PROVED.md, "The programs".
-use Rattle.std.specs.Prelude.{◌≡◌, ◌≢◌, ◌⊎◌, ⊤, ℕ, codes, List, [], ◌∷◌, ◌++◌, Option, IfSome, Result, Ok, Err, take}
+use Rattle.std.specs.Prelude.{◌≡◌, ◌≢◌, ◌⊎◌, ⊤, ℕ, codes, List, [], ◌∷◌, ◌++◌, Option, Result, Ok, Err, take}
 use Rattle.std.specs.Borrow.{Bor}
 use Rattle.std.specs.Fmt.{decimal}
 use Rattle.std.specs.Io.KnownBytes.{Appends, Keeps}
+use Rattle.spa_device.specs.Whole.{IsAllOf}
 use Rattle.spa_format.specs.Front.{rest_of}
 use Rattle.spa_filter.specs.declared.error.FilterError.{FilterError}
 use Rattle.spa_filter.specs.declared.error.FilterError.TheVariants as cause
@@ -102,10 +103,6 @@ abbrev pub IsRun : Answer → (List ℕ → Type 0) → (Failure → Type 0) →
 IsRun Done Made Refused old new = Writes Made old new
 IsRun (answer.Refused why) Made Refused old new = IsUndone Made Refused old new why
 IsRun Misused Made Refused old new = ⊥
-
--- all that a reader had left is read, where that is known
-abbrev pub IsAllOf : Option (List ℕ) → List ℕ → Type 0
-IsAllOf remaining bytes = IfSome remaining (λ xs. bytes ≡ xs)
 
 -- the input was read whole, and this holds of it
 pub record OfInput (remaining : Option (List ℕ)) (Holds : List ℕ → Type 0) : Type 0 where

@@ -3,6 +3,7 @@ ghost use Rattle.std.specs.Prelude.{◌≡◌, OnOk};
 ghost use Rattle.std.specs.Io.KnownBytes.{Appends};
 ghost use Rattle.spa_meet_commands.specs.Answers.{line_of, side_text, status_of};
 
+use spa_device::ReadError;
 use spa_filter_pods::{FilterError, Side};
 use std::fmt;
 use std::io::{self, Write};
@@ -117,6 +118,20 @@ impl fmt::Display for Failure {
             Failure::OutOfMemory => write!(f, "meet: out of memory"),
             Failure::ReadFailed => write!(f, "meet: read failed"),
             Failure::WriteFailed => write!(f, "meet: write failed"),
+        }
+    }
+}
+
+impl From<ReadError> for Failure {
+    ghost use Rattle.std.specs.Prelude.{◌≡◌, ◌⊎◌};
+    ghost use Rattle.spa_meet_commands.specs.declared.answer.Failure.TheVariants.{OutOfMemory, ReadFailed};
+
+    ghost from_gives = { λ _ failure. (failure ≡ OutOfMemory) ⊎ (failure ≡ ReadFailed) };
+
+    fn from(error: ReadError) -> Failure {
+        match error {
+            ReadError::OutOfMemory => Failure::OutOfMemory,
+            ReadError::Failed => Failure::ReadFailed,
         }
     }
 }

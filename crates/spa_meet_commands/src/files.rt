@@ -1,6 +1,6 @@
 //! The files that the program's words name.
 ghost use Rattle.std.specs.Prelude.{ℕ, List, None, Option, IfErr, IfOk, ◌≡◌, ◌⊎◌};
-ghost use Rattle.spa_meet_commands.specs.Answers.{IsAllOf};
+ghost use Rattle.spa_device.specs.Whole.{IsAllOf};
 ghost use Rattle.spa_meet_commands.specs.declared.answer.Failure as Failure;
 
 use crate::answer::Failure;

@@ -1,10 +1,9 @@
 //! The program's work, over a reader and two writers.
-ghost use Rattle.std.specs.Prelude.{◌≡◌, ◌⊎◌, IfErr, IfOk, Ok, OnOk};
+ghost use Rattle.std.specs.Prelude.{◌≡◌, IfErr, IfOk, Ok, OnOk};
 ghost use Rattle.std.specs.Io.KnownBytes.{Keeps};
 ghost use Rattle.spa_meet_commands.specs.Lists.{ListsGive};
-ghost use Rattle.spa_meet_commands.specs.Answers.{AreFilesRefused, Asks, IsAllOf, IsInputRefused, IsRun, IsUndone, Makes, OfFiles, OfInput, PairIn, Refuses, Writes, held};
+ghost use Rattle.spa_meet_commands.specs.Answers.{AreFilesRefused, Asks, IsInputRefused, IsRun, IsUndone, Makes, OfFiles, OfInput, PairIn, Refuses, Writes, held};
 ghost use Rattle.spa_meet_commands.specs.declared.answer.Answer.TheVariants.{Misused};
-ghost use Rattle.spa_meet_commands.specs.declared.answer.Failure as Failure;
 ghost use Rattle.spa_meet_commands.specs.declared.request.Request.{Request};
 
 use crate::answer::{Answer, Failure};
@@ -13,9 +12,10 @@ use crate::lists::of_lists;
 use crate::output::Output;
 use crate::pair::{Work, of_pair};
 use crate::request::{Request, request_of};
+use spa_device::read_whole;
 use spa_filter_pods::Side;
 use std::alloc::Global;
-use std::io::{ErrorKind, Read, Write};
+use std::io::{Read, Write};
 
 /// Does what the arguments ask for: without a word the two objects of the input meet, and by `filter` they are filtered; two
 /// names more, and the same is done with the first pair that agrees of the lists in these files.
@@ -102,17 +102,4 @@ fn of_files<S: Sources>(
     let first = read_list(alloc, files, Side::First, ours)?;
     let second = read_list(alloc, files, Side::Second, theirs)?;
     of_lists(alloc, work, first.as_slice(), second.as_slice())
-}
-
-/// All bytes that the reader gives.
-fn read_whole<R: Read>(alloc: Global, input: &mut R) -> Result<Vec<u8>, Failure>
-    ensures all { IfOk result (λ bytes. IsAllOf (R.remaining input.old) bytes.items) }
-    ensures cause { IfErr result (λ failure. (failure ≡ Failure.OutOfMemory) ⊎ (failure ≡ Failure.ReadFailed)) }
-{
-    let mut bytes = Vec::new(alloc);
-    match input.read_to_end(&mut bytes) {
-        Ok(_) => Ok(bytes),
-        Err(error) if error.kind() == ErrorKind::OutOfMemory => Err(Failure::OutOfMemory),
-        Err(_) => Err(Failure::ReadFailed),
-    }
 }

@@ -138,12 +138,12 @@ fn make(builder: &mut Builder, texts: &[u8], call: &Call) -> Result<(), Errno>
         SpaTypes::String => add_text(builder, texts, call),
         SpaTypes::Bytes => add_part(builder, texts, call),
         SpaTypes::Pointer => builder.add_pointer(Id(call.first), call.bits),
-        _ => begin(builder, call),
+        _ => begin_or_close_pod(builder, call),
     }
 }
 
 /// Makes a call that begins or closes a pod, or says a key.
-fn begin(builder: &mut Builder, call: &Call) -> Result<(), Errno>
+fn begin_or_close_pod(builder: &mut Builder, call: &Call) -> Result<(), Errno>
     ensures { (s : State) → IsAt builder.old s → Makes (outcome_of s (begun_by call.now.what call.now)) builder.old builder.new result }
 {
     match SpaTypes(call.what) {

@@ -8,7 +8,7 @@ pub mod constants {
     pub use spa_utils::constants::ID_INVALID;
 }
 
-/// Plain types: ids, numbers, choices, type numbers, directions and errors.
+/// Small types: ids, numbers, choices, type numbers, directions and errors.
 pub mod utils {
     pub use spa_utils::{
         Choice, ChoiceEnum, ChoiceFlags, Direction, Errno, Fd, Float32, Float64, Fraction, Id,

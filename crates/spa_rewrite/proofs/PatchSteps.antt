@@ -13,7 +13,7 @@ use Rattle.spa_format.proofs.Fronts.{length-body_of, size_of_front, type_of_fron
 use Rattle.spa_format.proofs.WordLemmas.{IsBytes-drop, IsBytes-take}
 use Rattle.spa_bytes.specs.Opening.{Opens}
 use Rattle.spa_rewrite.specs.Steady.{ArePatched, BeginsWord, HoldsPods, IsPatched, IsPodOf, PatchesOn, key_size}
-use Rattle.spa_rewrite.proofs.PatchedBodies.{IsPlainType, plain_patched}
+use Rattle.spa_rewrite.proofs.PatchedBodies.{IsUnpatchedType, unpatched_body}
 use Rattle.spa_rewrite.proofs.Patches.{length_put, no_pods, object_patched, pods_patched, struct_patched, too_few}
 
 pub nothing_patched : (all : Bool) (old : List ℕ) → IsBytes old → PatchesOn all all old old 0
@@ -174,8 +174,8 @@ pod_is now body rest here next type size k r o z f g =
     subst (λ m. IsPodOf (take m (drop here now)) type size) (sym n) is.its
 
 -- a word becomes its rewriting
-plain_number : (n : ℕ) → n ≢ 2 → n < 8 → IsPlainType n
-plain_number n m l = record {
+word_number : (n : ℕ) → n ≢ 2 → n < 8 → IsUnpatchedType n
+word_number n m l = record {
   no_bool = m;
   no_array = λ e. omega (arith, e, l);
   no_struct = λ e. omega (arith, e, l);
@@ -184,17 +184,17 @@ plain_number n m l = record {
   no_choice = λ e. omega (arith, e, l);
 }
 
-pub plain_kind : (k : Kind) → body_size k ≡ 4 → k ≢ bool_kind → IsPlainType (type_number k)
-plain_kind none_kind s n = absurd (omega (arith, s))
-plain_kind bool_kind s n = absurd (n refl)
-plain_kind id_kind s n = plain_number 3 (λ e. omega (arith, e)) (omega arith)
-plain_kind int_kind s n = plain_number 4 (λ e. omega (arith, e)) (omega arith)
-plain_kind long_kind s n = absurd (omega (arith, s))
-plain_kind float_kind s n = plain_number 6 (λ e. omega (arith, e)) (omega arith)
-plain_kind double_kind s n = absurd (omega (arith, s))
-plain_kind rectangle_kind s n = absurd (omega (arith, s))
-plain_kind fraction_kind s n = absurd (omega (arith, s))
-plain_kind fd_kind s n = absurd (omega (arith, s))
+pub word_kind : (k : Kind) → body_size k ≡ 4 → k ≢ bool_kind → IsUnpatchedType (type_number k)
+word_kind none_kind s n = absurd (omega (arith, s))
+word_kind bool_kind s n = absurd (n refl)
+word_kind id_kind s n = word_number 3 (λ e. omega (arith, e)) (omega arith)
+word_kind int_kind s n = word_number 4 (λ e. omega (arith, e)) (omega arith)
+word_kind long_kind s n = absurd (omega (arith, s))
+word_kind float_kind s n = word_number 6 (λ e. omega (arith, e)) (omega arith)
+word_kind double_kind s n = absurd (omega (arith, s))
+word_kind rectangle_kind s n = absurd (omega (arith, s))
+word_kind fraction_kind s n = absurd (omega (arith, s))
+word_kind fd_kind s n = absurd (omega (arith, s))
 
 pub word_opens : (input : List ℕ) → BeginsWord input → Opens input (word_at input 4) (body_of input) (drop 16 input)
 word_opens input w =
@@ -228,7 +228,7 @@ word_done all keyed old now pod at here next k e r w x z p long y h =
     let f : next ≡ length now - length (drop 16 c) = omega arith in
     let g : k ≡ next - here = omega arith in
     let t = w.its_type in
-    let plain : IsPlainType (word_at c 4) = subst IsPlainType (sym t.1) (plain_kind t.0 t.2 t.3) in
+    let kept : IsUnpatchedType (word_at c 4) = subst IsUnpatchedType (sym t.1) (word_kind t.0 t.2 t.3) in
     let its : IsPodOf (take k c) (word_at c 4) 4 = pod_is now (body_of c) (drop 16 c) here next (word_at c 4) 4 k r o (sym four) f g in
     let others = drop k (drop here now) in
     let back : drop here (put_mid here k now pod) ≡ pod ++ others = drop_at (take here now) (pod ++ others) here (length-take-le here now r) in
@@ -236,7 +236,7 @@ word_done all keyed old now pod at here next k e r w x z p long y h =
     subst IsBytes (ap (take (length pod)) back ∙ take_at pod others (length pod) refl)
     (IsBytes-take (length pod) (drop here (put_mid here k now pod)) (IsBytes-drop here (put_mid here k now pod) y)) in
     pod_done all keyed old now pod (body_of c) (drop 16 c) at here next (word_at c 4) 4 k h e r o (sym four) f g
-    (plain_patched (take k c) pod (word_at c 4) 4 bytes its plain p) long y
+    (unpatched_body (take k c) pod (word_at c 4) 4 bytes its kept p) long y
 
 -- what runs over words keep
 pub record RunsOn (keyed : Bool) (old now : List ℕ) (from at : ℕ) : Type 0 where

@@ -30,7 +30,7 @@ use Rattle.spa_rewrite.proofs.Bodies.{choice_parts, first_elements}
 use Rattle.spa_rewrite.proofs.Patches.{behind_bytes, framed_again, front_bytes, length_put, says_body, two_words_of}
 
 -- types whose bodies are written as they lie
-pub record IsPlainType (type : ℕ) : Type 0 where
+pub record IsUnpatchedType (type : ℕ) : Type 0 where
   pub no_bool : type ≢ type_number bool_kind
   pub no_array : type ≢ array_type
   pub no_struct : type ≢ struct_type
@@ -38,7 +38,7 @@ pub record IsPlainType (type : ℕ) : Type 0 where
   pub no_pointer : type ≢ pointer_type
   pub no_choice : type ≢ choice_type
 
-as_it_lies : (v : Tree) (b : List ℕ) → IsBytes b → IsBody v b → IsPlainType (type_of v) → b ≡ encoded_body v
+as_it_lies : (v : Tree) (b : List ℕ) → IsBytes b → IsBody v b → IsUnpatchedType (type_of v) → b ≡ encoded_body v
 as_it_lies (fixed x) b h w p =
     content_kept (kind_of x) b h w.whole (λ e. absurd (p.no_bool (ap type_number e))) ∙ ap fixed_body (sym w.says)
 as_it_lies (string s) b h w p = w.1
@@ -60,9 +60,9 @@ cleared pod type size p =
     ∙ append_assoc (take 8 pod) (take size (drop 8 pod)) (replicate (length pod - (8 + size)) 0)
     ∙ ap (λ m. take 8 pod ++ (take size (drop 8 pod) ++ replicate m 0)) n
 
-pub plain_patched : (pod new : List ℕ) (type size : ℕ) → IsBytes new → IsPodOf pod type size → IsPlainType type →
+pub unpatched_body : (pod new : List ℕ) (type size : ℕ) → IsBytes new → IsPodOf pod type size → IsUnpatchedType type →
     new ≡ take (8 + size) pod ++ replicate (length pod - (8 + size)) 0 → IsPatched pod new
-plain_patched pod new type size h p k e = λ v w long.
+unpatched_body pod new type size h p k e = λ v w long.
     let b = says_body pod type size v p w in
     let body = take size (drop 8 pod) in
     let l = p.long in
@@ -71,7 +71,7 @@ plain_patched pod new type size h p k e = λ v w long.
     subst IsBytes (ap (take (8 + size)) e ∙ take_at (take (8 + size) pod) (replicate (length pod - (8 + size)) 0) (8 + size) (length-take-le (8 + size) pod (omega arith)))
     (IsBytes-take (8 + size) new h) in
     let same : body ≡ encoded_body v =
-    as_it_lies v body (behind_bytes 8 size (8 + size) pod refl front) b.its_body (subst IsPlainType (sym b.its_type) k) in
+    as_it_lies v body (behind_bytes 8 size (8 + size) pod refl front) b.its_body (subst IsUnpatchedType (sym b.its_type) k) in
     e ∙ cleared pod type size p ∙ framed_again pod body type size (front_bytes 8 (8 + size) pod (omega arith) front) p b.long ∙ ap (framed type) same
     ∙ ap (λ t. framed t (encoded_body v)) (sym b.its_type)
 

@@ -17,9 +17,9 @@ use Rattle.spa_scan.specs.Canonical.{AreCanonical}
 use Rattle.spa_rewrite.specs.Rewriting.{AreRewritten}
 use Rattle.spa_rewrite.specs.Shorter.{ArePlaced, AreRewrittenAs, AreShorter, IsInner, IsPlaced, PutsKey, WritesOn, WritesPod, WritesPods, type_inside}
 use Rattle.spa_rewrite.specs.Steady.{ArePatched, BeginsWord, IsBehindKey, IsPodOf, key_size}
-use Rattle.spa_rewrite.proofs.PatchSteps.{opened_at, plain_kind, word_opens}
+use Rattle.spa_rewrite.proofs.PatchSteps.{opened_at, word_kind, word_opens}
 use Rattle.spa_rewrite.proofs.Patches.{put_end}
-use Rattle.spa_rewrite.proofs.PatchedBodies.{IsPlainType, plain_patched}
+use Rattle.spa_rewrite.proofs.PatchedBodies.{IsUnpatchedType, unpatched_body}
 use Rattle.spa_rewrite.proofs.PlacedBodies.{IsLeafType, leaf_written}
 use Rattle.spa_rewrite.proofs.Stretches.{both_rewritten}
 use Rattle.spa_rewrite.proofs.Places.{few_placed, inner_placed, none_placed, pods_placed}
@@ -141,16 +141,16 @@ pub word_written : (pods out front sub : List ℕ) → BeginsWord pods → IsByt
 word_written pods out front sub w y f e long =
     let type = word_at pods 4 in
     let t = w.its_type in
-    let plain : IsPlainType type = subst IsPlainType (sym t.1) (plain_kind t.0 t.2 t.3) in
+    let kept : IsUnpatchedType type = subst IsUnpatchedType (sym t.1) (word_kind t.0 t.2 t.3) in
     let pod = word_pod pods w in
     let l = w.long in
     let n : 16 ≡ length (take 16 pods) = sym (length-take-le 16 pods (omega arith)) in
     let is : take 16 (front ++ drop 16 out) ≡ take 16 pods = take_at front (drop 16 out) 16 (ap length f ∙ sym n) ∙ f in
-    let leaf : IsLeafType type = record { no_choice = plain.no_choice; no_struct = plain.no_struct; no_object = plain.no_object } in
+    let leaf : IsLeafType type = record { no_choice = kept.no_choice; no_struct = kept.no_struct; no_object = kept.no_object } in
     let x = drop 16 (front ++ drop 16 out) in
     let bytes : IsBytes sub = subst IsBytes (take_at sub x (length sub) refl) (IsBytes-take (length sub) (sub ++ x) y) in
     leaf_written (take 16 pods) out front sub 16 type 4 n pod leaf f
-    (plain_patched (take 16 (front ++ drop 16 out)) sub type 4 bytes (subst (λ x. IsPodOf x type 4) (sym is) pod) plain e) long
+    (unpatched_body (take 16 (front ++ drop 16 out)) sub type 4 bytes (subst (λ x. IsPodOf x type 4) (sym is) pod) kept e) long
 
 pub writes_word : (all keyed : Bool) (pods old left now keyed_out sub_old sub here : List ℕ) (to at k : ℕ) →
     WritesOn all keyed pods old left now to → IsBehindKey keyed left here → BeginsWord here → length pods ≤ length old →

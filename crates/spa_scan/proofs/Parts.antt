@@ -16,12 +16,12 @@ use Rattle.spa_format.specs.Typed.{IsBytes}
 use Rattle.spa_format.proofs.WordLemmas.{IsBytes-drop, IsBytes-take, word_at-take}
 use Rattle.spa_format.proofs.FixedKinds.{same_kind}
 use Rattle.spa_format.proofs.Elements.{length_of_elements}
-use Rattle.spa_scan.specs.Canonical.{AreCanonicalElements, IsCanonicalArray, IsCanonicalBody, IsCanonicalText, IsFixedLen, IsPlainByte, IsPlainFor}
+use Rattle.spa_scan.specs.Canonical.{AreCanonicalElements, IsCanonicalArray, IsCanonicalBody, IsCanonicalText, IsFixedLen, IsAsciiByte, IsAsciiFor}
 use Rattle.spa_scan.proofs.Words.{content_kept, two_words_back}
 
--- plain bytes, and more of them
-pub plain_more : (n : ℕ) (b : List ℕ) → n ≤ length b → IsPlainFor n b → IsPlainFor (length (drop n b)) (drop n b) → IsPlainFor (length b) b
-plain_more n b le first rest i h =
+-- ASCII bytes, and more of them
+pub ascii_more : (n : ℕ) (b : List ℕ) → n ≤ length b → IsAsciiFor n b → IsAsciiFor (length (drop n b)) (drop n b) → IsAsciiFor (length b) b
+ascii_more n b le first rest i h =
     elim (cases_lt i n) [
       | inl lt ↦ first i lt
       | inr ge ↦
@@ -29,11 +29,11 @@ plain_more n b le first rest i h =
           let here : i - n < length (drop n b) = omega arith in
           let at : n + (i - n) ≡ i = omega arith in
           let same : get_or (drop n b) (i - n) 0 ≡ get_or b i 0 = get_or-drop n b (i - n) 0 ∙ ap (λ m. get_or b m 0) at in
-          subst IsPlainByte same (rest (i - n) here)
+          subst IsAsciiByte same (rest (i - n) here)
     ]
 
-pub plain_text : (b text : List ℕ) → b ≡ text ++ 0 ∷ [] → IsPlainFor (length text) text → IsCanonicalText b
-plain_text b text e h =
+pub ascii_text : (b text : List ℕ) → b ≡ text ++ 0 ∷ [] → IsAsciiFor (length text) text → IsCanonicalText b
+ascii_text b text e h =
     let ascii : IsAscii text = λ i. elim (cases_lt i (length text)) [
       | inl lt ↦ (h i lt).1
       | inr ge ↦ rw (get_or_past text i 0 ge) (omega arith)
@@ -183,9 +183,9 @@ shorter_end left rest text n l e h =
     }
 
 -- the first such bytes and the last, which reach to each other
-pub plain_ends : (n : ℕ) (text last : List ℕ) → n ≤ length text → length text ≤ n + n →
-    last ≡ drop (length text - n) text → IsPlainFor n text → IsPlainFor n last → IsPlainFor (length text) text
-plain_ends n text last l s e first end = λ i b.
+pub ascii_ends : (n : ℕ) (text last : List ℕ) → n ≤ length text → length text ≤ n + n →
+    last ≡ drop (length text - n) text → IsAsciiFor n text → IsAsciiFor n last → IsAsciiFor (length text) text
+ascii_ends n text last l s e first end = λ i b.
     elim (cases_lt i n) [
       | inl lt ↦ first i lt
       | inr ge ↦
@@ -194,13 +194,13 @@ plain_ends n text last l s e first end = λ i b.
           let there : slice_index last k ≡ slice_index text (length text - n + k) =
           ap (λ y. slice_index y k) e ∙ get_or-drop (length text - n) text k 0 in
           let place : length text - n + k ≡ i = omega arith in
-          subst IsPlainByte (there ∙ ap (slice_index text) place) (end k few)
+          subst IsAsciiByte (there ∙ ap (slice_index text) place) (end k few)
     ]
 
 -- where the last eight bytes are such ones, so are fewer
-pub end_plain : (left last text : List ℕ) → 8 ≤ length text → length left ≤ 8 → IsEnd left text →
-    last ≡ drop (length text - 8) text → IsPlainFor 8 last → IsPlainFor (length left) left
-end_plain left last text l s h e p = λ i b.
+pub ascii_end : (left last text : List ℕ) → 8 ≤ length text → length left ≤ 8 → IsEnd left text →
+    last ≡ drop (length text - 8) text → IsAsciiFor 8 last → IsAsciiFor (length left) left
+ascii_end left last text l s h e p = λ i b.
     let size = h.size in
     let k = 8 - length left + i in
     let here : slice_index left i ≡ slice_index text (h.before + i) =
@@ -211,4 +211,4 @@ end_plain left last text l s h e p = λ i b.
     let same : slice_index last k ≡ slice_index left i =
     there ∙ ap (slice_index text) place ∙ sym here in
     let few : k < 8 = omega arith in
-    subst IsPlainByte same (p k few)
+    subst IsAsciiByte same (p k few)

@@ -10,6 +10,6 @@ mod text;
 pub use front::fixed_len;
 pub use nesting::nests_within;
 pub use scan::{
-    LEVELS, canonical_front, canonical_stretch, plain_front, plain_members, plain_properties,
+    LEVELS, canonical_front, canonical_stretch, leaf_front, leaf_members, leaf_properties,
 };
 pub use text::is_text;

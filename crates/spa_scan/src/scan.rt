@@ -55,7 +55,7 @@ pub fn canonical_stretch(input: &[u8]) -> (&[u8], &[u8])
 
 /// What follows the pod at the front, where that is its own rewriting and neither a struct nor an object.
 #[inline(always)]
-pub fn plain_front(input: &[u8]) -> Option<&[u8]>
+pub fn leaf_front(input: &[u8]) -> Option<&[u8]>
     ensures taken { IfSome result (λ rest. BeginsCanonical input.now rest.now) }
     ensures shorter { IfSome result (λ rest. length rest.now + 8 ≤ length input.now) }
 {
@@ -68,7 +68,7 @@ pub fn plain_front(input: &[u8]) -> Option<&[u8]>
     if !is_looked_into(u32_at(input, SECOND_WORD)) {
         return None;
     }
-    plain_body_front(input)
+    leaf_body_front(input)
 }
 
 /// Whether a look at the bodies of this type can tell more than one at the pod's first words.
@@ -77,8 +77,8 @@ fn is_looked_into(type_: u32) -> bool {
     type_ != SpaTypes::Struct.0 && type_ != SpaTypes::Object.0 && fixed_len(type_) > TWO_WORDS
 }
 
-/// The same as `plain_front`, of a pod that isn't of fixed size.
-fn plain_body_front(input: &[u8]) -> Option<&[u8]>
+/// The same as `leaf_front`, of a pod that isn't of fixed size.
+fn leaf_body_front(input: &[u8]) -> Option<&[u8]>
     ensures taken { IfSome result (λ rest. BeginsCanonical input.now rest.now) }
     ensures shorter { IfSome result (λ rest. length rest.now + 8 ≤ length input.now) }
 {
@@ -94,7 +94,7 @@ fn plain_body_front(input: &[u8]) -> Option<&[u8]>
 
 /// The same behind a key and flags.
 #[inline(always)]
-fn plain_property(input: &[u8]) -> Option<&[u8]>
+fn leaf_property(input: &[u8]) -> Option<&[u8]>
     ensures taken { IfSome result (λ rest. BeginsCanonicalProperty input.now rest.now) }
     ensures shorter { IfSome result (λ rest. length rest.now + 16 ≤ length input.now) }
 {
@@ -102,31 +102,31 @@ fn plain_property(input: &[u8]) -> Option<&[u8]>
         return None;
     }
     let (_, behind) = input.split_at(HEADER_LEN);
-    let rest = plain_front(behind)?;
+    let rest = leaf_front(behind)?;
     Some(rest)
 }
 
-/// The first members of a struct, as many as `plain_front` passes, and what follows them.
+/// The first members of a struct, as many as `leaf_front` passes, and what follows them.
 #[inline(always)]
-pub fn plain_members(input: &[u8]) -> (&[u8], &[u8])
+pub fn leaf_members(input: &[u8]) -> (&[u8], &[u8])
     ensures parts { input.now ≡ result.0.now ++ result.1.now }
     ensures canonical { AreCanonical result.0.now }
 {
     let mut left = input;
-    while let Some(rest) = plain_front(left) {
+    while let Some(rest) = leaf_front(left) {
         left = rest;
     }
     input.split_at(input.len() - left.len())
 }
 
-/// The first properties of an object, as many as `plain_front` passes the pods of, and what follows them.
+/// The first properties of an object, as many as `leaf_front` passes the pods of, and what follows them.
 #[inline(always)]
-pub fn plain_properties(input: &[u8]) -> (&[u8], &[u8])
+pub fn leaf_properties(input: &[u8]) -> (&[u8], &[u8])
     ensures parts { input.now ≡ result.0.now ++ result.1.now }
     ensures canonical { AreCanonicalProperties result.0.now }
 {
     let mut left = input;
-    while let Some(rest) = plain_property(left) {
+    while let Some(rest) = leaf_property(left) {
         left = rest;
     }
     input.split_at(input.len() - left.len())

@@ -1,6 +1,6 @@
 //! Strings: UTF-8 texts without NUL, with one NUL behind them.
 ghost use Rattle.std.specs.Prelude.{◌≡◌, ◌≤◌, ◌<◌, length, true};
-ghost use Rattle.spa_scan.specs.Canonical.{IsCanonicalText, IsPlainByte, IsPlainFor};
+ghost use Rattle.spa_scan.specs.Canonical.{IsCanonicalText, IsAsciiByte, IsAsciiFor};
 
 use spa_leaf::text_of;
 
@@ -10,12 +10,12 @@ pub fn is_text(body: &[u8]) -> bool
     ensures canonical { result ≡ true → IsCanonicalText body.now }
     ensures found { IsCanonicalText body.now → result ≡ true }
 {
-    is_plain_string(body) || holds_text(body)
+    is_ascii_string(body) || holds_text(body)
 }
 
 /// The same, of ASCII characters alone.
 #[inline(always)]
-fn is_plain_string(body: &[u8]) -> bool
+fn is_ascii_string(body: &[u8]) -> bool
     ensures { result ≡ true → IsCanonicalText body.now }
 {
     let Some((last, text)) = body.split_last() else {
@@ -24,7 +24,7 @@ fn is_plain_string(body: &[u8]) -> bool
     if *last != 0 {
         return false;
     }
-    is_plain_text(text)
+    is_ascii_text(text)
 }
 
 /// The same as `is_text`, of any characters.
@@ -46,21 +46,21 @@ const HALF_PIECE: usize = 4;
 
 /// Whether each byte is an ASCII character other than NUL.
 #[inline(always)]
-fn is_plain_text(text: &[u8]) -> bool
-    ensures { result ≡ true → IsPlainFor (length text.now) text.now }
+fn is_ascii_text(text: &[u8]) -> bool
+    ensures { result ≡ true → IsAsciiFor (length text.now) text.now }
 {
     if text.len() < PIECE {
-        return is_short_plain_text(text);
+        return is_short_ascii_text(text);
     }
     // The first piece and the last: the pieces between them may reach into the last.
     let (_, last) = text.split_at(text.len() - PIECE);
-    if !(are_plain(text) & are_plain(last)) {
+    if !(are_ascii(text) & are_ascii(last)) {
         return false;
     }
     let (_, more) = text.split_at(PIECE);
     let mut left = more;
     while left.len() > PIECE {
-        if !are_plain(left) {
+        if !are_ascii(left) {
             return false;
         }
         let (_, rest) = left.split_at(PIECE);
@@ -71,24 +71,24 @@ fn is_plain_text(text: &[u8]) -> bool
 
 /// The same of fewer than eight bytes.
 #[inline(always)]
-fn is_short_plain_text(text: &[u8]) -> bool
-    ensures { result ≡ true → IsPlainFor (length text.now) text.now }
+fn is_short_ascii_text(text: &[u8]) -> bool
+    ensures { result ≡ true → IsAsciiFor (length text.now) text.now }
 {
     if text.len() < HALF_PIECE || text.len() > PIECE {
-        return are_plain_bytes(text);
+        return are_ascii_bytes(text);
     }
     // The first bytes may reach into the last.
     let (_, last) = text.split_at(text.len() - HALF_PIECE);
-    are_four_plain(text) & are_four_plain(last)
+    are_four_ascii(text) & are_four_ascii(last)
 }
 
 /// The same, byte by byte.
-fn are_plain_bytes(text: &[u8]) -> bool
-    ensures { result ≡ true → IsPlainFor (length text.now) text.now }
+fn are_ascii_bytes(text: &[u8]) -> bool
+    ensures { result ≡ true → IsAsciiFor (length text.now) text.now }
 {
     let mut left = text;
     while let Some((byte, rest)) = left.split_first() {
-        if !is_plain(*byte) {
+        if !is_ascii(*byte) {
             return false;
         }
         left = rest;
@@ -98,27 +98,27 @@ fn are_plain_bytes(text: &[u8]) -> bool
 
 /// The same of the first eight bytes.
 #[inline(always)]
-fn are_plain(word: &[u8]) -> bool
+fn are_ascii(word: &[u8]) -> bool
     requires { 8 ≤ length word.now }
-    ensures { result ≡ true → IsPlainFor 8 word.now }
+    ensures { result ≡ true → IsAsciiFor 8 word.now }
 {
-    is_plain(word[0])
-        & is_plain(word[1])
-        & is_plain(word[2])
-        & is_plain(word[3])
-        & is_plain(word[4])
-        & is_plain(word[5])
-        & is_plain(word[6])
-        & is_plain(word[7])
+    is_ascii(word[0])
+        & is_ascii(word[1])
+        & is_ascii(word[2])
+        & is_ascii(word[3])
+        & is_ascii(word[4])
+        & is_ascii(word[5])
+        & is_ascii(word[6])
+        & is_ascii(word[7])
 }
 
 /// The same of the first four bytes.
 #[inline(always)]
-fn are_four_plain(word: &[u8]) -> bool
+fn are_four_ascii(word: &[u8]) -> bool
     requires { 4 ≤ length word.now }
-    ensures { result ≡ true → IsPlainFor 4 word.now }
+    ensures { result ≡ true → IsAsciiFor 4 word.now }
 {
-    is_plain(word[0]) & is_plain(word[1]) & is_plain(word[2]) & is_plain(word[3])
+    is_ascii(word[0]) & is_ascii(word[1]) & is_ascii(word[2]) & is_ascii(word[3])
 }
 
 /// The last ASCII character.
@@ -126,8 +126,8 @@ const LAST_ASCII: u8 = 127;
 
 /// Whether a byte is an ASCII character other than NUL, and so no part of a longer one.
 #[inline(always)]
-fn is_plain(byte: u8) -> bool
-    ensures { result ≡ true → IsPlainByte byte }
+fn is_ascii(byte: u8) -> bool
+    ensures { result ≡ true → IsAsciiByte byte }
 {
     byte.wrapping_sub(1) < LAST_ASCII
 }

@@ -1,4 +1,4 @@
-//! Tests of plain types, dictionaries and result codes, of values, and of the bodies and outputs below them. There is nothing
+//! Tests of small types, dictionaries and result codes, of values, and of the bodies and outputs below them. There is nothing
 //! here but tests.
 #![tactic(auto)]
 

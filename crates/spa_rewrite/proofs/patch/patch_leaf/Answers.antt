@@ -1,10 +1,10 @@
 use Rattle.std.proofs.Common.{arith, rules}
-use Rattle.spa_rewrite.proofs.PatchedBodies.{plain_patched}
+use Rattle.spa_rewrite.proofs.PatchedBodies.{unpatched_body}
 use Rattle.spa_rewrite.proofs.patch.patch_leaf.Goals as goal
 
 pub returns-in_default : goal.returns-in_default
 returns-in_default c =
-    plain_patched _ _ _ _ (λ i. omega (arith, c.type_inv.pod i)) c.requires.pod
+    unpatched_body _ _ _ _ (λ i. omega (arith, c.type_inv.pod i)) c.requires.pod
     (record {
       no_bool = search rules;
       no_array = search rules;

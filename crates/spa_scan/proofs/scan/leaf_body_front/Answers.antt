@@ -1,5 +1,5 @@
 use Rattle.spa_scan.proofs.Frames.{canonical_front}
-use Rattle.spa_scan.proofs.scan.plain_body_front.Goals as goal
+use Rattle.spa_scan.proofs.scan.leaf_body_front.Goals as goal
 
 pub returns-then-is_body-clause-taken : goal.returns-then-is_body-clause-taken
 returns-then-is_body-clause-taken c =

@@ -1,7 +1,7 @@
 use Rattle.std.proofs.Common.{◌≤◌, arith, length}
 use Rattle.std.proofs.lemmas.Bool.{and_parts}
-use Rattle.spa_scan.proofs.Parts.{plain_ends}
-use Rattle.spa_scan.proofs.text.is_short_plain_text.Goals as goal
+use Rattle.spa_scan.proofs.Parts.{ascii_ends}
+use Rattle.spa_scan.proofs.text.is_short_ascii_text.Goals as goal
 
 pub returns : goal.returns
 returns c =
@@ -10,4 +10,4 @@ returns c =
     let short : length text ≤ 8 = omega (arith, c.if-text-gt-PIECE.false) in
     λ e.
     let both = and_parts _ _ e in
-    plain_ends 4 text _ long short c.split_at.ensures.back (c.are_four_plain.ensures both.0) (c.are_four_plain-2.ensures both.1)
+    ascii_ends 4 text _ long short c.split_at.ensures.back (c.are_four_ascii.ensures both.0) (c.are_four_ascii-2.ensures both.1)

@@ -1,7 +1,7 @@
 use Rattle.std.proofs.Common.{sym, subst, arith, refl}
 use Rattle.spa_scan.specs.Canonical.{AreCanonical}
 use Rattle.spa_scan.proofs.Frames.{more_stretch, no_stretch, stretch_parts}
-use Rattle.spa_scan.proofs.scan.plain_members.Goals as goal
+use Rattle.spa_scan.proofs.scan.leaf_members.Goals as goal
 
 pub loop-rest-init : goal.loop-rest-init
 loop-rest-init c = (omega arith, λ r s. s)

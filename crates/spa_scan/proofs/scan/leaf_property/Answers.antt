@@ -1,7 +1,7 @@
 use Rattle.std.proofs.Common.{arith}
 use Rattle.spa_format.specs.Typed.{IsBytes}
 use Rattle.spa_scan.proofs.Stretches.{one_property}
-use Rattle.spa_scan.proofs.scan.plain_property.Goals as goal
+use Rattle.spa_scan.proofs.scan.leaf_property.Goals as goal
 
 pub returns-clause-taken : goal.returns-clause-taken
 returns-clause-taken c =

@@ -6,7 +6,7 @@ The pods are structs, objects, both in turn, and structs with a None behind each
 The calls are those of bench/depth.rt.txt, which `bench/build depth none` proves and builds (with `none` it fails, which says nothing);
 `rt run` in crates/podtool and crates/meet builds the programs. Each run must come to the number or to the output that is known, and
 take at most 20 times as long as a tenth of the levels. Prints the best milliseconds of three runs, of a call without what comes before it,
-of a program with its start. Last, many values are read and let go in memory that doesn't hold them all. Status 1 where a row is wrong.
+of a program with its start; where these are too long, of twelve more. Last, many values are read and let go in memory that doesn't hold them all. Status 1 where a row is wrong.
 """
 
 import pathlib
@@ -22,7 +22,7 @@ HEADER, KEYED = 8, 24
 STACK = 8 << 20
 TRUE, SEVEN, FALSE, UNKNOWN = (struct.pack("<4I", 4, type_, word, 0) for type_, word in ((2, 1), (2, 7), (2, 0), (21, 7)))
 NONE = struct.pack("<2I", 0, 1)
-MOST, ROUNDS = 20, 3
+MOST, ROUNDS, TRIES = 20, 3, 5
 
 
 def structs(levels, inner):
@@ -139,9 +139,16 @@ def program_once(words, given, wanted):
 
 
 def compare(few, many, once):
-    """The best times of few and of many levels, and whether both came to what they have to, and the second in time."""
-    (short, fine), (long, good) = ((min(it[0] for it in runs), all(it[1] for it in runs)) for runs in ([once(*row) for _ in range(ROUNDS)] for row in (few, many)))
-    return short, long, fine and good and long <= MOST * max(short, 0.05)
+    """The best times of few and of many levels, and whether both came to what they have to, and the second in time. What other work slows
+    down is timed again, TRIES times."""
+    short, long, right = float("inf"), float("inf"), True
+    for _ in range(TRIES):
+        fewer, more = ([once(*row) for _ in range(ROUNDS)] for row in (few, many))
+        short, long = (min(least, *(it[0] for it in runs)) for least, runs in ((short, fewer), (long, more)))
+        right = right and all(it[1] for it in (*fewer, *more))
+        if long <= MOST * max(short, 0.05):
+            return short, long, right
+    return short, long, False
 
 
 def main(words):

@@ -6,7 +6,7 @@ use Rattle.std.proofs.lemmas.List.Elements.{All-cons, All-nil, All-append, All-c
 use Rattle.spa_format.specs.Tree.{Tree, object, Properties, no_properties, property, join_properties}
 use Rattle.spa_filter.specs.Keys.{key_list, distinct_of, keys_of}
 use Rattle.spa_filter.specs.PropertyLists.{contains}
-use Rattle.spa_filter.specs.Keys.{Offered, offered_at, IsMandatory}
+use Rattle.spa_filter.specs.Keys.{Offered, offered_at}
 use Rattle.spa_filter.specs.Filtering.{Filters, FiltersEach, FiltersKeys, Agree, AgreeAt, CanFilter}
 use Rattle.spa_filter.specs.Refusals.{IsMissing, AreUnsupported, AreDisjoint, IsRefusedAt, IsKeyRefusal, IsRefusal, AreRefused, OnDisagreement}
 use Rattle.spa_filter.specs.declared.error.FilterError.{FilterError}

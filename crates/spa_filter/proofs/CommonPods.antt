@@ -13,7 +13,7 @@ use Rattle.spa_bytes.specs.Opening.{Opens}
 use Rattle.spa_fixed.specs.Choices.{choice_enum_tree}
 use Rattle.spa_utils.specs.declared.choice.ChoiceEnum.{ChoiceEnum}
 use Rattle.spa_utils.specs.declared.choice.ChoiceEnum.TheVariants as E
-use Rattle.spa_filter.specs.Admits.{Admits, AreSupported, IsCommon, IsMeeting, IsPlain, IsSupported, choice_flags_of, plain_of}
+use Rattle.spa_offers.specs.Admits.{Admits, AreSupported, IsCommon, IsMeeting, IsPlain, IsSupported, choice_flags_of, plain_of}
 use Rattle.spa_filter.specs.CommonPods.{HasBody, IsAppended, IsCommonAppended, IsOffered, IsWritten}
 use Rattle.spa_filter.proofs.Plain.{IsPlainTree, IsMeeting-same}
 

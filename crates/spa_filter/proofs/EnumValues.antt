@@ -6,12 +6,12 @@ use Rattle.spa_format.specs.Words.{word_at}
 use Rattle.spa_format.specs.Kind.{Kind, Fixed, content, body_size, type_number}
 use Rattle.spa_format.specs.Tree.{Tree, choice, enum_choice, choice_type}
 use Rattle.spa_format.specs.Pod.{AreElements, IsArray, IsBody}
-use Rattle.spa_filter.specs.Offers.{IsDefault, IsOffer, IsKept}
+use Rattle.spa_offers.specs.Offers.{IsDefault, IsOffer, IsKept}
 use Rattle.spa_filter.specs.CommonPods.{AreEnumValues, HasBody, IsAppended, IsCommonAppended}
 use Rattle.spa_filter.proofs.CommonPods.{appended_over}
-use Rattle.spa_filter.proofs.Contents.{Contains-first}
-use Rattle.spa_filter.proofs.Meetings.{MeetsIn-among}
-use Rattle.spa_filter.proofs.Offering.{only_by}
+use Rattle.spa_offers.proofs.Contents.{Contains-first}
+use Rattle.spa_offers.proofs.Meetings.{MeetsIn-among}
+use Rattle.spa_offers.proofs.Offering.{only_by}
 use Rattle.spa_filter.proofs.Outcomes.{IsMeeting-offers}
 
 -- the body of an Enum, from its values

@@ -1,7 +1,7 @@
 -- From lists of properties to the two objects that have them.
 use Rattle.std.proofs.Common.{◌≡◌, List, refl, sym, ap, ◌∙◌, subst, Vec, Global}
 use Rattle.std.specs.List.{All}
-use Rattle.spa_format.specs.Tree.{Tree, Properties, object, join_properties}
+use Rattle.spa_format.specs.Tree.{Tree, object, join_properties}
 use Rattle.spa_value.specs.declared.object.Property.{Property}
 use Rattle.spa_value.specs.declared.object.Object.{Object, out-Object, roll-Object}
 use Rattle.spa_value.specs.View.{object_view}

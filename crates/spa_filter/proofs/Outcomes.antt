@@ -1,12 +1,13 @@
 -- From what two offers admit to what the two values admit that make them.
-use Rattle.std.proofs.Common.{◌≡◌, ◌↔◌, sym, ap, ◌∙◌, subst, Option, Some, None, Result, Ok, Err, IfOk}
+use Rattle.std.proofs.Common.{◌↔◌, sym, ap, ◌∙◌, subst, Option, Some, None, Result, Ok, Err, IfOk}
 use Rattle.spa_format.specs.Kind.{Fixed}
 use Rattle.spa_format.specs.Tree.{Tree, fixed}
 use Rattle.spa_value.specs.declared.value.Value.{Value}
 use Rattle.spa_value.specs.View.{view}
-use Rattle.spa_filter.specs.Admits.{plain_of}
-use Rattle.spa_filter.specs.Admits.{Admits, IsCommon, HasCommon, IsMeeting}
-use Rattle.spa_filter.specs.Offers.{IsContent, IsOffer, MeetsIn, Outcome, ValuesMeet}
+use Rattle.spa_offers.specs.Admits.{plain_of}
+use Rattle.spa_offers.specs.Admits.{Admits, IsCommon, IsMeeting}
+use Rattle.spa_offers.specs.Offers.{IsOffer, MeetsIn, Outcome}
+use Rattle.spa_filter.specs.Values.{ValuesMeet}
 
 module _ (v w : Tree) (P Q : Fixed → Type 0) (d e : Fixed) (i : IsOffer v P d) (j : IsOffer w Q e) where
   common_content : (x : Fixed) → IsCommon v w (fixed x) → P x × Q x

@@ -1,15 +1,15 @@
 -- Values that aren't choices.
 use Rattle.std.proofs.Common.{false, ◌≡◌, ◌≢◌, refl, subst, sym, ◌∙◌}
-use Rattle.spa_format.specs.Tree.{Tree, choice}
+use Rattle.spa_format.specs.Tree.{Tree}
 use Rattle.spa_value.specs.declared.array.ValueArray.{ValueArray}
 use Rattle.spa_value.specs.declared.array.ValueArray.TheVariants as A
 use Rattle.spa_value.specs.declared.object.Object.{Object'}
 use Rattle.spa_value.specs.declared.value.Value.{Value}
 use Rattle.spa_value.specs.declared.value.Value.TheVariants as V
 use Rattle.spa_value.specs.View.{view, array_view}
-use Rattle.spa_filter.specs.Admits.{plain_of, choice_flags_of}
-use Rattle.spa_filter.specs.Admits.{Admits, IsSupported, HasCommon, IsMeeting, is_flags, is_bounded}
-use Rattle.spa_filter.specs.Offers.{IsPlainView}
+use Rattle.spa_offers.specs.Admits.{plain_of, choice_flags_of}
+use Rattle.spa_offers.specs.Admits.{Admits, IsSupported, HasCommon, IsMeeting, is_flags, is_bounded}
+use Rattle.spa_filter.specs.Values.{IsPlainView}
 
 -- a value of another variant than a choice
 pub IsPlainView-other : (v : Value) → ((c : _) → v ≢ V.Choice c) → IsPlainView v

@@ -2,7 +2,7 @@
 use Rattle.std.proofs.Common.{◌≡◌, ℕ, ◌+◌, ◌<◌, ◌==◌, Bool, true, false, not, if◌then◌else◌, true≢false, List, length, take, drop, get_or, refl, sym, ap, ◌∙◌, subst, None}
 use Rattle.std.specs.BTreeSet.{BTreeSet}
 use Rattle.std.specs.List.{All}
-use Rattle.spa_format.specs.Tree.{Tree, Properties, no_properties, property, join_properties}
+use Rattle.spa_format.specs.Tree.{Properties, no_properties, property, join_properties}
 use Rattle.spa_value.specs.declared.object.Property.{Property}
 use Rattle.spa_value.specs.View.{view}
 use Rattle.spa_value.specs.Views.{property_views, property_view}
@@ -11,7 +11,6 @@ use Rattle.spa_filter.specs.Keys.{key_list}
 use Rattle.spa_filter.specs.PropertyLists.{contains}
 use Rattle.spa_filter.specs.declared.error.FilterError.{FilterError}
 use Rattle.spa_filter.specs.declared.filtering.Filtered.{Filtered}
-use Rattle.spa_filter.specs.Keys.{offered_at}
 use Rattle.spa_filter.specs.Filtering.{Filters, FiltersKeys, Agree, AgreeAt}
 use Rattle.spa_filter.specs.PropertyLists.{found_at, HasKeys, IsAdded, IsFiltered, IsPart, IsPushed}
 use Rattle.spa_filter.specs.Refusals.{IsKeyRefusal, IsRefusal}

@@ -1,11 +1,11 @@
 -- A choice and a plain value meet in either order.
-use Rattle.std.proofs.Common.{◌≡◌, ◌↔◌, sym, ◌∙◌, subst, Option, Some, None}
+use Rattle.std.proofs.Common.{◌≡◌, sym, ◌∙◌, Option, Some, None}
 use Rattle.spa_format.specs.Tree.{Tree}
 use Rattle.spa_value.specs.declared.value.Value.{Value}
 use Rattle.spa_value.specs.View.{view}
-use Rattle.spa_filter.specs.Admits.{plain_of}
-use Rattle.spa_filter.specs.Admits.{Admits, IsCommon, HasCommon, IsMeeting}
-use Rattle.spa_filter.specs.Offers.{ValuesMeet}
+use Rattle.spa_offers.specs.Admits.{plain_of}
+use Rattle.spa_offers.specs.Admits.{Admits, IsCommon, IsMeeting}
+use Rattle.spa_filter.specs.Values.{ValuesMeet}
 
 -- w admits itself alone
 module _ (v w : Tree) (own : plain_of w ≡ w) (alone : (x : Tree) → Admits w x → x ≡ w) where

@@ -4,7 +4,7 @@ use Rattle.spa_format.specs.Kind.{Kind, Fixed, content}
 use Rattle.spa_format.specs.Tree.{Tree, choice, enum_choice, type_of}
 use Rattle.spa_format.specs.Pod.{IsBody, IsPod}
 use Rattle.spa_format.specs.Encoding.{encoding_of}
-use Rattle.spa_filter.specs.Admits.{Admits, AreSupported, IsMeeting, IsPlain, IsSupported}
+use Rattle.spa_offers.specs.Admits.{Admits, AreSupported, IsMeeting, IsPlain, IsSupported}
 
 -- a pod of this value, as it is written
 pub record IsWritten (v : Tree) (pod : List ℕ) : Type 0 where

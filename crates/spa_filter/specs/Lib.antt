@@ -1,13 +1,8 @@
-pub mod Order
-pub mod Flags
-pub mod Admits
 pub mod Keys
 pub mod Filtering
 pub mod Refusals
 pub mod Settling
 pub mod Laws
-pub mod Numbering
-pub mod Offers
+pub mod Values
 pub mod PropertyLists
-pub mod Steps
 pub mod CommonPods

@@ -1,7 +1,7 @@
 -- An object with each choice at its default, and what that makes of a filter: docs/NEGOTIATION.md, "To filter".
-use Rattle.std.specs.Prelude.{⊤, ◌≡◌, ℕ, Option, Some, None}
+use Rattle.std.specs.Prelude.{⊤, ◌≡◌, Option, Some, None}
 use Rattle.spa_format.specs.Tree.{Tree, object, Properties, no_properties, property, join_properties}
-use Rattle.spa_filter.specs.Admits.{plain_of, IsCommon, IsPlain}
+use Rattle.spa_offers.specs.Admits.{plain_of, IsCommon, IsPlain}
 use Rattle.spa_filter.specs.Keys.{Offered, offered_at, key_list, keys_of}
 use Rattle.spa_filter.specs.Filtering.{IsFilter}
 

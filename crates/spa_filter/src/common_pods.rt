@@ -4,16 +4,14 @@ ghost use Rattle.spa_fixed.specs.Choices.{choice_tree};
 ghost use Rattle.spa_format.specs.Pod.{IsBody};
 ghost use Rattle.spa_format.specs.Tree.{Tree, choice_type};
 ghost use Rattle.spa_value.specs.View.{view};
-ghost use Rattle.spa_filter.specs.Admits.{choice_flags_of};
+ghost use Rattle.spa_offers.specs.Admits.{choice_flags_of};
 ghost use Rattle.spa_filter.specs.CommonPods.{HasBody, IsAppended, IsCommonAppended, IsOffered, IsWritten};
 
-use crate::element::Element;
 use crate::enums::{is_short_enum, put_shared};
-use crate::meeting::meet;
-use crate::offer::{admits, offer_of};
 use crate::values::{are_meetable, is_shape_supported};
 use spa_bytes::{HEADER_LEN, SECOND_WORD, open, u32_at};
 use spa_fixed::{put_choice, read_choice};
+use spa_offers::{Element, admits, meet, offer_of};
 use spa_utils::{Choice, Fraction, Id, Rectangle, SpaTypes};
 use spa_value::Value;
 use std::alloc::Global;

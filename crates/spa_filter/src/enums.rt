@@ -3,13 +3,12 @@ ghost use Rattle.std.specs.Prelude.{◌≡◌, ◌↔◌, Contains, IfOk, IfSome
 ghost use Rattle.spa_format.specs.Kind.{content};
 ghost use Rattle.spa_format.specs.Tree.{Tree, choice_type};
 ghost use Rattle.spa_filter.specs.CommonPods.{AreEnumValues, HasBody, IsCommonAppended};
-ghost use Rattle.spa_filter.specs.Offers.{IsDefault, IsKept, IsOneMoreKept};
+ghost use Rattle.spa_offers.specs.Offers.{IsDefault, IsKept, IsOneMoreKept};
 
-use crate::element::Element;
-use crate::offer::{is_among, is_same};
 use bitflags::Flags;
 use spa_bytes::{HEADER_LEN, SECOND_WORD, u32_at};
 use spa_fixed::{ENUM_SHAPE, open_array, put_choice};
+use spa_offers::{Element, is_among, is_same};
 use spa_utils::{Choice, ChoiceEnum, ChoiceFlags};
 use std::alloc::{AllocError, Global};
 

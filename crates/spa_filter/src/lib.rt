@@ -2,21 +2,13 @@
 #![tactic(auto)]
 
 mod common_pods;
-mod element;
-mod elements;
 mod enums;
 mod error;
 mod filtering;
-mod kept;
 mod keyed;
 pub mod laws;
-mod meeting;
 mod met;
-mod numbers;
-mod offer;
-mod ordered;
 mod settling;
-mod stepped;
 mod values;
 
 pub use common_pods::put_common;

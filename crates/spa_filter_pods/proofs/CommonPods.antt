@@ -11,7 +11,7 @@ use Rattle.spa_format.specs.Words.{word_at, extent}
 use Rattle.spa_format.specs.Writable.{IsWritable}
 use Rattle.spa_format.proofs.Back.{encoding_is_pod}
 use Rattle.spa_format.proofs.Unique.{one_value}
-use Rattle.spa_filter.specs.Admits.{Admits, AreSupported, IsCommon, IsMeeting, plain_of}
+use Rattle.spa_offers.specs.Admits.{Admits, AreSupported, IsCommon, IsMeeting, plain_of}
 use Rattle.spa_filter.proofs.Plain.{IsPlainTree, IsMeeting-same}
 use Rattle.spa_value.specs.View.{view}
 use Rattle.spa_value.specs.declared.value.Value.{Value}

@@ -5,7 +5,7 @@ use Rattle.spa_format.specs.Words.{word_bytes}
 use Rattle.spa_format.specs.Tree.{Tree}
 use Rattle.spa_fronts.specs.Written.{IsWritten}
 use Rattle.spa_filter.specs.CommonPods as common
-use Rattle.spa_filter.specs.Admits.{plain_of}
+use Rattle.spa_offers.specs.Admits.{plain_of}
 use Rattle.spa_filter.specs.Keys.{IsMandatory, Offered}
 use Rattle.spa_filter_pods.specs.Written.{IsPutBy, offered}
 

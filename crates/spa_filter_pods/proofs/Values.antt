@@ -5,7 +5,7 @@ use Rattle.spa_format.specs.Kind.{Kind, Fixed}
 use Rattle.spa_format.specs.Normal.{normal_of, normal_properties}
 use Rattle.spa_format.specs.Tree.{Shape, none_choice, range_choice, step_choice, enum_choice, flags_choice, Tree, fixed, choice, object, Properties, no_properties, property}
 use Rattle.spa_format.specs.Writable.{HasNul, SomeValueHasNul}
-use Rattle.spa_filter.specs.Admits.{Admits, IsMeeting}
+use Rattle.spa_offers.specs.Admits.{Admits, IsMeeting}
 use Rattle.spa_filter.specs.Keys.{Offered, offered_at}
 use Rattle.spa_filter.specs.Filtering.{Filters, FiltersEach, IsFilter}
 

@@ -1,7 +1,7 @@
 use Rattle.std.proofs.Common.{◌≡◌, ◌∙◌, sym, ap, subst}
 use Rattle.spa_value.specs.View.{view}
 use Rattle.spa_fixed.specs.Choices.{choice_tree}
-use Rattle.spa_filter.specs.Admits.{choice_flags_of}
+use Rattle.spa_offers.specs.Admits.{choice_flags_of}
 use Rattle.spa_filter.specs.CommonPods.{IsAppended}
 use Rattle.spa_filter.proofs.CommonPods.{appended_choice, choice_typed}
 use Rattle.spa_filter.proofs.common_pods.put_met.Goals as goal

@@ -1,9 +1,9 @@
 use Rattle.spa_fixed.specs.Choices.{choice_tree}
 use Rattle.spa_value.specs.View.{view}
 use Rattle.std.proofs.Common.{subst}
-use Rattle.spa_filter.specs.Offers.{OfferAdmits, OffersMeet, default_of}
+use Rattle.spa_offers.specs.Offers.{OfferAdmits, OffersMeet, default_of}
 use Rattle.spa_filter.proofs.CommonPods.{appended_over, choice_typed}
-use Rattle.spa_filter.proofs.Offering.{AreOffersSayable-values}
+use Rattle.spa_offers.proofs.Offering.{AreOffersSayable-values}
 use Rattle.spa_filter.proofs.Outcomes.{IsMeeting-offers}
 use Rattle.spa_filter.proofs.common_pods.put_over.Goals as goal
 

@@ -4,7 +4,7 @@ use Rattle.std.specs.Prelude.{slice_get}
 use Rattle.spa_format.specs.Tree.{choice, enum_choice}
 use Rattle.spa_format.proofs.FixedKinds.{size_fits}
 use Rattle.spa_filter.proofs.CommonPods.{appended_choice}
-use Rattle.spa_filter.proofs.Contents.{Contains-first}
+use Rattle.spa_offers.proofs.Contents.{Contains-first}
 use Rattle.spa_filter.proofs.EnumValues.{appended_enum, first_among}
 use Rattle.spa_filter.proofs.enums.put_shared.Goals as goal
 

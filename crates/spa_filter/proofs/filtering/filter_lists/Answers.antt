@@ -1,4 +1,4 @@
-use Rattle.std.proofs.Common.{List, [], refl, sym, ap, ◌∙◌, subst}
+use Rattle.std.proofs.Common.{List, [], refl, sym, subst}
 use Rattle.spa_format.specs.Tree.{no_properties, join_properties}
 use Rattle.spa_value.specs.declared.object.Property.{Property}
 use Rattle.spa_value.specs.Views.{property_views}

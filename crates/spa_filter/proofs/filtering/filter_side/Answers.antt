@@ -1,5 +1,4 @@
 use Rattle.std.proofs.Common.{◌+◌, refl, sym, ap, ◌∙◌, subst}
-use Rattle.spa_value.specs.View.{view}
 use Rattle.spa_value.specs.Views.{property_views}
 use Rattle.spa_filter.specs.declared.filtering.Filtered.{Filtered}
 use Rattle.spa_filter.specs.PropertyLists.{IsFiltered}

@@ -1,4 +1,4 @@
-use Rattle.std.proofs.Common.{◌≡◌, ◌&&◌, Bool, true, false, refl, sym, ap, ◌∙◌, true≢false}
+use Rattle.std.proofs.Common.{◌≡◌, ◌&&◌, Bool, refl, sym, ap, ◌∙◌, true≢false}
 use Rattle.spa_filter.proofs.values.are_sayable.Goals as goal
 
 -- the test of two parts, by what these are

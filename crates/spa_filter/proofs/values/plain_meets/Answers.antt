@@ -3,7 +3,7 @@ use Rattle.spa_value.specs.declared.choice_value.ChoiceValue.{ChoiceValue}
 use Rattle.spa_value.specs.declared.choice_value.ChoiceValue.TheVariants as C
 use Rattle.spa_value.specs.declared.value.Value.{Value}
 use Rattle.std.proofs.Common.{Option}
-use Rattle.spa_filter.specs.Offers.{IsPlainView, ValuesMeet}
+use Rattle.spa_filter.specs.Values.{IsPlainView, ValuesMeet}
 use Rattle.spa_filter.proofs.Plain.{IsPlainTree-view}
 use Rattle.spa_filter.proofs.Swapping.{ValuesMeet-swapped}
 use Rattle.spa_filter.proofs.values.plain_meets.Goals as goal

@@ -1,0 +1,36 @@
+//! What is asked of the nine types over which there are choices.
+ghost use Rattle.std.specs.Prelude.{◌≡◌, MatchOption};
+ghost use Rattle.spa_format.specs.Kind.{Fixed, kind_of};
+ghost use Rattle.spa_format.specs.Tree.{fixed};
+ghost use Rattle.spa_fixed.specs.Choices.{choice_enum_tree, choice_tree};
+ghost use Rattle.spa_value.specs.View.{choice_view, view};
+ghost use Rattle.spa_offers.specs.Admits.{Admits};
+ghost use Rattle.spa_offers.specs.Numbering.{numbers_of};
+
+use crate::numbers::Numbers;
+use spa_steps::Stepped;
+use spa_utils::{Choice, ChoiceEnum};
+use spa_value::{ChoiceValue, Value};
+
+/// One of the nine types over which there are choices.
+pub trait Element: Stepped {
+    /// The numbers by which this element is told from all others.
+    fn numbers(&self) -> Numbers
+        ensures { result ≡ numbers_of (Self.fixed self.now) };
+
+    /// This element as a value.
+    fn value(&self) -> Value
+        ensures { view result ≡ fixed (Self.fixed self.now) };
+
+    /// A choice over this type, with empty flags, as a value.
+    fn choice(choice: ChoiceEnum<Self>) -> Value
+        ensures { view result ≡ choice_enum_tree Self.kind Self.fixed 0 choice };
+
+    /// The element that a value is.
+    fn in_value(value: &Value) -> Option<Self>
+        ensures { MatchOption result ((x : Fixed) → view value.now ≡ fixed x → ¬ (kind_of x ≡ Self.kind)) (λ x. view value.now ≡ fixed (Self.fixed x)) };
+
+    /// The choice over this type that a choice is.
+    fn in_choice(choice: &ChoiceValue) -> Option<&Choice<Self>>
+        ensures { MatchOption result ((x : Fixed) → Admits (choice_view choice.now) (fixed x) → ¬ (kind_of x ≡ Self.kind)) (λ c. choice_view choice.now ≡ choice_tree Self.kind Self.fixed c.now) };
+}

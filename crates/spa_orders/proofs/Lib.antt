@@ -1,0 +1,4 @@
+pub mod Order
+pub mod Joins
+pub mod Rectangles
+pub mod Masks

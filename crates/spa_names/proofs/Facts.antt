@@ -1,6 +1,6 @@
 -- Written by tables/generate.py from the headers of PipeWire 0.3.65. Do not edit.
 -- What is true of each table.
-use Rattle.std.proofs.Common.{◌≡◌, Bool, true, refl}
+use Rattle.std.proofs.Common.{◌≡◌, true, refl}
 use Rattle.spa_names.specs.declared.table.Table.{Table}
 use Rattle.spa_names.specs.declared.table.Table.TheVariants.{Types, Choices, Controls, DeviceKeys, NodeKeys, CommandNodeKeys, PropInfoKeys, PropsKeys, FormatKeys, BuffersKeys, ParamMetaKeys, IOKeys, ProfileKeys, PortConfigKeys, RouteKeys, ProfilerKeys, LatencyKeys, ProcessLatencyKeys, DeviceEventId, Node, CommandNode, ParamId, BluetoothAudioCodec, MediaType, MediaSubtype, AudioFormat, AudioFlags, AudioIEC958Codec, ParamBitorder, AudioAACStreamFormat, AudioWMAProfile, AudioAMRBandMode, VideoFormat, VideoInterlaceMode, Meta, IO, ParamAvailability, Direction, ParamPortConfigMode, AudioChannel, Nothing}
 use Rattle.spa_names.proofs.Sound.{numbers_rise, names_rise, names_come_back, numbers_are_named}

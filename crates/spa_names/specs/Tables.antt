@@ -1,6 +1,6 @@
 -- Written by tables/generate.py from the headers of PipeWire 0.3.65. Do not edit.
 -- The contents of each table.
-use Rattle.std.specs.Prelude.{List, [], map}
+use Rattle.std.specs.Prelude.{List, [], map, ⊤}
 use Rattle.spa_names.specs.Rows.{Row, Naming}
 use Rattle.spa_names.specs.declared.table.Table.{Table}
 use Rattle.spa_names.specs.declared.table.Table.TheVariants.{Types, Choices, Controls, DeviceKeys, NodeKeys, CommandNodeKeys, PropInfoKeys, PropsKeys, FormatKeys, BuffersKeys, ParamMetaKeys, IOKeys, ProfileKeys, PortConfigKeys, RouteKeys, ProfilerKeys, LatencyKeys, ProcessLatencyKeys, DeviceEventId, Node, CommandNode, ParamId, BluetoothAudioCodec, MediaType, MediaSubtype, AudioFormat, AudioFlags, AudioIEC958Codec, ParamBitorder, AudioAACStreamFormat, AudioWMAProfile, AudioAMRBandMode, VideoFormat, VideoInterlaceMode, Meta, IO, ParamAvailability, Direction, ParamPortConfigMode, AudioChannel, Nothing}
@@ -95,3 +95,22 @@ namings_of Direction = map (λ e. (e.0.now, e.1)) NAMES_OF_DIRECTION
 namings_of ParamPortConfigMode = map (λ e. (e.0.now, e.1)) NAMES_OF_PARAM_PORT_CONFIG_MODE
 namings_of AudioChannel = map (λ e. (e.0.now, e.1)) NAMES_OF_AUDIO_CHANNEL
 namings_of Nothing = []
+
+-- a table of types or ids, or without names: of no keys
+abbrev pub IsOfIds : Table → Type 0
+IsOfIds DeviceKeys = ⊥
+IsOfIds NodeKeys = ⊥
+IsOfIds CommandNodeKeys = ⊥
+IsOfIds PropInfoKeys = ⊥
+IsOfIds PropsKeys = ⊥
+IsOfIds FormatKeys = ⊥
+IsOfIds BuffersKeys = ⊥
+IsOfIds ParamMetaKeys = ⊥
+IsOfIds IOKeys = ⊥
+IsOfIds ProfileKeys = ⊥
+IsOfIds PortConfigKeys = ⊥
+IsOfIds RouteKeys = ⊥
+IsOfIds ProfilerKeys = ⊥
+IsOfIds LatencyKeys = ⊥
+IsOfIds ProcessLatencyKeys = ⊥
+IsOfIds _ = ⊤

@@ -2,7 +2,7 @@
 //! The contents of the tables.
 ghost use Rattle.std.specs.Prelude.{◌≡◌, map};
 ghost use Rattle.spa_names.specs.Rows.{naming_of, row_of};
-ghost use Rattle.spa_names.specs.Tables.{namings_of, rows_of};
+ghost use Rattle.spa_names.specs.Tables.{IsOfIds, namings_of, rows_of};
 
 use crate::entry::{Entry, Naming};
 use crate::table::Table;
@@ -13,9 +13,6 @@ pub(crate) fn entries_of(table: Table) -> &'static [Entry]
     ensures { map row_of result.now ≡ rows_of table }
 {
     match table {
-        Table::Types => &id_entries::ENTRIES_OF_TYPES,
-        Table::Choices => &id_entries::ENTRIES_OF_CHOICES,
-        Table::Controls => &id_entries::ENTRIES_OF_CONTROLS,
         Table::DeviceKeys => &key_entries::ENTRIES_OF_DEVICE_KEYS,
         Table::NodeKeys => &key_entries::ENTRIES_OF_NODE_KEYS,
         Table::CommandNodeKeys => &key_entries::ENTRIES_OF_COMMAND_NODE_KEYS,
@@ -31,6 +28,18 @@ pub(crate) fn entries_of(table: Table) -> &'static [Entry]
         Table::ProfilerKeys => &key_entries::ENTRIES_OF_PROFILER_KEYS,
         Table::LatencyKeys => &key_entries::ENTRIES_OF_LATENCY_KEYS,
         Table::ProcessLatencyKeys => &key_entries::ENTRIES_OF_PROCESS_LATENCY_KEYS,
+        _ => id_entries_of(table),
+    }
+}
+
+/// The entries of a table of types or ids; of any other none.
+fn id_entries_of(table: Table) -> &'static [Entry]
+    ensures { IsOfIds table → map row_of result.now ≡ rows_of table }
+{
+    match table {
+        Table::Types => &id_entries::ENTRIES_OF_TYPES,
+        Table::Choices => &id_entries::ENTRIES_OF_CHOICES,
+        Table::Controls => &id_entries::ENTRIES_OF_CONTROLS,
         Table::DeviceEventId => &id_entries::ENTRIES_OF_DEVICE_EVENT_ID,
         Table::Node => &id_entries::ENTRIES_OF_NODE,
         Table::CommandNode => &id_entries::ENTRIES_OF_COMMAND_NODE,
@@ -53,7 +62,7 @@ pub(crate) fn entries_of(table: Table) -> &'static [Entry]
         Table::Direction => &id_entries::ENTRIES_OF_DIRECTION,
         Table::ParamPortConfigMode => &id_entries::ENTRIES_OF_PARAM_PORT_CONFIG_MODE,
         Table::AudioChannel => &id_entries::ENTRIES_OF_AUDIO_CHANNEL,
-        Table::Nothing => &[],
+        _ => &[],
     }
 }
 
@@ -62,9 +71,6 @@ pub(crate) fn namings_of(table: Table) -> &'static [Naming]
     ensures { map naming_of result.now ≡ namings_of table }
 {
     match table {
-        Table::Types => &names::NAMES_OF_TYPES,
-        Table::Choices => &names::NAMES_OF_CHOICES,
-        Table::Controls => &names::NAMES_OF_CONTROLS,
         Table::DeviceKeys => &names::NAMES_OF_DEVICE_KEYS,
         Table::NodeKeys => &names::NAMES_OF_NODE_KEYS,
         Table::CommandNodeKeys => &names::NAMES_OF_COMMAND_NODE_KEYS,
@@ -80,6 +86,18 @@ pub(crate) fn namings_of(table: Table) -> &'static [Naming]
         Table::ProfilerKeys => &names::NAMES_OF_PROFILER_KEYS,
         Table::LatencyKeys => &names::NAMES_OF_LATENCY_KEYS,
         Table::ProcessLatencyKeys => &names::NAMES_OF_PROCESS_LATENCY_KEYS,
+        _ => id_namings_of(table),
+    }
+}
+
+/// The names of a table of types or ids, in their order; of any other none.
+fn id_namings_of(table: Table) -> &'static [Naming]
+    ensures { IsOfIds table → map naming_of result.now ≡ namings_of table }
+{
+    match table {
+        Table::Types => &names::NAMES_OF_TYPES,
+        Table::Choices => &names::NAMES_OF_CHOICES,
+        Table::Controls => &names::NAMES_OF_CONTROLS,
         Table::DeviceEventId => &names::NAMES_OF_DEVICE_EVENT_ID,
         Table::Node => &names::NAMES_OF_NODE,
         Table::CommandNode => &names::NAMES_OF_COMMAND_NODE,
@@ -102,6 +120,6 @@ pub(crate) fn namings_of(table: Table) -> &'static [Naming]
         Table::Direction => &names::NAMES_OF_DIRECTION,
         Table::ParamPortConfigMode => &names::NAMES_OF_PARAM_PORT_CONFIG_MODE,
         Table::AudioChannel => &names::NAMES_OF_AUDIO_CHANNEL,
-        Table::Nothing => &[],
+        _ => &[],
     }
 }

@@ -129,23 +129,37 @@ def main():
         out += [f'    ("{name.decode()}", {number}),' for name, number in rows] + ["];"]
     write("src/names.rt", out)
 
-    out = [f"// Written {OF_C}", "//! The contents of the tables.", "ghost use Rattle.std.specs.Prelude.{◌≡◌, map};"]
-    out += ["ghost use Rattle.spa_names.specs.Rows.{naming_of, row_of};", "ghost use Rattle.spa_names.specs.Tables.{namings_of, rows_of};", ""]
+    def arms(ours, rows):
+        """The arms of a match that gives the rows of our tables."""
+        return [f"        Table::{titles[at]} => &{rows(at)}_OF_{constant_of(titles[at])}," for at in kept if at in ours]
+
+    def entries(at):
+        return ("key" if at in is_keys else "id") + "_entries::ENTRIES"
+
+    def names(_):
+        return "names::NAMES"
+
+    others = set(kept) - is_keys
+    out = [f"// Written {OF_C}", "//! The contents of the tables."]
+    out += ["ghost use Rattle.std.specs.Prelude.{◌≡◌, map};", "ghost use Rattle.spa_names.specs.Rows.{naming_of, row_of};"]
+    out += ["ghost use Rattle.spa_names.specs.Tables.{IsOfIds, namings_of, rows_of};", ""]
     out += ["use crate::entry::{Entry, Naming};", "use crate::table::Table;", "use crate::{id_entries, key_entries, names};"]
     out += ["", "/// The entries of a table, by their numbers.", "pub(crate) fn entries_of(table: Table) -> &'static [Entry]"]
     out += ["    ensures { map row_of result.now ≡ rows_of table }", "{", "    match table {"]
-    for at in kept:
-        module = "key_entries" if at in is_keys else "id_entries"
-        out += [f"        Table::{titles[at]} => &{module}::ENTRIES_OF_{constant_of(titles[at])},"]
-    out += ["        Table::Nothing => &[],", "    }", "}"]
+    out += arms(is_keys, entries) + ["        _ => id_entries_of(table),", "    }", "}"]
+    out += ["", "/// The entries of a table of types or ids; of any other none.", "fn id_entries_of(table: Table) -> &'static [Entry]"]
+    out += ["    ensures { IsOfIds table → map row_of result.now ≡ rows_of table }", "{", "    match table {"]
+    out += arms(others, entries) + ["        _ => &[],", "    }", "}"]
     out += ["", "/// The names of a table, in their order.", "pub(crate) fn namings_of(table: Table) -> &'static [Naming]"]
     out += ["    ensures { map naming_of result.now ≡ namings_of table }", "{", "    match table {"]
-    out += [f"        Table::{titles[at]} => &names::NAMES_OF_{constant_of(titles[at])}," for at in kept]
-    out += ["        Table::Nothing => &[],", "    }", "}"]
+    out += arms(is_keys, names) + ["        _ => id_namings_of(table),", "    }", "}"]
+    out += ["", "/// The names of a table of types or ids, in their order; of any other none.", "fn id_namings_of(table: Table) -> &'static [Naming]"]
+    out += ["    ensures { IsOfIds table → map naming_of result.now ≡ namings_of table }", "{", "    match table {"]
+    out += arms(others, names) + ["        _ => &[],", "    }", "}"]
     write("src/contents.rt", out)
 
     out = [f"-- Written {OF_C}", "-- The contents of each table."]
-    out += ["use Rattle.std.specs.Prelude.{List, [], map}"]
+    out += ["use Rattle.std.specs.Prelude.{List, [], map, ⊤}"]
     out += ["use Rattle.spa_names.specs.Rows.{Row, Naming}"]
     out += ["use Rattle.spa_names.specs.declared.table.Table.{Table}"]
     variants = [titles[at] for at in kept] + ["Nothing"]
@@ -160,10 +174,12 @@ def main():
     out += ["", "-- the names of a table, in their order", "abbrev pub namings_of : Table → List Naming"]
     out += [f"namings_of {titles[at]} = map (λ e. (e.0.now, e.1)) NAMES_OF_{constant_of(titles[at])}" for at in kept]
     out += ["namings_of Nothing = []"]
+    out += ["", "-- a table of types or ids, or without names: of no keys", "abbrev pub IsOfIds : Table → Type 0"]
+    out += [f"IsOfIds {titles[at]} = ⊥" for at in kept if at in is_keys] + ["IsOfIds _ = ⊤"]
     write("specs/Tables.antt", out)
 
     out = [f"-- Written {OF_C}", "-- What is true of each table."]
-    out += ["use Rattle.std.proofs.Common.{◌≡◌, Bool, true, refl}"]
+    out += ["use Rattle.std.proofs.Common.{◌≡◌, true, refl}"]
     out += ["use Rattle.spa_names.specs.declared.table.Table.{Table}"]
     out += [f"use Rattle.spa_names.specs.declared.table.Table.TheVariants.{{{', '.join(variants)}}}"]
     out += ["use Rattle.spa_names.proofs.Sound.{numbers_rise, names_rise, names_come_back, numbers_are_named}"]

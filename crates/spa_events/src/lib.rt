@@ -8,6 +8,3 @@ mod listing;
 
 pub use event::{Event, NO_PARENT};
 pub use listing::list_events;
-
-#[cfg(test)]
-mod tests;

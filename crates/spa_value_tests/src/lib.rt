@@ -1,5 +1,5 @@
-//! Tests of small types, dictionaries and result codes, of values, and of the bodies and outputs below them. There is nothing
-//! here but tests.
+//! Tests of small types, dictionaries and result codes, of values, of the bodies and outputs below them, and of events. There is
+//! nothing here but tests.
 #![tactic(auto)]
 
 #[cfg(test)]

@@ -5,6 +5,7 @@ mod clones;
 mod devices;
 mod dictionaries;
 mod equality;
+mod events;
 mod fixed;
 mod outputs;
 mod plain_types;

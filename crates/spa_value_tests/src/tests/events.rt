@@ -1,5 +1,5 @@
 //! What is told of an input that was written by hand.
-use crate::{Event, NO_PARENT, list_events};
+use spa_events::{Event, NO_PARENT, list_events};
 
 const NOTHING: Event = Event {
     type_: 0,

@@ -1,7 +1,8 @@
 //! Objects whose values stand deep in one another: they meet, or are told apart.
 use crate::bytes::{DEPTHS, EMPTY, NONE, assert_holds, between, read};
 use libspa::pod::{Held, Object, Value, same};
-use spa_negotiate::{NegotiateError, negotiate, negotiate_pods};
+use spa_negotiate::{NegotiateError, negotiate};
+use spa_negotiate_pods::negotiate_pods;
 use std::alloc::{AllocError, Global};
 use std::process::Abort;
 use std::test::Fail;

@@ -4,7 +4,7 @@ use Rattle.std.proofs.lemmas.Bool.{cases_lt}
 use Rattle.std.proofs.lemmas.List.{nil_from_length}
 use Rattle.spa_format.specs.Words.{extent, word_at}
 use Rattle.spa_format.specs.Front.{HasFront, rest_of}
-use Rattle.spa_negotiate.specs.Fronts.{OnNoMeeting}
+use Rattle.spa_negotiate_pods.specs.Fronts.{OnNoMeeting}
 use Rattle.spa_negotiate.specs.declared.error.NegotiateError.{NegotiateError}
 use Rattle.spa_negotiate.specs.declared.error.NegotiateError.TheVariants as refusal
 use Rattle.spa_filter_pods.specs.Fronts.{OnNoFilter}

@@ -1,8 +1,8 @@
 -- When the work on two objects succeeds, and what it is refused for: docs/NEGOTIATION.md.
 use Rattle.std.specs.Prelude.{◌≡◌, ℕ, List}
 use Rattle.spa_negotiate.specs.Meeting.{CanMeet}
-use Rattle.spa_negotiate.specs.Fronts.{MeetIn}
-use Rattle.spa_negotiate.specs.Fronts as negotiation
+use Rattle.spa_negotiate_pods.specs.Fronts.{MeetIn}
+use Rattle.spa_negotiate_pods.specs.Fronts as negotiation
 use Rattle.spa_negotiate.specs.declared.error.NegotiateError.{NegotiateError}
 use Rattle.spa_negotiate.specs.declared.error.NegotiateError.TheVariants as refusal
 use Rattle.spa_negotiate.specs.declared.error.Side as negotiation_side

@@ -2,7 +2,7 @@
 ghost use Rattle.std.specs.Prelude.{◌≡◌, ◌↔◌, ◌∷◌, ◌+◌, ◌<◌, Err, IfErr, IfNone, IfOk, IfSome, IsTrue, Ok, OnOk, [], length};
 ghost use Rattle.spa_format.specs.Front.{rest_of};
 ghost use Rattle.spa_format.specs.Walk.{walk};
-ghost use Rattle.spa_negotiate.specs.Fronts.{BeginsObject, IsObject};
+ghost use Rattle.spa_negotiate_pods.specs.Fronts.{BeginsObject, IsObject};
 ghost use Rattle.spa_value.specs.View.{view};
 ghost use Rattle.spa_meet_commands.specs.Lists.{AgreesWithNone, AreListsRefused, FirstGives, FirstPairGives, IsList, IsNoList, IsOfDisagreement, ListsGive, NoneAgree, StopsAt};
 

@@ -7,7 +7,7 @@ ghost use Rattle.spa_meet_commands.specs.Answers.{IsPairRefused, PairIn};
 use crate::answer::Failure;
 use libspa::pod::Pod;
 use spa_filter_pods::{FilterError, Side, filter_pods};
-use spa_negotiate::{NegotiateError, negotiate_pods};
+use spa_negotiate_pods::{NegotiateError, negotiate_pods};
 use std::alloc::Global;
 
 /// What is done with two objects.
@@ -65,12 +65,12 @@ fn told(cause: NegotiateError) -> FilterError
 }
 
 /// A side of negotiation as one of filtering.
-fn side_of(side: spa_negotiate::Side) -> Side
+fn side_of(side: spa_negotiate_pods::Side) -> Side
     ensures { result ≡ side_as side }
 {
     match side {
-        spa_negotiate::Side::First => Side::First,
-        spa_negotiate::Side::Second => Side::Second,
+        spa_negotiate_pods::Side::First => Side::First,
+        spa_negotiate_pods::Side::Second => Side::Second,
     }
 }
 

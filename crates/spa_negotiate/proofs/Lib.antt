@@ -11,8 +11,3 @@ pub mod Refusing
 pub mod Steps
 pub mod Places
 pub mod Objects
-pub mod Values
-pub mod OfferViews
-pub mod Putting
-pub mod Meetings
-pub mod Fronts

@@ -11,19 +11,13 @@ use Rattle.spa_value.specs.declared.value.Value.TheVariants as V
 use Rattle.spa_value.specs.View.{view, array_view, choice_view, object_view}
 use Rattle.spa_negotiate.specs.declared.offer.Rule.TheVariants.{Only}
 use Rattle.spa_negotiate.specs.Admits.{IsPlain, IsOrderedKind, IsAtMostFixed, IsAtMost, plain_of}
-use Rattle.spa_negotiate.specs.Fronts.{IsObject}
 use Rattle.spa_negotiate.specs.Numbering.{tree_numbers}
 use Rattle.spa_negotiate.specs.Offers.{further_values_of, rule_of}
 
--- a tree of another type than a choice's is plain,
+-- a tree of another type than a choice's is plain
 IsPlain-type_of : (t : Tree) → type_of t ≢ choice_type → IsPlain t
 IsPlain-type_of (choice s f k d vs) n = absurd (n refl)
 IsPlain-type_of _ n = tt
-
--- and one of another type than an object's is none
-no_object-type_of : (t : Tree) → type_of t ≢ object_type → ¬ (IsObject t)
-no_object-type_of (object t i ps) n = λ h. n refl
-no_object-type_of _ n = λ h. h
 
 -- a plain value offers itself
 pub rule_of-plain : (t : Tree) → IsPlain t → Only ≡ rule_of t
@@ -117,7 +111,7 @@ no_numbers-type_of _ n e h = refl
 module _ (arrays : (a : ValueArray) → type_of (array_view a) ≡ array_type)
     (choices : (c : ChoiceValue) → type_of (choice_view c) ≡ choice_type)
     (objects : (o : Object) → type_of (object_view o) ≡ object_type) where
-  -- a value of another variant than a choice is plain,
+  -- a value of another variant than a choice is plain
   pub IsPlain-view : (v : Value) → ((c : _) → v ≢ V.Choice c) → IsPlain (view v)
   IsPlain-view (V.Choice c) n = absurd (n c refl)
   IsPlain-view (V.ValueArray a) n =
@@ -125,15 +119,6 @@ module _ (arrays : (a : ValueArray) → type_of (array_view a) ≡ array_type)
   IsPlain-view (V.Object o) n =
       IsPlain-type_of (view (V.Object o)) (λ e. omega (arith, sym (objects o) ∙ e))
   IsPlain-view _ n = tt
-
-  -- and one of another variant than an object is no object
-  pub not_object : (v : Value) → ((o : _) → v ≢ V.Object o) → ¬ (IsObject (view v))
-  not_object (V.Object o) n = absurd (n o refl)
-  not_object (V.ValueArray a) n =
-      no_object-type_of (view (V.ValueArray a)) (λ e. omega (arith, sym (arrays a) ∙ e))
-  not_object (V.Choice c) n =
-      no_object-type_of (view (V.Choice c)) (λ e. omega (arith, sym (choices c) ∙ e))
-  not_object _ n = λ h. h
 
   not_ordered-array : (a : _) → ¬ (IsOrdered (array_view a))
   not_ordered-array a = not_ordered-type_of _ array_type (arrays a) (omega arith)

@@ -1,10 +1,7 @@
 pub mod Admits
-pub mod Written
-pub mod Offering
 pub mod Keys
 pub mod Meeting
 pub mod Refusals
-pub mod Fronts
 pub mod Numbering
 pub mod Offers
 pub mod PropertyLists

@@ -8,10 +8,6 @@ mod keyed;
 mod negotiation;
 mod numbers;
 mod offer;
-mod offer_view;
-mod pods;
-mod short;
 
 pub use error::{NegotiateError, Side};
 pub use negotiation::negotiate;
-pub use pods::negotiate_pods;

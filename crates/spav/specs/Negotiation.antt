@@ -1,7 +1,7 @@
 -- Negotiation in the caller's memory: docs/CAPI.md, "Negotiation".
 use Rattle.std.specs.Prelude.{◌≡◌, ◌⊎◌, ℕ, List}
 use Rattle.spa_format.specs.Front.{IsRefused}
-use Rattle.spa_negotiate.specs.Fronts.{BeginsObject, BeginsOther}
+use Rattle.spa_negotiate_pods.specs.Fronts.{BeginsObject, BeginsOther}
 use Rattle.spa_negotiate.specs.declared.error.Side.{Side}
 use Rattle.spa_negotiate.specs.declared.error.Side.TheVariants.{First, Second}
 

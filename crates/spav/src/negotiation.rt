@@ -1,6 +1,6 @@
 //! Negotiation in the caller's memory.
 ghost use Rattle.std.specs.Prelude.{◌≡◌, ◌<◌, List, length, ℕ};
-ghost use Rattle.spa_negotiate.specs.Fronts.{AreFrontsRefused, BeginBoth, MeetIn, MeetTooLarge};
+ghost use Rattle.spa_negotiate_pods.specs.Fronts.{AreFrontsRefused, BeginBoth, MeetIn, MeetTooLarge};
 ghost use Rattle.spa_negotiate.specs.Meeting.{CanMeet};
 ghost use Rattle.spa_negotiate.specs.Refusals.{AreRefused};
 ghost use Rattle.spa_negotiate.specs.declared.error.NegotiateError.TheVariants.{Disjoint, OutOfMemory, TypeMismatch, Unsupported};
@@ -10,7 +10,7 @@ ghost use Rattle.spav.specs.Negotiation.{HasNoObject, number_of};
 
 use crate::answers::{DISJOINT, FIRST, INVALID, NO_MEMORY, OTHER, PAST, SECOND, UNSUPPORTED};
 use crate::lists::put_front;
-use spa_negotiate::{NegotiateError, Side, negotiate_pods};
+use spa_negotiate_pods::{NegotiateError, Side, negotiate_pods};
 use std::alloc::Global;
 
 /// Writes the object in which the objects at the fronts of two inputs meet to the front of `out`: under each key of either a value

@@ -2,7 +2,8 @@
 use crate::negotiation::objects::{Given, object};
 use libspa::pod::serialize::PodSerializer;
 use libspa::pod::{Object, Value};
-use spa_negotiate::{NegotiateError, negotiate, negotiate_pods};
+use spa_negotiate::{NegotiateError, negotiate};
+use spa_negotiate_pods::negotiate_pods;
 use std::alloc::{AllocError, Global};
 use std::process::Abort;
 use std::test::Fail;

@@ -1,7 +1,7 @@
 //! Pods that meet: worked rows, as the bytes of their words.
 use libspa::pod::Pod;
-use spa_negotiate::NegotiateError::{Disjoint, NotObject, TypeMismatch, Unread, Unsupported};
-use spa_negotiate::{NegotiateError, Side, negotiate_pods};
+use spa_negotiate_pods::NegotiateError::{Disjoint, NotObject, TypeMismatch, Unread, Unsupported};
+use spa_negotiate_pods::{NegotiateError, Side, negotiate_pods};
 use std::alloc::{AllocError, Global};
 use std::test::Fail;
 

@@ -1,0 +1,58 @@
+-- What a value offers where its pod lies.
+use Rattle.std.specs.Prelude.{◌≡◌, ◌≢◌, ℕ, ◌<◌, ◌≤◌, List, ◌∷◌, map, length, take, Contains}
+use Rattle.spa_format.specs.Kind.{Kind, bool_kind, type_number, body_size, content, Fixed}
+use Rattle.spa_format.specs.Tree.{Tree, fixed}
+use Rattle.spa_format.specs.Pod.{AreElements}
+use Rattle.spa_negotiate.specs.Admits.{IsAtMost, Admits, IsCommon, plain_of}
+use Rattle.spa_negotiate_pods.specs.declared.offer_view.OfferView.{OfferView}
+use Rattle.spa_negotiate_pods.specs.declared.offer_view.Rule.{Rule}
+use Rattle.spa_negotiate_pods.specs.declared.offer_view.Rule.TheVariants.{Only, Among, Between, Unsupported}
+
+-- the first bytes of these, as a value of the kind
+abbrev pub value_of : Kind → List ℕ → Fixed
+value_of k b = content k (take (body_size k) b)
+
+-- this is the type of a kind over which there are choices, truth values aside
+pub record IsElementType (type : ℕ) : Type 0 where
+  pub kind : Kind
+  pub its_type : type ≡ type_number kind
+  pub no_truth : kind ≢ bool_kind
+  pub long : 0 < body_size kind
+
+-- x is admitted by this rule, default and further values
+abbrev pub AdmitsBy : Rule → Tree → List Tree → Tree → Type 0
+AdmitsBy Only default values x = x ≡ default
+AdmitsBy Among default values x = Contains (default ∷ values) x
+AdmitsBy Between default (low ∷ high ∷ values) x = IsAtMost low x × IsAtMost x high
+AdmitsBy Between default _ x = ⊥
+AdmitsBy Unsupported default values x = ⊥
+
+-- the offer is that of the value: what it admits, the value does
+pub record IsOffer (v : Tree) (offer : OfferView) : Type 0 where
+  pub kind : Kind
+  pub default : Fixed
+  pub further : List Fixed
+  pub its_type : offer.type_ ≡ type_number kind
+  pub its_size : offer.size ≡ body_size kind
+  pub no_truth : kind ≢ bool_kind
+  pub values : AreElements kind (default ∷ further) offer.values.now
+  pub plain : plain_of v ≡ fixed default
+  pub admits : (x : Tree) → AdmitsBy offer.rule (fixed default) (map (λ y. fixed y) further) x → Admits v x
+
+-- the values of the offer have bytes, and the default is there
+abbrev pub HasValues : OfferView → Type 0
+HasValues offer = (0 < offer.size) × (offer.size ≤ length offer.values.now)
+
+-- both values admit that which the bytes begin with, of the kind with this type number
+pub record IsShared (v w : Tree) (type : ℕ) (b : List ℕ) : Type 0 where
+  pub kind : Kind
+  pub its_type : type ≡ type_number kind
+  pub no_truth : kind ≢ bool_kind
+  pub long : body_size kind ≤ length b
+  pub common : IsCommon v w (fixed (value_of kind b))
+
+-- the values of two offers admit what the bytes begin with, each as a value of its kind
+abbrev pub AreAdmitting : OfferView → OfferView → List ℕ → Type 0
+AreAdmitting a b bytes =
+    (v w : Tree) (o : IsOffer v a) (p : IsOffer w b)
+    → Admits v (fixed (value_of o.kind bytes)) × Admits w (fixed (value_of p.kind bytes))

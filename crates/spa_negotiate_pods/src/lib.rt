@@ -1,0 +1,9 @@
+//! Negotiation from bytes to bytes: the objects of two pods meet, and the answer is written.
+#![tactic(auto)]
+
+mod offer_view;
+mod pods;
+mod short;
+
+pub use pods::negotiate_pods;
+pub use spa_negotiate::{NegotiateError, Side};

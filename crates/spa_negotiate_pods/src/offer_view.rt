@@ -1,0 +1,288 @@
+//! What a value offers, where its pod lies.
+ghost use Rattle.std.specs.Prelude.{◌≡◌, ◌<◌, ◌≤◌, ◌⊎◌, IfSome, List, length, map, take, true};
+ghost use Rattle.spa_format.specs.Kind.{Fixed, Kind, body_size, type_number};
+ghost use Rattle.spa_format.specs.Pod.{AreElements, IsBody, IsPod};
+ghost use Rattle.spa_format.specs.Tree.{Tree, choice_type, fixed, type_of};
+ghost use Rattle.std.specs.List.{Contains};
+ghost use Rattle.spa_negotiate.specs.Admits.{Admits, IsAtMostFixed};
+ghost use Rattle.spa_negotiate_pods.specs.Offering.{AreAdmitting, HasValues, IsElementType, IsOffer, IsShared, value_of};
+ghost use Rattle.spa_negotiate_pods.specs.declared.offer_view.Rule.TheVariants.{Among, Between, Only};
+
+use spa_bytes::{HEADER_LEN, SECOND_WORD, open, u32_at, u64_at};
+use spa_fixed::{ENUM_SHAPE, NONE_SHAPE, RANGE_SHAPE};
+use spa_utils::SpaTypes;
+
+/// Where the values of a choice begin in its body: behind its shape and flags, and their size and type.
+const VALUES_AT: usize = 16;
+
+/// The length in bytes of a body of one word.
+const ONE_WORD: usize = 4;
+
+/// The length in bytes of a body of two words.
+const TWO_WORDS: usize = 8;
+
+/// Which values an offer admits.
+#[derive(Clone, Copy)]
+pub(crate) enum Rule {
+    /// The default alone.
+    Only,
+    /// The default and the further values.
+    Among,
+    /// From the first of the further values to the second.
+    Between,
+    /// None: no common value is sought.
+    Unsupported,
+}
+
+/// What a value offers, where its pod lies: a choice, or a plain value as the choice that admits it alone.
+#[derive(Clone, Copy)]
+pub(crate) struct OfferView<'a> {
+    /// Which values are admitted.
+    pub(crate) rule: Rule,
+    /// The type of the values.
+    pub(crate) type_: u32,
+    /// The length of a value in bytes.
+    pub(crate) size: usize,
+    /// The default, and behind it the further values.
+    pub(crate) values: &'a [u8],
+}
+
+/// What the value of a pod offers, where that is a choice or of a type over which there are choices, and not over truth values,
+/// since bytes that differ may be one of these.
+pub(crate) fn offer_view(pod: &[u8]) -> Option<OfferView<'_>>
+    ensures { IfSome result (λ offer. (v : Tree) → IsPod pod.now v → IsOffer v offer) }
+{
+    let front = open(pod)?;
+    let body = front.body;
+    if front.type_ == SpaTypes::Choice.0 {
+        return choice_view(body);
+    }
+    if !is_element_type(front.type_) {
+        return None;
+    }
+    Some(OfferView {
+        rule: Rule::Only,
+        type_: front.type_,
+        size: body.len(),
+        values: body,
+    })
+}
+
+/// The same of the body of a choice.
+fn choice_view(body: &[u8]) -> Option<OfferView<'_>>
+    ensures { IfSome result (λ offer. (v : Tree) → type_of v ≡ choice_type → IsBody v body.now → IsOffer v offer) }
+{
+    if body.len() < VALUES_AT {
+        return None;
+    }
+    let type_ = u32_at(body, HEADER_LEN + SECOND_WORD);
+    if !is_element_type(type_) {
+        return None;
+    }
+    let size = u32_at(body, HEADER_LEN) as usize;
+    let (_, values) = body.split_at(VALUES_AT);
+    Some(OfferView {
+        rule: rule_by(u32_at(body, 0), type_),
+        type_,
+        size,
+        values,
+    })
+}
+
+/// Whether there are choices over values of this type, truth values aside.
+fn is_element_type(type_: u32) -> bool
+    ensures { result ≡ true → IsElementType type_ }
+{
+    match SpaTypes(type_) {
+        SpaTypes::Id => true,
+        SpaTypes::Int => true,
+        SpaTypes::Long => true,
+        SpaTypes::Float => true,
+        SpaTypes::Double => true,
+        SpaTypes::Rectangle => true,
+        SpaTypes::Fraction => true,
+        SpaTypes::Fd => true,
+        _ => false,
+    }
+}
+
+/// The rule of a choice of this shape over values of this type.
+fn rule_by(shape: u32, type_: u32) -> Rule
+    ensures only { result ≡ Only → shape ≡ 0 }
+    ensures among { result ≡ Among → shape ≡ 3 }
+    ensures between { result ≡ Between → shape ≡ 1 }
+    ensures ordered { result ≡ Between → (type_ ≡ 3) ⊎ (type_ ≡ 4) ⊎ (type_ ≡ 5) }
+{
+    match shape {
+        NONE_SHAPE => Rule::Only,
+        ENUM_SHAPE => Rule::Among,
+        RANGE_SHAPE => match SpaTypes(type_) {
+            SpaTypes::Id => Rule::Between,
+            SpaTypes::Int => Rule::Between,
+            SpaTypes::Long => Rule::Between,
+            _ => Rule::Unsupported,
+        },
+        _ => Rule::Unsupported,
+    }
+}
+
+/// Whether two values of this length are the same bytes. Others than the first ones don't count.
+#[inline(always)]
+fn is_same(size: usize, value: &[u8], other: &[u8]) -> bool
+    requires { (size ≤ length value.now) × (size ≤ length other.now) }
+    ensures { result ≡ true → take size value.now ≡ take size other.now }
+{
+    match size {
+        ONE_WORD => u32_at(value, 0) == u32_at(other, 0),
+        TWO_WORDS => u64_at(value, 0) == u64_at(other, 0),
+        _ => false,
+    }
+}
+
+/// Whether the first is no greater than the second, of a type that has an order.
+fn is_at_most(type_: u32, value: &[u8], other: &[u8]) -> bool
+    ensures { result ≡ true → (k : Kind) → type_ ≡ type_number k → IsAtMostFixed (value_of k value.now) (value_of k other.now) }
+{
+    match SpaTypes(type_) {
+        SpaTypes::Id => {
+            if value.len() < ONE_WORD || other.len() < ONE_WORD {
+                return false;
+            }
+            if u32_at(value, 0) > u32_at(other, 0) {
+                return false;
+            }
+            true
+        }
+        SpaTypes::Int => {
+            if value.len() < ONE_WORD || other.len() < ONE_WORD {
+                return false;
+            }
+            if u32_at(value, 0).cast_signed() > u32_at(other, 0).cast_signed() {
+                return false;
+            }
+            true
+        }
+        SpaTypes::Long => {
+            if value.len() < TWO_WORDS || other.len() < TWO_WORDS {
+                return false;
+            }
+            if u64_at(value, 0).cast_signed() > u64_at(other, 0).cast_signed() {
+                return false;
+            }
+            true
+        }
+        _ => false,
+    }
+}
+
+/// Whether the value is among these.
+fn is_among(size: usize, values: &[u8], value: &[u8]) -> bool
+    requires { (0 < size) × (size ≤ length value.now) }
+    ensures { result ≡ true → (k : Kind) (ys : List Fixed) → size ≡ body_size k → AreElements k ys values.now → Contains (map (λ y. fixed y) ys) (fixed (value_of k value.now)) }
+{
+    let mut left = values;
+    while left.len() >= size {
+        if is_same(size, left, value) {
+            return true;
+        }
+        let (_, rest) = left.split_at(size);
+        left = rest;
+    }
+    false
+}
+
+/// Whether the offer admits a value of its type.
+fn admits(offer: &OfferView<'_>, value: &[u8]) -> bool
+    requires values { HasValues offer.now }
+    requires value { offer.now.size ≤ length value.now }
+    ensures { result ≡ true → (v : Tree) (o : IsOffer v offer.now) → Admits v (fixed (value_of o.kind value.now)) }
+{
+    let size = offer.size;
+    match offer.rule {
+        Rule::Only => is_same(size, offer.values, value),
+        Rule::Among => is_among(size, offer.values, value),
+        Rule::Between => {
+            let (_, low) = offer.values.split_at(size);
+            if low.len() < size {
+                return false;
+            }
+            let (_, high) = low.split_at(size);
+            if high.len() < size {
+                return false;
+            }
+            is_at_most(offer.type_, low, value) && is_at_most(offer.type_, value, high)
+        }
+        Rule::Unsupported => false,
+    }
+}
+
+/// Whether both offers admit a value of their type.
+fn both_admit(a: &OfferView<'_>, b: &OfferView<'_>, value: &[u8]) -> bool
+    requires first { HasValues a.now }
+    requires second { HasValues b.now }
+    requires value { (a.now.size ≤ length value.now) × (b.now.size ≤ length value.now) }
+    ensures { result ≡ true → AreAdmitting a.now b.now value.now }
+{
+    admits(a, value) && admits(b, value)
+}
+
+/// The first of these that both offers admit.
+fn first_of<'v>(a: &OfferView<'_>, b: &OfferView<'_>, values: &'v [u8]) -> Option<&'v [u8]>
+    requires first { HasValues a.now }
+    requires second { HasValues b.now }
+    requires sizes { b.now.size ≡ a.now.size }
+    ensures long { IfSome result (λ value. a.now.size ≤ length value.now) }
+    ensures admitted { IfSome result (λ value. AreAdmitting a.now b.now value.now) }
+{
+    let mut left = values;
+    while left.len() >= a.size {
+        if both_admit(a, b, left) {
+            return Some(left);
+        }
+        let (_, rest) = left.split_at(a.size);
+        left = rest;
+    }
+    None
+}
+
+/// The first of these that both offers admit: a's default, b's default, a's alternatives, b's alternatives, a's minimum, b's
+/// minimum. The bytes behind it don't count.
+pub(crate) fn first_common<'v>(a: &OfferView<'v>, b: &OfferView<'v>) -> Option<&'v [u8]>
+    ensures { IfSome result (λ value. (v w : Tree) → IsOffer v a.now → IsOffer w b.now → IsShared v w a.now.type_ value.now) }
+{
+    if a.type_ != b.type_ || a.size != b.size || a.size == 0 {
+        return None;
+    }
+    if a.values.len() < a.size || b.values.len() < b.size {
+        return None;
+    }
+    if both_admit(a, b, a.values) {
+        return Some(a.values);
+    }
+    if both_admit(a, b, b.values) {
+        return Some(b.values);
+    }
+    if let Rule::Among = a.rule {
+        if let Some(value) = first_of(a, b, a.values) {
+            return Some(value);
+        }
+    }
+    if let Rule::Among = b.rule {
+        if let Some(value) = first_of(a, b, b.values) {
+            return Some(value);
+        }
+    }
+    if let Rule::Between = a.rule {
+        let (_, low) = a.values.split_at(a.size);
+        if low.len() >= a.size && both_admit(a, b, low) {
+            return Some(low);
+        }
+    }
+    if let Rule::Between = b.rule {
+        let (_, low) = b.values.split_at(b.size);
+        if low.len() >= b.size && both_admit(a, b, low) {
+            return Some(low);
+        }
+    }
+    None
+}

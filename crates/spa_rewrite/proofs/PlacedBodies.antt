@@ -27,7 +27,7 @@ pub record IsLeafType (type : ℕ) : Type 0 where
   pub no_object : type ≢ object_type
 
 -- such a pod's encoding is as long
-leaf_long : (pod : List ℕ) (type size : ℕ) (v : Tree) → IsPodOf pod type size → IsLeafType type → IsPod pod v → length (encoding_of v) ≡ length pod
+pub leaf_long : (pod : List ℕ) (type size : ℕ) (v : Tree) → IsPodOf pod type size → IsLeafType type → IsPod pod v → length (encoding_of v) ≡ length pod
 leaf_long pod type size v p t w =
     let b = says_body pod type size v p w in
     let body = take size (drop 8 pod) in

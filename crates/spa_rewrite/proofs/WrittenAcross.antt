@@ -2,9 +2,9 @@
 use Rattle.std.proofs.Common.{◌≡◌, ℕ, ◌+◌, ◌-◌, ◌<◌, ◌≤◌, List, [], ◌++◌, length, drop, take, refl, sym, ap, ◌∙◌, subst, arith, append_assoc, length-append, length-drop, length-take}
 use Rattle.std.specs.Prelude.{Bool, replicate, true, false}
 use Rattle.std.proofs.Math.Seq.{take-add}
-use Rattle.std.proofs.lemmas.List.{append-nil, drop-drop, drop_at, length-take-le, nil_from_length, take_at}
+use Rattle.std.proofs.lemmas.List.{append-nil, drop-drop, drop_at, length-replicate, length-take-le, nil_from_length, take-append-drop, take-take, take_at}
 use borrow.Rule.Slice.PartMut.{put_mid}
-use Rattle.spa_format.specs.Words.{body_of, extent, header_size, word_at, word_bytes}
+use Rattle.spa_format.specs.Words.{body_of, extent, header_size, wide_at, wide_bytes, word_at, word_bytes}
 use Rattle.spa_format.specs.Tree.{no_trees}
 use Rattle.spa_format.specs.Encoding.{member_encodings}
 use Rattle.spa_format.specs.Front.{HasFront, front_of, rest_of}
@@ -14,13 +14,14 @@ use Rattle.spa_format.proofs.Fronts.{length-body_of}
 use Rattle.spa_format.proofs.WordLemmas.{IsBytes-drop, IsBytes-take, word_at-take}
 use Rattle.spa_bytes.specs.Opening.{Opens}
 use Rattle.spa_scan.specs.Canonical.{AreCanonical}
+use Rattle.spa_scan.proofs.Words.{wide_back, wide_of_take, word_there}
 use Rattle.spa_rewrite.specs.Rewriting.{AreRewritten}
 use Rattle.spa_rewrite.specs.Shorter.{ArePlaced, AreRewrittenAs, AreShorter, IsInner, IsPlaced, PutsKey, WritesOn, WritesPod, WritesPods, type_inside}
 use Rattle.spa_rewrite.specs.Steady.{ArePatched, BeginsWord, IsBehindKey, IsPodOf, key_size}
 use Rattle.spa_rewrite.proofs.PatchSteps.{opened_at, word_kind, word_opens}
 use Rattle.spa_rewrite.proofs.Patches.{put_end}
 use Rattle.spa_rewrite.proofs.PatchedBodies.{IsUnpatchedType, unpatched_body}
-use Rattle.spa_rewrite.proofs.PlacedBodies.{IsLeafType, leaf_written}
+use Rattle.spa_rewrite.proofs.PlacedBodies.{IsLeafType, leaf_long}
 use Rattle.spa_rewrite.proofs.Stretches.{both_rewritten}
 use Rattle.spa_rewrite.proofs.Places.{few_placed, inner_placed, none_placed, pods_placed}
 
@@ -127,6 +128,22 @@ writes_next pods old left now sub_old sub body rest pod to len k type w o n fits
     let put : PutsKey false left now now to to = record { at = omega arith; front = sym (append-nil (take to now)); behind = refl } in
     writes_more false false pods old left now now sub_old sub left body rest pod to to len k type w refl o n fits put refl p is y e
 
+-- a key and flags are written
+pub key_written : (keyed : Bool) (bytes out sub sub_old : List ℕ) (to k : ℕ) → key_size keyed ≡ 8 → sub ≡ take 8 bytes ++ drop 8 sub_old →
+    sub_old ≡ drop to out → 8 ≤ length bytes → to + 8 ≤ length out → k ≡ length out - to → PutsKey keyed bytes out (put_mid to k out sub) to (to + 8)
+key_written keyed bytes out sub sub_old to k s e o l room z =
+    let front = take to out in
+    let key = take 8 bytes in
+    let tail = drop 8 (drop to out) in
+    let few : length front ≡ to = length-take-le to out (omega arith) in
+    let eight : length key ≡ 8 = length-take-le 8 bytes l in
+    let new : put_mid to k out sub ≡ front ++ (key ++ tail) = put_end to k out sub z ∙ ap (λ x. front ++ x) (e ∙ ap (λ x. key ++ drop 8 x) o) in
+    record {
+      at = ap (λ n. to + n) (sym s);
+      front = ap (take (to + 8)) new ∙ take_past front (key ++ tail) to 8 few ∙ ap (λ x. front ++ x) (take_at key tail 8 eight ∙ ap (λ n. take n bytes) (sym s));
+      behind = ap (drop (to + 8)) new ∙ drop_past front (key ++ tail) to 8 few ∙ drop_at key tail 8 eight ∙ drop-drop 8 to out;
+    }
+
 -- a word, and one more
 pub word_pod : (here : List ℕ) → BeginsWord here → IsPodOf (take 16 here) (word_at here 4) 4
 word_pod here w =
@@ -135,22 +152,38 @@ word_pod here w =
     let is = opened_at here (body_of here) (drop 16 here) (word_at here 4) 4 o (sym four) in
     is.its
 
-pub word_written : (pods out front sub : List ℕ) → BeginsWord pods → IsBytes (sub ++ drop 16 (front ++ drop 16 out)) →
-    front ≡ take 16 pods → sub ≡ take (8 + 4) (take 16 (front ++ drop 16 out)) ++ replicate (length (take 16 (front ++ drop 16 out)) - (8 + 4)) 0 →
-    length sub ≡ length (take 16 (front ++ drop 16 out)) → WritesPod (take 16 pods) out (sub ++ drop 16 (front ++ drop 16 out)) 16
-word_written pods out front sub w y f e long =
+-- two words are written as they were read
+pub first_written : (b : List ℕ) → IsBytes b → 8 ≤ length b → wide_bytes (wide_at b 0) ≡ take 8 b
+first_written b h l = sym (ap wide_bytes (wide_of_take b)) ∙ wide_back (take 8 b) (IsBytes-take 8 b h) (length-take-le 8 b l)
+
+pub word_written : (pods out new body : List ℕ) (word : ℕ) → BeginsWord pods → IsBytes pods → IsBytes (new ++ drop 16 out) → new ≡ take 8 pods ++ body →
+    word ≡ word_at pods 8 → take 4 body ≡ word_bytes word → drop 4 body ≡ replicate 4 0 → WritesPod (take 16 pods) out (new ++ drop 16 out) 16
+word_written pods out new body word w y i n e f z =
     let type = word_at pods 4 in
     let t = w.its_type in
     let kept : IsUnpatchedType type = subst IsUnpatchedType (sym t.1) (word_kind t.0 t.2 t.3) in
-    let pod = word_pod pods w in
+    let pod = take 16 pods in
+    let its = word_pod pods w in
     let l = w.long in
-    let n : 16 ≡ length (take 16 pods) = sym (length-take-le 16 pods (omega arith)) in
-    let is : take 16 (front ++ drop 16 out) ≡ take 16 pods = take_at front (drop 16 out) 16 (ap length f ∙ sym n) ∙ f in
+    let many : length pod ≡ 16 = length-take-le 16 pods (omega arith) in
     let leaf : IsLeafType type = record { no_choice = kept.no_choice; no_struct = kept.no_struct; no_object = kept.no_object } in
-    let x = drop 16 (front ++ drop 16 out) in
-    let bytes : IsBytes sub = subst IsBytes (take_at sub x (length sub) refl) (IsBytes-take (length sub) (sub ++ x) y) in
-    leaf_written (take 16 pods) out front sub 16 type 4 n pod leaf f
-    (unpatched_body (take 16 (front ++ drop 16 out)) sub type 4 bytes (subst (λ x. IsPodOf x type 4) (sym is) pod) kept e) long
+    let bytes : IsBytes new = subst IsBytes (take_at new (drop 16 out) (length new) refl) (IsBytes-take (length new) (new ++ drop 16 out) i) in
+    let there : take 4 body ≡ take 4 (drop 8 pods) = f ∙ ap word_bytes e ∙ word_there pods 8 y (omega arith) in
+    let both : body ≡ take 4 (drop 8 pods) ++ replicate 4 0 =
+    sym (take-append-drop 4 body) ∙ ap (λ x. x ++ drop 4 body) there ∙ ap (λ x. take 4 (drop 8 pods) ++ x) z in
+    let front : take 12 pod ≡ take 8 pods ++ take 4 (drop 8 pods) = take-take 12 16 pods (omega arith) ∙ take-add 8 4 pods in
+    let is : new ≡ take 12 pod ++ replicate (length pod - 12) 0 =
+    n ∙ ap (λ x. take 8 pods ++ x) both ∙ sym (append_assoc (take 8 pods) (take 4 (drop 8 pods)) (replicate 4 0))
+    ∙ ap (λ x. x ++ replicate 4 0) (sym front) ∙ ap (λ m. take 12 pod ++ replicate (m - 12) 0) (sym many) in
+    let sized = length-append (take 12 pod) (replicate (length pod - 12) 0) in
+    let twelve = length-take-le 12 pod (omega arith) in
+    let zeros = length-replicate {A = ℕ} (length pod - 12) 0 in
+    let long : length new ≡ 16 = ap length is ∙ omega arith in
+    record {
+      placed = λ v q. take_at new (drop 16 out) 16 long ∙ unpatched_body pod new type 4 bytes its kept is v q (leaf_long pod type 4 v its leaf q);
+      within = omega arith;
+      behind = drop_at new (drop 16 out) 16 long;
+    }
 
 pub writes_word : (all keyed : Bool) (pods old left now keyed_out sub_old sub here : List ℕ) (to at k : ℕ) →
     WritesOn all keyed pods old left now to → IsBehindKey keyed left here → BeginsWord here → length pods ≤ length old →

@@ -7,13 +7,12 @@ ghost use Rattle.spa_rewrite.specs.Shorter.{ArePodsWithin, AreRewrittenAs, AreSh
 ghost use Rattle.spa_rewrite.specs.Steady.{BeginsWord, IsPodOf, key_size};
 ghost use Rattle.spa_scan.specs.Depth.{levels_looked_into};
 
-use crate::patch::{
-    SECOND_HEADER, WORD_LEN, begins_word, clear_padding, patch_all, patch_leaf, patch_values,
-    taken_len,
-};
+use crate::patch::{SECOND_HEADER, begins_word, patch_all, patch_leaf, patch_values, taken_len};
 use crate::steady::behind_key;
 use crate::surplus::surplus_of_each;
-use spa_bytes::{HEADER_LEN, extent_of, open, two_words, u32_at};
+use spa_bytes::{
+    HEADER_LEN, extent_of, joined, open, two_words, u32_at, u64_at, wide_body, word_body,
+};
 use spa_scan::canonical_stretch;
 use spa_utils::SpaTypes;
 
@@ -179,8 +178,8 @@ fn write_word(pods: &[u8], out: &mut [u8])
     requires room { header_size + 8 ≤ length out.old }
     ensures { WritesPod (take (header_size + 8) pods.now) out.old out.new (header_size + 8) }
 {
-    out[..SECOND_HEADER].copy_from_slice(&pods[..SECOND_HEADER]);
-    clear_padding(WORD_LEN, &mut out[..SECOND_HEADER]);
+    let body = word_body(u32_at(pods, HEADER_LEN));
+    out[..SECOND_HEADER].copy_from_slice(&joined(first_words(pods), body));
 }
 
 /// Writes a key and flags behind what is written, where `keyed` is set, and answers where that ends.
@@ -193,9 +192,27 @@ fn put_key(keyed: bool, bytes: &[u8], out: &mut [u8], to: usize) -> usize
     if !keyed {
         return to;
     }
-    let end = to + HEADER_LEN;
-    out[to..end].copy_from_slice(&bytes[..HEADER_LEN]);
-    end
+    put_words(bytes, &mut out[to..]);
+    to + HEADER_LEN
+}
+
+/// Puts the first two words of the bytes at the front of the output.
+#[inline(always)]
+fn put_words(bytes: &[u8], out: &mut [u8])
+    requires words { header_size ≤ length bytes.now }
+    requires room { header_size ≤ length out.old }
+    ensures { out.new ≡ take header_size bytes.now ++ drop header_size out.old }
+{
+    out[..HEADER_LEN].copy_from_slice(&first_words(bytes));
+}
+
+/// The first two words, by value: for a copy of these bytes the compiler would test whether they lie in the output.
+#[inline(always)]
+fn first_words(bytes: &[u8]) -> [u8; 8]
+    requires { header_size ≤ length bytes.now }
+    ensures { result ≡ take header_size bytes.now }
+{
+    wide_body(u64_at(bytes, 0))
 }
 
 /// The same of one pod.

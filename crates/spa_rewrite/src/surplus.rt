@@ -68,10 +68,7 @@ fn front_surplus(type_: u32, body: &[u8]) -> Option<usize>
     ensures missed { IfNone result (¬ (IsBodyWithin levels_looked_into type_ body.now)) }
 {
     match inside_of(type_, body) {
-        Some(inside) => match surplus_of(inside.keyed, inside.pods, LEVELS - 1) {
-            Some(surplus) => Some(surplus),
-            None => None,
-        },
+        Some(inside) => surplus_of(inside.keyed, inside.pods, LEVELS - 1),
         None => body_surplus(type_, body, LEVELS),
     }
 }
@@ -131,10 +128,7 @@ fn body_surplus(type_: u32, body: &[u8], levels: u32) -> Option<usize>
             if levels == 0 {
                 return None;
             }
-            match surplus_of(inside.keyed, inside.pods, levels - 1) {
-                Some(surplus) => Some(surplus),
-                None => None,
-            }
+            surplus_of(inside.keyed, inside.pods, levels - 1)
         }
         None => leaf_surplus(type_, body),
     }

@@ -1,5 +1,6 @@
 use Rattle.std.proofs.Common.{sym, ◌∙◌, arith}
 use Rattle.std.proofs.lemmas.Bool.{eqb-false, eqb-true}
+use Rattle.std.proofs.lemmas.Option.{IfSome_then}
 use Rattle.spa_rewrite.proofs.ShorterLemmas.{counts_all, counts_more, counts_none, counts_steady, first_body_within, first_within, shorter_inside, shorter_opened, within_key}
 use Rattle.spa_rewrite.proofs.SteadyLemmas.{left_shorter}
 use Rattle.spa_rewrite.proofs.surplus.+looking.Goals as goal
@@ -46,5 +47,6 @@ pub surplus_of-returns-clause-there : goal.surplus_of-returns-clause-there
 surplus_of-returns-clause-there t c =
     counts_all _ _ _ _ _ c.loop-left.invariant (eqb-true _ _ (sym c.is_empty.ensures ∙ c.loop-left-test.false))
 
-pub body_surplus-returns-in-Some-surplus_of-clause-there : goal.body_surplus-returns-in-Some-surplus_of-clause-there
-body_surplus-returns-in-Some-surplus_of-clause-there t c = shorter_inside _ _ _ _ _ c.in-Some.ensures.there c.in-Some-surplus_of.ensures.there
+pub body_surplus-returns-else-levels-eq0-clause-there : goal.body_surplus-returns-else-levels-eq0-clause-there
+body_surplus-returns-else-levels-eq0-clause-there t c =
+    IfSome_then c.surplus_of.result c.surplus_of.ensures.there (λ n s. shorter_inside _ _ _ _ n c.in-Some.ensures.there s)

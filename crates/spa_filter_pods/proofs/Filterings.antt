@@ -1,14 +1,17 @@
 -- Two objects are filtered where they lie: what is put, and what is left of each side.
-use Rattle.std.proofs.Common.{◌≡◌, ℕ, ◌-◌, ◌<◌, ◌^◌, List, [], ◌++◌, length, drop, refl, sym, ap, ◌∙◌, subst, arith, append_assoc, Bool, true, false, Some, None}
+use Rattle.std.proofs.Common.{◌≡◌, ℕ, ◌-◌, ◌<◌, ◌≤◌, ◌^◌, List, [], ◌++◌, length, drop, refl, sym, ap, ◌∙◌, subst, arith, append_assoc, Bool, true, false, not, true≢false, Some, None}
 use Rattle.std.specs.List.{All}
-use Rattle.std.proofs.lemmas.List.{append-nil, drop_at}
+use Rattle.std.proofs.lemmas.List.{append-nil}
 use Rattle.std.proofs.lemmas.List.Elements.{All-nil}
-use Rattle.spa_format.specs.Words.{word_bytes}
+use Rattle.spa_format.specs.Words.{header_size, word_bytes}
+use Rattle.spa_format.specs.Front.{rest_of}
 use Rattle.spa_format.specs.Tree.{Tree, object, Properties, no_properties, property, join_properties}
 use Rattle.spa_format.specs.Typed.{IsBytes}
 use Rattle.spa_fronts.specs.Written.{AreWritten, BeginsWritten, HasFirst, IsWritten, has_key, open_header}
 use Rattle.spa_fronts.proofs.Listed.{AreListed, listed}
-use Rattle.spa_fronts.proofs.Joined.{header_long, object_written, written_joined, written_one}
+use Rattle.spa_fronts.specs.KeyOrder.{AreBelow, ArePassed, bytes_behind}
+use Rattle.spa_fronts.proofs.Passed.{below_on, passed_on}
+use Rattle.spa_fronts.proofs.Joined.{object_written, written_joined, written_one}
 use Rattle.spa_filter.specs.Filtering.{AgreeAt, CanFilter, FiltersKeys}
 use Rattle.spa_filter.specs.Keys.{key_list, keys_of, offered_at}
 use Rattle.spa_filter.specs.PropertyLists.{contains}
@@ -16,7 +19,7 @@ use Rattle.spa_filter.proofs.Agreeing.{AgreeAt-push, FiltersKeys-new, FiltersKey
 use Rattle.spa_filter.proofs.Steps.{join_properties-none}
 use Rattle.spa_filter_pods.specs.Fronts.{BeginBoth, FilterIn}
 use Rattle.spa_filter_pods.specs.Written.{IsFilteredBehind, IsPutBy, offered}
-use Rattle.spa_filter_pods.proofs.Lookups.{contains-distinct, has_contains, offered_at-absent, offered_at-before, offered_at-behind, offered_at-joined}
+use Rattle.spa_filter_pods.proofs.Lookups.{has_contains, offered_at-absent, offered_at-before, offered_at-behind, offered_at-joined}
 
 join_properties-assoc : (ps qs rs : Properties) → join_properties (join_properties ps qs) rs ≡ join_properties ps (join_properties qs rs)
 join_properties-assoc no_properties qs rs = refl
@@ -36,30 +39,34 @@ behind_put ps qs done next head old new k l m p s =
       agree = AgreeAt-push ps qs m.met k p.flags p.value m.agree p.agree;
     }
 
--- what the search among those that were put says of those whose keys they settle
-abbrev pub SaysSettled : Bool → ℕ → List ℕ → Type 0
-SaysSettled r k out = (ms : Properties) → AreWritten ms (drop 16 out) → r ≡ has_key k ms
+-- what was said of the key of a property of the first side, of which this is left
+abbrev pub SaysNew : Bool → ℕ → (ours left : List ℕ) → ℕ → Type 0
+SaysNew r k ours left bound =
+    (ps done : Properties) → AreWritten ps ours → ArePassed ps done ours left → AreBelow bound done → has_key k done ≡ not r
 
-said_settled : (ps qs done : Properties) (head out : List ℕ) (r : Bool) (k : ℕ) → length head ≡ 16 → IsFilteredBehind ps qs done head out → SaysSettled r k out →
-    contains k (key_list done) ≡ r
-said_settled ps qs done head out r k l m s =
-    let behind : drop 16 out ≡ m.bytes = ap (drop 16) m.parts ∙ drop_at head m.bytes 16 l in
-    sym (s m.met (subst (AreWritten m.met) (sym behind) m.written) ∙ has_contains k m.met ∙ ap (contains k) m.filters.keys ∙ contains-distinct k (key_list done))
+-- and of the second side, beside the first
+abbrev pub SaysNewBeside : Bool → ℕ → (ours theirs left : List ℕ) → ℕ → Type 0
+SaysNewBeside r k ours theirs left bound =
+    (ps qs done : Properties) → AreWritten ps ours → AreWritten qs theirs → ArePassed qs done theirs left → AreBelow bound done
+    → has_key k (join_properties ps done) ≡ not r
+
+contains_key : (k j : ℕ) (ps : Properties) (r : Bool) → k ≡ j → has_key k ps ≡ not r → contains j (key_list ps) ≡ not r
+contains_key k j ps r e h = sym (has_contains j ps) ∙ ap (λ n. has_key n ps) (sym e) ∙ h
 
 -- the first side, of which this is left
-pub record IsFirstLeft (ps qs : Properties) (head left out : List ℕ) : Type 0 where
+pub record IsFirstLeft (ps qs : Properties) (ours head left out : List ℕ) (bound : ℕ) : Type 0 where
   pub done : Properties
-  pub rest : Properties
-  pub all : ps ≡ join_properties done rest
-  pub list : AreListed rest left
+  pub passed : ArePassed ps done ours left
+  pub list : AreListed passed.rest left
+  pub below : AreBelow bound done
   pub met : IsFilteredBehind ps qs done head out
 
-pub first_begun : (ps qs : Properties) (ours head : List ℕ) → IsBytes ours → AreWritten ps ours → IsFirstLeft ps qs head ours head
+pub first_begun : (ps qs : Properties) (ours head : List ℕ) → IsBytes ours → AreWritten ps ours → IsFirstLeft ps qs ours head ours head 0
 first_begun ps qs ours head h w = record {
   done = no_properties;
-  rest = ps;
-  all = refl;
+  passed = record { rest = ps; all = refl; left_is = refl };
   list = listed ps ours h w.properties w.same;
+  below = λ k e. absurd (true≢false (sym e));
   met = record {
     met = no_properties;
     bytes = [];
@@ -74,20 +81,26 @@ joined_on : (ps done rest : Properties) (j f : ℕ) (v : Tree) → ps ≡ join_p
     ps ≡ join_properties (join_properties done (property j f v no_properties)) rest
 joined_on ps done rest j f v e = e ∙ sym (join_properties-assoc done (property j f v no_properties) rest)
 
-pub first_seen : (ps qs : Properties) (head left pod rest out : List ℕ) (k fl : ℕ) → length head ≡ 16 → HasFirst left k fl pod rest → SaysSettled true k out →
-    IsFirstLeft ps qs head left out → IsFirstLeft ps qs head rest out
-first_seen ps qs head left pod rest out k fl l f s i = of_rest i.rest i.all i.list
+-- one more property was passed
+abbrev passed_one : (ps done rs : Properties) (b left rest : List ℕ) (j g : ℕ) (v : Tree) → ps ≡ join_properties done (property j g v rs) → left ≡ bytes_behind done b →
+    rest ≡ rest_of (drop header_size left) → ArePassed ps (join_properties done (property j g v no_properties)) b rest
+passed_one ps done rs b left rest j g v e l r = record { rest = rs; all = joined_on ps done rs j g v e; left_is = passed_on done b left rest j g v l r }
+
+pub first_seen : (ps qs : Properties) (ours head left pod rest out : List ℕ) (k fl bound next : ℕ) → AreWritten ps ours → HasFirst left k fl pod rest →
+    SaysNew false k ours left bound → bound ≤ next → k < next → IsFirstLeft ps qs ours head left out bound → IsFirstLeft ps qs ours head rest out next
+first_seen ps qs ours head left pod rest out k fl bound next w f s l n i = of_rest i.passed.rest i.passed.all i.list
   where
-    of_rest : (rs : Properties) → ps ≡ join_properties i.done rs → AreListed rs left → IsFirstLeft ps qs head rest out
+    of_rest : (rs : Properties) → ps ≡ join_properties i.done rs → AreListed rs left → IsFirstLeft ps qs ours head rest out next
     of_rest no_properties e m = absurd (let z = ap length m in let h = f.header in omega arith)
     of_rest (property j g v rs) e m =
         let same : k ≡ j = f.its_key ∙ sym m.0.key in
-        let there = said_settled ps qs i.done head out true j l i.met (subst (λ n. SaysSettled true n out) same s) in
+        let there = contains_key k j i.done false same (s ps i.done w i.passed i.below) in
+        let at : j < next = omega arith in
         record {
           done = join_properties i.done (property j g v no_properties);
-          rest = rs;
-          all = joined_on ps i.done rs j g v e;
+          passed = passed_one ps i.done rs ours left rest j g v e i.passed.left_is f.its_rest;
           list = subst (AreListed rs) (sym f.its_rest) m.1;
+          below = below_on bound next j g v i.done i.below l at;
           met = record {
             met = i.met.met;
             bytes = i.met.bytes;
@@ -98,136 +111,140 @@ first_seen ps qs head left pod rest out k fl l f s i = of_rest i.rest i.all i.li
           };
         }
 
-pub first_put : (ps qs : Properties) (head left pod rest out new : List ℕ) (k fl : ℕ) → length head ≡ 16 → k < 2 ^ 32 → HasFirst left k fl pod rest → SaysSettled false k out →
-    ((v : Tree) → IsWritten v pod → IsPutBy (Some (offered fl v)) (offered_at k qs) k out new) →
-    IsFirstLeft ps qs head left out → IsFirstLeft ps qs head rest new
-first_put ps qs head left pod rest out new k fl l n f s p i = of_rest i.rest i.all i.list
+pub first_put : (ps qs : Properties) (ours head left pod rest out new : List ℕ) (k fl bound next : ℕ) → AreWritten ps ours → k < 2 ^ 32 → HasFirst left k fl pod rest →
+    SaysNew true k ours left bound → bound ≤ next → k < next → ((v : Tree) → IsWritten v pod → IsPutBy (Some (offered fl v)) (offered_at k qs) k out new) →
+    IsFirstLeft ps qs ours head left out bound → IsFirstLeft ps qs ours head rest new next
+first_put ps qs ours head left pod rest out new k fl bound next w n f s l a p i = of_rest i.passed.rest i.passed.all i.list
   where
-    of_rest : (rs : Properties) → ps ≡ join_properties i.done rs → AreListed rs left → IsFirstLeft ps qs head rest new
+    of_rest : (rs : Properties) → ps ≡ join_properties i.done rs → AreListed rs left → IsFirstLeft ps qs ours head rest new next
     of_rest no_properties e m = absurd (let z = ap length m in let h = f.header in omega arith)
     of_rest (property j g v rs) e m =
         let same : k ≡ j = f.its_key ∙ sym m.0.key in
         let flags : fl ≡ g = f.its_flags ∙ sym m.0.flags in
-        let fresh = said_settled ps qs i.done head out false j l i.met (subst (λ n. SaysSettled false n out) same s) in
-        let ours : offered_at j ps ≡ Some (offered g v) = offered_at-joined j g v i.done rs ps e (offered_at-absent j i.done fresh) in
+        let fresh = contains_key k j i.done true same (s ps i.done w i.passed i.below) in
+        let at : j < next = omega arith in
+        let held : offered_at j ps ≡ Some (offered g v) = offered_at-joined j g v i.done rs ps e (offered_at-absent j i.done fresh) in
         let by : IsPutBy (Some (offered g v)) (offered_at j qs) j out new =
         subst (λ n. IsPutBy (Some (offered n v)) (offered_at j qs) j out new) flags
         (subst (λ n. IsPutBy (Some (offered fl v)) (offered_at n qs) n out new) same (p v (subst (IsWritten v) (sym f.its_pod) m.0.written))) in
-        let put : IsPutBy (offered_at j ps) (offered_at j qs) j out new = subst (λ o. IsPutBy o (offered_at j qs) j out new) (sym ours) by in
+        let put : IsPutBy (offered_at j ps) (offered_at j qs) j out new = subst (λ o. IsPutBy o (offered_at j qs) j out new) (sym held) by in
         let small : j < 2 ^ 32 = subst (λ n. n < 2 ^ 32) same n in
         record {
           done = join_properties i.done (property j g v no_properties);
-          rest = rs;
-          all = joined_on ps i.done rs j g v e;
+          passed = passed_one ps i.done rs ours left rest j g v e i.passed.left_is f.its_rest;
           list = subst (AreListed rs) (sym f.its_rest) m.1;
+          below = below_on bound next j g v i.done i.below l at;
           met = behind_put ps qs i.done (join_properties i.done (property j g v no_properties)) head out new j small i.met put
               (FiltersKeys-new ps qs i.done i.met.met j i.met.filters g put.flags v put.value fresh put.filters);
         }
 
-pub first_ended : (ps qs : Properties) (head left out : List ℕ) → length left ≡ 0 → IsFirstLeft ps qs head left out → IsFilteredBehind ps qs ps head out
-first_ended ps qs head left out z i = of_rest i.rest i.all i.list
+pub first_ended : (ps qs : Properties) (ours head left out : List ℕ) (bound : ℕ) → length left ≡ 0 → IsFirstLeft ps qs ours head left out bound → IsFilteredBehind ps qs ps head out
+first_ended ps qs ours head left out bound z i = of_rest i.passed.rest i.passed.all i.list
   where
     of_rest : (rs : Properties) → ps ≡ join_properties i.done rs → AreListed rs left → IsFilteredBehind ps qs ps head out
     of_rest no_properties e m = subst (λ ss. IsFilteredBehind ps qs ss head out) (sym (e ∙ join_properties-none i.done)) i.met
     of_rest (property j g v rs) e m = absurd (let h = m.0.header in omega arith)
 
 -- the second side, of which this is left
-pub record IsOtherLeft (ps qs : Properties) (head left out : List ℕ) : Type 0 where
+pub record IsOtherLeft (ps qs : Properties) (theirs head left out : List ℕ) (bound : ℕ) : Type 0 where
   pub done : Properties
-  pub rest : Properties
-  pub all : qs ≡ join_properties done rest
-  pub list : AreListed rest left
+  pub passed : ArePassed qs done theirs left
+  pub list : AreListed passed.rest left
+  pub below : AreBelow bound done
   pub met : IsFilteredBehind ps qs (join_properties ps done) head out
 
-pub other_begun : (ps qs : Properties) (theirs head out : List ℕ) → IsBytes theirs → AreWritten qs theirs → IsFilteredBehind ps qs ps head out → IsOtherLeft ps qs head theirs out
+pub other_begun : (ps qs : Properties) (theirs head out : List ℕ) → IsBytes theirs → AreWritten qs theirs → IsFilteredBehind ps qs ps head out → IsOtherLeft ps qs theirs head theirs out 0
 other_begun ps qs theirs head out h w m = record {
   done = no_properties;
-  rest = qs;
-  all = refl;
+  passed = record { rest = qs; all = refl; left_is = refl };
   list = listed qs theirs h w.properties w.same;
+  below = λ k e. absurd (true≢false (sym e));
   met = subst (λ ss. IsFilteredBehind ps qs ss head out) (sym (join_properties-none ps)) m;
 }
 
-pub other_seen : (ps qs : Properties) (head left pod rest out : List ℕ) (k fl : ℕ) → length head ≡ 16 → HasFirst left k fl pod rest → SaysSettled true k out →
-    IsOtherLeft ps qs head left out → IsOtherLeft ps qs head rest out
-other_seen ps qs head left pod rest out k fl l f s i = of_rest i.rest i.all i.list
+pub other_seen : (ps qs : Properties) (ours theirs head left pod rest out : List ℕ) (k fl bound next : ℕ) → AreWritten ps ours → AreWritten qs theirs →
+    HasFirst left k fl pod rest → SaysNewBeside false k ours theirs left bound → bound ≤ next → k < next →
+    IsOtherLeft ps qs theirs head left out bound → IsOtherLeft ps qs theirs head rest out next
+other_seen ps qs ours theirs head left pod rest out k fl bound next w x f s l n i = of_rest i.passed.rest i.passed.all i.list
   where
-    of_rest : (rs : Properties) → qs ≡ join_properties i.done rs → AreListed rs left → IsOtherLeft ps qs head rest out
+    of_rest : (rs : Properties) → qs ≡ join_properties i.done rs → AreListed rs left → IsOtherLeft ps qs theirs head rest out next
     of_rest no_properties e m = absurd (let z = ap length m in let h = f.header in omega arith)
     of_rest (property j g v rs) e m =
         let same : k ≡ j = f.its_key ∙ sym m.0.key in
-        let there = said_settled ps qs (join_properties ps i.done) head out true j l i.met (subst (λ n. SaysSettled true n out) same s) in
-        let next = join_properties-assoc ps i.done (property j g v no_properties) in
+        let there = contains_key k j (join_properties ps i.done) false same (s ps qs i.done w x i.passed i.below) in
+        let at : j < next = omega arith in
+        let along = join_properties-assoc ps i.done (property j g v no_properties) in
         record {
           done = join_properties i.done (property j g v no_properties);
-          rest = rs;
-          all = joined_on qs i.done rs j g v e;
+          passed = passed_one qs i.done rs theirs left rest j g v e i.passed.left_is f.its_rest;
           list = subst (AreListed rs) (sym f.its_rest) m.1;
+          below = below_on bound next j g v i.done i.below l at;
           met = record {
             met = i.met.met;
             bytes = i.met.bytes;
             parts = i.met.parts;
             written = i.met.written;
-            filters = subst (λ ss. FiltersKeys ps qs ss i.met.met) next (FiltersKeys-seen ps qs (join_properties ps i.done) i.met.met j i.met.filters g v there);
+            filters = subst (λ ss. FiltersKeys ps qs ss i.met.met) along (FiltersKeys-seen ps qs (join_properties ps i.done) i.met.met j i.met.filters g v there);
             agree = i.met.agree;
           };
         }
 
-pub other_put : (ps qs : Properties) (head left pod rest out new : List ℕ) (k fl : ℕ) → length head ≡ 16 → k < 2 ^ 32 → HasFirst left k fl pod rest → SaysSettled false k out →
+pub other_put : (ps qs : Properties) (ours theirs head left pod rest out new : List ℕ) (k fl bound next : ℕ) → AreWritten ps ours → AreWritten qs theirs → k < 2 ^ 32 →
+    HasFirst left k fl pod rest → SaysNewBeside true k ours theirs left bound → bound ≤ next → k < next →
     ((v : Tree) → IsWritten v pod → IsPutBy None (Some (offered fl v)) k out new) →
-    IsOtherLeft ps qs head left out → IsOtherLeft ps qs head rest new
-other_put ps qs head left pod rest out new k fl l n f s p i = of_rest i.rest i.all i.list
+    IsOtherLeft ps qs theirs head left out bound → IsOtherLeft ps qs theirs head rest new next
+other_put ps qs ours theirs head left pod rest out new k fl bound next w x n f s l a p i = of_rest i.passed.rest i.passed.all i.list
   where
-    of_rest : (rs : Properties) → qs ≡ join_properties i.done rs → AreListed rs left → IsOtherLeft ps qs head rest new
+    of_rest : (rs : Properties) → qs ≡ join_properties i.done rs → AreListed rs left → IsOtherLeft ps qs theirs head rest new next
     of_rest no_properties e m = absurd (let z = ap length m in let h = f.header in omega arith)
     of_rest (property j g v rs) e m =
         let same : k ≡ j = f.its_key ∙ sym m.0.key in
         let flags : fl ≡ g = f.its_flags ∙ sym m.0.flags in
         let before = join_properties ps i.done in
-        let fresh = said_settled ps qs before head out false j l i.met (subst (λ n. SaysSettled false n out) same s) in
+        let fresh = contains_key k j before true same (s ps qs i.done w x i.passed i.below) in
+        let at : j < next = omega arith in
         let gone = offered_at-absent j before fresh in
-        let ours : offered_at j ps ≡ None = offered_at-before j ps i.done gone in
-        let theirs : offered_at j qs ≡ Some (offered g v) = offered_at-joined j g v i.done rs qs e (sym (offered_at-behind j ps i.done ours) ∙ gone) in
+        let lacking : offered_at j ps ≡ None = offered_at-before j ps i.done gone in
+        let held : offered_at j qs ≡ Some (offered g v) = offered_at-joined j g v i.done rs qs e (sym (offered_at-behind j ps i.done lacking) ∙ gone) in
         let by : IsPutBy None (Some (offered g v)) j out new =
         subst (λ n. IsPutBy None (Some (offered n v)) j out new) flags
         (subst (λ n. IsPutBy None (Some (offered fl v)) n out new) same (p v (subst (IsWritten v) (sym f.its_pod) m.0.written))) in
         let put : IsPutBy (offered_at j ps) (offered_at j qs) j out new =
-        subst (λ o. IsPutBy o (offered_at j qs) j out new) (sym ours) (subst (λ o. IsPutBy None o j out new) (sym theirs) by) in
+        subst (λ o. IsPutBy o (offered_at j qs) j out new) (sym lacking) (subst (λ o. IsPutBy None o j out new) (sym held) by) in
         let small : j < 2 ^ 32 = subst (λ n. n < 2 ^ 32) same n in
-        let next = join_properties-assoc ps i.done (property j g v no_properties) in
+        let along = join_properties-assoc ps i.done (property j g v no_properties) in
         record {
           done = join_properties i.done (property j g v no_properties);
-          rest = rs;
-          all = joined_on qs i.done rs j g v e;
+          passed = passed_one qs i.done rs theirs left rest j g v e i.passed.left_is f.its_rest;
           list = subst (AreListed rs) (sym f.its_rest) m.1;
-          met = subst (λ ss. IsFilteredBehind ps qs ss head new) next
+          below = below_on bound next j g v i.done i.below l at;
+          met = subst (λ ss. IsFilteredBehind ps qs ss head new) along
               (behind_put ps qs before (join_properties before (property j g v no_properties)) head out new j small i.met put
               (FiltersKeys-new ps qs before i.met.met j i.met.filters g put.flags v put.value fresh put.filters));
         }
 
-pub other_ended : (ps qs : Properties) (head left out : List ℕ) → length left ≡ 0 → IsOtherLeft ps qs head left out → IsFilteredBehind ps qs (join_properties ps qs) head out
-other_ended ps qs head left out z i = of_rest i.rest i.all i.list
+pub other_ended : (ps qs : Properties) (theirs head left out : List ℕ) (bound : ℕ) → length left ≡ 0 → IsOtherLeft ps qs theirs head left out bound → IsFilteredBehind ps qs (join_properties ps qs) head out
+other_ended ps qs theirs head left out bound z i = of_rest i.passed.rest i.passed.all i.list
   where
     of_rest : (rs : Properties) → qs ≡ join_properties i.done rs → AreListed rs left → IsFilteredBehind ps qs (join_properties ps qs) head out
     of_rest no_properties e m = subst (λ ss. IsFilteredBehind ps qs (join_properties ps ss) head out) (sym (e ∙ join_properties-none i.done)) i.met
     of_rest (property j g v rs) e m = absurd (let h = m.0.header in omega arith)
 
--- what two short objects filter to
+-- what two objects filter to
 pub record AreFiltered (a b bytes : List ℕ) : Type 0 where
   pub can : BeginBoth a b CanFilter
   pub filter : BeginBoth a b (FilterIn bytes)
 
 pub are_filtered : (a b ours theirs first second third bytes : List ℕ) (t i u j : ℕ) → t < 2 ^ 32 → i < 2 ^ 32 → BeginsWritten a t i ours → BeginsWritten b u j theirs → t ≡ u →
     first ≡ open_header t i →
-    ((ps qs : Properties) → length first ≡ 16 → AreWritten ps ours → AreWritten qs theirs → IsFilteredBehind ps qs ps first second) →
-    ((ps qs : Properties) (head : List ℕ) → length head ≡ 16 → AreWritten qs theirs → IsFilteredBehind ps qs ps head second → IsFilteredBehind ps qs (join_properties ps qs) head third) →
+    ((ps qs : Properties) → AreWritten ps ours → AreWritten qs theirs → IsFilteredBehind ps qs ps first second) →
+    ((ps qs : Properties) (head : List ℕ) → AreWritten ps ours → AreWritten qs theirs → IsFilteredBehind ps qs ps head second → IsFilteredBehind ps qs (join_properties ps qs) head third) →
     length third - 8 < 2 ^ 32 → bytes ≡ word_bytes (length third - 8) ++ drop 4 third → AreFiltered a b bytes
 are_filtered a b ours theirs first second third bytes t i u j ft fi h k e o f g s d =
     let ps = h.values in
     let qs = k.values in
-    let long : length first ≡ 16 = ap length o ∙ header_long t i in
-    let m = f ps qs long h.written k.written in
-    let n = g ps qs first long k.written m in
+    let m = f ps qs h.written k.written in
+    let n = g ps qs first h.written k.written m in
     let agreed : All (AgreeAt ps qs) (keys_of (join_properties ps qs)) = subst (All (AgreeAt ps qs)) n.filters.keys n.agree in
     let w = object_written t i n.met n.bytes third bytes ft fi n.written (n.parts ∙ ap (λ y. y ++ n.bytes) o) s d in
     record {

@@ -8,32 +8,6 @@ use Rattle.spa_filter.specs.PropertyLists.{contains}
 use Rattle.spa_fronts.specs.Written.{Found, found_at, has_key}
 use Rattle.spa_filter_pods.specs.Written.{offered}
 
-test-true : (m n : ℕ) → (m == n) ≡ true → m ≡ n
-test-true m n = (unsigned_Decides m n).0
-
--- a number among others without a third
-contains-without_by : (j k i : ℕ) (xs : List ℕ) (b c : Bool) → (i == j) ≡ b → (i == k) ≡ c → (j == k) ≡ false →
-    contains k (filter (λ n. not (n == j)) xs) ≡ contains k xs →
-    contains k (cond (not b) (i ∷ filter (λ n. not (n == j)) xs) (filter (λ n. not (n == j)) xs)) ≡ (if c then true else contains k xs)
-contains-without_by j k i xs true true e f n h =
-    absurd (true≢false (sym f ∙ ap (λ m. m == k) (test-true i j e) ∙ n))
-contains-without_by j k i xs true false e f n h = h
-contains-without_by j k i xs false c e f n h = ap (λ y. if y then true else contains k (filter (λ n. not (n == j)) xs)) f ∙ ap (λ y. if c then true else y) h
-
-contains-without : (j k : ℕ) (xs : List ℕ) → (j == k) ≡ false → contains k (filter (λ n. not (n == j)) xs) ≡ contains k xs
-contains-without j k [] n = refl
-contains-without j k (i ∷ xs) n = contains-without_by j k i xs (i == j) (i == k) refl refl n (contains-without j k xs n)
-
-contains-distinct_by : (j k : ℕ) (xs : List ℕ) (b : Bool) → (j == k) ≡ b → contains k (distinct_of xs) ≡ contains k xs →
-    (if b then true else contains k (filter (λ n. not (n == j)) (distinct_of xs))) ≡ (if b then true else contains k xs)
-contains-distinct_by j k xs true e h = refl
-contains-distinct_by j k xs false e h = contains-without j k (distinct_of xs) e ∙ h
-
--- each number once has the same numbers
-pub contains-distinct : (k : ℕ) (xs : List ℕ) → contains k (distinct_of xs) ≡ contains k xs
-contains-distinct k [] = refl
-contains-distinct k (j ∷ xs) = contains-distinct_by j k xs (j == k) refl (contains-distinct k xs)
-
 -- a key that isn't among those of the properties has no value
 offered_at-absent_by : (k f : ℕ) (v : Tree) (ps : Properties) (b : Bool) →
     (contains k (key_list ps) ≡ false → offered_at k ps ≡ None) →

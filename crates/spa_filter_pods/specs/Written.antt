@@ -1,4 +1,4 @@
--- What two short objects filter to, property by property.
+-- What two objects filter to, property by property.
 use Rattle.std.specs.Prelude.{◌≡◌, ℕ, ◌<◌, List, ◌++◌, Option}
 use Rattle.std.specs.List.{All}
 use Rattle.spa_format.specs.Words.{size_limit, word_bytes}

@@ -5,9 +5,9 @@ mod common_pods;
 #[cfg(test)]
 mod formats;
 mod pods;
-mod short;
 #[cfg(test)]
 mod tests;
+mod views;
 
 pub use pods::filter_pods;
 pub use spa_filter::{FilterError, Side};

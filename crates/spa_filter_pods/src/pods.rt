@@ -8,7 +8,7 @@ ghost use Rattle.spa_filter.specs.Filtering.{CanFilter, IsFilter};
 ghost use Rattle.spa_filter.specs.Refusals.{AreRefused, OnDisagreement};
 ghost use Rattle.spa_filter_pods.specs.Fronts.{AreFrontsRefused, BeginBoth, FilterIn, IsFrontRefused, IsObject, IsWriteRefused, OnNoFilter, ReadsBack};
 
-use crate::short::filter_short;
+use crate::views::filter_views;
 use spa_filter::{FilterError, Side, filter};
 use spa_fixed::DeserializeError;
 use spa_format::laws::{pods_have_one_value, readings_are_normal};
@@ -37,7 +37,7 @@ pub fn filter_pods(alloc: Global, a: &[u8], b: &[u8]) -> Result<Vec<u8>, FilterE
 {
     objects_are_their_fields();
     pods_have_one_value();
-    if let Some(bytes) = filter_short(alloc, a, b) {
+    if let Some(bytes) = filter_views(alloc, a, b) {
         return Ok(bytes);
     }
     let first = object_at(alloc, a, Side::First)?;

@@ -1,4 +1,6 @@
 pub mod Listed
+pub mod KeyOrders
+pub mod Passed
 pub mod Opening
 pub mod Joined
 pub mod Same

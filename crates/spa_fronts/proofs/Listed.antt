@@ -1,5 +1,5 @@
 -- Properties where they lie, one after another.
-use Rattle.std.proofs.Common.{◌≡◌, ◌≢◌, ℕ, ◌≤◌, List, [], ◌++◌, ◌==◌, length, drop, refl, sym, ap, ◌∙◌, subst, arith, append_assoc, length-append, length-drop, ◌<◌, Bool, true, false, if◌then◌else◌, Some, None}
+use Rattle.std.proofs.Common.{◌≡◌, ◌≢◌, ℕ, ◌≤◌, List, [], ◌++◌, ◌==◌, length, drop, refl, sym, ap, ◌∙◌, subst, arith, append_assoc, length-append, Bool, true, false, if◌then◌else◌, Some, None}
 use Rattle.std.proofs.lemmas.List.{drop_at}
 use Rattle.spa_format.specs.Words.{word_at, word_bytes, extent, header_size}
 use Rattle.spa_format.specs.Tree.{Tree, type_of, Properties, no_properties, property}
@@ -12,6 +12,7 @@ use Rattle.spa_format.proofs.Fronts.{front_of_whole}
 use Rattle.spa_format.proofs.Origin.{writable}
 use Rattle.spa_format.proofs.WordLemmas.{IsBytes-drop, IsBytes-take, length-word_bytes}
 use Rattle.spa_fronts.specs.Written.{AreWritten, IsWritten, HasFirst, Found, found_at, has_key, IsFound}
+use Rattle.spa_fronts.specs.KeyOrder.{length_behind}
 use Rattle.std.specs.Cmp.{unsigned_Decides}
 
 -- the first of some properties
@@ -65,28 +66,45 @@ other_key j key f v ps n = other_key_by j key f v ps (j == key) refl n
 first_key : (key f : ℕ) (v : Tree) (ps : Properties) → found_at key (property key f v ps) ≡ Some (record { flags = f; value = v })
 first_key key f v ps = ap (λ b. if b then Some (record { flags = f; value = v }) else found_at key ps) ((unsigned_Decides key key).1 refl)
 
+other_behind_by : (j key : ℕ) (ps : Properties) (b : List ℕ) (t : Bool) → (j == key) ≡ t → j ≢ key →
+    (if t then length (rest_of (drop header_size b)) else length_behind key ps (rest_of (drop header_size b))) ≡ length_behind key ps (rest_of (drop header_size b))
+other_behind_by j key ps b true e n = absurd (n (test-true j key e))
+other_behind_by j key ps b false e n = refl
+
+-- what stands behind it, the same
+other_behind : (j key f : ℕ) (v : Tree) (ps : Properties) (b : List ℕ) → j ≢ key → length_behind key (property j f v ps) b ≡ length_behind key ps (rest_of (drop header_size b))
+other_behind j key f v ps b n = other_behind_by j key ps b (j == key) refl n
+
+first_behind_here : (key f : ℕ) (v : Tree) (ps : Properties) (b : List ℕ) → length_behind key (property key f v ps) b ≡ length (rest_of (drop header_size b))
+first_behind_here key f v ps b =
+    ap (λ t. if t then length (rest_of (drop header_size b)) else length_behind key ps (rest_of (drop header_size b))) ((unsigned_Decides key key).1 refl)
+
 -- what is left has what is under the key
-pub record IsLeft (key : ℕ) (ps : Properties) (left : List ℕ) : Type 0 where
+pub record IsLeft (key : ℕ) (ps : Properties) (all left : List ℕ) : Type 0 where
   pub rest : Properties
   pub list : AreListed rest left
   pub same : found_at key ps ≡ found_at key rest
+  pub behind : length_behind key ps all ≡ length_behind key rest left
 
 abbrev pub AreSearched : ℕ → List ℕ → List ℕ → Type 0
-AreSearched key properties left = (ps : Properties) → AreWritten ps properties → IsLeft key ps left
+AreSearched key properties left = (ps : Properties) → AreWritten ps properties → IsLeft key ps properties left
 
 pub search_begun : (key : ℕ) (b : List ℕ) → IsBytes b → AreSearched key b b
-search_begun key b h = λ ps w. record { rest = ps; list = listed ps b h w.properties w.same; same = refl }
+search_begun key b h = λ ps w. record { rest = ps; list = listed ps b h w.properties w.same; same = refl; behind = refl }
 
 pub search_on : (key : ℕ) (all left pod rest : List ℕ) (k g : ℕ) → HasFirst left k g pod rest → k ≢ key → AreSearched key all left → AreSearched key all rest
-search_on key all left pod rest k g f n s = λ ps w. let i = s ps w in of_left ps i.rest i.list i.same
+search_on key all left pod rest k g f n s = λ ps w. let i = s ps w in of_left ps i.rest i.list i.same i.behind
   where
-    of_left : (ps rs : Properties) → AreListed rs left → found_at key ps ≡ found_at key rs → IsLeft key ps rest
-    of_left ps no_properties l e = absurd (let z = ap length l in let h = f.header in omega arith)
-    of_left ps (property j h v rs) l e = record {
-      rest = rs;
-      list = subst (AreListed rs) (sym f.its_rest) l.1;
-      same = e ∙ other_key j key h v rs (λ same. n (f.its_key ∙ sym l.0.key ∙ same));
-    }
+    of_left : (ps rs : Properties) → AreListed rs left → found_at key ps ≡ found_at key rs → length_behind key ps all ≡ length_behind key rs left → IsLeft key ps all rest
+    of_left ps no_properties l e b = absurd (let z = ap length l in let h = f.header in omega arith)
+    of_left ps (property j h v rs) l e b =
+        let other : j ≢ key = λ same. n (f.its_key ∙ sym l.0.key ∙ same) in
+        record {
+          rest = rs;
+          list = subst (AreListed rs) (sym f.its_rest) l.1;
+          same = e ∙ other_key j key h v rs other;
+          behind = b ∙ other_behind j key h v rs left other ∙ ap (length_behind key rs) (sym f.its_rest);
+        }
 
 pub found_first : (key : ℕ) (all left pod rest : List ℕ) (k g : ℕ) → HasFirst left k g pod rest → k ≡ key → AreSearched key all left → (ps : Properties) → AreWritten ps all → IsFound (found_at key ps) g pod
 found_first key all left pod rest k g f same s ps w = let i = s ps w in of_left i.rest i.list i.same
@@ -101,6 +119,16 @@ found_first key all left pod rest k g f same s ps w = let i = s ps w in of_left 
           is_found = e ∙ ap (λ i. found_at key (property i h v rs)) here ∙ first_key key h v rs ∙ ap (λ n. Some (record { flags = n; value = v })) flags;
           written = subst (IsWritten v) (sym f.its_pod) l.0.written;
         }
+
+-- what stands behind it
+pub first_behind : (key : ℕ) (all left pod rest : List ℕ) (k g : ℕ) → HasFirst left k g pod rest → k ≡ key → AreSearched key all left → (ps : Properties) → AreWritten ps all → length rest ≡ length_behind key ps all
+first_behind key all left pod rest k g f same s ps w = let i = s ps w in of_left i.rest i.list i.behind
+  where
+    of_left : (rs : Properties) → AreListed rs left → length_behind key ps all ≡ length_behind key rs left → length rest ≡ length_behind key ps all
+    of_left no_properties l b = absurd (let z = ap length l in let h = f.header in omega arith)
+    of_left (property j h v rs) l b =
+        let here : j ≡ key = l.0.key ∙ sym f.its_key ∙ same in
+        ap length f.its_rest ∙ sym (b ∙ ap (λ i. length_behind key (property i h v rs) left) here ∙ first_behind_here key h v rs left)
 
 pub found_none : (key : ℕ) (all left : List ℕ) → (header_size ≤ length left → ¬ (HasFront (drop header_size left))) → AreSearched key all left → (ps : Properties) → AreWritten ps all → found_at key ps ≡ None
 found_none key all left n s ps w = let i = s ps w in of_left i.rest i.list i.same
@@ -127,8 +155,3 @@ there_by key f v w ps false more e = more e
 pub has_key-some : (key : ℕ) (w : Found) (ps : Properties) → found_at key ps ≡ Some w → has_key key ps ≡ true
 has_key-some key w no_properties e = cc
 has_key-some key w (property j f v ps) e = there_by key f v w ps (j == key) (has_key-some key w ps) e
-
--- nothing stands behind a header that isn't whole
-pub nothing_put : (k : ℕ) (out : List ℕ) → length out < 16 → (ms : Properties) → AreWritten ms (drop 16 out) → false ≡ has_key k ms
-nothing_put k out l no_properties w = refl
-nothing_put k out l (property j f v ps) w = absurd (let h = w.properties.0 in let d = length-drop 16 out in omega arith)

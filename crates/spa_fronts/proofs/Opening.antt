@@ -1,4 +1,4 @@
--- A short object at the front of an input.
+-- An object at the front of an input.
 use Rattle.std.proofs.Common.{◌≡◌, ℕ, List, ◌++◌, length, drop, sym, ap, ◌∙◌, subst, arith, append_assoc, length-append}
 use Rattle.std.proofs.lemmas.List.{drop_at}
 use Rattle.spa_format.specs.Words.{word_at, word_bytes}

@@ -1,10 +1,8 @@
 //! An object that is written property by property.
 ghost use Rattle.std.specs.Prelude.{◌≡◌, ◌-◌, ◌<◌, ◌++◌, drop, length, true};
-ghost use Rattle.spa_format.specs.Tree.{Properties};
 ghost use Rattle.spa_format.specs.Words.{size_limit, word_bytes};
-ghost use Rattle.spa_fronts.specs.Written.{AreWritten, has_key, open_header};
+ghost use Rattle.spa_fronts.specs.Written.{open_header};
 
-use crate::object_view::find;
 use spa_bytes::{HEADER_LEN, joined, two_words};
 use spa_sink::PodOutput;
 use spa_utils::SpaTypes;
@@ -33,20 +31,6 @@ pub fn put_pod(out: &mut Vec<u8>, pod: &[u8]) -> bool
     ensures { result ≡ true → out.new.items ≡ out.old.items ++ pod.now }
 {
     out.extend_from_slice(pod).is_ok()
-}
-
-/// Whether a property with this key was appended behind the header.
-pub fn has_settled(out: &Vec<u8>, key: u32) -> bool
-    ensures { (ps : Properties) → AreWritten ps (drop 16 out.now.items) → result ≡ has_key key ps }
-{
-    if out.len() < PROPERTIES_AT {
-        return false;
-    }
-    let (_, properties) = out.as_slice().split_at(PROPERTIES_AT);
-    match find(properties, key) {
-        Some(_) => true,
-        None => false,
-    }
 }
 
 /// Puts the size into the header.

@@ -1,10 +1,12 @@
-//! Short objects at the fronts of inputs, looked at where they lie, and objects that are written property by property.
+//! Objects at the fronts of inputs, looked at where they lie, and objects that are written property by property.
 #![tactic(auto)]
 
 mod answer;
+mod keyed;
 mod object_view;
 mod pods;
 
-pub use answer::{finish, has_settled, put_header, put_key, put_pod};
-pub use object_view::{ObjectView, PropertyView, find, first_property, short_object};
+pub use answer::{finish, put_header, put_key, put_pod};
+pub use keyed::{Keyed, raised};
+pub use object_view::{ObjectView, PropertyView, canonical_object, first_property};
 pub use pods::{are_same, is_plain};

@@ -3,15 +3,12 @@ ghost use Rattle.std.specs.Prelude.{◌≡◌, ◌+◌, ◌<◌, ◌≤◌, IfNo
 ghost use Rattle.spa_format.specs.Front.{HasFront};
 ghost use Rattle.spa_format.specs.Tree.{Properties};
 ghost use Rattle.spa_format.specs.Words.{header_size, size_limit};
+ghost use Rattle.spa_fronts.specs.KeyOrder.{length_behind};
 ghost use Rattle.spa_fronts.specs.Written.{AreWritten, BeginsWritten, HasFirst, IsFound, found_at};
 
 use spa_bytes::{HEADER_LEN, SECOND_WORD, extent_of, open, u32_at};
 use spa_scan::canonical_front;
 use spa_utils::SpaTypes;
-
-/// How long the body of an object may be that is looked at where it lies, in bytes. Keys and alternatives are looked for from the
-/// first one on there, which takes longer than looking them up in trees where there are many.
-const SHORT_LEN: usize = 1024;
 
 /// An object where it lies.
 #[derive(Clone, Copy)]
@@ -24,8 +21,8 @@ pub struct ObjectView<'a> {
     pub properties: &'a [u8],
 }
 
-/// The object at the front of the input, where that is short and its own rewriting.
-pub fn short_object(input: &[u8]) -> Option<ObjectView<'_>>
+/// The object at the front of the input, where that is its own rewriting.
+pub fn canonical_object(input: &[u8]) -> Option<ObjectView<'_>>
     ensures object { IfSome result (λ object. BeginsWritten input.now object.type_ object.id object.properties.now) }
     ensures words { IfSome result (λ object. (object.type_ < size_limit) × (object.id < size_limit)) }
 {
@@ -33,7 +30,7 @@ pub fn short_object(input: &[u8]) -> Option<ObjectView<'_>>
     if front.type_ != SpaTypes::Object.0 {
         return None;
     }
-    if front.body.len() < HEADER_LEN || front.body.len() > SHORT_LEN {
+    if front.body.len() < HEADER_LEN {
         return None;
     }
     let Some(_rest) = canonical_front(input) else {
@@ -91,6 +88,7 @@ pub fn first_property(properties: &[u8]) -> Option<PropertyView<'_>>
 /// The first property with this key.
 pub fn find(properties: &[u8], key: u32) -> Option<PropertyView<'_>>
     ensures found { (ps : Properties) → AreWritten ps properties.now → MatchOption result (found_at key ps ≡ None) (λ first. IsFound (found_at key ps) first.flags first.pod.now) }
+    ensures behind { IfSome result (λ first. (ps : Properties) → AreWritten ps properties.now → length first.rest.now ≡ length_behind key ps properties.now) }
     ensures words { IfSome result (λ first. (first.key < size_limit) × (first.flags < size_limit)) }
 {
     let mut left = properties;

@@ -1,4 +1,4 @@
--- What two short objects meet in, property by property.
+-- What two objects meet in, property by property.
 use Rattle.std.specs.Prelude.{◌≡◌, ℕ, List, ◌++◌, Option}
 use Rattle.spa_format.specs.Words.{word_bytes}
 use Rattle.spa_format.specs.Tree.{Tree, Properties}

@@ -3,7 +3,7 @@
 
 mod offer_view;
 mod pods;
-mod short;
+mod views;
 
 pub use pods::negotiate_pods;
 pub use spa_negotiate::{NegotiateError, Side};

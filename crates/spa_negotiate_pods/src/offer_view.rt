@@ -11,6 +11,7 @@ ghost use Rattle.spa_negotiate_pods.specs.declared.offer_view.Rule.TheVariants.{
 use spa_bytes::{HEADER_LEN, SECOND_WORD, open, u32_at, u64_at};
 use spa_fixed::{ENUM_SHAPE, NONE_SHAPE, RANGE_SHAPE};
 use spa_utils::SpaTypes;
+use std::alloc::{AllocError, Global};
 
 /// Where the values of a choice begin in its body: behind its shape and flags, and their size and type.
 const VALUES_AT: usize = 16;
@@ -33,6 +34,9 @@ pub(crate) enum Rule {
     /// None: no common value is sought.
     Unsupported,
 }
+
+/// How long the values of an Enum are, in bytes, that are looked for one by one beside those of another: 16 values of two words.
+const SHORT_LEN: usize = 128;
 
 /// What a value offers, where its pod lies: a choice, or a plain value as the choice that admits it alone.
 #[derive(Clone, Copy)]
@@ -226,7 +230,7 @@ fn both_admit(a: &OfferView<'_>, b: &OfferView<'_>, value: &[u8]) -> bool
     admits(a, value) && admits(b, value)
 }
 
-/// The first of these that both offers admit.
+/// The first of these that both offers admit. The first offer is asked before the second.
 fn first_of<'v>(a: &OfferView<'_>, b: &OfferView<'_>, values: &'v [u8]) -> Option<&'v [u8]>
     requires first { HasValues a.now }
     requires second { HasValues b.now }
@@ -245,9 +249,74 @@ fn first_of<'v>(a: &OfferView<'_>, b: &OfferView<'_>, values: &'v [u8]) -> Optio
     None
 }
 
+/// The first of a's values that b has, too, where these are looked for by halves.
+fn first_by_halves<'v>(alloc: Global, a: &OfferView<'v>, b: &OfferView<'_>) -> Option<&'v [u8]>
+    requires first { HasValues a.now }
+    requires second { HasValues b.now }
+    requires sizes { b.now.size ≡ a.now.size }
+    ensures long { IfSome result (λ value. a.now.size ≤ length value.now) }
+    ensures admitted { IfSome result (λ value. AreAdmitting a.now b.now value.now) }
+{
+    let Ok(order) = order_of(alloc, b.size, b.values) else {
+        return None;
+    };
+    let mut left = a.values;
+    while left.len() >= a.size {
+        if order
+            .as_slice()
+            .binary_search(&number_of(a.size, left))
+            .is_ok()
+            && both_admit(a, b, left)
+        {
+            return Some(left);
+        }
+        let (_, rest) = left.split_at(a.size);
+        left = rest;
+    }
+    None
+}
+
+/// Values as numbers, in ascending order.
+fn order_of(alloc: Global, size: usize, values: &[u8]) -> Result<Vec<u64>, AllocError>
+    requires { 0 < size }
+{
+    let mut order = Vec::new(alloc);
+    let mut left = values;
+    while left.len() >= size {
+        order.push(number_of(size, left))?;
+        let (_, rest) = left.split_at(size);
+        left = rest;
+    }
+    order.sort_unstable();
+    Ok(order)
+}
+
+/// A value as a number.
+fn number_of(size: usize, value: &[u8]) -> u64
+    requires { size ≤ length value.now }
+{
+    match size {
+        ONE_WORD => u64::from(u32_at(value, 0)),
+        TWO_WORDS => u64_at(value, 0),
+        _ => 0,
+    }
+}
+
+/// Whether two offers are Enums, one of them with many values.
+fn are_long_enums(a: &OfferView<'_>, b: &OfferView<'_>) -> bool {
+    match (a.rule, b.rule) {
+        (Rule::Among, Rule::Among) => a.values.len() > SHORT_LEN || b.values.len() > SHORT_LEN,
+        _ => false,
+    }
+}
+
 /// The first of these that both offers admit: a's default, b's default, a's alternatives, b's alternatives, a's minimum, b's
 /// minimum. The bytes behind it don't count.
-pub(crate) fn first_common<'v>(a: &OfferView<'v>, b: &OfferView<'v>) -> Option<&'v [u8]>
+pub(crate) fn first_common<'v>(
+    alloc: Global,
+    a: &OfferView<'v>,
+    b: &OfferView<'v>,
+) -> Option<&'v [u8]>
     ensures { IfSome result (λ value. (v w : Tree) → IsOffer v a.now → IsOffer w b.now → IsShared v w a.now.type_ value.now) }
 {
     if a.type_ != b.type_ || a.size != b.size || a.size == 0 {
@@ -262,8 +331,12 @@ pub(crate) fn first_common<'v>(a: &OfferView<'v>, b: &OfferView<'v>) -> Option<&
     if both_admit(a, b, b.values) {
         return Some(b.values);
     }
+    if are_long_enums(a, b) {
+        let value = first_by_halves(alloc, a, b)?;
+        return Some(value);
+    }
     if let Rule::Among = a.rule {
-        if let Some(value) = first_of(a, b, a.values) {
+        if let Some(value) = first_of(b, a, a.values) {
             return Some(value);
         }
     }

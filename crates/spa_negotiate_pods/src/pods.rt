@@ -10,7 +10,7 @@ ghost use Rattle.spa_negotiate_pods.specs.Fronts.{AreFrontsRefused, BeginBoth, I
 ghost use Rattle.spa_negotiate.specs.Meeting.{CanMeet, Meet};
 ghost use Rattle.spa_negotiate.specs.Refusals.{AreRefused, OnDisagreement};
 
-use crate::short::meet_short;
+use crate::views::meet_views;
 use spa_fixed::DeserializeError;
 use spa_format::laws::{pods_have_one_value, readings_are_normal};
 use spa_format::view_laws::{settled_properties_are_settled, walks_find_members};
@@ -45,7 +45,7 @@ pub fn negotiate_pods(alloc: Global, a: &[u8], b: &[u8]) -> Result<Vec<u8>, Nego
     pods_have_one_value();
     walks_find_members();
     settled_properties_are_settled();
-    if let Some(bytes) = meet_short(alloc, a, b) {
+    if let Some(bytes) = meet_views(alloc, a, b) {
         return Ok(bytes);
     }
     let first = object_at(alloc, a, Side::First)?;

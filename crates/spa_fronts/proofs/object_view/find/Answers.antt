@@ -1,6 +1,6 @@
 use Rattle.std.proofs.Common.{arith}
 use Rattle.spa_format.specs.Typed.{IsBytes}
-use Rattle.spa_fronts.proofs.Listed.{search_begun, search_on, found_first, found_none}
+use Rattle.spa_fronts.proofs.Listed.{search_begun, search_on, found_first, first_behind, found_none}
 use Rattle.spa_fronts.proofs.object_view.find.Goals as goal
 
 pub loop-first-init : goal.loop-first-init
@@ -15,6 +15,10 @@ loop-first-preserved c =
 pub returns-then-first-key-clause-found : goal.returns-then-first-key-clause-found
 returns-then-first-key-clause-found c =
     found_first _ _ _ _ _ _ _ c.in-Some.ensures.first c.if-first-key.true c.loop-first.invariant
+
+pub returns-then-first-key-clause-behind : goal.returns-then-first-key-clause-behind
+returns-then-first-key-clause-behind c =
+    first_behind _ _ _ _ _ _ _ c.in-Some.ensures.first c.if-first-key.true c.loop-first.invariant
 
 pub returns-clause-found : goal.returns-clause-found
 returns-clause-found c =

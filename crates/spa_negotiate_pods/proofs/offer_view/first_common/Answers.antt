@@ -12,8 +12,14 @@ returns-then-both_admit-2 c =
     let long = c.if-b.false in
     shared c.args.a.now c.args.b.now _ c.if-a-b.false (omega arith) (c.both_admit-2.ensures c.if-both_admit-2.true)
 
+pub returns-then-are_long_enums : goal.returns-then-are_long_enums
+returns-then-are_long_enums c = shared c.args.a.now c.args.b.now _ c.if-a-b.false c.in_ok-value.ensures.long c.in_ok-value.ensures.admitted
+
 pub returns-in-Some : goal.returns-in-Some
-returns-in-Some c = shared c.args.a.now c.args.b.now _ c.if-a-b.false c.in-Some.ensures.long c.in-Some.ensures.admitted
+returns-in-Some c =
+    let same = c.if-a-b-2.false in
+    let long = c.in-Some.ensures.long in
+    shared c.args.a.now c.args.b.now _ c.if-a-b.false (omega arith) (λ v w o p. let both = c.in-Some.ensures.admitted w v p o in (both.1, both.0))
 
 pub returns-in-Some-first_of : goal.returns-in-Some-first_of
 returns-in-Some-first_of c =

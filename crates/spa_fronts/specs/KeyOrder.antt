@@ -1,0 +1,89 @@
+-- Keys in an order in which one is looked for by halves, and properties that were passed.
+use Rattle.std.specs.Prelude.{⊤, ◌≡◌, ℕ, ◌+◌, ◌-◌, ◌*◌, ◌<◌, ◌≤◌, List, [], ◌∷◌, length, drop, get_or, Contains, Bool, true, not, ◌==◌, if◌then◌else◌, Option, Some, None, Vec}
+use Rattle.std.specs.Global.{Global}
+use Rattle.std.specs.List.Sorted.{IsNonDecreasingBy, IsPermutation}
+use Rattle.spa_format.specs.Words.{header_size, size_limit}
+use Rattle.spa_format.specs.Tree.{Properties, no_properties, property, join_properties}
+use Rattle.spa_format.specs.Front.{rest_of}
+use Rattle.spa_format.specs.Typed.{IsBytes}
+use Rattle.spa_fronts.specs.Written.{AreWritten, HasFirst, has_key}
+use Rattle.spa_fronts.specs.declared.keyed.Keyed.{Keyed}
+use Rattle.spa_fronts.specs.declared.object_view.PropertyView.{PropertyView}
+
+-- a key and the place where its property begins, as one number
+abbrev pub place_word : ℕ → ℕ → ℕ
+place_word key place = key * size_limit + place
+
+-- those of properties that are the last ones of so many bytes, and have these themselves
+abbrev pub place_words : ℕ → Properties → List ℕ → List ℕ
+place_words n no_properties b = []
+place_words n (property key flags value rest) b =
+    place_word key (n - length b) ∷ place_words n rest (rest_of (drop header_size b))
+
+-- these numbers are those of the properties, in another order
+pub record IsOrder (ps : Properties) (b order : List ℕ) : Type 0 where
+  pub short : length b < size_limit
+  pub same : IsPermutation (place_words (length b) ps b) order
+
+abbrev pub MayBeOrder : Properties → List ℕ → Option (Vec ℕ Global) → Type 0
+MayBeOrder ps b None = ⊤
+MayBeOrder ps b (Some order) = IsOrder ps b order.items
+
+abbrev pub MayAscend : Option (Vec ℕ Global) → Type 0
+MayAscend None = ⊤
+MayAscend (Some order) = IsNonDecreasingBy (λ x. x) order.items
+
+-- the order, where there is one, is that of the properties, and ascends
+pub record IsKeyed (keyed : Keyed) : Type 0 where
+  pub bytes : IsBytes keyed.properties.now
+  pub ascending : MayAscend keyed.order
+  pub order : (ps : Properties) → AreWritten ps keyed.properties.now → MayBeOrder ps keyed.properties.now keyed.order
+
+-- of these numbers none has the key
+abbrev pub HasNoWord : ℕ → List ℕ → Type 0
+HasNoWord key words = (w : ℕ) → Contains words w → key * size_limit ≤ w → (key + 1) * size_limit ≤ w
+
+-- of these numbers that of the key and the place is the least that has the key
+pub record IsLeastWord (key : ℕ) (words : List ℕ) (place : ℕ) : Type 0 where
+  pub short : place < size_limit
+  pub among : Contains words (place_word key place)
+  pub least : (w : ℕ) → Contains words w → key * size_limit ≤ w → place_word key place ≤ w
+
+-- of these numbers that at the index is the least from this bound on
+pub record IsFirstFrom (words : List ℕ) (bound at : ℕ) : Type 0 where
+  pub above : at < length words → bound ≤ get_or words at 0
+  pub first : (w : ℕ) → Contains words w → bound ≤ w → (at < length words) × (get_or words at 0 ≤ w)
+
+-- how many bytes stand behind the first property with this key
+abbrev pub length_behind : ℕ → Properties → List ℕ → ℕ
+length_behind key no_properties b = 0
+length_behind key (property k flags value rest) b =
+    if k == key then length (rest_of (drop header_size b)) else length_behind key rest (rest_of (drop header_size b))
+
+-- what is left of the bytes behind these properties, with which they begin
+abbrev pub bytes_behind : Properties → List ℕ → List ℕ
+bytes_behind no_properties b = b
+bytes_behind (property key flags value rest) b = bytes_behind rest (rest_of (drop header_size b))
+
+-- these are the first of the properties with these bytes, and these bytes are left behind them
+pub record ArePassed (ps done : Properties) (b left : List ℕ) : Type 0 where
+  pub rest : Properties
+  pub all : ps ≡ join_properties done rest
+  pub left_is : left ≡ bytes_behind done b
+
+-- each of their keys is below the bound
+abbrev pub AreBelow : ℕ → Properties → Type 0
+AreBelow bound ps = (key : ℕ) → has_key key ps ≡ true → key < bound
+
+-- whether a property has the key of none before it, whose keys are below the bound
+abbrev pub SaysNew : Bool → List ℕ → PropertyView → ℕ → Type 0
+SaysNew is_new b first bound =
+    (ps done : Properties) (left : List ℕ) → AreWritten ps b → ArePassed ps done b left → AreBelow bound done
+    → HasFirst left first.key first.flags first.pod.now first.rest.now → has_key first.key done ≡ not is_new
+
+-- whether it has the key of none of others, either
+abbrev pub SaysNewBeside : Bool → (others b : List ℕ) → PropertyView → ℕ → Type 0
+SaysNewBeside is_new others b first bound =
+    (ps qs done : Properties) (left : List ℕ) → AreWritten ps others → AreWritten qs b → ArePassed qs done b left
+    → AreBelow bound done → HasFirst left first.key first.flags first.pod.now first.rest.now
+    → has_key first.key (join_properties ps done) ≡ not is_new

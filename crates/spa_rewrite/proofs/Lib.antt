@@ -2,6 +2,7 @@ pub mod TailLemmas
 pub mod Steps
 pub mod Refusals
 pub mod Rewritten
+pub mod OpenPods
 pub mod Nesting
 pub mod Stretches
 pub mod Own

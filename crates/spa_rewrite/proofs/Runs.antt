@@ -1,5 +1,5 @@
 -- Members and properties that are appended as they are, in front of others.
-use Rattle.std.proofs.Common.{◌≡◌, ℕ, List, ◌∷◌, ◌++◌, length, refl, sym, ap, ◌∙◌, subst, arith, append_assoc, length-append, Bool, true, false}
+use Rattle.std.proofs.Common.{◌≡◌, ℕ, List, [], ◌∷◌, ◌++◌, refl, sym, ap, ◌∙◌, subst, append_assoc, Bool, true, false}
 use Rattle.std.specs.Prelude.{⊤}
 use Rattle.spa_format.specs.Words.{word_bytes}
 use Rattle.spa_format.specs.Tree.{Properties, no_properties, property, join_members, join_properties}
@@ -12,11 +12,12 @@ use Rattle.spa_fixed.specs.declared.fault.Refusal.TheVariants as refusal
 use Rattle.spa_leaf.specs.Refusing.{StandsInMembers, StandsInProperties}
 use Rattle.spa_leaf.proofs.Refusals.{says_through}
 use Rattle.spa_scan.specs.Canonical.{AreCanonical, AreCanonicalProperties}
-use Rattle.spa_rewrite.specs.Nesting.{AreCanonicalInside, AwaitsAllClosing, LeavesInside, PassesOver}
+use Rattle.spa_rewrite.specs.Nesting.{AreCanonicalInside, AreOpen, LeavesInside, PassesOver, body_end}
 use Rattle.spa_rewrite.specs.Rewriting.{LeavesMembers, LeavesProperties, TakesProperties}
 use Rattle.spa_rewrite.specs.Tails.{KeepsStart, TailAppends, appends_both, keeps_behind}
-use Rattle.spa_rewrite.specs.declared.pod.Open.{Open}
+use Rattle.spa_rewrite.specs.declared.pod.OpenPod.{OpenPod}
 use Rattle.spa_rewrite.specs.declared.tail.Tail.{Tail}
+use Rattle.spa_rewrite.proofs.OpenPods.{ends_further}
 use Rattle.spa_rewrite.proofs.Stretches.{both_taken}
 
 property_encodings-join : (ps qs : Properties) →
@@ -55,11 +56,11 @@ members_refused_behind left run rest place why a b c e k t h =
 passes_members : (left run rest : List ℕ) (a b : Tail) → left ≡ run ++ rest → AreCanonical run →
     TailAppends a run b → PassesOver false left a rest b
 passes_members left run rest a b e k t =
-    let size = ap length e ∙ length-append run rest in
     record {
       taken = λ all h. both_taken left rest a b all (record { stretch = run; parts = e; canonical = k; encoding = t }) h;
       refused = λ place why c h. members_refused_behind left run rest place why a b c e k t h;
-      no_longer = omega arith;
+      first = run;
+      parts = e;
     }
 
 -- some first properties, and those behind them,
@@ -99,11 +100,11 @@ properties_refused_behind left run rest place why a b c e k t h =
 passes_properties : (left run rest : List ℕ) (a b : Tail) → left ≡ run ++ rest → AreCanonicalProperties run →
     TailAppends a run b → PassesOver true left a rest b
 passes_properties left run rest a b e k t =
-    let size = ap length e ∙ length-append run rest in
     record {
       taken = λ all h. properties_taken left run rest a b all e k t h;
       refused = λ place why c h. properties_refused_behind left run rest place why a b c e k t h;
-      no_longer = omega arith;
+      first = run;
+      parts = e;
     }
 
 pub passes_run : (keyed : Bool) (left run rest : List ℕ) (a b : Tail) → left ≡ run ++ rest →
@@ -116,7 +117,8 @@ pub passes_none : (keyed : Bool) (left : List ℕ) (a : Tail) → PassesOver key
 passes_none keyed left a = record {
   taken = λ all h. h;
   refused = λ place why c h. h;
-  no_longer = omega arith;
+  first = [];
+  parts = refl;
 }
 
 -- there is no memory for a run
@@ -126,10 +128,14 @@ run_refused true left place why a b e k = subst (λ w. LeavesProperties left pla
 run_refused false left place why a b e k = subst (λ w. LeavesMembers left place w a b) (sym e) (record { says = tt; kept = k })
 
 -- some of what is left of the innermost is passed over
-pub passed_over : (input : List ℕ) (old : Tail) (inner : Open) (outer : List Open) (left here : List ℕ)
-    (now at : Tail) → AwaitsAllClosing input old (inner ∷ outer) left now →
-    PassesOver inner.keyed left now here at → AwaitsAllClosing input old (inner ∷ outer) here at
+pub passed_over : (input : List ℕ) (old : Tail) (inner : OpenPod) (outer : List OpenPod) (left here : List ℕ)
+    (now at : Tail) → AreOpen input old (inner ∷ outer) left now →
+    PassesOver inner.keyed left now here at → AreOpen input old (inner ∷ outer) here at
 passed_over input old inner outer left here now at h p = record {
-  closes = λ ended e. h.closes ended (p.taken ended e);
-  refused = λ place why new l. h.refused place why new (p.refused place why new l);
+  awaits = record {
+    closes = λ ended e. h.awaits.closes ended (p.taken ended e);
+    refused = λ place why new l. h.awaits.refused place why new (p.refused place why new l);
+  };
+  nested = h.nested;
+  ends = ends_further input (body_end input inner.at) left here p.first h.ends p.parts;
 }

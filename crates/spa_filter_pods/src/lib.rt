@@ -2,11 +2,7 @@
 #![tactic(auto)]
 
 mod common_pods;
-#[cfg(test)]
-mod formats;
 mod pods;
-#[cfg(test)]
-mod tests;
 mod views;
 
 pub use pods::filter_pods;

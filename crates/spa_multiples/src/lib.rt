@@ -4,8 +4,6 @@
 mod common_multiples;
 mod first;
 mod steps;
-#[cfg(test)]
-mod tests;
 
 pub use common_multiples::{common_multiple, is_multiple};
 pub use first::{first_multiple, first_signed};

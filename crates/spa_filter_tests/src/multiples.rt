@@ -1,5 +1,5 @@
 //! Multiples that were found by hand.
-use crate::{Steps, common_multiple, first_multiple, first_signed, is_multiple, narrowed};
+use spa_multiples::{Steps, common_multiple, first_multiple, first_signed, is_multiple, narrowed};
 
 #[test]
 fn common_multiples_are_the_least(rt: HostRuntime) {

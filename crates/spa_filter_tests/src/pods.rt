@@ -1,8 +1,10 @@
 //! Two pods are filtered: worked rows, and the formats of PipeWire's own builder in all pairs.
-use crate::FilterError::{Disjoint, Missing, NotObject, TypeMismatch, Unread, Unsupported};
 use crate::formats::{ANSWERS, AUDIO, FORMATS, VIDEO};
-use crate::{FilterError, Side, filter_pods};
 use spa_filter::settle;
+use spa_filter_pods::FilterError::{
+    Disjoint, Missing, NotObject, TypeMismatch, Unread, Unsupported,
+};
+use spa_filter_pods::{FilterError, Side, filter_pods};
 use spa_spelling::bytes_of;
 use spa_typed_read::PodDeserializer;
 use spa_value::Value;

@@ -1,5 +1,4 @@
-//! Tests of views, readers, writers, visitors and the builder, each by the calls of its own crate. There is nothing here but
-//! tests.
+//! Tests of views, readers, writers and the builder, each by the calls of its own crate. There is nothing here but tests.
 #![tactic(auto)]
 
 #[cfg(test)]
@@ -20,8 +19,6 @@ mod hostile_sizes;
 mod reading;
 #[cfg(test)]
 mod sized;
-#[cfg(test)]
-mod typed;
 #[cfg(test)]
 mod viewing;
 #[cfg(test)]

@@ -1,5 +1,0 @@
-use Rattle.spa_typed_read.proofs.Stepping.{all_left, further_same}
-use Rattle.spa_pod_tests.proofs.typed.structs.IdleVisitorVisitor.visit_struct.Goals as goal
-
-pub returns-clause-made : goal.returns-clause-made
-returns-clause-made c = λ end. all_left _ _ (further_same _) end

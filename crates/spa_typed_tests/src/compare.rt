@@ -1,0 +1,54 @@
+//! Comparisons of what was written with what is wanted.
+use libspa::pod::serialize::{GenError, PodSerialize, PodSerializer};
+use spa_spelling::bytes_spelled;
+use std::alloc::Global;
+use std::process::Abort;
+use std::test::Fail;
+
+/// The pod behind what the output holds. It is refused as `Io` where the answer isn't the pod's length.
+pub(crate) fn put<P: PodSerialize>(out: Vec<u8>, pod: &P) -> Result<Vec<u8>, GenError> {
+    let before = out.len() as u64;
+    let (out, count) = PodSerializer::serialize(out, pod)?;
+    if out.len() as u64 - before != count {
+        return Err(GenError::Io);
+    }
+    Ok(out)
+}
+
+/// Compares bytes with those that the words spell.
+pub(crate) fn assert_words(
+    rt: &impl Abort,
+    alloc: Global,
+    found: &[u8],
+    words: &str,
+) -> Result<(), Fail> {
+    let wanted = bytes_spelled(alloc, words)?;
+    assert_eq!(rt; found, wanted.as_slice(), "at {words}");
+    Ok(())
+}
+
+/// Compares the encoding of a pod with these words.
+pub(crate) fn assert_written<P: PodSerialize>(
+    rt: &impl Abort,
+    alloc: Global,
+    pod: &P,
+    words: &str,
+) -> Result<(), Fail> {
+    let out = put(Vec::new(alloc), pod)?;
+    assert_words(rt, alloc, out.as_slice(), words)
+}
+
+/// Compares a refusal with the wanted one.
+pub(crate) fn assert_refused(rt: &impl Abort, found: Option<GenError>, wanted: GenError) {
+    assert!(rt; found == Some(wanted));
+}
+
+/// Compares texts. The third one says where.
+pub(crate) fn assert_said(rt: &impl Abort, found: &str, wanted: &str, place: &str) {
+    assert_eq!(rt; found, wanted, "at {place}");
+}
+
+/// Something holds. The text says what.
+pub(crate) fn assert_holds(rt: &impl Abort, holds: bool, what: &str) {
+    assert!(rt; holds, "{what}");
+}

@@ -1,8 +1,8 @@
-//! Tests of views, readers, writers and the builder, each by the calls of its own crate. There is nothing here but tests.
+//! Tests of views, readers and writers, each by the calls of its own crate. There is nothing here but tests.
 #![tactic(auto)]
 
 #[cfg(test)]
-mod builder;
+mod added;
 #[cfg(test)]
 mod compare;
 #[cfg(test)]

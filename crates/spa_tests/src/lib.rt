@@ -6,13 +6,7 @@ mod answers;
 #[cfg(test)]
 mod bytes;
 #[cfg(test)]
-mod negotiation;
-#[cfg(test)]
 mod oracle;
-#[cfg(test)]
-mod parser;
-#[cfg(test)]
-mod readme;
 #[cfg(test)]
 mod said;
 #[cfg(test)]

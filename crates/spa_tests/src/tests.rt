@@ -8,4 +8,3 @@ mod reading;
 mod rewriting;
 mod second_reader;
 mod viewing;
-mod writing;

@@ -1,5 +1,5 @@
 //! A choice that gets shorter, deep in structs or objects that end where it does, rewritten where it lies.
-use crate::bytes::{DEPTHS, assert_holds, push_words};
+use crate::deep::bytes::{DEPTHS, assert_holds, push_words};
 use libspa::pod::rewrite_in_place;
 use std::alloc::{AllocError, Global};
 use std::test::Fail;

@@ -1,6 +1,6 @@
 //! What docs/CALLING.md shows of the parser, word for word, and what it answers.
-use crate::parser::bytes::bytes_of;
 use crate::parser::calling::taking_apart::sample_rate;
+use spa_spelling::bytes_of;
 use std::test::Fail;
 
 mod taking_apart {

@@ -1,8 +1,8 @@
 //! Calls of a parser in order, and what each answers. A table is a text with a row a line, so that it is data.
-use crate::parser::bytes::{bytes_of, bytes_spelled};
 use libspa::pod::parser::Parser;
 use libspa::pod::{Frame, Pod};
 use libspa::utils::{Errno, Id};
+use spa_spelling::{bytes_of, bytes_spelled};
 use std::alloc::{AllocError, Global};
 use std::fmt::Debug;
 use std::process::Abort;

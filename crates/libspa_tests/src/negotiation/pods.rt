@@ -2,6 +2,7 @@
 use libspa::pod::Pod;
 use spa_negotiate_pods::NegotiateError::{Disjoint, NotObject, TypeMismatch, Unread, Unsupported};
 use spa_negotiate_pods::{NegotiateError, Side, negotiate_pods};
+use spa_spelling::bytes_of;
 use std::alloc::{AllocError, Global};
 use std::test::Fail;
 
@@ -120,15 +121,6 @@ const ROWS: &[Row] = &[
         swapped: Words(&[8, 15, 5, 7]),
     },
 ];
-
-/// The bytes of these words, least byte first.
-fn bytes_of(alloc: Global, words: &[u32]) -> Result<Vec<u8>, AllocError> {
-    let mut bytes = Vec::new(alloc);
-    for word in words {
-        bytes.extend_from_slice(&word.to_le_bytes())?;
-    }
-    Ok(bytes)
-}
 
 /// Whether these are the bytes of a pod of an object that needs no fixation.
 fn is_fixated(bytes: &[u8]) -> bool {

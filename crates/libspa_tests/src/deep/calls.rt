@@ -1,5 +1,5 @@
 //! Structs that stand deep in one another, printed, added to a builder, and opened and closed by a parser.
-use crate::bytes::{DEPTHS, NONE, assert_holds, between, read};
+use crate::deep::bytes::{DEPTHS, NONE, assert_holds, between, read};
 use libspa::pod::builder::Builder;
 use libspa::pod::parser::Parser;
 use libspa::pod::{Frame, Printed, Value};

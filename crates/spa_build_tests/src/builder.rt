@@ -7,4 +7,3 @@ mod pods;
 mod refused;
 mod rows;
 mod shown;
-mod values;

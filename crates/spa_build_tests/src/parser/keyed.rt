@@ -1,7 +1,7 @@
 //! Forms of `parser_get!` with texts, with an object, and with what a None may stand for.
-use crate::parser::bytes::bytes_of;
 use libspa::pod::parser::{Parser, parser_get};
 use libspa::utils::{Errno, Fraction, Id, Rectangle};
+use spa_spelling::bytes_of;
 use std::alloc::AllocError;
 use std::test::Fail;
 

@@ -1,5 +1,5 @@
 //! Objects whose values stand deep in one another: they meet, or are told apart.
-use crate::bytes::{DEPTHS, EMPTY, NONE, assert_holds, between, read};
+use crate::deep::bytes::{DEPTHS, EMPTY, NONE, assert_holds, between, read};
 use libspa::pod::{Held, Object, Value, same};
 use spa_negotiate::{NegotiateError, negotiate};
 use spa_negotiate_pods::negotiate_pods;

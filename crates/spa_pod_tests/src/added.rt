@@ -1,4 +1,4 @@
-//! Values added whole.
+//! Values added whole to a builder.
 use crate::compare::{are_words, assert_bytes, assert_holds};
 use crate::writing::{ROWS, three_and_nul, value_of};
 use spa_builder::Builder;

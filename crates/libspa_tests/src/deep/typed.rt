@@ -1,5 +1,5 @@
 //! Types that hold a value which stands deep in itself: read, written again, and let go where something behind it is refused.
-use crate::bytes::{DEPTHS, NONE, assert_holds, between};
+use crate::deep::bytes::{DEPTHS, NONE, assert_holds, between};
 use libspa::pod::Held;
 use libspa::pod::deserialize::{
     DeserializeError, ObjectOf, PodDeserialize, PodDeserializer, Required, StructOf,

@@ -1,5 +1,4 @@
 //! The parser: each call, each form of its macro, what docs/CALLING.md shows, and want of memory.
-mod bytes;
 mod calling;
 mod calls;
 mod forms;

@@ -1,8 +1,8 @@
 //! Each form of `parser_get!`: the crate's own tests, floats as their bits, and what these leave out.
-use crate::parser::bytes::bytes_of;
 use libspa::pod::parser::{Parser, parser_get};
 use libspa::pod::{Frame, Pod};
 use libspa::utils::{Errno, Float32, Float64, Fraction, Id, Rectangle};
+use spa_spelling::bytes_of;
 use std::alloc::{AllocError, Global};
 use std::test::Fail;
 

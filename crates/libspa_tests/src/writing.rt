@@ -1,5 +1,4 @@
 //! Writing values, on worked examples.
-use crate::answers::write;
 use crate::bytes::{assert_holds, assert_spelt};
 use arrayvec::ArrayVec;
 use bitflags::Flags;
@@ -43,7 +42,7 @@ fn written(alloc: Global, value: Value) -> Result<(Vec<u8>, u64), Fail> {
 }
 
 fn write_owned(out: Vec<u8>, value: Value) -> Result<(Vec<u8>, u64), GenError> {
-    let written = write(out, &value);
+    let written = PodSerializer::serialize(out, &value);
     drop(value);
     written
 }

@@ -1,0 +1,6 @@
+//! Values that stand deep in one another: negotiated, read and written by types, printed, rewritten, built and parsed.
+mod bytes;
+mod calls;
+mod negotiation;
+mod rewriting;
+mod typed;

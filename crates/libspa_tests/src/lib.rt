@@ -1,0 +1,14 @@
+//! Tests of what README.md shows, of negotiation, of writing, and of values that stand deep in one another, over the paths that a user
+//! of the library writes. There is nothing here but tests.
+#![tactic(auto)]
+
+#[cfg(test)]
+mod bytes;
+#[cfg(test)]
+mod deep;
+#[cfg(test)]
+mod negotiation;
+#[cfg(test)]
+mod readme;
+#[cfg(test)]
+mod writing;

@@ -12,13 +12,13 @@ use Rattle.spa_value.specs.Views.{property_views, views}
 use Rattle.spa_names.specs.declared.entry.Expected.{Expected}
 use Rattle.spa_names.specs.declared.table.Table.{Table}
 use Rattle.spa_names.specs.declared.table.Table.TheVariants.{Types}
-use Rattle.spa_text.specs.Grammar.{AreMembers, AreProperties, Opened, Reads, ReadsAs, an_object, close, flagged_at, is_flags, key_number, nothing, opens, or_else, tag_named, tagged_at}
-use Rattle.spa_text.specs.Names.{expected_under, ids_of, keys_of, number_of}
-use Rattle.spa_text.specs.Numerals.{unsigned}
-use Rattle.spa_text.specs.Options.{◌>>=◌}
+use Rattle.spa_text_read.specs.Grammar.{AreMembers, AreProperties, Opened, Reads, ReadsAs, an_object, close, flagged_at, is_flags, key_number, nothing, opens, or_else, tag_named, tagged_at}
+use Rattle.spa_text_read.specs.Names.{expected_under, ids_of, keys_of, number_of}
+use Rattle.spa_text_read.specs.Numerals.{unsigned}
+use Rattle.spa_text_read.specs.Options.{◌>>=◌}
 use Rattle.std.proofs.lemmas.Slice.Eq.{bytes_eq-Decides}
 use Rattle.spa_text.specs.Printed.{HasNoFloat, flags_end, flags_front, name_token, tokens_of}
-use Rattle.spa_text.specs.Tokens.{after_end_object}
+use Rattle.spa_text_read.specs.Tokens.{after_end_object}
 use Rattle.spa_text.specs.Left.{AreAround, Continues, IsLeft, IsWithin, PrintsOrBegins}
 use Rattle.spa_text.specs.Written.{BeginsProperty, Opens, Prints, PutsKey, PutsName, closing}
 use Rattle.spa_text.specs.declared.printing.Begun.{Begun}

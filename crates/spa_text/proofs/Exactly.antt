@@ -10,8 +10,8 @@ use Rattle.spa_value.specs.View.{view}
 use Rattle.spa_value.specs.Views.{property_views, views}
 use Rattle.spa_names.specs.declared.entry.Expected.{Expected}
 use Rattle.spa_names.specs.declared.table.Table.{Table}
-use Rattle.spa_text.specs.Grammar.{an_object, nothing}
-use Rattle.spa_text.specs.Names.{expected_under, keys_of}
+use Rattle.spa_text_read.specs.Grammar.{an_object, nothing}
+use Rattle.spa_text_read.specs.Names.{expected_under, keys_of}
 use Rattle.spa_text.specs.Printed.{HasNoFloat, HaveNoFloat, HoldNoFloat, flags_end, flags_front, front_of, key_text, member_tokens, property_tokens, tokens_of}
 use Rattle.spa_text.specs.Left.{Leaves, LeavesNoFloat, LeavesWithin, around_tokens, left_tokens}
 use Rattle.spa_text.specs.Written.{BeginsProperty, Opens, Prints, closing}

@@ -13,15 +13,15 @@ use Rattle.spa_format.specs.Tree.{fixed, string, bytes, bitmap, pointer}
 use Rattle.spa_names.specs.declared.entry.Expected.{Expected}
 use Rattle.spa_names.specs.declared.table.Table.{Table}
 use Rattle.spa_names.specs.declared.table.Table.TheVariants.{Types}
-use Rattle.spa_text.specs.Grammar.{a_number, a_text, bare, ending, leaf, opens, scalar_of, tag_named, tagged_at, takes_text, wide_of, float_of, double_of, some_bytes, a_bitmap}
-use Rattle.spa_text.specs.Names.{name_of}
-use Rattle.spa_text.specs.Options.{and_then}
+use Rattle.spa_text_read.specs.Grammar.{a_number, a_text, bare, ending, leaf, opens, scalar_of, tag_named, tagged_at, takes_text, wide_of, float_of, double_of, some_bytes, a_bitmap}
+use Rattle.spa_text_read.specs.Names.{name_of}
+use Rattle.spa_text_read.specs.Options.{and_then}
 use Rattle.spa_text.specs.Printed.{IsNoFloat, fixed_tokens, name_or_digits, name_token, same_scalar, scalar_text, scalar_tokens, tagged, two_tokens}
-use Rattle.spa_text.specs.Tokens.{head}
+use Rattle.spa_text_read.specs.Tokens.{head}
 use Rattle.spa_text.specs.Written.{BeginsNumber, Prints, Puts, PutsName, closing}
-use Rattle.spa_text.specs.declared.tag.Scalar.{Scalar}
-use Rattle.spa_text.specs.declared.tag.Scalar.TheVariants as scalar
-use Rattle.spa_text.specs.declared.tag.Tag.TheVariants as tag
+use Rattle.spa_text_read.specs.declared.tag.Scalar.{Scalar}
+use Rattle.spa_text_read.specs.declared.tag.Scalar.TheVariants as scalar
+use Rattle.spa_text_read.specs.declared.tag.Tag.TheVariants as tag
 use Rattle.spa_text.proofs.Appending.{append_on}
 use Rattle.spa_text.proofs.Numbers.{hex-bytes, signed-decimal, unsigned-decimal, wide_bits-text}
 

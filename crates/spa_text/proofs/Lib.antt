@@ -1,9 +1,3 @@
-pub mod Digits
-pub mod Completeness
-pub mod Soundness
-pub mod ViewLaws
-pub mod Nexts
-pub mod Nesting
 pub mod Numbers
 pub mod Appending
 pub mod Leaf

@@ -13,9 +13,9 @@ use Rattle.spa_utils.specs.declared.choice.ChoiceEnum.TheVariants as E
 use Rattle.spa_value.specs.Equality.{kind_eq}
 use Rattle.spa_names.specs.declared.entry.Expected.{Expected}
 use Rattle.spa_names.specs.declared.table.Table.TheVariants.{Types}
-use Rattle.spa_text.specs.Grammar.{AreElements, a_choice, an_array, chosen, element, opens, shape_named, type_kind}
+use Rattle.spa_text_read.specs.Grammar.{AreElements, a_choice, an_array, chosen, element, opens, shape_named, type_kind}
 use Rattle.spa_text.specs.Printed.{AreNoFloats, fixed_tokens, flag_tokens, front_of, list_tokens, listed, name_token, shape_text, type_tokens}
-use Rattle.spa_text.specs.Tokens.{head}
+use Rattle.spa_text_read.specs.Tokens.{head}
 use Rattle.spa_text.specs.Written.{Lists, Opens, Prints, PutsName, PutsType, shape_in, values_in}
 use Rattle.spa_text.proofs.Appending.{append_on}
 use Rattle.spa_text.proofs.Leaf.{choose, refuse}

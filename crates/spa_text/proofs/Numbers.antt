@@ -14,8 +14,8 @@ use Rattle.std.proofs.lemmas.Str.Parse.{digit_from_value, without_leading_plus_n
 use lib.Ieee.Bits.{to_bits-of_bits}
 use Rattle.hex.specs.Hex.{IsBytes, decode_of, encode_lower, lower_digits}
 use Rattle.hex.proofs.HexLemmas.{decode_of-encode_lower, decode_sized-twice, length-encode_with}
-use Rattle.spa_text.specs.Numerals.{behind_0x, double_digits, finite_bits, float_digits, ok_of, signed, spelled, unsigned, wide_bits, word_bits}
-use Rattle.spa_text.proofs.Digits.{signed_some, unsigned_some}
+use Rattle.spa_text_read.specs.Numerals.{behind_0x, double_digits, finite_bits, float_digits, ok_of, signed, spelled, unsigned, wide_bits, word_bits}
+use Rattle.spa_text_read.proofs.Digits.{signed_some, unsigned_some}
 
 first_is : (ds : List ℕ) → IsNumeral 10 ds → (get_or ds 0 0 ≢ 43) × (get_or ds 0 0 ≢ 45)
 first_is [] h = absurd (omega (arith, h.0))

@@ -4,9 +4,9 @@ use Rattle.json.specs.Token.{Token}
 use Rattle.spa_format.specs.Tree.{Tree, member_node_count, property_node_count}
 use Rattle.spa_value.specs.Views.{property_views, views}
 use Rattle.spa_names.specs.declared.entry.Expected.{Expected}
-use Rattle.spa_text.specs.Grammar.{AreMembers, AreProperties, ReadsAs, close}
+use Rattle.spa_text_read.specs.Grammar.{AreMembers, AreProperties, ReadsAs, close}
 use Rattle.spa_text.specs.Printed.{HasNoFloat, HaveNoFloat, HoldNoFloat, member_tokens, property_tokens, tokens_of}
-use Rattle.spa_text.specs.Tokens.{after_end_object}
+use Rattle.spa_text_read.specs.Tokens.{after_end_object}
 use Rattle.spa_text.specs.Written.{closing}
 use Rattle.spa_text.specs.declared.printing.Begun.{Begun}
 use Rattle.spa_text.specs.declared.printing.Left.{Left}

@@ -1,13 +1,4 @@
-pub mod Options
-pub mod Numerals
-pub mod Names
-pub mod Tokens
-pub mod Grammar
-pub mod Steps
-pub mod Laws
 pub mod Line
 pub mod Printed
-pub mod Seen
-pub mod Begun
 pub mod Written
 pub mod Left

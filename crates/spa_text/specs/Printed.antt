@@ -10,11 +10,11 @@ use Rattle.spa_format.specs.Tree.{Shape, none_choice, range_choice, step_choice,
 use Rattle.spa_names.specs.declared.entry.Expected.{Expected}
 use Rattle.spa_names.specs.declared.table.Table.{Table}
 use Rattle.spa_names.specs.declared.table.Table.TheVariants.{Types}
-use Rattle.spa_text.specs.Grammar.{Opening, a_struct, an_array, a_choice, an_object, bare, element, nothing, takes_text}
-use Rattle.spa_text.specs.Names.{expected_under, ids_of, keys_of, name_of}
-use Rattle.spa_text.specs.Numerals.{unsigned}
-use Rattle.spa_text.specs.declared.tag.Scalar.{Scalar}
-use Rattle.spa_text.specs.declared.tag.Scalar.TheVariants as scalar
+use Rattle.spa_text_read.specs.Grammar.{Opening, a_struct, an_array, a_choice, an_object, bare, element, nothing, takes_text}
+use Rattle.spa_text_read.specs.Names.{expected_under, ids_of, keys_of, name_of}
+use Rattle.spa_text_read.specs.Numerals.{unsigned}
+use Rattle.spa_text_read.specs.declared.tag.Scalar.{Scalar}
+use Rattle.spa_text_read.specs.declared.tag.Scalar.TheVariants as scalar
 
 -- ---- No floats
 

@@ -8,10 +8,10 @@ use Rattle.spa_utils.specs.declared.choice.ChoiceEnum.TheVariants as E
 use Rattle.spa_names.specs.declared.entry.Expected.{Expected}
 use Rattle.spa_names.specs.declared.table.Table.{Table}
 use Rattle.spa_names.specs.declared.table.Table.TheVariants.{Types}
-use Rattle.spa_text.specs.Grammar.{AreElements, Opening, ReadsAs, bare, begun, is_flags, key_number, opens, property_at}
+use Rattle.spa_text_read.specs.Grammar.{AreElements, Opening, ReadsAs, bare, begun, is_flags, key_number, opens, property_at}
 use Rattle.spa_text.specs.Printed.{AreNoFloats, HasNoFloat, flags_end, flags_front, front_of, key_text, list_tokens, name_token, scalar_text, tokens_of}
-use Rattle.spa_text.specs.Tokens.{head, number_by_name}
-use Rattle.spa_text.specs.declared.tag.Scalar.{Scalar}
+use Rattle.spa_text_read.specs.Tokens.{head, number_by_name}
+use Rattle.spa_text_read.specs.declared.tag.Scalar.{Scalar}
 
 -- one token, which says this
 pub record Puts {A : Type 0} (says : Token → Option A) (x : A) (old new : List Token) : Type 0 where

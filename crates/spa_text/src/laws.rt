@@ -3,22 +3,16 @@ ghost use Rattle.std.specs.Prelude.{◌≡◌, [], IfOk};
 ghost use Rattle.std.specs.Str.{IsUtf8};
 ghost use Rattle.json.specs.Lex.{tokens};
 ghost use Rattle.spa_format.specs.Tree.{Tree};
-ghost use Rattle.spa_text.specs.Grammar.{ReadsAs, nothing};
-ghost use Rattle.spa_text.specs.Laws.{ReadsOneValue};
+ghost use Rattle.spa_text_read.specs.Grammar.{ReadsAs, nothing};
 ghost use Rattle.spa_text.specs.Printed.{HasNoFloat};
 ghost use Rattle.spa_value.specs.View.{view};
 
-use crate::cause::Cause;
 use crate::pretty::print_pretty;
 use crate::printing::print;
-use crate::reading::read;
+pub use spa_text_read::laws::reads_one_value;
+use spa_text_read::{Cause, read};
 use spa_value::{Value, discard};
 use std::alloc::{AllocError, Global};
-
-/// Tokens read as one value at most, where one thing is expected, and leave the same behind it.
-pub fn reads_one_value()
-    ensures { ReadsOneValue }
-{}
 
 /// Prints a value, and reads what is printed: the same, unless memory runs out.
 pub fn print_then_read(alloc: Global, value: &Value) -> Result<Value, AllocError>
@@ -57,6 +51,7 @@ fn read_again(alloc: Global, bytes: &[u8]) -> Result<Value, AllocError>
     requires { IsUtf8 bytes.now × ((v : Tree) × ReadsAs nothing v (tokens bytes.now) []) }
     ensures { (v : Tree) → ReadsAs nothing v (tokens bytes.now) [] → IfOk result (λ again. view again ≡ v) }
 {
+    reads_one_value();
     let Ok(text) = str::from_utf8(bytes) else {
         unreachable!()
     };

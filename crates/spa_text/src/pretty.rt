@@ -3,7 +3,7 @@ ghost use Rattle.std.specs.Prelude.{◌≡◌, ◌++◌, [], List, ℕ, IfOk, On
 ghost use Rattle.std.specs.Str.{IsUtf8};
 ghost use Rattle.json.specs.Layout.{pretty};
 ghost use Rattle.json.specs.Lex.{tokens};
-ghost use Rattle.spa_text.specs.Grammar.{ReadsAs, nothing};
+ghost use Rattle.spa_text_read.specs.Grammar.{ReadsAs, nothing};
 ghost use Rattle.spa_text.specs.Line.{AreGood};
 ghost use Rattle.spa_text.specs.Printed.{HasNoFloat, tokens_of};
 ghost use Rattle.spa_value.specs.View.{view};

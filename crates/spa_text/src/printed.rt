@@ -4,16 +4,15 @@ ghost use Rattle.hex.specs.Hex.{encode_lower};
 ghost use Rattle.json.specs.Token as token;
 ghost use Rattle.spa_format.specs.Kind.{float, double};
 ghost use Rattle.spa_format.specs.Tree.{fixed};
-ghost use Rattle.spa_text.specs.Grammar.{bare, double_of, float_of};
+ghost use Rattle.spa_text_read.specs.Grammar.{bare, double_of, float_of};
 ghost use Rattle.spa_text.specs.Printed.{scalar_text, two_tokens};
 ghost use Rattle.spa_text.specs.Written.{BeginsNumber, Prints, Puts, PutsName, closing};
 
-use crate::names::name_of;
 use crate::out::Out;
-use crate::scalars::bare;
-use crate::tag::Scalar;
 use spa_fixed::CanonicalFixedSizedPod;
 use spa_names::{Expected, Table};
+use spa_text_read::names::name_of;
+use spa_text_read::tag::{Scalar, bare};
 use spa_utils::{Fd, Float32, Float64, Fraction, Id, Rectangle};
 use std::alloc::{AllocError, Global};
 

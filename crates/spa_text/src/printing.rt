@@ -3,7 +3,7 @@ ghost use Rattle.std.specs.Prelude.{◌≡◌, ◌+◌, ◌≤◌, ◌++◌, [],
 ghost use Rattle.std.specs.Str.{IsUtf8};
 ghost use Rattle.json.specs.Lex.{tokens};
 ghost use Rattle.spa_format.specs.Tree.{member_node_count, node_count, struct};
-ghost use Rattle.spa_text.specs.Grammar.{ReadsAs, an_object, key_number, nothing};
+ghost use Rattle.spa_text_read.specs.Grammar.{ReadsAs, an_object, key_number, nothing};
 ghost use Rattle.spa_text.specs.Line.{AreGood, HasNoEnd};
 ghost use Rattle.spa_text.specs.Left.{IsLess, PrintsNext, PrintsOrBegins, left_count};
 ghost use Rattle.spa_text.specs.Printed as printed;
@@ -16,12 +16,12 @@ ghost use Rattle.spa_value.specs.Views.{property_views, views};
 use crate::leaves::{
     print_array, print_bitmap, print_bytes, print_choice, print_pointer, print_text,
 };
-use crate::names::{expected_under, ids_of, keys_of, name_of};
-use crate::numerals::unsigned;
 use crate::out::Out;
 use crate::printed::{Printed, begin_keyed_object, end_braced, print_name};
 use bitflags::Flags;
 use spa_names::{Expected, Table};
+use spa_text_read::names::{expected_under, ids_of, keys_of, name_of};
+use spa_text_read::numerals::unsigned;
 use spa_value::{Object, Property, Value};
 use std::alloc::{AllocError, Global};
 

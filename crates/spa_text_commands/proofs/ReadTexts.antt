@@ -13,8 +13,8 @@ use Rattle.spa_text_commands.specs.declared.answer.Failure.{Failure}
 use Rattle.spa_text_commands.specs.declared.answer.Failure.TheVariants.{Pod, Line, OutOfMemory, ReadFailed, WriteFailed}
 use Rattle.spa_text_commands.specs.declared.reading.Unread.{Unread}
 use Rattle.spa_text_commands.specs.declared.reading.Unread.TheVariants as unread
-use Rattle.spa_text.specs.declared.cause.Cause.{Cause}
-use Rattle.spa_text.specs.declared.cause.Cause.TheVariants as cause
+use Rattle.spa_text_read.specs.declared.cause.Cause.{Cause}
+use Rattle.spa_text_read.specs.declared.cause.Cause.TheVariants as cause
 use Rattle.spa_text_commands.proofs.Extents.{line_bound, lines_append, some_item, text_fits, whole_of}
 use Rattle.spa_text_commands.proofs.PrintedPods.{empty}
 

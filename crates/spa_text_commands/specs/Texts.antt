@@ -13,7 +13,7 @@ use Rattle.spa_fixed.specs.Faults.{kind_text}
 use Rattle.spa_fixed.specs.declared.fault.DeserializeError.{DeserializeError}
 use Rattle.spa_leaf.specs.Reading.{Names}
 use Rattle.spa_rewrite.specs.Rewriting.{IsLeft}
-use Rattle.spa_text.specs.Grammar.{ReadsAs, nothing}
+use Rattle.spa_text_read.specs.Grammar.{ReadsAs, nothing}
 use Rattle.spa_text.specs.Line.{HasNoEnd}
 use Rattle.spa_text_commands.specs.Extent.{BeginsText, column_behind, line_behind}
 use Rattle.spa_text_commands.specs.declared.answer.Failure.{Failure}

@@ -4,7 +4,7 @@ ghost use Rattle.spa_text_commands.specs.Texts.{IsText, Reads, RefusesTexts};
 ghost use Rattle.spa_text_commands.specs.Unread.{IsFor, IsNoPod, IsNoText};
 ghost use Rattle.spa_format.specs.Encoding.{encoding_of};
 ghost use Rattle.spa_format.specs.Tree.{Tree};
-ghost use Rattle.spa_text.specs.declared.cause.Cause as Cause;
+ghost use Rattle.spa_text_read.specs.declared.cause.Cause as Cause;
 
 use crate::answer::Failure;
 use crate::extent::{position_behind, split_text};

@@ -1,7 +1,7 @@
 use Rattle.std.proofs.Common.{◌≡◌, [], ◌++◌, ap, subst, sym, ◌∙◌}
 use Rattle.json.specs.Lex.{tokens}
 use Rattle.spa_value.specs.View.{view}
-use Rattle.spa_text.specs.Grammar.{ReadsAs, nothing}
+use Rattle.spa_text_read.specs.Grammar.{ReadsAs, nothing}
 use Rattle.spa_text.specs.Printed.{HasNoFloat, line_of}
 use Rattle.spa_text.proofs.laws.print_again.Goals as goal
 

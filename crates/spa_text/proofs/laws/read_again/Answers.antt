@@ -1,25 +1,13 @@
-use Rattle.std.proofs.Common.{◌≡◌, [], List, ap, subst, sym}
-use Rattle.std.specs.Prelude.{Option, Some, None}
+use Rattle.std.proofs.Common.{[], subst, sym}
 use Rattle.json.specs.Lex.{tokens}
-use Rattle.json.specs.Token.{Token}
-use Rattle.spa_format.specs.Tree.{Tree}
 use Rattle.spa_value.specs.View.{view}
-use Rattle.spa_text.specs.Grammar.{ReadsAs, nothing}
-use Rattle.spa_text.proofs.Completeness.{comes_to, same_follows}
+use Rattle.spa_text_read.specs.Grammar.{ReadsAs, nothing}
 use Rattle.spa_text.proofs.laws.read_again.Goals as goal
-
-value_or : Tree → Option (Tree × List Token) → Tree
-value_or v None = v
-value_or v (Some p) = p.0
-
-the_value : (v w : Tree) (ts : List Token) → ReadsAs nothing v ts [] → ReadsAs nothing w ts [] → v ≡ w
-unfolding value_or
-the_value v w ts p q = ap (value_or v) (same_follows _ _ _ (comes_to nothing v ts [] p) (comes_to nothing w ts [] q))
 
 pub returns-in-Ok-read : goal.returns-in-Ok-read
 returns-in-Ok-read c = λ v printed.
-    the_value (view c.in-Ok-read.again) v (tokens c.in-Ok.text.now) c.in-Ok-read.ensures.value
-    (subst (λ l. ReadsAs nothing v (tokens l) []) (sym c.in-Ok.ensures.cases.0) printed)
+    (c.reads_one_value.ensures nothing (view c.in-Ok-read.again) v (tokens c.in-Ok.text.now) [] [] c.in-Ok-read.ensures.value
+    (subst (λ l. ReadsAs nothing v (tokens l) []) (sym c.in-Ok.ensures.cases.0) printed)).0
 
 pub unreachable-requires-in_default-cause : goal.unreachable-requires-in_default-cause
 unreachable-requires-in_default-cause c =

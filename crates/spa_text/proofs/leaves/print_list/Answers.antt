@@ -1,6 +1,6 @@
 use Rattle.std.proofs.Common.{ap, subst, ◌∙◌}
 use Rattle.std.specs.Prelude.{map}
-use Rattle.spa_text.specs.Grammar.{type_kind}
+use Rattle.spa_text_read.specs.Grammar.{type_kind}
 use Rattle.spa_text.specs.Written.{Lists}
 use Rattle.spa_text.proofs.Leaf.{on_ok}
 use Rattle.spa_text.proofs.Listed.{array_printed, kind_numbered}

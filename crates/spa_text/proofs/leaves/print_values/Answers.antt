@@ -1,7 +1,7 @@
 use Rattle.std.proofs.Common.{ℕ, ap, subst, ◌∙◌, ◌<◌}
 use Rattle.spa_format.specs.Tree.{Shape}
-use Rattle.spa_text.specs.Grammar.{a_choice, type_kind}
-use Rattle.spa_text.specs.Seen.{shape_of}
+use Rattle.spa_text_read.specs.Grammar.{a_choice, type_kind}
+use Rattle.spa_text_read.specs.Shapes.{shape_of}
 use Rattle.spa_text.specs.Written.{Lists, Opens, values_in}
 use Rattle.spa_text.proofs.Leaf.{on_ok}
 use Rattle.spa_text.proofs.Listed.{choice_printed, kind_numbered}

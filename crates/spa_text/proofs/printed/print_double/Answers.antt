@@ -2,7 +2,7 @@ use Rattle.std.proofs.Common.{◌≡◌, ◌∙◌, ◌++◌, ◌<◌, ◌^◌, 
 use Rattle.std.specs.Prelude.{Some, codes, option_map}
 use Rattle.std.specs.Int.{w64, to_be_bytes}
 use Rattle.hex.specs.Hex.{encode_lower}
-use Rattle.spa_text.specs.Numerals.{wide_bits}
+use Rattle.spa_text_read.specs.Numerals.{wide_bits}
 use Rattle.std.proofs.lemmas.Float.{not_nan_f64_bits}
 use Rattle.spa_format.specs.Kind.{double}
 use Rattle.spa_text.proofs.Leaf.{on_ok}

@@ -1,6 +1,6 @@
 use Rattle.std.proofs.Common.{false, refl, subst}
 use Rattle.spa_value.specs.View.{view}
-use Rattle.spa_text.specs.Grammar.{nothing}
+use Rattle.spa_text_read.specs.Grammar.{nothing}
 use Rattle.spa_text.specs.Left.{PrintsOrBegins}
 use Rattle.spa_text.specs.declared.printing.Begun.{Begun}
 use Rattle.spa_text.specs.declared.printing.Left.TheVariants as left

@@ -1,6 +1,6 @@
 use Rattle.std.proofs.Common.{refl, subst}
 use Rattle.spa_value.specs.View.{view}
-use Rattle.spa_text.specs.Names.{expected_under}
+use Rattle.spa_text_read.specs.Names.{expected_under}
 use Rattle.spa_text.specs.Left.{PrintsOrBegins}
 use Rattle.spa_text.specs.Written.{BeginsProperty}
 use Rattle.spa_text.specs.declared.printing.Begun.{Begun}

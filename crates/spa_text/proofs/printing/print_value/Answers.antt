@@ -1,6 +1,6 @@
 use Rattle.std.proofs.Common.{[], ◌∷◌, ◌++◌, ap, subst, sym, ◌∙◌}
 use Rattle.spa_value.specs.View.{view}
-use Rattle.spa_text.specs.Grammar.{nothing}
+use Rattle.spa_text_read.specs.Grammar.{nothing}
 use Rattle.spa_text.specs.Left.{PrintsNext, PrintsOrBegins}
 use Rattle.spa_text.specs.Printed.{HasNoFloat, tokens_of}
 use Rattle.spa_text.proofs.Continuing.{first_printed, first_within, last_ended, one_begun, one_ended, one_printed}

@@ -1,6 +1,6 @@
 use Rattle.std.proofs.Common.{reverse}
 use Rattle.spa_value.specs.View.{view}
-use Rattle.spa_text.specs.Grammar.{ReadsAs, nothing}
+use Rattle.spa_text_read.specs.Grammar.{ReadsAs, nothing}
 use Rattle.spa_text.specs.Printed.{HasNoFloat, tokens_of}
 use Rattle.spa_text.specs.Left.{Continues, IsWithin, LeavesWithin}
 use Rattle.spa_text.proofs.Counting.{steps_left}

@@ -1,7 +1,0 @@
-use Rattle.std.proofs.Common.{[], ◌∙◌, subst, sym}
-use Rattle.spa_text.specs.Grammar.{ReadsAs, nothing}
-use Rattle.spa_text.proofs.reading.TextReader.read.Goals as goal
-
-pub returns-in-Err-clause-refused : goal.returns-in-Err-clause-refused
-returns-in-Err-clause-refused c = λ m v r.
-    c.in-Err.ensures.refused (λ q. m (c.error_at-in-Err.ensures ∙ q)) v (subst (λ ts. ReadsAs nothing v ts []) (sym c.in-Ok.ensures.ok) r)

@@ -1,0 +1,6 @@
+pub mod Digits
+pub mod Completeness
+pub mod Soundness
+pub mod ViewLaws
+pub mod Nexts
+pub mod Nesting

@@ -1,0 +1,112 @@
+-- Values of fixed size as leaves.
+use Rattle.std.proofs.Common.{◌≡◌, ℕ, List, [], ◌∷◌, ◌++◌, Option, false, refl, ap, sym, ◌∙◌}
+use Rattle.std.specs.Prelude.{Some, None, if◌then◌else◌, map, option_map}
+use Rattle.spa_format.specs.Kind.{Kind, Fixed, none_kind}
+use Rattle.spa_value.specs.Equality.{kind_eq}
+use Rattle.spa_format.specs.Tree.{Shape, Tree, array, member, no_trees, property, no_properties, join_members, join_properties}
+use Rattle.spa_fixed.specs.Choices.{choice_enum_tree}
+use Rattle.spa_utils.specs.declared.choice.ChoiceEnum.{ChoiceEnum}
+use Rattle.spa_utils.specs.declared.choice.ChoiceEnum.TheVariants as E
+use Rattle.spa_value.specs.declared.array.ValueArray.{ValueArray}
+use Rattle.spa_value.specs.declared.array.ValueArray.TheVariants as A
+use Rattle.spa_value.specs.declared.choice_value.ChoiceValue.{ChoiceValue}
+use Rattle.spa_value.specs.declared.choice_value.ChoiceValue.TheVariants as C
+use Rattle.spa_value.specs.declared.object.Object.{Object}
+use Rattle.spa_value.specs.declared.object.Property.{Property}
+use Rattle.spa_value.proofs.ViewLaws.{view-fields}
+use Rattle.spa_value.specs.declared.value.Value.{Value}
+use Rattle.spa_value.specs.View.{array_view, choice_view, object_view, view}
+use Rattle.spa_value.specs.Views.{property_views, views}
+use Rattle.spa_text_read.specs.Grammar as grammar
+use Rattle.spa_text_read.specs.Grammar.{Leaf, a_number, choice_of, tree}
+use Rattle.spa_text_read.specs.Options.{◌>>=◌}
+use Rattle.spa_text_read.specs.Steps.{element_of, fixed_part, of_kind}
+use Rattle.spa_text_read.specs.Seen.{IsNumber, items_in, kind_in, leaf_of, number_in}
+
+pub number_leaf : (v : Value) → IsNumber v → leaf_of (view v) ≡ a_number (number_in v)
+number_leaf v h = ap leaf_of h
+
+pub number_tree : (v : Value) → IsNumber v → tree (leaf_of (view v)) ≡ view v
+number_tree v h = ap (λ w. tree (leaf_of w)) h ∙ sym h
+
+-- a choice and an array are of no fixed size
+array_is_none : (a : ValueArray) → fixed_part (array_view a) ≡ None
+array_is_none (A.None xs) = refl
+array_is_none (A.Bool xs) = refl
+array_is_none (A.Id xs) = refl
+array_is_none (A.Int xs) = refl
+array_is_none (A.Long xs) = refl
+array_is_none (A.Float xs) = refl
+array_is_none (A.Double xs) = refl
+array_is_none (A.Rectangle xs) = refl
+array_is_none (A.Fraction xs) = refl
+array_is_none (A.Fd xs) = refl
+
+pub array_part : (a : ValueArray) → fixed_part (array_view a) ≡ None
+array_part a = array_is_none a
+
+chosen : {T : Type 0} (k : Kind) (f : T → Fixed) (n : ℕ) (c : ChoiceEnum T) → fixed_part (choice_enum_tree k f n c) ≡ None
+chosen k f n (E.None x) = refl
+chosen k f n (E.Range x a b) = refl
+chosen k f n (E.Step x a b s) = refl
+chosen k f n (E.Enum x xs) = refl
+chosen k f n (E.Flags x xs) = refl
+
+pub choice_part : (c : ChoiceValue) → fixed_part (choice_view c) ≡ None
+choice_part (C.Bool c) = chosen _ _ _ c.1
+choice_part (C.Id c) = chosen _ _ _ c.1
+choice_part (C.Int c) = chosen _ _ _ c.1
+choice_part (C.Long c) = chosen _ _ _ c.1
+choice_part (C.Float c) = chosen _ _ _ c.1
+choice_part (C.Double c) = chosen _ _ _ c.1
+choice_part (C.Rectangle c) = chosen _ _ _ c.1
+choice_part (C.Fraction c) = chosen _ _ _ c.1
+choice_part (C.Fd c) = chosen _ _ _ c.1
+
+pub object_part : (o : Object) → fixed_part (object_view o) ≡ None
+object_part o = ap fixed_part (view-fields o)
+
+-- one more
+pub map_one : {S T : Type 0} (f : S → T) (xs : List S) (x : S) → map f (xs ++ x ∷ []) ≡ map f xs ++ f x ∷ []
+map_one f [] x = refl
+map_one f (y ∷ xs) x = ap (λ l. f y ∷ l) (map_one f xs x)
+
+pub views_one : (vs : List Value) (v : Value) → views (vs ++ v ∷ []) ≡ join_members (views vs) (member (view v) no_trees)
+views_one [] v = refl
+views_one (u ∷ vs) v = ap (member (view u)) (views_one vs v)
+
+pub property_views_one : (ps : List Property) (p : Property) →
+    property_views (ps ++ p ∷ []) ≡ join_properties (property_views ps) (property p.key p.flags.0 (view p.value) no_properties)
+property_views_one [] p = refl
+property_views_one (q ∷ ps) p = ap (property q.key q.flags.0 (view q.value)) (property_views_one ps p)
+
+-- the array of these values
+pub array_whole : (a : ValueArray) → array (kind_in a) (items_in a) ≡ array_view a
+array_whole (A.None xs) = refl
+array_whole (A.Bool xs) = refl
+array_whole (A.Id xs) = refl
+array_whole (A.Int xs) = refl
+array_whole (A.Long xs) = refl
+array_whole (A.Float xs) = refl
+array_whole (A.Double xs) = refl
+array_whole (A.Rectangle xs) = refl
+array_whole (A.Fraction xs) = refl
+array_whole (A.Fd xs) = refl
+
+-- a value that is put behind the others, by what it says
+pub put_said : (k : Kind) (xs ys : List Fixed) (v : Tree) (x : Fixed) → Some x ≡ fixed_part v →
+    option_map (λ y. xs ++ y ∷ []) (of_kind k x) ≡ Some ys → option_map (λ y. xs ++ y ∷ []) (element_of k v) ≡ Some ys
+put_said k xs ys v x e d = ap (λ o. option_map (λ y. xs ++ y ∷ []) (o >>= of_kind k)) (sym e) ∙ d
+
+pub not_of_kind : (k : Kind) (v : Tree) (x : Fixed) → Some x ≡ fixed_part v → of_kind k x ≡ None → element_of k v ≡ None
+not_of_kind k v x e d = ap (λ o. o >>= of_kind k) (sym e) ∙ d
+
+pub not_said : (k : Kind) (v : Tree) → None ≡ fixed_part v → element_of k v ≡ None
+not_said k v e = ap (λ o. o >>= of_kind k) (sym e)
+
+-- the choice of an array's values
+pub chosen_in : (s : Shape) (f : ℕ) (v w : ValueArray) (o : Option Tree) → v ≡ w → kind_eq (kind_in w) none_kind ≡ false →
+    grammar.chosen s f (kind_in w) (items_in w) ≡ o → choice_of s f (kind_in v) (items_in v) ≡ o
+chosen_in s f v w o e k d =
+    ap (λ a. choice_of s f (kind_in a) (items_in a)) e
+    ∙ ap (λ b. if b then None else grammar.chosen s f (kind_in w) (items_in w)) k ∙ d

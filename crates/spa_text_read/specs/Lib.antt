@@ -1,0 +1,10 @@
+pub mod Options
+pub mod Numerals
+pub mod Names
+pub mod Tokens
+pub mod Grammar
+pub mod Steps
+pub mod Laws
+pub mod Shapes
+pub mod Seen
+pub mod Begun

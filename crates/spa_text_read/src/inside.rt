@@ -1,0 +1,325 @@
+//! Values that are read, and those that are begun.
+ghost use Rattle.std.specs.Prelude.{◌≡◌, ◌≢◌, ◌<◌, ◌≤◌, ◌++◌, ◌∷◌, [], IfErr, IfOk, MatchOption, MatchResult, OnErr, OnOk, Some, None, length, option_map};
+ghost use Rattle.json.specs.Json.{after_end_array, read_key};
+ghost use Rattle.json.specs.Reads.{token_of};
+ghost use Rattle.spa_format.specs.Tree.{join_members, join_properties, member, no_properties, no_trees, property};
+ghost use Rattle.spa_text_read.specs.Grammar as grammar;
+ghost use Rattle.spa_text_read.specs.Seen.{IsListed, KeepsAtEnd, frame_of, items_in, kind_in, next_of};
+ghost use Rattle.spa_text_read.specs.Steps as steps;
+ghost use Rattle.spa_text_read.specs.Steps.{Frame};
+ghost use Rattle.spa_text_read.specs.declared.inside.Inside.TheVariants as inside;
+ghost use Rattle.spa_value.specs.View.{view};
+ghost use Rattle.spa_value.specs.Views.{property_views, views};
+
+use crate::cause::Cause;
+use crate::chosen::choice_value;
+use crate::element::{element_of, put_element};
+use crate::names::{expected_under, keys_of, name_of, number_of};
+use crate::numerals::unsigned;
+use crate::shape::Shape;
+use crate::tokens::{end_object, head, item, key, next_key, word};
+use bitflags::Flags;
+use json::{Reader, Token};
+use spa_names::{Expected, Table};
+use spa_utils::SpaTypes;
+use spa_value::{Object, Property, PropertyFlags, Value, ValueArray, discard};
+use std::alloc::AllocError;
+
+/// An object that is begun.
+#[derive(Drop)]
+pub(crate) struct OpenObject {
+    pub(crate) type_: u32,
+    pub(crate) id: u32,
+    pub(crate) properties: Vec<Property>,
+    /// The key and flags of the property whose value is read.
+    pub(crate) key: u32,
+    pub(crate) flags: PropertyFlags,
+    /// Whether a brace follows that value.
+    pub(crate) braced: bool,
+}
+
+/// A value with others in it that is begun, and what is read of it.
+#[derive(Drop)]
+pub(crate) enum Inside {
+    /// Members, and whether a brace follows their end.
+    Struct {
+        tagged: bool,
+        members: Vec<Value>,
+    },
+    /// Elements, and the names of their ids.
+    Array {
+        ids: Table,
+        values: ValueArray,
+    },
+    /// The values of a choice, the default first.
+    Choice {
+        shape: Shape,
+        flags: u32,
+        ids: Table,
+        values: ValueArray,
+    },
+    Object(OpenObject),
+}
+
+/// A whole value, or one that is begun.
+#[derive(Drop)]
+pub(crate) enum Opened {
+    Leaf(Value),
+    Begun(Inside),
+}
+
+/// What is next in a value that is begun.
+pub(crate) enum Next<'a> {
+    /// It has ended.
+    Ended,
+    /// A value that begins with this token, where this is expected.
+    Wants(Token<'a>, Expected),
+}
+
+impl Inside {
+    /// Reads up to the next value in it, or to its end.
+    #[tactic(auto, unfolding(crate::specs::Steps::next))]
+    pub(crate) fn next<'a>(&mut self, reader: &mut Reader<'a>) -> Result<Next<'a>, Cause>
+        ensures next { IfOk result (λ n. steps.next (frame_of self.old) reader.old ≡ Some (next_of (frame_of self.new) n, reader.new)) }
+        ensures kept { IfOk result (λ n. KeepsAtEnd n self.old self.new) }
+        ensures refused { OnErr result (steps.next (frame_of self.old) reader.old ≡ None) }
+        ensures fewer { OnOk result (length reader.new < length reader.old) }
+    {
+        match self {
+            Inside::Struct { tagged, .. } => next_item(reader, *tagged, Expected::NOTHING),
+            Inside::Array { ids, values } => next_item(reader, true, element(*ids, values)),
+            Inside::Choice { ids, values, .. } => next_item(reader, true, element(*ids, values)),
+            Inside::Object(object) => object.next_property(reader),
+        }
+    }
+
+    /// Puts a value that is read behind the others.
+    pub(crate) fn put(&mut self, value: Value, reader: &mut Reader<'_>) -> Result<(), Cause>
+        ensures put { OnOk result (steps.put (frame_of self.old) (view value) reader.old ≡ Some (frame_of self.new, reader.new)) }
+        ensures refused { IfErr result (λ e. e ≢ Cause.OutOfMemory → steps.put (frame_of self.old) (view value) reader.old ≡ None) }
+        ensures no_more { length reader.new ≤ length reader.old }
+    {
+        match self {
+            Inside::Struct { members, .. } => put_member(members, value),
+            Inside::Array { values, .. } => put_value(values, value),
+            Inside::Choice { values, .. } => put_value(values, value),
+            Inside::Object(object) => object.put(value, reader),
+        }
+    }
+
+    /// Its value, where its end is read.
+    pub(crate) fn into_value(self) -> Result<Value, Cause>
+        ensures value { MatchResult result (λ v. steps.value_of (frame_of self) ≡ Some (view v)) (λ _. steps.value_of (frame_of self) ≡ None) }
+    {
+        match self {
+            Inside::Struct { members, .. } => Ok(Value::Struct(members)),
+            Inside::Array { values, .. } => Ok(Value::ValueArray(values)),
+            Inside::Choice {
+                shape,
+                flags,
+                values,
+                ..
+            } => choice_value(shape, flags, values),
+            Inside::Object(object) => Ok(Value::Object(Object {
+                type_: object.type_,
+                id: object.id,
+                properties: object.properties,
+            })),
+        }
+    }
+
+    /// Appends where the value in it that is being read stands.
+    pub(crate) fn push_place(&self, path: &mut String) -> Result<(), AllocError> {
+        let mut buffer = itoa::Buffer::new();
+        match self {
+            Inside::Struct { members, .. } => {
+                path.push_str("[")?;
+                path.push_str(buffer.format(members.len()))?;
+                path.push_str("]")
+            }
+            Inside::Array { .. } | Inside::Choice { .. } => path.push_str(".values"),
+            Inside::Object(object) => {
+                path.push_str(".props.")?;
+                match name_of(keys_of(object.type_), object.key) {
+                    Some(name) => path.push_str(name),
+                    None => path.push_str(buffer.format(object.key)),
+                }
+            }
+        }
+    }
+
+    /// Takes apart what is read, by a loop: it may be nested deep.
+    pub(crate) fn give_up(self) {
+        match self {
+            Inside::Struct { members, .. } => discard(Value::Struct(members)),
+            Inside::Array { values, .. } => discard(Value::ValueArray(values)),
+            Inside::Choice { values, .. } => discard(Value::ValueArray(values)),
+            Inside::Object(object) => discard(Value::Object(Object {
+                type_: object.type_,
+                id: object.id,
+                properties: object.properties,
+            })),
+        }
+    }
+}
+
+/// What is expected of an element.
+fn element(ids: Table, values: &ValueArray) -> Expected
+    ensures { result ≡ grammar.element ids (kind_in values.now) }
+{
+    let type_ = match values {
+        ValueArray::None(_) => SpaTypes::None,
+        ValueArray::Bool(_) => SpaTypes::Bool,
+        ValueArray::Id(_) => SpaTypes::Id,
+        ValueArray::Int(_) => SpaTypes::Int,
+        ValueArray::Long(_) => SpaTypes::Long,
+        ValueArray::Float(_) => SpaTypes::Float,
+        ValueArray::Double(_) => SpaTypes::Double,
+        ValueArray::Rectangle(_) => SpaTypes::Rectangle,
+        ValueArray::Fraction(_) => SpaTypes::Fraction,
+        ValueArray::Fd(_) => SpaTypes::Fd,
+    };
+    Expected {
+        type_,
+        element: SpaTypes(0),
+        ids,
+    }
+}
+
+/// Takes the brace behind the end of a value, where there is one.
+fn close(reader: &mut Reader<'_>, braced: bool) -> Option<()>
+    ensures taken { MatchOption result (grammar.close braced reader.old ≡ None) (λ _. grammar.close braced reader.old ≡ Some reader.new) }
+    ensures no_more { length reader.new ≤ length reader.old }
+{
+    if braced {
+        return end_object(reader);
+    }
+    Some(())
+}
+
+/// Takes the bracket behind the items, with the brace behind it, or the first token of the next item.
+fn next_item<'a>(
+    reader: &mut Reader<'a>,
+    braced: bool,
+    expected: Expected,
+) -> Result<Next<'a>, Cause>
+    ensures next { IfOk result (λ n. (f : Frame) → IsListed f braced expected → steps.next_item f reader.old (after_end_array reader.old) ≡ Some (next_of f n, reader.new)) }
+    ensures refused { OnErr result ((f : Frame) → IsListed f braced expected → steps.next_item f reader.old (after_end_array reader.old) ≡ None) }
+    ensures fewer { OnOk result (length reader.new < length reader.old) }
+{
+    match item(reader).ok_or(Cause::Token)? {
+        Some(head) => Ok(Next::Wants(head, expected)),
+        None => {
+            close(reader, braced).ok_or(Cause::Token)?;
+            Ok(Next::Ended)
+        }
+    }
+}
+
+impl OpenObject {
+    /// Reads the key and flags of the next property, and the first token of its value; or the braces behind the last.
+    fn next_property<'a>(&mut self, reader: &mut Reader<'a>) -> Result<Next<'a>, Cause>
+        ensures next { IfOk result (λ n. steps.after_key_read self.old.type_ self.old.id (property_views self.old.properties.items) (read_key reader.old) ≡ Some (next_of (frame_of (inside.Object self.new)) n, reader.new)) }
+        ensures kept { IfOk result (λ n. KeepsAtEnd n (inside.Object self.old) (inside.Object self.new)) }
+        ensures refused { OnErr result (steps.after_key_read self.old.type_ self.old.id (property_views self.old.properties.items) (read_key reader.old) ≡ None) }
+        ensures fewer { OnOk result (length reader.new < length reader.old) }
+    {
+        let Some(name) = next_key(reader).ok_or(Cause::Token)? else {
+            end_object(reader).ok_or(Cause::Token)?;
+            return Ok(Next::Ended);
+        };
+        let keys = keys_of(self.type_);
+        self.key = key_number(keys, name).ok_or(Cause::Number)?;
+        let (flags, braced, head) = property_at(reader).ok_or(Cause::Token)?;
+        self.flags = PropertyFlags::from_bits_retain(flags);
+        self.braced = braced;
+        Ok(Next::Wants(head, expected_under(keys, self.key)))
+    }
+
+    /// Puts the value of the property whose key and flags are read behind the others.
+    #[tactic(auto, using(crate::proofs::ViewLaws::property_views_one))]
+    fn put(&mut self, value: Value, reader: &mut Reader<'_>) -> Result<(), Cause>
+        ensures closed { OnOk result (grammar.close self.old.braced reader.old ≡ Some reader.new) }
+        ensures put { OnOk result (property_views self.new.properties.items ≡ join_properties (property_views self.old.properties.items) (property self.old.key self.old.flags.0 (view value) no_properties)) }
+        ensures kept { OnOk result ((self.new.type_ ≡ self.old.type_) × (self.new.id ≡ self.old.id) × (self.new.key ≡ self.old.key) × (self.new.flags.0 ≡ self.old.flags.0) × (self.new.braced ≡ self.old.braced)) }
+        ensures refused { IfErr result (λ e. e ≢ Cause.OutOfMemory → grammar.close self.old.braced reader.old ≡ None) }
+        ensures no_more { length reader.new ≤ length reader.old }
+    {
+        if close(reader, self.braced).is_none() {
+            discard(value);
+            return Err(Cause::Token);
+        }
+        if self.properties.reserve(1).is_err() {
+            discard(value);
+            return Err(Cause::OutOfMemory);
+        }
+        self.properties.push_reserved(Property {
+            key: self.key,
+            flags: self.flags,
+            value,
+        });
+        Ok(())
+    }
+}
+
+/// The number of a key: by its digits, or by its name.
+fn key_number(keys: Table, name: &str) -> Option<u32>
+    ensures { result ≡ grammar.key_number keys name.now }
+{
+    match unsigned(name) {
+        Some(number) => Some(number),
+        None => number_of(keys, name),
+    }
+}
+
+/// Whether the token is the key of flags.
+fn is_flags(token: Token<'_>) -> bool
+    ensures { result ≡ grammar.is_flags (token_of token.entry) }
+{
+    match token {
+        Token::Key(name) => name == "flags",
+        _ => false,
+    }
+}
+
+/// The flags of a property, whether a brace follows its value, and the first token of that.
+fn property_at<'a>(reader: &mut Reader<'a>) -> Option<(u32, bool, Token<'a>)>
+    ensures taken { MatchOption result (grammar.property_at reader.old ≡ None) (λ p. grammar.property_at reader.old ≡ Some ((p.0, (p.1, token_of p.2)), reader.new)) }
+    ensures no_more { length reader.new ≤ length reader.old }
+{
+    let first = head(reader)?;
+    if !is_flags(first) {
+        return Some((0, false, first));
+    }
+    let flags = word(reader)?;
+    key(reader, "value")?;
+    let first = head(reader)?;
+    Some((flags, true, first))
+}
+
+/// Puts a member behind the others.
+#[tactic(auto, using(crate::proofs::ViewLaws::views_one))]
+fn put_member(members: &mut Vec<Value>, value: Value) -> Result<(), Cause>
+    ensures ok { OnOk result (views members.new.items ≡ join_members (views members.old.items) (member (view value) no_trees)) }
+    ensures memory { IfErr result (λ e. e ≡ Cause.OutOfMemory) }
+{
+    if members.reserve(1).is_err() {
+        discard(value);
+        return Err(Cause::OutOfMemory);
+    }
+    members.push_reserved(value);
+    Ok(())
+}
+
+/// Puts a value of fixed size behind the others, where it is of their type.
+#[tactic(auto, using(crate::proofs::ViewLaws::put_said, crate::proofs::ViewLaws::not_of_kind, crate::proofs::ViewLaws::not_said))]
+fn put_value(values: &mut ValueArray, value: Value) -> Result<(), Cause>
+    ensures put { OnOk result (option_map (λ x. items_in values.old ++ x ∷ []) (steps.element_of (kind_in values.old) (view value)) ≡ Some (items_in values.new)) }
+    ensures kind { OnOk result (kind_in values.new ≡ kind_in values.old) }
+    ensures refused { IfErr result (λ e. e ≢ Cause.OutOfMemory → steps.element_of (kind_in values.old) (view value) ≡ None) }
+{
+    let found = element_of(&value);
+    discard(value);
+    let element = found.ok_or(Cause::Type)?;
+    put_element(values, element)
+}

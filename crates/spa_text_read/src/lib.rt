@@ -1,0 +1,20 @@
+//! Values read from text: strict JSON with names, which loses nothing.
+#![tactic(auto)]
+
+mod cause;
+mod chosen;
+mod element;
+mod inside;
+pub mod laws;
+pub mod names;
+mod nest;
+pub mod numerals;
+mod opening;
+mod reading;
+mod scalars;
+pub mod shape;
+pub mod tag;
+mod tokens;
+
+pub use cause::Cause;
+pub use reading::{TextError, TextReader, read};

@@ -1,0 +1,111 @@
+//! The values with others in them that are begun, each within the next one.
+ghost use Rattle.std.specs.Prelude.{◌≡◌, ◌≢◌, ◌<◌, ◌≤◌, [], ◌∷◌, IfErr, IfOk, OnOk, length, true, Some};
+ghost use Rattle.json.specs.Reads.{token_of};
+ghost use Rattle.spa_text_read.specs.Begun.{Begins, EndsWithin, Steps, stack_of};
+ghost use Rattle.spa_text_read.specs.Grammar.{opens};
+ghost use Rattle.spa_text_read.specs.Seen.{frame_of};
+ghost use Rattle.spa_text_read.specs.Steps as steps;
+ghost use Rattle.spa_value.specs.View.{view};
+
+use crate::cause::Cause;
+use crate::inside::{Inside, Next, Opened};
+use crate::opening::open;
+use json::{Reader, Token};
+use spa_names::Expected;
+use spa_value::{Value, discard};
+use std::alloc::Global;
+use std::mem;
+
+/// Values that are begun, each within the next one.
+#[derive(Drop)]
+pub(crate) struct Nest {
+    /// The innermost.
+    pub(crate) inner: Inside,
+    /// Those around it, the outermost first.
+    pub(crate) outer: Vec<Inside>,
+}
+
+impl Nest {
+    /// Reads on to the next value, or to the end of the innermost, which is put into the one around it. Whether something is left to
+    /// read: where not, the innermost is the outermost, and is read.
+    #[tactic(auto, using(crate::proofs::Nesting::step_not_next))]
+    pub(crate) fn step(&mut self, alloc: Global, reader: &mut Reader<'_>) -> Result<bool, Cause>
+        ensures taken { IfOk result (λ goes_on. Steps goes_on self.old reader.old self.new reader.new) }
+        ensures refused { IfErr result (λ e. e ≢ Cause.OutOfMemory → steps.step (frame_of self.old.inner) (stack_of self.old.outer.items) reader.old ≡ steps.refused) }
+        ensures fewer { OnOk result (length reader.new < length reader.old) }
+    {
+        match self.inner.next(reader)? {
+            Next::Ended => self.end(reader),
+            Next::Wants(head, expected) => self.begin_value(alloc, reader, head, expected),
+        }
+    }
+
+    /// Reads the value that begins with this token, or goes into it. Something is left to read.
+    #[tactic(auto, using(crate::proofs::Nesting::leaf_put, crate::proofs::Nesting::leaf_not_put, crate::proofs::Nesting::begun_pushed, crate::proofs::Nesting::not_begun))]
+    fn begin_value(
+        &mut self,
+        alloc: Global,
+        reader: &mut Reader<'_>,
+        head: Token<'_>,
+        expected: Expected,
+    ) -> Result<bool, Cause>
+        ensures taken { IfOk result (λ goes_on. Begins goes_on self.old expected (token_of head.entry) reader.old self.new reader.new) }
+        ensures refused { IfErr result (λ e. e ≢ Cause.OutOfMemory → steps.after_opening (frame_of self.old.inner ∷ stack_of self.old.outer.items) (opens expected (token_of head.entry) reader.old) ≡ steps.refused) }
+        ensures no_more { length reader.new ≤ length reader.old }
+    {
+        match open(alloc, reader, head, expected)? {
+            Opened::Leaf(value) => {
+                self.inner.put(value, reader)?;
+                Ok(true)
+            }
+            Opened::Begun(begun) => {
+                self.push(begun)?;
+                Ok(true)
+            }
+        }
+    }
+
+    /// Goes into the one that is begun.
+    #[tactic(auto, using(crate::proofs::Nesting::stack_one))]
+    fn push(&mut self, begun: Inside) -> Result<(), Cause>
+        ensures inner { OnOk result (self.new.inner ≡ begun) }
+        ensures outer { OnOk result (stack_of self.new.outer.items ≡ frame_of self.old.inner ∷ stack_of self.old.outer.items) }
+        ensures memory { IfErr result (λ e. e ≡ Cause.OutOfMemory) }
+    {
+        if self.outer.reserve(1).is_err() {
+            begun.give_up();
+            return Err(Cause::OutOfMemory);
+        }
+        let last = mem::replace(&mut self.inner, begun);
+        self.outer.push_reserved(last);
+        Ok(())
+    }
+
+    /// Puts the innermost, which is read, into the one around it. Whether there is one.
+    #[tactic(auto, using(crate::proofs::Nesting::end_within, crate::proofs::Nesting::end_without_value, crate::proofs::Nesting::end_unput))]
+    fn end(&mut self, reader: &mut Reader<'_>) -> Result<bool, Cause>
+        ensures ended { IfOk result (λ within. EndsWithin within self.old reader.old self.new reader.new) }
+        ensures refused { IfErr result (λ e. e ≢ Cause.OutOfMemory → steps.give_ended (steps.value_of (frame_of self.old.inner)) (stack_of self.old.outer.items) reader.old ≡ steps.refused) }
+        ensures no_more { length reader.new ≤ length reader.old }
+    {
+        let Some(around) = self.outer.pop() else {
+            return Ok(false);
+        };
+        let ended = mem::replace(&mut self.inner, around);
+        let value = ended.into_value()?;
+        self.inner.put(value, reader)?;
+        Ok(true)
+    }
+
+    /// Takes apart what is read, by loops: it may be nested deep. Appends the path of the value that was being read, as far as there is
+    /// memory for it.
+    pub(crate) fn give_up(self, path: &mut String) {
+        let Nest { inner, outer } = self;
+        for around in outer {
+            let _appended = around.push_place(path).is_ok();
+            around.give_up();
+        }
+        let _appended = inner.push_place(path).is_ok();
+        inner.give_up();
+    }
+}

@@ -1,0 +1,287 @@
+//! What begins with a token.
+ghost use Rattle.std.specs.Prelude.{◌≡◌, ◌≢◌, ◌≤◌, IfErr, IfOk, IfSome, MatchOption, MatchResult, length, option_map, Some, None, []};
+ghost use Rattle.json.specs.Reads.{token_of};
+ghost use Rattle.spa_utils.specs.declared.types.SpaTypes as types;
+ghost use Rattle.spa_text_read.specs.Grammar as grammar;
+ghost use Rattle.spa_text_read.specs.Tokens.{after_end_object};
+ghost use Rattle.spa_text_read.specs.declared.inside.Opened.TheVariants.{Leaf};
+ghost use Rattle.spa_text_read.specs.Seen.{IsFresh, IsNumber, IsOpened, kind_in, items_in, number_in, opened_of, opening_of};
+ghost use Rattle.spa_text_read.specs.Shapes.{shape_of};
+
+use crate::cause::Cause;
+use crate::inside::{Inside, OpenObject, Opened};
+use crate::names::ids_of;
+use crate::numerals::wide_bits;
+use crate::scalars::scalar_of;
+use crate::shape::Shape;
+use crate::tag::{Scalar, Tag, bare, tag_of, takes_text};
+use crate::tokens::{
+    any_key, any_text, any_token, begin_array, begin_object, end_object, key, name_or_word, word,
+};
+use bitflags::Flags;
+use json::{Reader, Token};
+use spa_names::{Expected, Table};
+use spa_utils::{Fraction, Rectangle};
+use spa_value::{PropertyFlags, Value, ValueArray, discard};
+use std::alloc::Global;
+
+/// Reads what begins with this token: a whole value, or a value with others in it up to these.
+#[tactic(auto, using(crate::proofs::ViewLaws::number_leaf, crate::proofs::ViewLaws::number_tree), unfolding(crate::specs::Grammar::opens))]
+pub(crate) fn open(
+    alloc: Global,
+    reader: &mut Reader<'_>,
+    head: Token<'_>,
+    expected: Expected,
+) -> Result<Opened, Cause>
+    ensures opened { IfOk result (λ o. grammar.opens expected (token_of head.entry) reader.old ≡ Some (opened_of o, reader.new)) }
+    ensures proper { IfOk result (λ o. IsOpened o) }
+    ensures refused { IfErr result (λ e. e ≢ Cause.OutOfMemory → grammar.opens expected (token_of head.entry) reader.old ≡ None) }
+    ensures no_more { length reader.new ≤ length reader.old }
+{
+    match head {
+        Token::Null => Ok(Opened::Leaf(Value::None)),
+        Token::Bool(value) => Ok(Opened::Leaf(Value::Bool(value))),
+        Token::Number(_) => {
+            let value = scalar_of(bare(expected.type_.0), expected.ids, head).ok_or(Cause::Number)?;
+            Ok(Opened::Leaf(value))
+        }
+        Token::String(text) => {
+            if takes_text(expected.type_.0) {
+                let value = scalar_of(bare(expected.type_.0), expected.ids, head).ok_or(
+                    Cause::Number,
+                )?;
+                return Ok(Opened::Leaf(value));
+            }
+            let text = String::from_str(alloc, text)?;
+            Ok(Opened::Leaf(Value::String(text)))
+        }
+        Token::BeginArray => Ok(Opened::Begun(Inside::Struct {
+            tagged: false,
+            members: Vec::new(alloc),
+        })),
+        Token::Key(name) => open_tagged(alloc, reader, tag_of(name), expected),
+        _ => Err(Cause::Token),
+    }
+}
+
+/// Reads the rest of an object whose first key says this.
+fn open_tagged(
+    alloc: Global,
+    reader: &mut Reader<'_>,
+    tag: Tag,
+    expected: Expected,
+) -> Result<Opened, Cause>
+    ensures opened { IfOk result (λ o. grammar.tagged_at expected tag reader.old ≡ Some (opened_of o, reader.new)) }
+    ensures proper { IfOk result (λ o. IsOpened o) }
+    ensures refused { IfErr result (λ e. e ≢ Cause.OutOfMemory → grammar.tagged_at expected tag reader.old ≡ None) }
+    ensures no_more { length reader.new ≤ length reader.old }
+{
+    match tag {
+        Tag::Struct => {
+            begin_array(reader).ok_or(Cause::Token)?;
+            Ok(Opened::Begun(Inside::Struct {
+                tagged: true,
+                members: Vec::new(alloc),
+            }))
+        }
+        Tag::Array => Ok(Opened::Begun(array_at(alloc, reader, expected)?)),
+        Tag::Choice => Ok(Opened::Begun(choice_at(alloc, reader, expected)?)),
+        Tag::Object => Ok(Opened::Begun(object_at(alloc, reader)?)),
+        Tag::Scalar(scalar) => {
+            let token = any_token(reader).ok_or(Cause::Token)?;
+            let value = scalar_of(scalar, expected.ids, token).ok_or(Cause::Number)?;
+            end_leaf(value, reader)
+        }
+        Tag::String => {
+            let text = any_text(reader).ok_or(Cause::Token)?;
+            end_leaf(Value::String(String::from_str(alloc, text)?), reader)
+        }
+        Tag::Bytes => end_leaf(Value::Bytes(hex_bytes(alloc, reader)?), reader),
+        Tag::Bitmap => end_leaf(Value::Bitmap(hex_bytes(alloc, reader)?), reader),
+        Tag::Width => {
+            let (width, height) = two_words(reader, "height").ok_or(Cause::Number)?;
+            end_leaf(Value::Rectangle(Rectangle { width, height }), reader)
+        }
+        Tag::Num => {
+            let (num, denom) = two_words(reader, "denom").ok_or(Cause::Number)?;
+            end_leaf(Value::Fraction(Fraction { num, denom }), reader)
+        }
+        Tag::Pointer => {
+            let (type_, address) = pointer_at(reader).ok_or(Cause::Number)?;
+            end_leaf(Value::Pointer(type_, address), reader)
+        }
+        Tag::Other => Err(Cause::Token),
+    }
+}
+
+/// Takes the brace behind a value without members.
+fn end_leaf(value: Value, reader: &mut Reader<'_>) -> Result<Opened, Cause>
+    ensures ended { MatchResult result (λ o. (o ≡ Leaf value) × (after_end_object reader.old ≡ Some reader.new)) (λ e. (e ≡ Cause.Token) × (after_end_object reader.old ≡ None)) }
+    ensures no_more { length reader.new ≤ length reader.old }
+{
+    match end_object(reader) {
+        Some(()) => Ok(Opened::Leaf(value)),
+        None => {
+            discard(value);
+            Err(Cause::Token)
+        }
+    }
+}
+
+/// Takes a text of two digits for each byte.
+fn hex_bytes(alloc: Global, reader: &mut Reader<'_>) -> Result<Vec<u8>, Cause>
+    ensures ok { IfOk result (λ v. grammar.hex_bytes reader.old ≡ Some (v.items, reader.new)) }
+    ensures refused { IfErr result (λ e. e ≢ Cause.OutOfMemory → grammar.hex_bytes reader.old ≡ None) }
+    ensures no_more { length reader.new ≤ length reader.old }
+{
+    let text = any_text(reader).ok_or(Cause::Token)?;
+    match hex::decode(alloc, text) {
+        Ok(bytes) => Ok(bytes),
+        Err(hex::FromHexError::OutOfMemory) => Err(Cause::OutOfMemory),
+        Err(_) => Err(Cause::Number),
+    }
+}
+
+/// Takes two numbers, the second under this key.
+fn two_words(reader: &mut Reader<'_>, name: &str) -> Option<(u32, u32)>
+    ensures taken { MatchOption result (grammar.two_words name.now reader.old ≡ None) (λ p. grammar.two_words name.now reader.old ≡ Some (p, reader.new)) }
+    ensures no_more { length reader.new ≤ length reader.old }
+{
+    let first = word(reader)?;
+    key(reader, name)?;
+    let second = word(reader)?;
+    Some((first, second))
+}
+
+/// Takes a type and an address.
+fn pointer_at(reader: &mut Reader<'_>) -> Option<(u32, u64)>
+    ensures taken { MatchOption result (grammar.pointer_at reader.old ≡ None) (λ p. grammar.pointer_at reader.old ≡ Some (p, reader.new)) }
+    ensures no_more { length reader.new ≤ length reader.old }
+{
+    let type_ = name_or_word(reader, Table::Types)?;
+    key(reader, "address")?;
+    let text = any_text(reader)?;
+    let address = wide_bits(text)?;
+    Some((type_, address))
+}
+
+/// No elements of this type, where it has a fixed size.
+fn no_elements(alloc: Global, type_: u32) -> Option<ValueArray>
+    ensures kind { option_map kind_in result ≡ grammar.type_kind type_ }
+    ensures none { IfSome result (λ a. items_in a ≡ []) }
+{
+    match type_ {
+        1 => Some(ValueArray::None(Vec::new(alloc))),
+        2 => Some(ValueArray::Bool(Vec::new(alloc))),
+        3 => Some(ValueArray::Id(Vec::new(alloc))),
+        4 => Some(ValueArray::Int(Vec::new(alloc))),
+        5 => Some(ValueArray::Long(Vec::new(alloc))),
+        6 => Some(ValueArray::Float(Vec::new(alloc))),
+        7 => Some(ValueArray::Double(Vec::new(alloc))),
+        10 => Some(ValueArray::Rectangle(Vec::new(alloc))),
+        11 => Some(ValueArray::Fraction(Vec::new(alloc))),
+        18 => Some(ValueArray::Fd(Vec::new(alloc))),
+        _ => None,
+    }
+}
+
+/// Begins an array, behind its first key.
+fn array_at(alloc: Global, reader: &mut Reader<'_>, expected: Expected) -> Result<Inside, Cause>
+    ensures begun { MatchResult result (λ i. grammar.array_at expected reader.old ≡ Some (opening_of i, reader.new)) (λ _. grammar.array_at expected reader.old ≡ None) }
+    ensures fresh { IfOk result (λ i. IsFresh i) }
+    ensures no_more { length reader.new ≤ length reader.old }
+{
+    let type_ = name_or_word(reader, Table::Types).ok_or(Cause::Type)?;
+    let values = no_elements(alloc, type_).ok_or(Cause::Type)?;
+    key(reader, "values").ok_or(Cause::Token)?;
+    begin_array(reader).ok_or(Cause::Token)?;
+    Ok(Inside::Array {
+        ids: expected.ids,
+        values,
+    })
+}
+
+/// Begins an object, behind its first key.
+fn object_at(alloc: Global, reader: &mut Reader<'_>) -> Result<Inside, Cause>
+    ensures begun { MatchResult result (λ i. grammar.object_at reader.old ≡ Some (opening_of i, reader.new)) (λ _. grammar.object_at reader.old ≡ None) }
+    ensures fresh { IfOk result (λ i. IsFresh i) }
+    ensures no_more { length reader.new ≤ length reader.old }
+{
+    let type_ = name_or_word(reader, Table::Types).ok_or(Cause::Number)?;
+    key(reader, "id").ok_or(Cause::Token)?;
+    let id = name_or_word(reader, ids_of(type_)).ok_or(Cause::Number)?;
+    key(reader, "props").ok_or(Cause::Token)?;
+    begin_object(reader).ok_or(Cause::Token)?;
+    Ok(Inside::Object(OpenObject {
+        type_,
+        id,
+        properties: Vec::new(alloc),
+        key: 0,
+        flags: PropertyFlags::from_bits_retain(0),
+        braced: false,
+    }))
+}
+
+/// The shape of this name.
+fn shape_named(name: &str) -> Option<Shape>
+    ensures { option_map shape_of result ≡ grammar.shape_named name.now }
+{
+    match name {
+        "None" => Some(Shape::None),
+        "Range" => Some(Shape::Range),
+        "Step" => Some(Shape::Step),
+        "Enum" => Some(Shape::Enum),
+        "Flags" => Some(Shape::Flags),
+        _ => None,
+    }
+}
+
+/// The flags of a choice, where this is their key, and the key behind them.
+fn choice_flags<'a>(reader: &mut Reader<'a>, name: &'a str) -> Option<(u32, &'a str)>
+    ensures taken { MatchOption result (grammar.choice_flags (name.now, reader.old) ≡ None) (λ p. grammar.choice_flags (name.now, reader.old) ≡ Some (p.0, (p.1.now, reader.new))) }
+    ensures no_more { length reader.new ≤ length reader.old }
+{
+    if name != "flags" {
+        return Some((0, name));
+    }
+    let flags = word(reader)?;
+    let next = any_key(reader)?;
+    Some((flags, next))
+}
+
+/// The type of a choice's values, where this is its key, else the one that is expected; and the key behind it.
+fn choice_type<'a>(reader: &mut Reader<'a>, name: &'a str, expected: u32) -> Option<(u32, &'a str)>
+    ensures taken { MatchOption result (grammar.choice_type expected (name.now, reader.old) ≡ None) (λ p. grammar.choice_type expected (name.now, reader.old) ≡ Some (p.0, (p.1.now, reader.new))) }
+    ensures no_more { length reader.new ≤ length reader.old }
+{
+    if name != "of" {
+        return Some((expected, name));
+    }
+    let type_ = name_or_word(reader, Table::Types)?;
+    let next = any_key(reader)?;
+    Some((type_, next))
+}
+
+/// Begins a choice, behind its first key.
+fn choice_at(alloc: Global, reader: &mut Reader<'_>, expected: Expected) -> Result<Inside, Cause>
+    ensures begun { MatchResult result (λ i. grammar.choice_at expected reader.old ≡ Some (opening_of i, reader.new)) (λ _. grammar.choice_at expected reader.old ≡ None) }
+    ensures fresh { IfOk result (λ i. IsFresh i) }
+    ensures no_more { length reader.new ≤ length reader.old }
+{
+    let name = any_text(reader).ok_or(Cause::Token)?;
+    let shape = shape_named(name).ok_or(Cause::Type)?;
+    let first = any_key(reader).ok_or(Cause::Token)?;
+    let (flags, second) = choice_flags(reader, first).ok_or(Cause::Number)?;
+    let (type_, third) = choice_type(reader, second, expected.type_.0).ok_or(Cause::Type)?;
+    let values = no_elements(alloc, type_).ok_or(Cause::Type)?;
+    if third != "values" {
+        return Err(Cause::Token);
+    }
+    begin_array(reader).ok_or(Cause::Token)?;
+    Ok(Inside::Choice {
+        shape,
+        flags,
+        ids: expected.ids,
+        values,
+    })
+}

@@ -1,0 +1,146 @@
+//! Values read from text.
+ghost use Rattle.std.specs.Prelude.{◌≡◌, ◌≢◌, [], IfErr, IfOk, Some, None};
+ghost use Rattle.json.specs.Lex.{tokens};
+ghost use Rattle.spa_format.specs.Tree.{Tree};
+ghost use Rattle.spa_text_read.specs.Grammar.{ReadsAs, nothing};
+ghost use Rattle.spa_text_read.specs.Steps.{ComesTo};
+ghost use Rattle.spa_value.specs.View.{view};
+
+use crate::cause::Cause;
+use crate::inside::Opened;
+use crate::nest::Nest;
+use crate::opening::open;
+use crate::tokens::head;
+use json::{Reader, Scratch};
+use spa_names::Expected;
+use spa_value::{Value, discard};
+use std::alloc::Global;
+
+/// Why and where a text isn't read.
+#[derive(Debug, Drop)]
+pub struct TextError {
+    /// Why.
+    pub cause: Cause,
+    /// How many bytes stand before the place up to which it was read.
+    pub offset: usize,
+    /// The line of that place, the first being 1.
+    pub line: usize,
+    /// How many bytes of that line stand before it, and one.
+    pub column: usize,
+    /// The value that was being read, as `.props.rate` or `[2].props.volume`; empty for the outermost, and where memory ran out.
+    pub path: String,
+}
+
+/// Reads texts one after another, in memory that it keeps.
+#[derive(Drop)]
+pub struct TextReader {
+    alloc: Global,
+    scratch: Scratch,
+}
+
+impl TextReader {
+    /// One that has read nothing.
+    pub fn new(alloc: Global) -> TextReader {
+        TextReader {
+            alloc,
+            scratch: Scratch::new(alloc),
+        }
+    }
+
+    /// Reads the value that a text is, as `read` does.
+    pub fn read(&mut self, text: &str) -> Result<Value, TextError>
+        ensures value { IfOk result (λ v. ReadsAs nothing (view v) (tokens text.now) []) }
+        ensures refused { IfErr result (λ e. e.cause ≢ Cause.OutOfMemory → (v : Tree) → ¬ (ReadsAs nothing v (tokens text.now) [])) }
+    {
+        let mut path = String::new(self.alloc);
+        let Ok(mut reader) = Reader::new(text, &mut self.scratch) else {
+            return Err(error_at(Cause::OutOfMemory, text, 0, path));
+        };
+        match read_whole(self.alloc, &mut reader, &mut path) {
+            Ok(value) => Ok(value),
+            Err(cause) => Err(error_at(cause, text, reader.offset(), path)),
+        }
+    }
+}
+
+/// Reads the value that a text is: strict JSON, in the grammar of docs/TEXT.md. For many texts a `TextReader` is faster.
+///
+/// A value that is nested deep is read too, by a loop; its drop calls itself for each level, unless it is handed to `Held` or to
+/// `discard`.
+pub fn read(alloc: Global, text: &str) -> Result<Value, TextError>
+    ensures value { IfOk result (λ v. ReadsAs nothing (view v) (tokens text.now) []) }
+    ensures refused { IfErr result (λ e. e.cause ≢ Cause.OutOfMemory → (v : Tree) → ¬ (ReadsAs nothing v (tokens text.now) [])) }
+{
+    let mut reader = TextReader::new(alloc);
+    reader.read(text)
+}
+
+/// The refusal at this place.
+fn error_at(cause: Cause, text: &str, offset: usize, path: String) -> TextError
+    ensures { result.cause ≡ cause }
+{
+    let mut line: usize = 1;
+    let mut column: usize = 1;
+    for (at, byte) in text.as_bytes().iter().enumerate() {
+        if at >= offset {
+            break;
+        }
+        if *byte == b'\n' {
+            line = line.saturating_add(1);
+            column = 1;
+        } else {
+            column = column.saturating_add(1);
+        }
+    }
+    TextError {
+        cause,
+        offset,
+        line,
+        column,
+        path,
+    }
+}
+
+/// Reads a value and the end of the text.
+#[tactic(auto, using(crate::proofs::Nesting::reads_none, crate::proofs::Nesting::reads_more, crate::proofs::Soundness::reads_as))]
+fn read_whole(alloc: Global, reader: &mut Reader<'_>, path: &mut String) -> Result<Value, Cause>
+    ensures value { IfOk result (λ v. ReadsAs nothing (view v) reader.old []) }
+    ensures refused { IfErr result (λ e. e ≢ Cause.OutOfMemory → (v : Tree) → ¬ (ReadsAs nothing v reader.old [])) }
+{
+    let value = read_value(alloc, reader, path)?;
+    match reader.next() {
+        Some(_) => {
+            discard(value);
+            Err(Cause::End)
+        }
+        None => Ok(value),
+    }
+}
+
+/// Reads a value: also one that is nested deep, since what is begun is kept in a list.
+#[tactic(auto, using(crate::proofs::Nesting::not_started, crate::proofs::Nesting::not_opened, crate::proofs::Nesting::opened_leaf, crate::proofs::Nesting::opened_begun, crate::proofs::Nesting::leads_on, crate::proofs::Nesting::leads_refused, crate::proofs::Nesting::leads_to, crate::proofs::Nesting::leads_nowhere))]
+fn read_value(alloc: Global, reader: &mut Reader<'_>, path: &mut String) -> Result<Value, Cause>
+    ensures value { IfOk result (λ v. ComesTo nothing reader.old (Some (view v, reader.new))) }
+    ensures refused { IfErr result (λ e. e ≢ Cause.OutOfMemory → ComesTo nothing reader.old None) }
+{
+    let first = head(reader).ok_or(Cause::Token)?;
+    let inner = match open(alloc, reader, first, Expected::NOTHING)? {
+        Opened::Leaf(value) => return Ok(value),
+        Opened::Begun(inside) => inside,
+    };
+    let outer = Vec::new(alloc);
+    let mut nest = Nest { inner, outer };
+    loop {
+        match nest.step(alloc, reader) {
+            Ok(true) => {}
+            Ok(false) => {
+                let Nest { inner, outer: _ } = nest;
+                return inner.into_value();
+            }
+            Err(why) => {
+                nest.give_up(path);
+                return Err(why);
+            }
+        }
+    }
+}

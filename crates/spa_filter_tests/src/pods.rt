@@ -208,6 +208,78 @@ fn pods_are_filtered(rt: HostRuntime) -> Result<(), Fail> {
     Ok(())
 }
 
+/// How many keys an object of many has.
+const COUNT: u32 = 100;
+
+/// The words of an object of type 5 with this id, and keys from 1 on, each an Int that is the key.
+fn rising(alloc: Global, id: u32) -> Result<Vec<u32>, AllocError> {
+    let mut words = Vec::new(alloc);
+    words.extend_from_slice(&[8 + 24 * COUNT, 15, 5, id])?;
+    for key in 1..COUNT + 1 {
+        words.extend_from_slice(&[key, 0, 4, 4, key, 0])?;
+    }
+    Ok(words)
+}
+
+/// The same downwards, and behind them each key once more, upwards, as an Int that is 0.
+fn falling_twice(alloc: Global, id: u32) -> Result<Vec<u32>, AllocError> {
+    let mut words = Vec::new(alloc);
+    words.extend_from_slice(&[8 + 48 * COUNT, 15, 5, id])?;
+    for below in 0..COUNT {
+        words.extend_from_slice(&[COUNT - below, 0, 4, 4, COUNT - below, 0])?;
+    }
+    for key in 1..COUNT + 1 {
+        words.extend_from_slice(&[key, 0, 4, 4, 0, 0])?;
+    }
+    Ok(words)
+}
+
+/// The first words of the same, without what is behind: each key once.
+fn falling(alloc: Global, id: u32) -> Result<Vec<u32>, AllocError> {
+    let mut words = Vec::new(alloc);
+    words.extend_from_slice(&[8 + 24 * COUNT, 15, 5, id])?;
+    for below in 0..COUNT {
+        words.extend_from_slice(&[COUNT - below, 0, 4, 4, COUNT - below, 0])?;
+    }
+    Ok(words)
+}
+
+/// Whether two objects of words filter to that of others.
+fn are_filtered_to(
+    alloc: Global,
+    a: &[u32],
+    b: &[u32],
+    wanted: &[u32],
+) -> Result<bool, AllocError> {
+    let ours = bytes_of(alloc, a)?;
+    let theirs = bytes_of(alloc, b)?;
+    match answer_of(alloc, ours.as_slice(), theirs.as_slice())? {
+        Ok(met) => Ok(met.as_slice() == bytes_of(alloc, wanted)?.as_slice()),
+        Err(_) => Ok(false),
+    }
+}
+
+/// Whether the first property of many with a key counts, on either side.
+fn is_first_counted(alloc: Global) -> Result<bool, AllocError> {
+    let up = rising(alloc, 3)?;
+    let down = falling_twice(alloc, 7)?;
+    let once = falling(alloc, 7)?;
+    Ok(
+        are_filtered_to(alloc, up.as_slice(), down.as_slice(), up.as_slice())?
+            && are_filtered_to(alloc, down.as_slice(), up.as_slice(), once.as_slice())?,
+    )
+}
+
+#[test]
+fn many_keys_in_two_orders(rt: HostRuntime) -> Result<(), Fail> {
+    let holds = match is_first_counted(rt.alloc()) {
+        Err(_) => is_first_counted(rt.alloc())?,
+        Ok(holds) => holds,
+    };
+    assert!(rt; holds);
+    Ok(())
+}
+
 /// The bytes of an answer with each choice at its default; none where it isn't an object's.
 fn settled_bytes(alloc: Global, bytes: &[u8]) -> Result<Vec<u8>, AllocError> {
     let Ok((_rest, Value::Object(object))) = PodDeserializer::deserialize_any_from(alloc, bytes)

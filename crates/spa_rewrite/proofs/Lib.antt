@@ -21,3 +21,4 @@ pub mod PlacedBodies
 pub mod WrittenAcross
 pub mod Moves
 pub mod Chains
+pub mod MovedRuns

@@ -4,7 +4,7 @@ use Rattle.std.specs.Prelude.{Bool, true, false}
 use Rattle.std.proofs.lemmas.List.{drop-append-le, drop-drop, drop-take, length-take-le, take-append-drop, take-append-le}
 use Rattle.std.proofs.lemmas.List.Edits.{drop-paste, take-paste}
 use Rattle.std.proofs.Math.Seq.{paste}
-use Rattle.std.proofs.lemmas.Slice.{drop-put_mid}
+use Rattle.std.proofs.lemmas.Slice.{drop-put_mid, take-put_mid}
 use borrow.Rule.Slice.PartMut.{put_mid}
 use Rattle.spa_format.specs.Words.{extent, word_at}
 use Rattle.spa_format.specs.Typed.{IsBytes}
@@ -153,18 +153,19 @@ moved_down old gap len l =
     ap (paste old 0 (drop gap old)) n ∙ sym (take-append-drop len x) ∙ ap (λ y. y ++ drop len x) front ∙ ap (λ y. take len (drop gap old) ++ y) back
 
 -- a key and flags that are moved
-pub key_moved : (keyed : Bool) (old : List ℕ) (from to : ℕ) → keyed ≡ true → from + key_size keyed ≤ length old → to ≤ from →
-    PutsKey keyed (drop from old) old (paste old to (drop from old) (from + 8 - from)) to (to + 8)
-key_moved false old from to t l b = absurd (let z : false ≡ true = t in cc)
-key_moved true old from to t l b =
+pub key_moved : (keyed : Bool) (old key : List ℕ) (from to k : ℕ) → keyed ≡ true → from + key_size keyed ≤ length old → to ≤ from → k ≡ to + 8 - to →
+    key ≡ take (from + 8 - from) (drop from old) → PutsKey keyed (drop from old) old (put_mid to k old key) to (to + 8)
+key_moved false old key from to k t l b e is = absurd (let z : false ≡ true = t in cc)
+key_moved true old key from to k t l b e is =
     let d = length-drop from old in
     let n : from + 8 - from ≡ 8 = omega arith in
-    let its : PutsKey true (drop from old) old (paste old to (drop from old) 8) to (to + 8) = record {
+    let its : key ≡ take 8 (drop from old) = is ∙ ap (λ m. take m (drop from old)) n in
+    let eight = ap length its ∙ length-take-le 8 (drop from old) (omega arith) in
+    record {
       at = refl;
-      front = take-paste old to (drop from old) 8 (omega arith) (omega arith);
-      behind = drop-paste old to (drop from old) 8 (omega arith) (omega arith);
-    } in
-    subst (λ m. PutsKey true (drop from old) old (paste old to (drop from old) m) to (to + 8)) (sym n) its
+      front = take-put_mid to k old key (to + 8) (omega arith) (omega arith) ∙ ap (λ x. take to old ++ x) its;
+      behind = drop-put_mid to k old key (to + 8) (omega arith) (omega arith) (omega arith);
+    }
 
 -- the bytes that a pod is moved in
 pub record MovesPod (slice : List ℕ) (gap long type size : ℕ) : Type 0 where

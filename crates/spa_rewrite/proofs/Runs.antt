@@ -20,7 +20,7 @@ use Rattle.spa_rewrite.specs.declared.tail.Tail.{Tail}
 use Rattle.spa_rewrite.proofs.OpenPods.{ends_further}
 use Rattle.spa_rewrite.proofs.Stretches.{both_taken}
 
-property_encodings-join : (ps qs : Properties) →
+pub property_encodings-join : (ps qs : Properties) →
     property_encodings (join_properties ps qs) ≡ property_encodings ps ++ property_encodings qs
 property_encodings-join no_properties qs = refl
 property_encodings-join (property k f v ps) qs =

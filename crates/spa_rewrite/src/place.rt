@@ -3,6 +3,8 @@ ghost use Rattle.std.specs.Prelude.{◌≡◌, ◌+◌, ◌-◌, ◌<◌, ◌≤
 ghost use Rattle.spa_format.specs.Tree.{choice_type};
 ghost use Rattle.spa_format.specs.Typed.{IsBytes};
 ghost use Rattle.spa_format.specs.Words.{header_size, size_limit};
+ghost use Rattle.spa_rewrite.specs.MovedRuns.{BeginsRun, PutsRun};
+ghost use Rattle.spa_rewrite.specs.Nesting.{AreCanonicalInside};
 ghost use Rattle.spa_rewrite.specs.Shorter.{AreShorter, HoldsWhole, IsInner, PutsHeader, PutsKey, WritesPod, WritesPods};
 ghost use Rattle.spa_rewrite.specs.Steady.{IsPodOf, key_size};
 
@@ -10,7 +12,14 @@ use crate::across::{holds_whole, inner_type};
 use crate::patch::{SECOND_HEADER, patch_leaf, patch_values, place_behind, taken_len};
 use crate::steady::behind_key;
 use spa_bytes::{HEADER_LEN, extent_of, open, two_words, u32_at};
+use spa_scan::{canonical_stretch, leaf_members, leaf_properties};
 use spa_utils::SpaTypes;
+
+/// How many bytes a run has at least that was worth the look.
+const LONG_RUN: usize = 64;
+
+/// How many bytes are moved pod by pod, where a list in a pod begins or a run was shorter, before the next run is looked for.
+const UNLOOKED: usize = 1024;
 
 /// Makes all pods that the bytes are, which are so many bytes shorter then, their rewritings at their front, and answers how many bytes these
 /// take. Structs and objects may stand at any depth that end where the one around them does: where they end then is known before.
@@ -19,10 +28,19 @@ pub(crate) fn place_all(surplus: usize, bytes: &mut [u8]) -> usize
     ensures { WritesPods false bytes.old bytes.old bytes.new result }
 {
     let end = bytes.len() - surplus;
+    let mut outermost = true;
     let mut keyed = false;
+    // A look at all pods has ended at the first.
+    let mut look_at = 1;
     let mut to = 0;
     let mut from = 0;
     loop {
+        if let Some(run) = run_len(outermost, keyed, &mut look_at, bytes, from) {
+            move_run(bytes, from, to, run);
+            from += run;
+            to += run;
+            continue;
+        }
         let Some(here) = behind_key(keyed, &bytes[from..]) else {
             return to;
         };
@@ -36,13 +54,65 @@ pub(crate) fn place_all(surplus: usize, bytes: &mut [u8]) -> usize
             Some(inner) => {
                 from = place_behind(bytes, pod_at, HEADER_LEN, inner);
                 to = put_header(inner, bytes, pod_at, to, end);
+                outermost = false;
                 keyed = inner;
+                look_at = from.saturating_add(UNLOOKED);
             }
             None => {
                 from = bytes.len() - left;
                 to += place_pod(type_, size, &mut bytes[to..from], pod_at - to);
             }
         }
+    }
+}
+
+/// How many bytes the pods from a place on take that are their own rewritings, with key and flags before each where `keyed` is set, if there are
+/// any. Before the place to look at none is looked for. That goes on: behind a run to the pod behind the one that ended it.
+#[inline(always)]
+fn run_len(
+    outermost: bool,
+    keyed: bool,
+    look_at: &mut usize,
+    bytes: &[u8],
+    from: usize,
+) -> Option<usize>
+    requires { from ≤ length bytes.now }
+    ensures { IfSome result (λ len. BeginsRun keyed (drop from bytes.now) len) }
+{
+    if from < *look_at {
+        return None;
+    }
+    let len = run_at(outermost, keyed, &bytes[from..]);
+    let unlooked = if len < LONG_RUN { UNLOOKED } else { 1 };
+    *look_at = from.saturating_add(len).saturating_add(unlooked);
+    if len == 0 { None } else { Some(len) }
+}
+
+/// How many bytes the first of these pods take that are their own rewritings. Inside others only leaves are looked at: a look at structs
+/// would be one at each level that they stand in.
+fn run_at(outermost: bool, keyed: bool, left: &[u8]) -> usize
+    ensures within { result ≤ length left.now }
+    ensures canonical { AreCanonicalInside keyed (take result left.now) }
+{
+    let (run, _) = if keyed {
+        leaf_properties(left)
+    } else if outermost {
+        canonical_stretch(left)
+    } else {
+        leaf_members(left)
+    };
+    run.len()
+}
+
+/// Moves so many bytes from one place down to another, if that is another.
+#[inline(always)]
+fn move_run(bytes: &mut [u8], from: usize, to: usize, len: usize)
+    requires run { from + len ≤ length bytes.old }
+    requires down { to ≤ from }
+    ensures { PutsRun bytes.old bytes.new from to len }
+{
+    if to < from {
+        bytes.copy_within(from..from + len, to);
     }
 }
 
@@ -83,9 +153,16 @@ fn place(keyed: bool, bytes: &mut [u8], gap: usize) -> usize
     requires { gap ≤ length bytes.old }
     ensures { WritesPods keyed (drop gap bytes.old) bytes.old bytes.new result }
 {
+    let mut look_at = gap.saturating_add(UNLOOKED);
     let mut to = 0;
     let mut from = gap;
     loop {
+        if let Some(run) = run_len(false, keyed, &mut look_at, bytes, from) {
+            move_run(bytes, from, to, run);
+            from += run;
+            to += run;
+            continue;
+        }
         let Some(here) = behind_key(keyed, &bytes[from..]) else {
             return to;
         };
@@ -111,7 +188,9 @@ fn move_key(keyed: bool, bytes: &mut [u8], from: usize, to: usize) -> usize
     if !keyed {
         return to;
     }
-    bytes.copy_within(from..from + HEADER_LEN, to);
+    let mut key = [0; HEADER_LEN];
+    key.copy_from_slice(&bytes[from..from + HEADER_LEN]);
+    bytes[to..to + HEADER_LEN].copy_from_slice(&key);
     to + HEADER_LEN
 }
 

@@ -2,26 +2,27 @@ use Rattle.std.proofs.Common.{◌≤◌, ◌<◌, ◌+◌, ◌-◌, ◌*◌, ◌
 use Rattle.std.proofs.lemmas.List.{drop-drop, take_rest}
 use Rattle.std.specs.Prelude.{◌++◌}
 use Rattle.spa_format.specs.Words.{word_bytes}
+use Rattle.spa_rewrite.proofs.MovedRuns.{places_run}
 use Rattle.spa_rewrite.proofs.Moves.{inner_pods, moves_pod, places_all, places_before, places_less, places_more, pod_places}
 use Rattle.spa_rewrite.proofs.WrittenAcross.{inner_written, no_front, no_key}
 use Rattle.spa_rewrite.proofs.place.+placing.Goals as goal
 
-pub place-returns-in_default : goal.place-returns-in_default
-place-returns-in_default t c =
-    places_all _ _ _ _ _ _ _ _ c.loop-here.invariant (take_rest c.loop-here.bytes c.loop-here.from) (no_key _ _ c.in_default.ensures.short)
+pub place-returns-in_default-behind_key : goal.place-returns-in_default-behind_key
+place-returns-in_default-behind_key t c =
+    places_all _ _ _ _ _ _ _ _ c.loop-run.invariant (take_rest c.loop-run.bytes c.loop-run.from) (no_key _ _ c.in_default-behind_key.ensures.short)
 
 pub place-returns-in_default-open : goal.place-returns-in_default-open
 place-returns-in_default-open t c =
-    places_all _ _ _ _ _ _ _ _ c.loop-here.invariant (take_rest c.loop-here.bytes c.loop-here.from)
-    (no_front _ _ _ c.in-Some.ensures.there c.in_default-open.ensures.short)
+    places_all _ _ _ _ _ _ _ _ c.loop-run.invariant (take_rest c.loop-run.bytes c.loop-run.from)
+    (no_front _ _ _ c.in-Some-behind_key.ensures.there c.in_default-open.ensures.short)
 
 pub place-place_pod-to-requires : goal.place-place_pod-to-requires
 place-place_pod-to-requires t c =
-    let inv = c.loop-here.invariant in
-    let now = c.loop-here.bytes in
-    let here = c.in-Some.here.now in
+    let inv = c.loop-run.invariant in
+    let now = c.loop-run.bytes in
+    let here = c.in-Some-behind_key.here.now in
     let rest = c.in-Some-open.front.rest.now in
-    let h = pod_places _ _ _ _ _ _ _ _ _ _ inv.within (take_rest now c.loop-here.from) c.in-Some.ensures.there c.in-Some-open.ensures.there refl refl in
+    let h = pod_places _ _ _ _ _ _ _ _ _ _ inv.within (take_rest now c.loop-run.from) c.in-Some-behind_key.ensures.there c.in-Some-open.ensures.there refl refl in
     let order = h.order in
     let within = h.within in
     let here_at = h.at in
@@ -40,13 +41,18 @@ place-place_pod-to-requires t c =
     omega arith in
     (search rules, (m.its, (m.bytes, m.within)))
 
-pub place-loop-here-smaller : goal.place-loop-here-smaller
-place-loop-here-smaller t c =
-    let inv = c.loop-here.invariant in
-    let now = c.loop-here.bytes in
-    let here = c.in-Some.here.now in
+pub place-loop-run-preserved-in-Some : goal.place-loop-run-preserved-in-Some
+place-loop-run-preserved-in-Some t c =
+    places_run _ _ _ _ _ _ _ _ _ c.loop-run.invariant c.requires c.in-Some.ensures c.move_run.ensures
+    c.move_run.auto.bytes
+
+pub place-loop-run-smaller : goal.place-loop-run-smaller
+place-loop-run-smaller t c =
+    let inv = c.loop-run.invariant in
+    let now = c.loop-run.bytes in
+    let here = c.in-Some-behind_key.here.now in
     let rest = c.in-Some-open.front.rest.now in
-    let h = pod_places _ _ _ _ _ _ _ _ _ _ inv.within (take_rest now c.loop-here.from) c.in-Some.ensures.there c.in-Some-open.ensures.there refl refl in
+    let h = pod_places _ _ _ _ _ _ _ _ _ _ inv.within (take_rest now c.loop-run.from) c.in-Some-behind_key.ensures.there c.in-Some-open.ensures.there refl refl in
     let here_at = h.at in
     let put_at = c.move_key-to.ensures.at in
     let before = places_before _ _ _ _ _ _ _ inv c.requires in
@@ -55,10 +61,10 @@ place-loop-here-smaller t c =
     let down : at ≤ pod_at = omega arith in
     places_less _ _ _ _ _ _ _ _ _ _ _ h c.move_key-to.auto.bytes c.place_pod-to.auto.bytes down refl
 
-pub place-loop-here-preserved : goal.place-loop-here-preserved
-place-loop-here-preserved t c =
-    places_more _ _ _ _ _ _ _ _ _ _ _ _ _ _ _ _ _ _ _ _ _ c.loop-here.invariant c.requires (take_rest c.loop-here.bytes c.loop-here.from)
-    c.in-Some.ensures.there c.in-Some-open.ensures.there refl refl c.move_key-to.ensures refl c.move_key-to.auto.bytes c.place_pod-to.ensures refl refl
+pub place-loop-run-preserved : goal.place-loop-run-preserved
+place-loop-run-preserved t c =
+    places_more _ _ _ _ _ _ _ _ _ _ _ _ _ _ _ _ _ _ _ _ _ c.loop-run.invariant c.requires (take_rest c.loop-run.bytes c.loop-run.from)
+    c.in-Some-behind_key.ensures.there c.in-Some-open.ensures.there refl refl c.move_key-to.ensures refl c.move_key-to.auto.bytes c.place_pod-to.ensures refl refl
     c.place_pod-to.auto.bytes
 
 pub place_inner-returns : goal.place_inner-returns

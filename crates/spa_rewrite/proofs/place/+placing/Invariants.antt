@@ -11,8 +11,8 @@ decreases-place_pod l = 3 * length (drop l.gap l.bytes.now) + 1
 abbrev pub decreases-place_inner : goal.decreases-place_inner
 decreases-place_inner l = 3 * length (drop l.gap l.bytes.now)
 
-abbrev pub invariant-place-loop-here : goal.invariant-place-loop-here
-invariant-place-loop-here l = PlacesOn l.keyed l.keyed l.initial.bytes l.bytes l.gap l.from l.to
+abbrev pub invariant-place-loop-run : goal.invariant-place-loop-run
+invariant-place-loop-run l = PlacesOn l.keyed l.keyed l.initial.bytes l.bytes l.gap l.from l.to
 
-abbrev pub decreases-place-loop-here : goal.decreases-place-loop-here
-decreases-place-loop-here l = length l.bytes - l.from
+abbrev pub decreases-place-loop-run : goal.decreases-place-loop-run
+decreases-place-loop-run l = length l.bytes - l.from

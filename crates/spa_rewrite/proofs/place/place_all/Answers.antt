@@ -2,32 +2,37 @@ use Rattle.std.proofs.Common.{◌≤◌, ◌-◌, ap, arith, drop, length, refl,
 use Rattle.std.proofs.lemmas.List.{take_rest}
 use Rattle.spa_rewrite.specs.Steady.{IsBehindKey}
 use Rattle.spa_rewrite.proofs.Chains.{ChainsOn, chain_moves, enters, last_inside}
+use Rattle.spa_rewrite.proofs.MovedRuns.{chain_run}
 use Rattle.spa_rewrite.proofs.Moves.{moves_pod, places_all, places_before, places_less, pod_places}
 use Rattle.spa_rewrite.proofs.WrittenAcross.{no_front, no_key}
 use Rattle.spa_rewrite.proofs.place.place_all.Goals as goal
 
-pub returns-in_default : goal.returns-in_default
-returns-in_default c =
-    places_all _ _ _ _ _ _ _ _ c.loop-here.invariant.places (take_rest c.loop-here.bytes c.loop-here.from) (no_key _ _ c.in_default.ensures.short)
+pub returns-in_default-behind_key : goal.returns-in_default-behind_key
+returns-in_default-behind_key c =
+    places_all _ _ _ _ _ _ _ _ c.loop-run.invariant.places (take_rest c.loop-run.bytes c.loop-run.from) (no_key _ _ c.in_default-behind_key.ensures.short)
 
 pub returns-in_default-open : goal.returns-in_default-open
 returns-in_default-open c =
-    places_all _ _ _ _ _ _ _ _ c.loop-here.invariant.places (take_rest c.loop-here.bytes c.loop-here.from)
-    (no_front _ _ _ c.in-Some.ensures.there c.in_default-open.ensures.short)
+    places_all _ _ _ _ _ _ _ _ c.loop-run.invariant.places (take_rest c.loop-run.bytes c.loop-run.from)
+    (no_front _ _ _ c.in-Some-behind_key.ensures.there c.in_default-open.ensures.short)
+
+pub loop-run-preserved-in-Some : goal.loop-run-preserved-in-Some
+loop-run-preserved-in-Some c =
+    chain_run _ _ _ _ _ _ _ _ c.loop-run.invariant c.in-Some.ensures c.move_run.ensures c.move_run.auto.bytes
 
 pub put_header-to-requires-clause-fits : goal.put_header-to-requires-clause-fits
 put_header-to-requires-clause-fits c =
-    let i = last_inside _ _ _ _ _ _ _ _ _ _ _ _ _ _ _ c.loop-here.invariant (take_rest c.loop-here.bytes c.loop-here.from) c.in-Some.ensures.there
+    let i = last_inside _ _ _ _ _ _ _ _ _ _ _ _ _ _ _ c.loop-run.invariant (take_rest c.loop-run.bytes c.loop-run.from) c.in-Some-behind_key.ensures.there
     c.in-Some-open.ensures.there refl c.in-Some-last_whole.ensures.0 c.in-Some-last_whole.ensures.1 refl c.move_key-to.ensures.at in
     i.fits
 
-pub loop-here-smaller-in-Some-last_whole : goal.loop-here-smaller-in-Some-last_whole
-loop-here-smaller-in-Some-last_whole c =
-    let now = c.loop-here.bytes in
+pub loop-run-smaller-in-Some-last_whole : goal.loop-run-smaller-in-Some-last_whole
+loop-run-smaller-in-Some-last_whole c =
+    let now = c.loop-run.bytes in
     let rest = c.in-Some-open.front.rest.now in
-    let i = last_inside _ _ _ _ _ _ _ _ _ _ _ _ _ _ _ c.loop-here.invariant (take_rest now c.loop-here.from) c.in-Some.ensures.there
+    let i = last_inside _ _ _ _ _ _ _ _ _ _ _ _ _ _ _ c.loop-run.invariant (take_rest now c.loop-run.from) c.in-Some-behind_key.ensures.there
     c.in-Some-open.ensures.there refl c.in-Some-last_whole.ensures.0 c.in-Some-last_whole.ensures.1 refl c.move_key-to.ensures.at in
-    let h = pod_places _ _ _ _ _ _ _ _ (length now - length rest) _ c.loop-here.invariant.places.within (take_rest now c.loop-here.from) c.in-Some.ensures.there
+    let h = pod_places _ _ _ _ _ _ _ _ (length now - length rest) _ c.loop-run.invariant.places.within (take_rest now c.loop-run.from) c.in-Some-behind_key.ensures.there
     c.in-Some-open.ensures.there refl refl in
     let room = i.room in
     let at = h.at in
@@ -36,28 +41,28 @@ loop-here-smaller-in-Some-last_whole c =
     let keyed = c.move_key-to.auto.bytes in
     omega arith
 
-pub loop-here-preserved-in-Some-last_whole : goal.loop-here-preserved-in-Some-last_whole
-loop-here-preserved-in-Some-last_whole c =
-    let now = c.loop-here.bytes in
-    let from = c.loop-here.from in
-    let b = subst (λ x. IsBehindKey c.loop-here.keyed x c.in-Some.here.now) (take_rest now from) c.in-Some.ensures.there in
-    let i = last_inside _ _ _ _ (drop from now) _ _ _ _ _ _ _ _ _ _ c.loop-here.invariant refl b
+pub loop-run-preserved-in-Some-last_whole : goal.loop-run-preserved-in-Some-last_whole
+loop-run-preserved-in-Some-last_whole c =
+    let now = c.loop-run.bytes in
+    let from = c.loop-run.from in
+    let b = subst (λ x. IsBehindKey c.loop-run.keyed x c.in-Some-behind_key.here.now) (take_rest now from) c.in-Some-behind_key.ensures.there in
+    let i = last_inside _ _ _ _ (drop from now) _ _ _ _ _ _ _ _ _ _ c.loop-run.invariant refl b
     c.in-Some-open.ensures.there refl c.in-Some-last_whole.ensures.0 c.in-Some-last_whole.ensures.1 refl c.move_key-to.ensures.at in
     subst (λ n. ChainsOn c.in-Some-last_whole.inner c.args.bytes.now c.put_header-to.new.bytes n c.put_header-to.result (length c.args.bytes.now - c.args.surplus))
     (sym c.place_behind-from.ensures)
-    (enters _ _ _ _ (drop from now) _ _ _ _ _ _ _ _ _ _ _ _ _ c.loop-here.invariant i c.in-Some-last_whole.ensures.1 refl b c.in-Some-open.ensures.there
+    (enters _ _ _ _ (drop from now) _ _ _ _ _ _ _ _ _ _ _ _ _ c.loop-run.invariant i c.in-Some-last_whole.ensures.1 refl b c.in-Some-open.ensures.there
     c.in-Some-last_whole.ensures.0 c.move_key-to.ensures c.move_key-to.auto.bytes c.put_header-to.ensures c.put_header-to.auto.bytes)
 
 pub place_pod-to-requires-clause-pod : goal.place_pod-to-requires-clause-pod
 place_pod-to-requires-clause-pod c =
-    let inv = c.loop-here.invariant.places in
-    let now = c.loop-here.bytes in
-    let here = c.in-Some.here.now in
+    let inv = c.loop-run.invariant.places in
+    let now = c.loop-run.bytes in
+    let here = c.in-Some-behind_key.here.now in
     let rest = c.in-Some-open.front.rest.now in
     let at = c.move_key-to.result in
     let pod_at = length now - length here in
     let next = length c.move_key-to.new.bytes - length rest in
-    let h = pod_places _ _ _ _ _ _ _ _ next _ inv.within (take_rest now c.loop-here.from) c.in-Some.ensures.there c.in-Some-open.ensures.there refl
+    let h = pod_places _ _ _ _ _ _ _ _ next _ inv.within (take_rest now c.loop-run.from) c.in-Some-behind_key.ensures.there c.in-Some-open.ensures.there refl
     (ap (λ n. n - length rest) c.move_key-to.auto.bytes) in
     let here_at = h.at in
     let put_at = c.move_key-to.ensures.at in
@@ -67,16 +72,16 @@ place_pod-to-requires-clause-pod c =
     c.move_key-to.ensures.behind inv.on.bytes refl refl in
     m.its
 
-pub loop-here-smaller : goal.loop-here-smaller
-loop-here-smaller c =
-    let inv = c.loop-here.invariant.places in
-    let now = c.loop-here.bytes in
-    let here = c.in-Some.here.now in
+pub loop-run-smaller : goal.loop-run-smaller
+loop-run-smaller c =
+    let inv = c.loop-run.invariant.places in
+    let now = c.loop-run.bytes in
+    let here = c.in-Some-behind_key.here.now in
     let rest = c.in-Some-open.front.rest.now in
     let at = c.move_key-to.result in
     let pod_at = length now - length here in
     let next = length c.move_key-to.new.bytes - length rest in
-    let h = pod_places _ _ _ _ _ _ _ _ next _ inv.within (take_rest now c.loop-here.from) c.in-Some.ensures.there c.in-Some-open.ensures.there refl
+    let h = pod_places _ _ _ _ _ _ _ _ next _ inv.within (take_rest now c.loop-run.from) c.in-Some-behind_key.ensures.there c.in-Some-open.ensures.there refl
     (ap (λ n. n - length rest) c.move_key-to.auto.bytes) in
     let here_at = h.at in
     let put_at = c.move_key-to.ensures.at in
@@ -84,9 +89,9 @@ loop-here-smaller c =
     let down : at ≤ pod_at = omega arith in
     places_less _ _ _ _ _ _ _ _ _ _ _ h c.move_key-to.auto.bytes c.place_pod-to.auto.bytes down refl
 
-pub loop-here-preserved : goal.loop-here-preserved
-loop-here-preserved c =
+pub loop-run-preserved : goal.loop-run-preserved
+loop-run-preserved c =
     let rest = c.in-Some-open.front.rest.now in
-    chain_moves _ _ _ _ _ _ _ _ _ _ _ _ _ _ _ _ _ _ _ c.loop-here.invariant (take_rest c.loop-here.bytes c.loop-here.from) c.in-Some.ensures.there
+    chain_moves _ _ _ _ _ _ _ _ _ _ _ _ _ _ _ _ _ _ _ c.loop-run.invariant (take_rest c.loop-run.bytes c.loop-run.from) c.in-Some-behind_key.ensures.there
     c.in-Some-open.ensures.there refl (ap (λ n. n - length rest) c.move_key-to.auto.bytes) c.move_key-to.ensures c.move_key-to.auto.bytes c.place_pod-to.ensures
     refl refl c.place_pod-to.auto.bytes

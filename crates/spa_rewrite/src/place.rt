@@ -23,17 +23,19 @@ const UNLOOKED: usize = 1024;
 
 /// Makes all pods that the bytes are, which are so many bytes shorter then, their rewritings at their front, and answers how many bytes these
 /// take. Structs and objects may stand at any depth that end where the one around them does: where they end then is known before.
+#[inline(never)]
 pub(crate) fn place_all(surplus: usize, bytes: &mut [u8]) -> usize
     requires { AreShorter bytes.old surplus }
     ensures { WritesPods false bytes.old bytes.old bytes.new result }
 {
+    if bytes.is_empty() {
+        return 0;
+    }
     let end = bytes.len() - surplus;
-    let mut outermost = true;
-    let mut keyed = false;
+    let (mut outermost, mut keyed) = (true, false);
     // A look at all pods has ended at the first.
     let mut look_at = 1;
-    let mut to = 0;
-    let mut from = 0;
+    let (mut from, mut to) = (0, 0);
     loop {
         if let Some(run) = run_len(outermost, keyed, &mut look_at, bytes, from) {
             move_run(bytes, from, to, run);

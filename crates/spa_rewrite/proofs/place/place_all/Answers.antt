@@ -1,11 +1,19 @@
-use Rattle.std.proofs.Common.{◌≤◌, ◌-◌, ap, arith, drop, length, refl, subst, sym}
+use Rattle.std.proofs.Common.{◌≡◌, ◌≤◌, ◌-◌, ap, arith, drop, length, refl, subst, sym}
+use Rattle.std.proofs.lemmas.Bool.{eqb-true}
 use Rattle.std.proofs.lemmas.List.{take_rest}
+use Rattle.std.specs.Prelude.{false}
 use Rattle.spa_rewrite.specs.Steady.{IsBehindKey}
 use Rattle.spa_rewrite.proofs.Chains.{ChainsOn, chain_moves, enters, last_inside}
 use Rattle.spa_rewrite.proofs.MovedRuns.{chain_run}
 use Rattle.spa_rewrite.proofs.Moves.{moves_pod, places_all, places_before, places_less, pod_places}
+use Rattle.spa_rewrite.proofs.Places.{few_placed}
 use Rattle.spa_rewrite.proofs.WrittenAcross.{no_front, no_key}
 use Rattle.spa_rewrite.proofs.place.place_all.Goals as goal
+
+pub returns-then-is_empty : goal.returns-then-is_empty
+returns-then-is_empty c =
+    let none : length c.args.bytes.now ≡ 0 = eqb-true _ _ (sym c.if-is_empty.ensures) in
+    record { placed = few_placed false _ (omega arith); within = omega arith; behind = refl }
 
 pub returns-in_default-behind_key : goal.returns-in_default-behind_key
 returns-in_default-behind_key c =

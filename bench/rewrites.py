@@ -19,6 +19,9 @@ def objects(count, values):
     return one * count
 
 
+# An object that gets 80 bytes shorter: each of its ten ranges has three surplus values.
+SHRINKS = objects(1, [choice(RANGE, 0, 5, 1, 9, 9, 9, 9)])
+
 INPUTS = {
     # 64,000 truth values that are 2, and 1000 arrays of 64 of them
     "bools": pod(ARRAY, words(4, BOOL) + words(2) * 64_000),
@@ -36,6 +39,11 @@ INPUTS = {
     # the same without noise
     "mixed": examples(10_000),
     "ints": pod(STRUCT, pod(INT, words(7)) * 100_000),
+    # such objects alone, and one before these
+    "shrinks": SHRINKS * 1000,
+    "shrinks-mixed": SHRINKS + examples(10_000),
+    "shrinks-noisy-mixed": SHRINKS + noisy(examples(10_000)),
+    "shrinks-ints": SHRINKS + pod(STRUCT, pod(INT, words(7)) * 100_000),
     # an Int and such a Bool in turn
     "in-turn": pod(STRUCT, (pod(INT, words(7)) + pod(BOOL, words(2))) * 500) * 100,
 }

@@ -75,7 +75,13 @@ pub record ArePassed (ps done : Properties) (b left : List ℕ) : Type 0 where
 abbrev pub AreBelow : ℕ → Properties → Type 0
 AreBelow bound ps = (key : ℕ) → has_key key ps ≡ true → key < bound
 
--- whether a property has the key of none before it, whose keys are below the bound
+-- whether a property has the key of none before it
+abbrev pub SaysFirst : Bool → List ℕ → PropertyView → Type 0
+SaysFirst is_first b first =
+    (ps done : Properties) (left : List ℕ) → AreWritten ps b → ArePassed ps done b left
+    → HasFirst left first.key first.flags first.pod.now first.rest.now → has_key first.key done ≡ not is_first
+
+-- the same of those whose keys are below the bound
 abbrev pub SaysNew : Bool → List ℕ → PropertyView → ℕ → Type 0
 SaysNew is_new b first bound =
     (ps done : Properties) (left : List ℕ) → AreWritten ps b → ArePassed ps done b left → AreBelow bound done

@@ -3,7 +3,7 @@ ghost use Rattle.std.specs.Prelude.{◌≡◌, ◌≤◌, ◌<◌, IfOk, IfSome,
 ghost use Rattle.std.specs.List.Sorted.{IsNonDecreasingBy};
 ghost use Rattle.spa_format.specs.Tree.{Properties};
 ghost use Rattle.spa_format.specs.Words.{size_limit};
-ghost use Rattle.spa_fronts.specs.KeyOrder.{HasNoWord, IsFirstFrom, IsKeyed, IsLeastWord, IsOrder, SaysNew, SaysNewBeside, length_behind, place_words};
+ghost use Rattle.spa_fronts.specs.KeyOrder.{HasNoWord, IsFirstFrom, IsKeyed, IsLeastWord, IsOrder, SaysFirst, SaysNew, SaysNewBeside, length_behind, place_words};
 ghost use Rattle.spa_fronts.specs.Written.{AreWritten, HasFirst, IsFound, found_at, has_key};
 
 use crate::object_view::{PropertyView, find, first_property};
@@ -29,6 +29,7 @@ pub struct Keyed<'a> {
 
 impl<'a> Keyed<'a> {
     /// These properties.
+    #[inline(always)]
     pub fn new(alloc: Global, properties: &'a [u8]) -> Result<Keyed<'a>, AllocError>
         ensures properties { IfOk result (λ keyed. keyed.properties.now ≡ properties.now) }
         ensures keyed { IfOk result (λ keyed. IsKeyed keyed) }
@@ -47,6 +48,7 @@ impl<'a> Keyed<'a> {
     }
 
     /// The first property with this key.
+    #[inline(always)]
     pub fn find(&self, key: u32) -> Option<PropertyView<'a>>
         requires { IsKeyed self.now }
         ensures found { (ps : Properties) → AreWritten ps self.now.properties.now → MatchOption result (found_at key ps ≡ None) (λ first. IsFound (found_at key ps) first.flags first.pod.now) }
@@ -60,6 +62,7 @@ impl<'a> Keyed<'a> {
     }
 
     /// Whether no property has this key.
+    #[inline(always)]
     pub fn lacks(&self, key: u32) -> bool
         requires { IsKeyed self.now }
         ensures { (ps : Properties) → AreWritten ps self.now.properties.now → has_key key ps ≡ not result }
@@ -90,6 +93,15 @@ impl<'a> Keyed<'a> {
         if u64::from(first.key) >= bound {
             return true;
         }
+        self.is_first(first)
+    }
+
+    /// Whether a property is the first one with its key.
+    #[inline(never)]
+    fn is_first(&self, first: &PropertyView<'_>) -> bool
+        requires { IsKeyed self.now }
+        ensures { SaysFirst result self.now.properties.now first.now }
+    {
         match self.find(first.key) {
             Some(found) => found.rest.len() == first.rest.len(),
             None => false,
@@ -137,6 +149,7 @@ fn places_of(alloc: Global, properties: &[u8]) -> Result<Vec<u64>, AllocError>
 }
 
 /// The same in ascending order.
+#[inline(never)]
 fn order_of(alloc: Global, properties: &[u8]) -> Result<Vec<u64>, AllocError>
     requires { length properties.now < size_limit }
     ensures order { IfOk result (λ order. (ps : Properties) → AreWritten ps properties.now → IsOrder ps properties.now order.items) }
@@ -148,6 +161,7 @@ fn order_of(alloc: Global, properties: &[u8]) -> Result<Vec<u64>, AllocError>
 }
 
 /// The first property with this key, by an order of all.
+#[inline(never)]
 fn find_by<'a>(order: &[u64], properties: &'a [u8], key: u32) -> Option<PropertyView<'a>>
     requires order { (ps : Properties) → AreWritten ps properties.now → IsOrder ps properties.now order.now }
     requires ascending { IsNonDecreasingBy (λ x. x) order.now }

@@ -86,6 +86,7 @@ pub fn first_property(properties: &[u8]) -> Option<PropertyView<'_>>
 }
 
 /// The first property with this key.
+#[inline(always)]
 pub fn find(properties: &[u8], key: u32) -> Option<PropertyView<'_>>
     ensures found { (ps : Properties) → AreWritten ps properties.now → MatchOption result (found_at key ps ≡ None) (λ first. IsFound (found_at key ps) first.flags first.pod.now) }
     ensures behind { IfSome result (λ first. (ps : Properties) → AreWritten ps properties.now → length first.rest.now ≡ length_behind key ps properties.now) }

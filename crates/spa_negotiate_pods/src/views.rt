@@ -20,6 +20,9 @@ use spa_fronts::{
 };
 use std::alloc::Global;
 
+/// Where the properties of an object begin in its pod: behind its header, its type and its id.
+const PROPERTIES_AT: usize = 16;
+
 /// The length in bytes of a body of one word.
 const ONE_WORD: usize = 4;
 
@@ -37,7 +40,7 @@ pub(crate) fn meet_views(alloc: Global, a: &[u8], b: &[u8]) -> Option<Vec<u8>>
     if ours.type_ != theirs.type_ {
         return None;
     }
-    let Ok(mut out) = Vec::with_capacity(alloc, ours.properties.len()) else {
+    let Ok(mut out) = Vec::with_capacity(alloc, PROPERTIES_AT + ours.properties.len()) else {
         return None;
     };
     if !put_header(&mut out, ours.type_, ours.id) {

@@ -100,9 +100,14 @@ fn assert_place(
             assert!(rt; false, "{text} is read");
         }
         Err(error) => {
-            assert_eq!(rt; error.path.as_str(), path, "the path in {text}");
-            assert_eq!(rt; error.line, line, "the line in {text}");
-            assert_eq!(rt; error.column, column, "the column in {text}");
+            let is_there = error.path.as_str() == path
+                && error.line == line
+                && error.column == column;
+            assert!(rt;
+                is_there,
+                "{text} is refused in line {}, column {}",
+                error.line, error.column
+            );
         }
     }
 }

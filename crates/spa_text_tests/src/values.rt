@@ -189,39 +189,70 @@ fn arrays_and_choices_are_read(rt: HostRuntime) -> Result<(), Fail> {
     Ok(())
 }
 
-/// Structs in one another, an object with a repeated key, flags, and values by the names that its keys have.
+/// Two members, of which the second is a struct.
+fn two_members(alloc: Global) -> Result<Value, AllocError> {
+    let mut members = Vec::with_capacity(alloc, 2)?;
+    members.push_reserved(Value::Int(1));
+    members.push_reserved(Value::Struct(Vec::new(alloc)));
+    Ok(Value::Struct(members))
+}
+
 #[test]
-fn structs_and_objects_are_read(rt: HostRuntime) -> Result<(), Fail> {
-    let alloc = rt.alloc();
-    let mut members = Vec::new(alloc);
-    members.push(Value::Int(1))?;
-    members.push(Value::Struct(Vec::new(alloc)))?;
-    assert_read(&rt, alloc, "[1,{\"struct\":[]}]", Value::Struct(members));
-    let text =
-        "{\"type\":\"Format\",\"id\":\"EnumFormat\",\"props\":{\"format\":\"S16LE\",\"65539\":{\"flags\":3,\"value\":{\"long\":1}},\"rate\":5,\"rate\":-6}}";
-    let properties = [
-        (65537, 0, Value::Id(Id(259))),
-        (65539, 3, Value::Long(1)),
-        (65539, 0, Value::Int(5)),
-        (65539, 0, Value::Int(-6)),
-    ];
-    let mut wanted = Vec::new(alloc);
-    for (key, flags, value) in properties {
-        wanted.push(Property {
+fn structs_are_read(rt: HostRuntime) -> Result<(), Fail> {
+    let wanted = two_members(rt.alloc())?;
+    assert_read(&rt, rt.alloc(), "[1,{\"struct\":[]}]", wanted);
+    Ok(())
+}
+
+/// An object with a repeated key, flags, and values by the names that its keys have.
+const OBJECT: &str =
+    "{\"type\":\"Format\",\"id\":\"EnumFormat\",\"props\":{\"format\":\"S16LE\",\"65539\":{\"flags\":3,\"value\":{\"long\":1}},\"rate\":5,\"rate\":-6}}";
+
+/// Its keys, flags and values.
+const PROPERTIES: [(u32, u32, Number); 4] = [
+    (65537, 0, Number::Id(259)),
+    (65539, 3, Number::Long(1)),
+    (65539, 0, Number::Int(5)),
+    (65539, 0, Number::Int(-6)),
+];
+
+/// A number, by its type.
+#[derive(Clone, Copy)]
+enum Number {
+    Id(u32),
+    Int(i32),
+    Long(i64),
+}
+
+fn value_of(number: Number) -> Value {
+    match number {
+        Number::Id(x) => Value::Id(Id(x)),
+        Number::Int(x) => Value::Int(x),
+        Number::Long(x) => Value::Long(x),
+    }
+}
+
+/// Its properties.
+fn properties_of(alloc: Global) -> Result<Vec<Property>, AllocError> {
+    let mut properties = Vec::new(alloc);
+    for (key, flags, value) in PROPERTIES {
+        properties.push(Property {
             key,
             flags: PropertyFlags::from_bits_retain(flags),
-            value,
+            value: value_of(value),
         })?;
     }
-    assert_read(
-        &rt,
-        alloc,
-        text,
-        Value::Object(Object {
-            type_: 262147,
-            id: 3,
-            properties: wanted,
-        }),
-    );
+    Ok(properties)
+}
+
+#[test]
+fn objects_are_read(rt: HostRuntime) -> Result<(), Fail> {
+    let properties = properties_of(rt.alloc())?;
+    let wanted = Value::Object(Object {
+        type_: 262147,
+        id: 3,
+        properties,
+    });
+    assert_read(&rt, rt.alloc(), OBJECT, wanted);
     Ok(())
 }

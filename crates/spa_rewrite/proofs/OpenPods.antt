@@ -29,14 +29,14 @@ from_left input end left e =
     ap (drop (end - length left)) whole ∙ drop_at e.before (left ++ drop end input) (end - length left) (omega arith)
 
 -- a pod that begins where that begins which ends there
-pub record IsPlaced (input : List ℕ) (end at : ℕ) (here : List ℕ) : Type 0 where
+pub record BeginsThere (input : List ℕ) (end at : ℕ) (here : List ℕ) : Type 0 where
   pub size : word_at input at ≡ word_at here 0
   pub rest : take (end - pod_end input at) (drop (pod_end input at) input) ≡ rest_of here
   pub around : pod_end input at ≤ end
   pub smaller : body_end input at ≤ end
   pub body : EndsAt input (body_end input at) (body_of here)
 
-pub placed_in : (input here : List ℕ) (end at : ℕ) → (e : EndsAt input end here) → HasFront here → at ≡ end - length here → IsPlaced input end at here
+pub placed_in : (input here : List ℕ) (end at : ℕ) → (e : EndsAt input end here) → HasFront here → at ≡ end - length here → BeginsThere input end at here
 placed_in input here end at e there z =
     let tail = drop end input in
     let from : drop at input ≡ here ++ tail = ap (λ n. drop n input) z ∙ from_left input end here e in

@@ -157,18 +157,23 @@ fn put_text(text: &mut String, body: &[u8]) -> Result<(), AllocError> {
     };
     text.push_str("String \"")?;
     match str::from_utf8(shown) {
-        Ok(shown) => {
-            for letter in shown.chars() {
-                put_letter(text, letter)?;
-            }
-        }
-        Err(_) => {
-            for byte in shown {
-                put_byte(text, *byte)?;
-            }
-        }
+        Ok(shown) => put_letters(text, shown)?,
+        Err(_) => put_bytes(text, shown)?,
     }
-    text.push_str("\"")?;
+    text.push_str("\"")
+}
+
+fn put_letters(text: &mut String, letters: &str) -> Result<(), AllocError> {
+    for letter in letters.chars() {
+        put_letter(text, letter)?;
+    }
+    Ok(())
+}
+
+fn put_bytes(text: &mut String, bytes: &[u8]) -> Result<(), AllocError> {
+    for byte in bytes {
+        put_byte(text, *byte)?;
+    }
     Ok(())
 }
 

@@ -3,14 +3,13 @@ ghost use Rattle.std.specs.Prelude.{◌≡◌, ◌+◌, ◌-◌, ◌<◌, ◌≤
 ghost use Rattle.spa_format.specs.Tree.{choice_type};
 ghost use Rattle.spa_format.specs.Typed.{IsBytes};
 ghost use Rattle.spa_format.specs.Words.{header_size, size_limit};
-ghost use Rattle.spa_rewrite.specs.MovedRuns.{BeginsRun, PutsRun};
-ghost use Rattle.spa_rewrite.specs.Nesting.{AreCanonicalInside};
+ghost use Rattle.spa_rewrite.specs.MovedRuns.{AreRun, BeginsRun, MovesRun, PutsRun};
 ghost use Rattle.spa_rewrite.specs.Shorter.{AreShorter, HoldsWhole, IsInner, PutsHeader, PutsKey, WritesPod, WritesPods};
 ghost use Rattle.spa_rewrite.specs.Steady.{IsPodOf, key_size};
 
 use crate::across::{holds_whole, inner_type};
-use crate::patch::{SECOND_HEADER, patch_leaf, patch_values, place_behind, taken_len};
-use crate::steady::behind_key;
+use crate::patch::{SECOND_HEADER, patch_all, patch_leaf, patch_values, place_behind, taken_len};
+use crate::steady::{behind_key, steady_stretch};
 use spa_bytes::{HEADER_LEN, extent_of, open, two_words, u32_at};
 use spa_scan::{canonical_stretch, leaf_members, leaf_properties};
 use spa_utils::SpaTypes;
@@ -34,11 +33,11 @@ pub(crate) fn place_all(surplus: usize, bytes: &mut [u8]) -> usize
     let end = bytes.len() - surplus;
     let (mut outermost, mut keyed) = (true, false);
     // A look at all pods has ended at the first.
-    let mut look_at = 1;
+    let (mut look_at, mut noisy) = (1, false);
     let (mut from, mut to) = (0, 0);
     loop {
-        if let Some(run) = run_len(outermost, keyed, &mut look_at, bytes, from) {
-            move_run(bytes, from, to, run);
+        if let Some(run) = run_len(outermost, keyed, &mut look_at, &mut noisy, bytes, from) {
+            put_run(noisy, bytes, from, to, run);
             from += run;
             to += run;
             continue;
@@ -68,42 +67,64 @@ pub(crate) fn place_all(surplus: usize, bytes: &mut [u8]) -> usize
     }
 }
 
-/// How many bytes the pods from a place on take that are their own rewritings, with key and flags before each where `keyed` is set, if there are
-/// any. Before the place to look at none is looked for. That goes on: behind a run to the pod behind the one that ended it.
+/// How many bytes the pods from a place on take that are a run, with key and flags before each where `keyed` is set, if there is one; and
+/// whether it is noisy. Before the place to look at none is looked for. That goes on: behind a run to the pod behind the one that ended it.
 #[inline(always)]
 fn run_len(
     outermost: bool,
     keyed: bool,
     look_at: &mut usize,
+    noisy: &mut bool,
     bytes: &[u8],
     from: usize,
 ) -> Option<usize>
     requires { from ≤ length bytes.now }
-    ensures { IfSome result (λ len. BeginsRun keyed (drop from bytes.now) len) }
+    ensures { IfSome result (λ len. BeginsRun noisy.new keyed (drop from bytes.now) len) }
 {
     if from < *look_at {
         return None;
     }
-    let len = run_at(outermost, keyed, &bytes[from..]);
+    let len = run_at(outermost, keyed, noisy, &bytes[from..]);
     let unlooked = if len < LONG_RUN { UNLOOKED } else { 1 };
     *look_at = from.saturating_add(len).saturating_add(unlooked);
     if len == 0 { None } else { Some(len) }
 }
 
-/// How many bytes the first of these pods take that are their own rewritings. Inside others only leaves are looked at: a look at structs
-/// would be one at each level that they stand in.
-fn run_at(outermost: bool, keyed: bool, left: &[u8]) -> usize
+/// How many bytes the first of these pods take that are their own rewritings; where these are few of the outermost pods, the noisy ones that
+/// are as long. Inside others only leaves are looked at: a look at structs would be one at each level that they stand in.
+fn run_at(outermost: bool, keyed: bool, noisy: &mut bool, left: &[u8]) -> usize
     ensures within { result ≤ length left.now }
-    ensures canonical { AreCanonicalInside keyed (take result left.now) }
+    ensures its { AreRun noisy.new keyed (take result left.now) }
 {
-    let (run, _) = if keyed {
-        leaf_properties(left)
-    } else if outermost {
-        canonical_stretch(left)
-    } else {
-        leaf_members(left)
-    };
-    run.len()
+    *noisy = false;
+    if keyed {
+        let (run, _) = leaf_properties(left);
+        return run.len();
+    }
+    if !outermost {
+        let (run, _) = leaf_members(left);
+        return run.len();
+    }
+    let (own, _) = canonical_stretch(left);
+    if own.len() >= LONG_RUN {
+        return own.len();
+    }
+    *noisy = true;
+    let (steady, _) = steady_stretch(left);
+    steady.len()
+}
+
+/// Moves a run from one place down to another, and makes noisy pods their rewritings there.
+#[inline(always)]
+fn put_run(noisy: bool, bytes: &mut [u8], from: usize, to: usize, len: usize)
+    requires run { from + len ≤ length bytes.old }
+    requires down { to ≤ from }
+    ensures { PutsRun noisy bytes.old bytes.new from to len }
+{
+    move_run(bytes, from, to, len);
+    if noisy {
+        patch_all(&mut bytes[to..to + len]);
+    }
 }
 
 /// Moves so many bytes from one place down to another, if that is another.
@@ -111,7 +132,7 @@ fn run_at(outermost: bool, keyed: bool, left: &[u8]) -> usize
 fn move_run(bytes: &mut [u8], from: usize, to: usize, len: usize)
     requires run { from + len ≤ length bytes.old }
     requires down { to ≤ from }
-    ensures { PutsRun bytes.old bytes.new from to len }
+    ensures { MovesRun bytes.old bytes.new from to len }
 {
     if to < from {
         bytes.copy_within(from..from + len, to);
@@ -155,12 +176,12 @@ fn place(keyed: bool, bytes: &mut [u8], gap: usize) -> usize
     requires { gap ≤ length bytes.old }
     ensures { WritesPods keyed (drop gap bytes.old) bytes.old bytes.new result }
 {
-    let mut look_at = gap.saturating_add(UNLOOKED);
+    let (mut look_at, mut noisy) = (gap.saturating_add(UNLOOKED), false);
     let mut to = 0;
     let mut from = gap;
     loop {
-        if let Some(run) = run_len(false, keyed, &mut look_at, bytes, from) {
-            move_run(bytes, from, to, run);
+        if let Some(run) = run_len(false, keyed, &mut look_at, &mut noisy, bytes, from) {
+            put_run(noisy, bytes, from, to, run);
             from += run;
             to += run;
             continue;

@@ -43,8 +43,7 @@ place-place_pod-to-requires t c =
 
 pub place-loop-run-preserved-in-Some : goal.place-loop-run-preserved-in-Some
 place-loop-run-preserved-in-Some t c =
-    places_run _ _ _ _ _ _ _ _ _ c.loop-run.invariant c.requires c.in-Some.ensures c.move_run.ensures
-    c.move_run.auto.bytes
+    places_run _ _ _ _ _ _ _ _ _ _ c.loop-run.invariant c.requires c.in-Some.ensures c.put_run.ensures c.put_run.auto.bytes
 
 pub place-loop-run-smaller : goal.place-loop-run-smaller
 place-loop-run-smaller t c =

@@ -26,7 +26,7 @@ returns-in_default-open c =
 
 pub loop-run-preserved-in-Some : goal.loop-run-preserved-in-Some
 loop-run-preserved-in-Some c =
-    chain_run _ _ _ _ _ _ _ _ c.loop-run.invariant c.in-Some.ensures c.move_run.ensures c.move_run.auto.bytes
+    chain_run _ _ _ _ _ _ _ _ _ c.loop-run.invariant c.in-Some.ensures c.put_run.ensures c.put_run.auto.bytes
 
 pub put_header-to-requires-clause-fits : goal.put_header-to-requires-clause-fits
 put_header-to-requires-clause-fits c =

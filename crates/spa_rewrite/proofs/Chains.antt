@@ -17,11 +17,11 @@ use Rattle.spa_format.proofs.Short.{length-framed, short_members, short_props, s
 use Rattle.spa_format.proofs.WordLemmas.{IsBytes-drop}
 use Rattle.spa_bytes.specs.Opening.{Opens}
 use Rattle.spa_rewrite.specs.Shorter.{AreInsideWithin, ArePlaced, ArePodsWithin, AreShorter, AreShorterInside, BeginsShorter, HoldsWhole, IsInner, IsPlaced, IsShorterBody, PutsHeader, PutsKey, WritesOn, WritesPod, type_inside}
-use Rattle.spa_rewrite.specs.Steady.{IsBehindKey, IsInside, IsPodOf, key_size}
+use Rattle.spa_rewrite.specs.Steady.{BeginsSteady, IsBehindKey, IsInside, IsPodOf, key_size}
 use Rattle.spa_rewrite.proofs.Moves.{PlacesOn, places_before, places_more, pod_here, pod_places}
 use Rattle.spa_rewrite.proofs.Patches.{length_put}
 use Rattle.spa_rewrite.proofs.Places.{few_placed, inner_placed, pods_placed, whole_keyed, whole_list}
-use Rattle.spa_rewrite.proofs.ShorterLemmas.{first_body_within, first_within, inside_fits, shorter_inside, shorter_none, shorter_opened, shorter_room, shorter_step}
+use Rattle.spa_rewrite.proofs.ShorterLemmas.{first_body_within, first_within, inside_fits, shorter_inside, shorter_none, shorter_opened, shorter_room, shorter_step, steady_front}
 use Rattle.spa_rewrite.proofs.WrittenAcross.{further_behind, here_is, opened_here}
 
 -- so much is counted, and these are left in the pods that are open: with what they are shorter, all are
@@ -55,6 +55,13 @@ in_more keyed levels pods left here rest surplus n w l k e c =
       room = omega arith;
       within = λ s. subst (AreInsideWithin levels keyed) (sym e) (first_within levels keyed left here k l (w.within s)).others;
     }
+
+-- a pod of one word or two, whose rewriting is as long
+pub in_steady : (keyed : Bool) (levels : ℕ) (pods left here rest : List ℕ) (surplus : ℕ) → CountsIn keyed levels pods left surplus →
+    0 < length left → IsBehindKey keyed left here → BeginsSteady here rest → CountsIn keyed levels pods rest surplus
+in_steady keyed levels pods left here rest surplus w l k s =
+    subst (CountsIn keyed levels pods rest) (let e : surplus + 0 ≡ surplus = omega arith in e)
+    (in_more keyed levels pods left here rest surplus 0 w l k s.begins.follows (steady_front here rest s))
 
 more_levels : (levels : ℕ) (keyed : Bool) (body : List ℕ) → AreInsideWithin (levels - 1) keyed body → AreInsideWithin levels keyed body
 more_levels levels true body s = let l = s.shallow in record { values = s.values; properties = s.properties; shallow = omega arith }

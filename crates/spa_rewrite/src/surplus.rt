@@ -85,6 +85,10 @@ pub(crate) fn surplus_of_all(pods: &[u8]) -> Option<usize>
         let Some(here) = behind_key(keyed, left) else {
             return None;
         };
+        if let Some(rest) = short_front(here) {
+            left = rest;
+            continue;
+        }
         let Some(front) = open(here) else {
             return None;
         };

@@ -1,6 +1,6 @@
 use Rattle.std.proofs.Common.{sym, ◌∙◌, arith}
 use Rattle.std.proofs.lemmas.Bool.{eqb-false, eqb-true}
-use Rattle.spa_rewrite.proofs.Chains.{in_all, in_last, in_more, in_none}
+use Rattle.spa_rewrite.proofs.Chains.{in_all, in_last, in_more, in_none, in_steady}
 use Rattle.spa_rewrite.proofs.ShorterLemmas.{first_body_within, first_within, shorter_opened, within_key}
 use Rattle.spa_rewrite.proofs.SteadyLemmas.{left_shorter}
 use Rattle.spa_rewrite.proofs.surplus.surplus_of_all.Goals as goal
@@ -13,6 +13,11 @@ returns-in_default-clause-missed c = λ w.
     let some = eqb-false _ 0 (sym c.is_empty.ensures ∙ c.loop-left-test.true) in
     let short = c.in_default.ensures.short in
     within_key _ _ _ short.0 short.1 (omega (arith, some)) (c.loop-left.invariant.within w)
+
+pub loop-left-preserved-in-Some-short_front : goal.loop-left-preserved-in-Some-short_front
+loop-left-preserved-in-Some-short_front c =
+    let some = eqb-false _ 0 (sym c.is_empty.ensures ∙ c.loop-left-test.true) in
+    in_steady _ _ _ _ _ _ _ c.loop-left.invariant (omega (arith, some)) c.in-Some.ensures.there c.in-Some-short_front.ensures.taken
 
 pub returns-in_default-open-clause-missed : goal.returns-in_default-open-clause-missed
 returns-in_default-open-clause-missed c = λ w.

@@ -32,10 +32,9 @@ pub mod utils {
 pub mod pod {
     pub use spa_fixed::{CanonicalFixedSizedPod, ChoiceElement, FixedSizedPod};
     pub use spa_format::{laws, view_laws};
+    pub use spa_in_place::rewrite_in_place;
     pub use spa_print::Printed;
-    pub use spa_rewrite::{
-        accept_all, is_canonical, rewrite, rewrite_all, rewrite_in_parts, rewrite_in_place,
-    };
+    pub use spa_rewrite::{accept_all, is_canonical, rewrite, rewrite_all, rewrite_in_parts};
     pub use spa_scan::nests_within;
     pub use spa_utils::Frame;
     pub use spa_value::{

@@ -12,7 +12,7 @@ use Rattle.spa_fixed.specs.Faults.{kind_text}
 use Rattle.spa_fixed.specs.declared.fault.DeserializeError.{DeserializeError}
 use Rattle.spa_fixed.specs.declared.fault.DeserializeError.TheVariants as error
 use Rattle.spa_rewrite.specs.Rewriting.{IsLeft, RefusesFront, RefusesList}
-use Rattle.spa_rewrite.specs.InPlace.{RefusesListAt}
+use Rattle.spa_in_place.specs.InPlace.{RefusesListAt}
 use Rattle.spa_device.specs.Whole.{IsAllOf}
 use Rattle.spa_pod_commands.specs.Answers.{Answers, BeginsToWrite, IsCutOff, IsNotListed, IsRefusalAt, IsTold, IsUndone, OnAnswer, RefusesInput, Writes}
 use Rattle.spa_pod_commands.specs.declared.answer.Answer.{Answer}

@@ -11,7 +11,8 @@ use crate::output::Output;
 use crate::pods::{first_short, fixate_all};
 use spa_device::read_whole;
 use spa_fixed::DeserializeError;
-use spa_rewrite::{accept_all, rewrite_in_place};
+use spa_in_place::rewrite_in_place;
+use spa_rewrite::accept_all;
 use std::alloc::Global;
 use std::io::{Read, Write};
 

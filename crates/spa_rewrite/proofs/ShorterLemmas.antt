@@ -1,13 +1,12 @@
 -- Pods whose rewritings may be shorter than they are.
-use Rattle.std.proofs.Common.{◌≡◌, ◌≢◌, ℕ, ◌+◌, ◌*◌, ◌/◌, ◌-◌, ◌<◌, ◌≤◌, inl, inr, List, ◌++◌, length, drop, refl, sym, ap, ◌∙◌, subst, arith, append_assoc, length-append, length-drop}
+use Rattle.std.proofs.Common.{◌≡◌, ◌≢◌, ℕ, ◌+◌, ◌*◌, ◌/◌, ◌-◌, ◌<◌, ◌≤◌, inl, inr, List, ◌++◌, length, drop, refl, sym, ap, ◌∙◌, subst, arith, append_assoc, length-append, length-drop, ◌%◌}
 use Rattle.std.specs.Prelude.{Bool, true, false, max}
 use Rattle.std.proofs.lemmas.List.{length-take-le, nil_from_length}
 use Rattle.spa_format.specs.Words.{extent, header_size, padded_size, word_at, word_bytes}
-use Rattle.spa_format.specs.Kind.{kind_of}
+use Rattle.spa_format.specs.Kind.{kind_of, Fixed, Kind}
 use Rattle.spa_format.specs.Tree.{Shape, Tree, fixed, string, bytes, bitmap, array, choice, pointer, struct, object, Trees, no_trees, member, Properties, no_properties, property, join_members, choice_type, object_type, struct_type, type_of}
 use Rattle.spa_format.specs.Normal.{kept_flags}
 use Rattle.spa_format.specs.Pod.{AreMembers, AreProperties, IsBody, IsChoice, IsPod}
-use Rattle.spa_format.specs.Kind.{Fixed, Kind}
 use Rattle.spa_format.specs.Encoding.{encoded_body, encoding_of, member_encodings, property_encodings}
 use Rattle.spa_format.specs.Front.{HasFront, front_of, rest_of}
 use Rattle.spa_format.proofs.Choices.{pointer_length}
@@ -24,12 +23,30 @@ use Rattle.spa_scan.specs.Depth.{depth_of, member_depth, property_depth}
 use Rattle.spa_rewrite.specs.Elements.{HasValues}
 use Rattle.spa_rewrite.specs.Shorter.{AreInsideWithin, ArePodsWithin, ArePropertiesWithin, AreShorter, AreShorterInside, BeginsShorter, IsBodyWithin, IsShorterBody}
 use Rattle.spa_rewrite.specs.Steady.{BeginsSteady, IsBehindKey, IsInside, IsSteadyBody}
-use Rattle.spa_rewrite.proofs.Places.{whole_keyed, whole_list}
 use Rattle.spa_rewrite.proofs.SteadyFound.{leaf_depth}
 use Rattle.spa_format.proofs.Sequences.{members_joined}
 use Rattle.spa_rewrite.proofs.Stretches.{member_encodings-join}
 use Rattle.spa_rewrite.proofs.SteadyLemmas.{kept_length}
 use Rattle.spa_rewrite.proofs.Steps.{parted}
+
+-- lists of pods are as long as a multiple of 8
+pub whole_list : (vs : Trees) (b : List ℕ) → AreMembers vs b → length b % 8 ≡ 0
+whole_list no_trees b m = let l = ap length m in omega arith
+whole_list (member v vs) b m =
+    let l = ap length m.2 ∙ length-append m.0 m.1 in
+    let w = m.3.whole in
+    let r = whole_list vs m.1 m.4 in
+    omega arith
+
+pub whole_keyed : (ps : Properties) (b : List ℕ) → AreProperties ps b → length b % 8 ≡ 0
+whole_keyed no_properties b m = let l = ap length m in omega arith
+whole_keyed (property key flags v ps) b m =
+    let l = ap length m.5 ∙ length-append m.3 m.4 in
+    let d = length-drop 8 b in
+    let w = m.6.whole in
+    let big = m.0 in
+    let r = whole_keyed ps m.4 m.7 in
+    omega arith
 
 -- none is left
 pub shorter_none : (keyed : Bool) (left : List ℕ) → length left ≡ 0 → AreShorterInside keyed left 0

@@ -21,7 +21,7 @@ pub(crate) const WORD_LEN: usize = 4;
 
 /// The length in bytes of a whole pod whose body is one or two words; also where the second header in a pod ends: an object's
 /// type and id, an array's child header, or a choice's shape and flags.
-pub(crate) const SECOND_HEADER: usize = 16;
+pub const SECOND_HEADER: usize = 16;
 
 /// Where the child header of a choice ends, and its values begin.
 const VALUES_AT: usize = 24;
@@ -30,7 +30,7 @@ const VALUES_AT: usize = 24;
 const POINTER_POD: usize = 24;
 
 /// Makes pods one after another their rewritings. It promises nothing where the bytes aren't such pods, or are longer than these rewritings.
-pub(crate) fn patch_all(bytes: &mut [u8])
+pub fn patch_all(bytes: &mut [u8])
     ensures { ArePatched false bytes.old bytes.new }
 {
     let mut at = 0;
@@ -175,7 +175,7 @@ fn begins_word_property(input: &[u8]) -> bool
 
 /// Whether the pod at the front is there, and a word that is no truth value.
 #[inline(always)]
-pub(crate) fn begins_word(input: &[u8]) -> bool
+pub fn begins_word(input: &[u8]) -> bool
     ensures { result ≡ true → BeginsWord input.now }
 {
     if input.len() < SECOND_HEADER {
@@ -200,9 +200,9 @@ fn is_word_type(type_: u32) -> bool
     }
 }
 
-/// The place behind a header here, and behind a key and flags where `keyed` is set.
+/// The place behind so many bytes of a header from a place on, and behind a key and flags where `keyed` is set.
 #[inline(always)]
-pub(crate) fn place_behind(bytes: &[u8], at: usize, header: usize, keyed: bool) -> usize
+pub fn place_behind(bytes: &[u8], at: usize, header: usize, keyed: bool) -> usize
     requires { at + header + key_size keyed ≤ length bytes.now }
     ensures { result ≡ at + header + key_size keyed }
 {
@@ -248,9 +248,9 @@ fn patch_pod(type_: u32, size: usize, pod: &mut [u8])
     }
 }
 
-/// The same of a pod that holds no others.
+/// Makes a pod of this type and this size of a body, which holds no others, its rewriting, if that is as long.
 #[inline(always)]
-pub(crate) fn patch_leaf(type_: u32, size: usize, pod: &mut [u8])
+pub fn patch_leaf(type_: u32, size: usize, pod: &mut [u8])
     requires pod { IsPodOf pod.old type_ size }
     requires no_struct { type_ ≢ struct_type }
     requires no_object { type_ ≢ object_type }
@@ -334,9 +334,9 @@ pub(crate) fn patch_choice(size: usize, pod: &mut [u8])
     patch_values(shape, len, pod);
 }
 
-/// The same of a choice of this shape that takes so many bytes of values. Its size word isn't read.
+/// Makes a choice of this shape, which takes so many bytes of values, its rewriting, if that is as long. Its size word isn't read.
 #[inline(always)]
-pub(crate) fn patch_values(shape: u32, len: usize, pod: &mut [u8])
+pub fn patch_values(shape: u32, len: usize, pod: &mut [u8])
     requires room { 24 + len ≤ length pod.old }
     requires fits { 16 + len < size_limit }
     ensures { TakesValues shape len pod.old pod.new }
@@ -349,8 +349,8 @@ pub(crate) fn patch_values(shape: u32, len: usize, pod: &mut [u8])
     clear_padding(SECOND_HEADER + len, pod);
 }
 
-/// How many bytes of values a choice of this shape takes, of all that it holds.
-pub(crate) fn taken_len(shape: u32, size: usize, all: usize) -> usize
+/// How many bytes of values a choice of this shape takes, where one has this size, of all that it holds.
+pub fn taken_len(shape: u32, size: usize, all: usize) -> usize
     requires { size < size_limit }
     ensures { (s : Shape) → shape ≡ shape_number s → result ≡ bytes_taken s size all }
 {

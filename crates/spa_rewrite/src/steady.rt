@@ -35,7 +35,7 @@ pub(crate) struct Inside<'a> {
 
 /// The first pods whose rewritings are as long as they are, as many as are found, and what follows them. A pod in which structs and
 /// objects stand more than `LEVELS` deep in one another, those at the end of the one around them aside, isn't looked into.
-pub(crate) fn steady_stretch(input: &[u8]) -> (&[u8], &[u8])
+pub fn steady_stretch(input: &[u8]) -> (&[u8], &[u8])
     ensures parts { input.now ≡ result.0.now ++ result.1.now }
     ensures steady { AreSteady result.0.now }
     // Nothing follows where the input is such pods that nest no deeper.
@@ -116,7 +116,7 @@ fn are_steady_inside(keyed: bool, body: &[u8], levels: u32) -> bool
 
 /// What is left of properties without the first key and flags, where these are there, and of pods all.
 #[inline(always)]
-pub(crate) fn behind_key(keyed: bool, left: &[u8]) -> Option<&[u8]>
+pub fn behind_key(keyed: bool, left: &[u8]) -> Option<&[u8]>
     ensures there { IfSome result (λ here. IsBehindKey keyed left.now here.now) }
     ensures short { IfNone result ((keyed ≡ true) × (length left.now < header_size)) }
 {

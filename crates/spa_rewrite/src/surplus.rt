@@ -41,8 +41,9 @@ fn surplus_of(keyed: bool, pods: &[u8], levels: u32) -> Option<usize>
     Some(surplus)
 }
 
-/// The same of all pods of an input.
-pub(crate) fn surplus_of_each(pods: &[u8]) -> Option<usize>
+/// By how many bytes the rewritings of all pods of an input are shorter than these. `None` says that the bytes aren't pods one after another, or that
+/// structs and objects stand more than `LEVELS` deep in one another in them.
+pub fn surplus_of_each(pods: &[u8]) -> Option<usize>
     ensures there { IfSome result (λ surplus. AreShorter pods.now surplus) }
     ensures missed { IfNone result (¬ (ArePodsWithin levels_looked_into pods.now)) }
 {
@@ -73,8 +74,9 @@ fn front_surplus(type_: u32, body: &[u8]) -> Option<usize>
     }
 }
 
-/// The same of all pods of an input, where structs and objects may stand at any depth that end where the one around them does.
-pub(crate) fn surplus_of_all(pods: &[u8]) -> Option<usize>
+/// By how many bytes the rewritings of all pods of an input are shorter than these. `None` says what it says of `surplus_of_each`, but that
+/// structs and objects may stand at any depth that end where the one around them does.
+pub fn surplus_of_all(pods: &[u8]) -> Option<usize>
     ensures there { IfSome result (λ surplus. AreShorter pods.now surplus) }
     ensures missed { IfNone result (¬ (ArePodsWithin levels_looked_into pods.now)) }
 {

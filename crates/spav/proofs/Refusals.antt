@@ -11,7 +11,7 @@ use Rattle.spa_fixed.specs.declared.fault.FaultKind.TheVariants as fault_kind
 use Rattle.spa_fixed.specs.Faults.{fault_kind_text, kind_text}
 use Rattle.spa_format.specs.Pod.{AreMembers}
 use Rattle.spa_leaf.specs.Reading.{OnFault}
-use Rattle.spa_rewrite.specs.InPlace.{RefusesListAt}
+use Rattle.spa_in_place.specs.InPlace.{RefusesListAt}
 use Rattle.spav.specs.Lists.{IsForBytes, ListIsRefused}
 
 -- texts that begin otherwise are others

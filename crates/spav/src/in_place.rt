@@ -1,7 +1,7 @@
 //! Lists of pods, rewritten where they lie in the caller's memory.
 ghost use Rattle.std.specs.Prelude.{◌≡◌, false, true, ℕ};
 ghost use Rattle.spa_fixed.specs.declared.fault.DeserializeError.TheVariants as refused;
-ghost use Rattle.spa_rewrite.specs.InPlace.{RefusesListAt};
+ghost use Rattle.spa_in_place.specs.InPlace.{RefusesListAt};
 ghost use Rattle.spa_rewrite.specs.Shorter.{ArePodsWithin};
 ghost use Rattle.spa_scan.specs.Depth.{levels_looked_into};
 ghost use Rattle.spav.specs.Answers.{IsChecked, IsDone, IsInvalid, IsNoMemory};
@@ -9,7 +9,7 @@ ghost use Rattle.spav.specs.Lists.{IsForBytes, ListIsRefused, ListIsWritten};
 
 use crate::answers::{DONE, INVALID, NO_MEMORY};
 use spa_fixed::DeserializeError;
-use spa_rewrite::rewrite_in_place;
+use spa_in_place::rewrite_in_place;
 use std::alloc::Global;
 
 /// Puts the rewritings of all pods that the bytes are at their front, one after another.

@@ -10,7 +10,8 @@ ghost use Rattle.spav.specs.Lists.{ListIsRefused, ListIsWritten, ListLacksRoom};
 
 use crate::answers::{DONE, INVALID, NO_MEMORY, NO_ROOM};
 use spa_fixed::DeserializeError;
-use spa_rewrite::{accept_all, rewrite_across, rewrite_all, rewrite_into};
+use spa_in_place::{rewrite_across, rewrite_into};
+use spa_rewrite::{accept_all, rewrite_all};
 use spa_scan::canonical_stretch;
 use std::alloc::Global;
 

@@ -1,4 +1,4 @@
-use Rattle.spa_rewrite.proofs.InPlaceLemmas.{accepted_behind, list_behind, others_deeper}
+use Rattle.spa_rewrite.proofs.FirstPods.{accepted_behind, list_behind, others_deeper}
 use Rattle.spa_rewrite.proofs.rewriting.accept_all.Goals as goal
 
 pub returns-in-Some-clause-accepted : goal.returns-in-Some-clause-accepted

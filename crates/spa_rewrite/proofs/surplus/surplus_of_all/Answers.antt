@@ -1,6 +1,6 @@
 use Rattle.std.proofs.Common.{sym, ◌∙◌, arith}
 use Rattle.std.proofs.lemmas.Bool.{eqb-false, eqb-true}
-use Rattle.spa_rewrite.proofs.Chains.{in_all, in_last, in_more, in_none, in_steady}
+use Rattle.spa_rewrite.proofs.Counts.{in_all, in_last, in_more, in_none, in_steady}
 use Rattle.spa_rewrite.proofs.ShorterLemmas.{first_body_within, first_within, shorter_opened, within_key}
 use Rattle.spa_rewrite.proofs.SteadyLemmas.{left_shorter}
 use Rattle.spa_rewrite.proofs.surplus.surplus_of_all.Goals as goal

@@ -1,6 +1,6 @@
 use Rattle.std.proofs.Common.{length}
 use Rattle.spa_scan.specs.Depth.{levels_looked_into}
-use Rattle.spa_rewrite.proofs.Chains.{CountsIn}
+use Rattle.spa_rewrite.proofs.Counts.{CountsIn}
 use Rattle.spa_rewrite.proofs.surplus.surplus_of_all.Given as goal
 
 abbrev pub invariant-loop-left : goal.invariant-loop-left

@@ -1,0 +1,3 @@
+pub mod InPlace
+pub mod Placed
+pub mod MovedRuns

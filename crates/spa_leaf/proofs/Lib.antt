@@ -4,3 +4,4 @@ pub mod SinkRefusals
 pub mod Frames
 pub mod Pieces
 pub mod Parts
+mod Wholes

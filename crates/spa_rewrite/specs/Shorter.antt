@@ -1,5 +1,5 @@
 -- Pods whose rewritings may be shorter than they are: docs/FORMAT.md, "The encoding of a value".
-use Rattle.std.specs.Prelude.{◌≡◌, ◌+◌, ◌-◌, ◌≤◌, ℕ, List, length, take, Bool, true, false}
+use Rattle.std.specs.Prelude.{◌≡◌, ◌+◌, ◌≤◌, ℕ, List, length, Bool, true, false}
 use Rattle.spa_format.specs.Words.{padded_size}
 use Rattle.spa_format.specs.Tree.{Tree, Trees, Properties, type_of}
 use Rattle.spa_format.specs.Pod.{AreMembers, AreProperties, IsBody}

@@ -21,7 +21,8 @@ use spa_bytes::{Front, open};
 use spa_fixed::{
     CanonicalFixedSizedPod, DeserializeError, Fault, FaultKind, FixedSizedPod, Refusal,
 };
-use spa_leaf::{error_at, read_any_choice, read_fixed, read_pointer, text_of};
+use spa_leaf::{error_at, read_fixed, read_pointer, text_of};
+use spa_read::read_any_choice;
 use spa_utils::{Fd, Float32, Float64, Fraction, Id, Rectangle, SpaTypes};
 use std::alloc::Global;
 

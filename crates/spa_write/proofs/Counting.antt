@@ -1,5 +1,5 @@
 -- How many values lie in a list, and how many bytes they have at least.
-use Rattle.std.proofs.Common.{◌≡◌, ℕ, ◌+◌, ◌*◌, ◌/◌, ◌<◌, ◌≤◌, List, length, take, drop, get_or, Option, Some, None, IfSome, Bool, true, false, refl, sym, ap, ◌∙◌, arith, length-append}
+use Rattle.std.proofs.Common.{◌≡◌, ℕ, ◌+◌, ◌*◌, ◌<◌, ◌≤◌, List, length, take, drop, get_or, Option, Some, None, IfSome, Bool, true, false, ap, ◌∙◌, arith, length-append}
 use Rattle.std.specs.Prelude.{IfNone, is_some, not}
 use Rattle.spa_format.specs.Tree.{Tree, fixed, string, bytes, bitmap, array, choice, pointer, struct, object, struct_type, object_type, Trees, no_trees, member, Properties, no_properties, property, type_of, join_members, join_properties, node_count, member_node_count, property_node_count}
 use Rattle.spa_format.specs.Encoding.{encoded_body, encoding_of, member_encodings, property_encodings}

@@ -1,15 +1,15 @@
 -- Steps within the structs and objects that are begun.
-use Rattle.std.proofs.Common.{◌≡◌, ℕ, ◌+◌, ◌<◌, ◌≤◌, ◌^◌, ◌⊎◌, inl, inr, ⊎_elim, List, [], ◌∷◌, ◌++◌, length, take, drop, reverse, refl, sym, ap, ◌∙◌, subst, arith, append_assoc, length-append}
+use Rattle.std.proofs.Common.{◌≡◌, ℕ, ◌+◌, ◌<◌, ◌≤◌, ◌^◌, inl, inr, ⊎_elim, List, [], ◌∷◌, ◌++◌, length, take, drop, reverse, refl, sym, ap, ◌∙◌, subst, arith, append_assoc, length-append}
 use Rattle.std.specs.Prelude.{◌↔◌}
 use Rattle.std.specs.Borrow.{Bor}
-use Rattle.std.proofs.lemmas.List.{append-nil, nil_from_length, reverse-append}
+use Rattle.std.proofs.lemmas.List.{append-nil, reverse-append}
 use Rattle.spa_sink.specs.declared.gen_error.GenError.{GenError}
 use Rattle.spa_sink.specs.declared.gen_error.GenError.TheVariants.{Full, TooLarge, NulInText, WrongCount, Failed, Io, OutOfMemory}
 use Rattle.spa_sink.specs.Writing.{RefusesWrite}
-use Rattle.spa_format.specs.Words.{header_size, padded_size, size_limit, word_bytes}
-use Rattle.spa_format.specs.Tree.{Tree, struct, object, struct_type, object_type, Trees, Properties}
+use Rattle.spa_format.specs.Words.{header_size, size_limit, word_bytes}
+use Rattle.spa_format.specs.Tree.{Tree, struct, object, struct_type, object_type, Properties}
 use Rattle.spa_format.specs.Encoding.{encoded_body, encoding_of, framed, member_encodings, property_encodings}
-use Rattle.spa_format.specs.Typed.{AllPropertiesTyped, AllTyped, IsTyped}
+use Rattle.spa_format.specs.Typed.{AllPropertiesTyped, AllTyped}
 use Rattle.spa_format.specs.Writable.{HasNul, IsTooLarge, SomeHasNul, SomeTooLarge, SomeValueHasNul, SomeValueTooLarge}
 use Rattle.spa_value.specs.declared.value.Value.{Value}
 use Rattle.spa_value.specs.declared.object.Property.{Property}

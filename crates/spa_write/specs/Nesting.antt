@@ -5,8 +5,7 @@ use Rattle.spa_format.specs.Tree.{Tree, struct}
 use Rattle.spa_format.specs.Encoding.{encoded_body, encoding_of, member_encodings, property_encodings}
 use Rattle.spa_format.specs.Typed.{IsTyped, AllTyped, AllPropertiesTyped}
 use Rattle.spa_format.specs.Writable.{HasNul, IsTooLarge, IsWritable, SomeHasNul, SomeTooLarge, SomeValueHasNul, SomeValueTooLarge}
-use Rattle.spa_value.specs.declared.value.Value.{Value}
-use Rattle.spa_value.specs.View.{view, object_view}
+use Rattle.spa_value.specs.View.{object_view}
 use Rattle.spa_value.specs.Views.{views, property_views}
 use Rattle.spa_leaf.specs.Written.{begun_length}
 use Rattle.spa_write.specs.declared.left.Left.{Left}

@@ -4,10 +4,12 @@
 mod count;
 mod known;
 mod largest;
+mod leaf;
 mod left;
 mod nested;
 mod short;
 mod size;
 mod sized;
 
+pub use leaf::put_leaf;
 pub use sized::{write_sized, write_value};

@@ -10,10 +10,11 @@ ghost use Rattle.spa_write.specs.Nesting.{Begins, IsAppended, LeftHasNul, LeftTo
 ghost use Rattle.spa_leaf.specs.Written.{IsLeaf};
 ghost use Rattle.spa_write.specs.declared.left.Left.TheVariants as left_variant;
 
+use crate::leaf::put_leaf;
 use crate::left::{Begun, Left, Nested, Stop};
 use crate::short::short_encoding;
 use bitflags::Flags;
-use spa_leaf::{begin, close, put_leaf};
+use spa_leaf::{begin, close};
 use spa_sink::{GenError, PodSink, put_two};
 use spa_utils::SpaTypes;
 use spa_value::{Object, Property, Value};

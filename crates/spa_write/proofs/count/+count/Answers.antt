@@ -1,4 +1,4 @@
-use Rattle.std.proofs.Common.{rules, ◌≡◌, ◌+◌, ◌<◌, ◌∙◌, IfNone, IfSome, ap, sym, arith, length, refl}
+use Rattle.std.proofs.Common.{rules, ◌≡◌, ◌+◌, ◌<◌, ◌∙◌, ap, sym, arith}
 use Rattle.spa_format.specs.Tree.{member_node_count, node_count, object, property_node_count, struct}
 use Rattle.spa_value.specs.declared.object.Object.{out-Object}
 use Rattle.spa_value.specs.View.{view}

@@ -1,4 +1,4 @@
-use Rattle.std.proofs.Common.{◌≡◌, ◌/◌, ◌<◌, IsSomeAnd, length, arith, sym, subst}
+use Rattle.std.proofs.Common.{◌/◌, ◌<◌, IsSomeAnd, length, arith, sym, subst}
 use Rattle.spa_format.specs.Encoding.{encoding_of}
 use Rattle.spa_format.specs.Tree.{node_count}
 use Rattle.spa_value.specs.View.{view}

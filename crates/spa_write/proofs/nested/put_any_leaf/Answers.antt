@@ -1,6 +1,5 @@
-use Rattle.std.proofs.Common.{◌≡◌, ◌++◌, ◌∙◌, ap, Result, Ok, Err, OnOk}
+use Rattle.std.proofs.Common.{◌++◌, ◌∙◌, ap}
 use Rattle.std.proofs.lemmas.Result.{on_ok_weaker}
-use Rattle.spa_value.specs.View.{view}
 use Rattle.spa_write.proofs.nested.put_any_leaf.Goals as goal
 
 pub returns-in-Some-clause-put : goal.returns-in-Some-clause-put

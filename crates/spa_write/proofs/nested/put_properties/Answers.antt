@@ -4,7 +4,7 @@ use Rattle.spa_format.specs.Words.{word_bytes}
 use Rattle.spa_value.specs.View.{view}
 use Rattle.spa_write.specs.Nesting.{StopsAt}
 use Rattle.spa_write.specs.declared.left.Left.TheVariants as left
-use Rattle.spa_write.proofs.Nesting.{lacks_memory, passed_value, properties_none, properties_passed, stops_property, value_refused}
+use Rattle.spa_write.proofs.Nesting.{passed_value, properties_none, properties_passed, stops_property, value_refused}
 use Rattle.spa_write.proofs.nested.put_properties.Goals as goal
 
 pub loop-property-init : goal.loop-property-init

@@ -1,7 +1,4 @@
 use Rattle.std.proofs.Common.{reverse}
-use Rattle.spa_value.specs.View.{view}
-use Rattle.spa_write.specs.Nesting.{nested_tree}
-use Rattle.spa_write.specs.declared.left.Begun.{Begun}
 use Rattle.spa_write.proofs.Nesting.{less_begun, nested, pushed}
 use Rattle.spa_write.proofs.nested.write_by_loop.Goals as goal
 

@@ -1,24 +1,19 @@
 //! Bodies of choices, over any of the nine types of fixed size that have bytes.
-ghost use Rattle.std.specs.Prelude.{◌≡◌, IfErr, IfOk, OnOk};
+ghost use Rattle.std.specs.Prelude.{◌≡◌, IfErr, IfOk};
 ghost use Rattle.spa_format.specs.Pod.{IsBody};
-ghost use Rattle.spa_format.specs.Tree.{Tree, choice_type, type_of};
+ghost use Rattle.spa_format.specs.Tree.{choice_type, type_of};
 ghost use Rattle.spa_leaf.specs.Refusing.{RefusesBody};
 ghost use Rattle.spa_value.specs.View.{choice_view};
 
 use spa_bytes::u32_at;
 use spa_fixed::{Refusal, read_choice};
+use spa_leaf::{CHOICE_HEADER_LEN, VALUE_TYPE_AT};
 use spa_utils::{Fd, Float32, Float64, Fraction, Id, Rectangle, SpaTypes};
 use spa_value::ChoiceValue;
 use std::alloc::Global;
 
-/// How many bytes stand before a choice's values: its shape, its flags, and the size and the type of its values.
-pub const CHOICE_HEADER_LEN: usize = 16;
-
-/// Where the type of a choice's values stands.
-pub const VALUE_TYPE_AT: usize = 12;
-
 /// The choice in a body of one over any of the nine types.
-#[tactic(auto, using(crate::proofs::Refusals::choice_refused, crate::proofs::Steps::type_of_choice))]
+#[tactic(auto, using(spa_leaf::proofs::Refusals::choice_refused, spa_leaf::proofs::Steps::type_of_choice))]
 #[inline(always)]
 pub fn read_any_choice(alloc: Global, body: &[u8]) -> Result<ChoiceValue, Refusal>
     ensures its_type { IfOk result (λ choice. type_of (choice_view choice) ≡ choice_type) }
@@ -40,13 +35,4 @@ pub fn read_any_choice(alloc: Global, body: &[u8]) -> Result<ChoiceValue, Refusa
         SpaTypes::Fd => Ok(ChoiceValue::Fd(read_choice::<Fd>(alloc, body)?)),
         _ => Err(Refusal::InvalidType),
     }
-}
-
-/// Whether the body is that of a choice over any of the nine types.
-pub fn check_choice(alloc: Global, body: &[u8]) -> Result<(), Refusal>
-    ensures ok { OnOk result ((v : Tree) × (type_of v ≡ choice_type) × IsBody v body.now) }
-    ensures refused { IfErr result (RefusesBody choice_type body.now) }
-{
-    read_any_choice(alloc, body)?;
-    Ok(())
 }

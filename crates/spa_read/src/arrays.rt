@@ -12,9 +12,9 @@ use spa_value::ValueArray;
 use std::alloc::Global;
 
 /// The elements in the body of an array of any of the ten types.
-#[tactic(auto, using(crate::proofs::Refusals::array_refused))]
+#[tactic(auto, using(spa_leaf::proofs::Refusals::array_refused))]
 #[inline(always)]
-pub fn read_any_array(alloc: Global, body: &[u8]) -> Result<ValueArray, Refusal>
+pub(crate) fn read_any_array(alloc: Global, body: &[u8]) -> Result<ValueArray, Refusal>
     ensures its_type { IfOk result (λ array. type_of (array_view array) ≡ array_type) }
     ensures read { IfOk result (λ array. IsBody (array_view array) body.now) }
     ensures refused { IfErr result (RefusesBody array_type body.now) }

@@ -1,14 +1,15 @@
 -- Names and numbers of the tables lead to each other.
-use Rattle.std.proofs.Common.{◌≡◌, ℕ, ◌==◌, Bool, true, false, List, [], ◌∷◌, Option, Some, None, option_map, cond, is_some, IsSome, refl, ap, subst, ◌∙◌, ◌&&◌, arith}
+use Rattle.std.proofs.Common.{◌≡◌, ℕ, ◌==◌, Bool, true, false, List, [], ◌∷◌, Option, Some, None, option_map, cond, is_some, IsSome, refl, sym, ap, subst, ◌∙◌, ◌&&◌, Bor, get_or, length, nat_lt, arith}
 use Rattle.std.specs.List.{find, list_all}
 use Rattle.std.proofs.lemmas.Bool.Decides.{nat_tests}
-use Rattle.std.specs.Str.{bytes_eq}
+use Rattle.std.specs.Str.{IsCharBoundary, bytes_eq}
+use Rattle.spa_names.specs.declared.entry.Expected.{Expected}
 use Rattle.spa_names.specs.declared.table.Table.{Table}
-use Rattle.spa_names.specs.Rows.{Row, Naming}
+use Rattle.spa_names.specs.Rows.{Row, Naming, name_in, row_of}
 use Rattle.spa_names.specs.Tables.{rows_of, namings_of}
 use Rattle.spa_names.specs.Lookup.{row_at, name_of, number_of, NamesComeBack, NumbersAreNamed}
-use Rattle.spa_names.proofs.Facts.{names_come_back-all, numbers_are_named-all}
-use Rattle.spa_names.proofs.Sound.{is_number}
+use Rattle.spa_names.proofs.Facts.{names_begin-all, names_come_back-all, numbers_are_named-all}
+use Rattle.spa_names.proofs.Sound.{begins, is_number}
 
 some_alike : {X : Type 0} (x y : X) → Some x ≡ Some y → x ≡ y
 some_alike x y same = ap (λ (found : Option _). elim found [ Some z ↦ z | None ↦ x ]) same
@@ -32,11 +33,20 @@ found_passes : {X : Type 0} (test all : X → Bool) (xs : List X) → list_all a
 found_passes test all [] pass x is = search
 found_passes test all (y ∷ ys) pass x is = found_step test all y x (find test ys) (list_all all ys) (λ p i. found_passes test all ys p x i) (test y) refl (all y) refl pass is
 
-come_back : (table : Table) (number : ℕ) (name : List ℕ) (row : Option Row) → row_at table number ≡ row → option_map (λ row. row.1) row ≡ Some name → number_of table name ≡ Some number
+begins_whole : (bs : List ℕ) (at : ℕ) → (nat_lt at (length bs) && nat_lt (get_or bs at 0) 128) ≡ true → IsCharBoundary bs at
+begins_whole bs at is = grind (arith, nat_tests, is)
+
+-- where the name of a row begins, its text is cut between characters
+pub name_begins : (table : Table) (number : ℕ) (entry : ℕ × Bor (List ℕ) × ℕ × Expected) → Some (row_of entry) ≡ row_at table number → IsCharBoundary entry.1.now entry.2
+name_begins table number entry same =
+    let passes = found_passes (λ row. row.0 == number) begins (rows_of table) (names_begin-all table) (row_of entry) (sym same) in
+    begins_whole entry.1.now entry.2 passes.1
+
+come_back : (table : Table) (number : ℕ) (name : List ℕ) (row : Option Row) → row_at table number ≡ row → option_map name_in row ≡ Some name → number_of table name ≡ Some number
 come_back table number name None at is = search
 come_back table number name (Some row) at is =
-    let passes = found_passes (λ row. row.0 == number) (λ row. is_number (number_of table row.1) row.0) (rows_of table) (names_come_back-all table) row at in
-    subst (λ n. number_of table n ≡ Some number) (some_alike row.1 name is) (is_number-Some (number_of table row.1) row.0 passes.1 ∙ ap Some (same_number row.0 number passes.0))
+    let passes = found_passes (λ row. row.0 == number) (λ row. is_number (number_of table (name_in row)) row.0) (rows_of table) (names_come_back-all table) row at in
+    subst (λ n. number_of table n ≡ Some number) (some_alike (name_in row) name is) (is_number-Some (number_of table (name_in row)) row.0 passes.1 ∙ ap Some (same_number row.0 number passes.0))
 
 pub NamesComeBack-all : NamesComeBack
 NamesComeBack-all table number name is = come_back table number name (row_at table number) refl is

@@ -3,7 +3,50 @@
 use Rattle.std.proofs.Common.{◌≡◌, true, refl}
 use Rattle.spa_names.specs.declared.table.Table.{Table}
 use Rattle.spa_names.specs.declared.table.Table.TheVariants.{Types, Choices, Controls, DeviceKeys, NodeKeys, CommandNodeKeys, PropInfoKeys, PropsKeys, FormatKeys, BuffersKeys, ParamMetaKeys, IOKeys, ProfileKeys, PortConfigKeys, RouteKeys, ProfilerKeys, LatencyKeys, ProcessLatencyKeys, DeviceEventId, Node, CommandNode, ParamId, BluetoothAudioCodec, MediaType, MediaSubtype, AudioFormat, AudioFlags, AudioIEC958Codec, ParamBitorder, AudioAACStreamFormat, AudioWMAProfile, AudioAMRBandMode, VideoFormat, VideoInterlaceMode, Meta, IO, ParamAvailability, Direction, ParamPortConfigMode, AudioChannel, Nothing}
-use Rattle.spa_names.proofs.Sound.{numbers_rise, names_rise, names_come_back, numbers_are_named}
+use Rattle.spa_names.proofs.Sound.{names_begin, numbers_rise, names_rise, names_come_back, numbers_are_named}
+
+pub names_begin-all : (table : Table) → names_begin table ≡ true
+names_begin-all Types = refl
+names_begin-all Choices = refl
+names_begin-all Controls = refl
+names_begin-all DeviceKeys = refl
+names_begin-all NodeKeys = refl
+names_begin-all CommandNodeKeys = refl
+names_begin-all PropInfoKeys = refl
+names_begin-all PropsKeys = refl
+names_begin-all FormatKeys = refl
+names_begin-all BuffersKeys = refl
+names_begin-all ParamMetaKeys = refl
+names_begin-all IOKeys = refl
+names_begin-all ProfileKeys = refl
+names_begin-all PortConfigKeys = refl
+names_begin-all RouteKeys = refl
+names_begin-all ProfilerKeys = refl
+names_begin-all LatencyKeys = refl
+names_begin-all ProcessLatencyKeys = refl
+names_begin-all DeviceEventId = refl
+names_begin-all Node = refl
+names_begin-all CommandNode = refl
+names_begin-all ParamId = refl
+names_begin-all BluetoothAudioCodec = refl
+names_begin-all MediaType = refl
+names_begin-all MediaSubtype = refl
+names_begin-all AudioFormat = refl
+names_begin-all AudioFlags = refl
+names_begin-all AudioIEC958Codec = refl
+names_begin-all ParamBitorder = refl
+names_begin-all AudioAACStreamFormat = refl
+names_begin-all AudioWMAProfile = refl
+names_begin-all AudioAMRBandMode = refl
+names_begin-all VideoFormat = refl
+names_begin-all VideoInterlaceMode = refl
+names_begin-all Meta = refl
+names_begin-all IO = refl
+names_begin-all ParamAvailability = refl
+names_begin-all Direction = refl
+names_begin-all ParamPortConfigMode = refl
+names_begin-all AudioChannel = refl
+names_begin-all Nothing = refl
 
 pub numbers_rise-all : (table : Table) → numbers_rise table ≡ true
 numbers_rise-all Types = refl

@@ -9,7 +9,7 @@ use Rattle.spa_names.specs.declared.entry.TheConstants.Expected.{NOTHING}
 use Rattle.spa_names.specs.declared.table.Table.{Table}
 use Rattle.spa_names.specs.declared.table.Table.TheVariants.{Nothing}
 use Rattle.spa_names.specs.declared.table.TheConstants.{OBJECTS}
-use Rattle.spa_names.specs.Rows.{Row}
+use Rattle.spa_names.specs.Rows.{Row, name_in}
 use Rattle.spa_names.specs.Tables.{rows_of, namings_of}
 
 -- what a table says of a number
@@ -18,11 +18,11 @@ row_at table number = find (λ row. row.0 == number) (rows_of table)
 
 -- the name of a number
 abbrev pub name_of : Table → ℕ → Option (List ℕ)
-name_of table number = option_map (λ row. row.1) (row_at table number)
+name_of table number = option_map name_in (row_at table number)
 
 -- PipeWire's own name for a number
 abbrev pub path_of : Table → ℕ → Option (List ℕ)
-path_of table number = option_map (λ row. row.2) (row_at table number)
+path_of table number = option_map (λ row. row.1) (row_at table number)
 
 -- what is expected under a key
 abbrev pub expected_under : Table → ℕ → Expected

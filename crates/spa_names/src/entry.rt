@@ -23,10 +23,10 @@ impl Expected {
     };
 }
 
-/// What a table says of a number: the number; its name, which is no other number's in the table; PipeWire's name for it, of which
-/// that is an end; and what is expected where the number is a key. A constant of structs with texts in them has no name in clauses,
-/// so these are tuples.
-pub(crate) type Entry = (u32, &'static str, &'static str, Expected);
+/// What a table says of a number: the number; PipeWire's name for it; how many bytes of that stand before its own name, which is no
+/// other number's in the table; and what is expected where the number is a key. A constant of structs with texts in them has no name
+/// in clauses, so these are tuples.
+pub(crate) type Entry = (u32, &'static str, usize, Expected);
 
 /// A name of a table, and its number.
 pub(crate) type Naming = (&'static str, u32);

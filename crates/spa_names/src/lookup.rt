@@ -10,11 +10,12 @@ use crate::table::{OBJECTS, Table};
 use spa_utils::SpaTypes;
 
 /// The name of a number.
+#[tactic(auto, using(crate::proofs::Coming::name_begins))]
 pub fn name_of(table: Table, number: u32) -> Option<&'static str>
     ensures { option_map (λ name. name.now) result ≡ name_of table number }
 {
     match entry_of(table, number) {
-        Some(entry) => Some(entry.1),
+        Some(entry) => Some(&entry.1[entry.2..]),
         None => None,
     }
 }
@@ -24,7 +25,7 @@ pub fn path_of(table: Table, number: u32) -> Option<&'static str>
     ensures { option_map (λ path. path.now) result ≡ path_of table number }
 {
     match entry_of(table, number) {
-        Some(entry) => Some(entry.2),
+        Some(entry) => Some(entry.1),
         None => None,
     }
 }

@@ -83,7 +83,7 @@ def entries_in(table, expected_of):
     for number, name, path, type_, values in named(table):
         expected = expected_of(type_, values)
         gap = " " if expected == "Expected::NOTHING" else "\n        "
-        rows.setdefault(number, f'    ({number}, "{name}", "{path}",{gap}{expected}),')
+        rows.setdefault(number, f'    ({number}, "{path}", {len(path) - len(name)},{gap}{expected}),')
     return [rows[it] for it in sorted(rows)]
 
 
@@ -169,7 +169,7 @@ def main():
     out += [f"use Rattle.spa_names.specs.declared.id_entries.TheConstants.{{{constants_of(set(kept) - is_keys)}}}"]
     out += [f"use Rattle.spa_names.specs.declared.names.TheConstants.{{{', '.join('NAMES_OF_' + it for it in constants)}}}"]
     out += ["", "-- the entries of a table, by their numbers", "abbrev pub rows_of : Table → List Row"]
-    out += [f"rows_of {titles[at]} = map (λ e. (e.0, e.1.now, e.2.now, e.3)) ENTRIES_OF_{constant_of(titles[at])}" for at in kept]
+    out += [f"rows_of {titles[at]} = map (λ e. (e.0, e.1.now, e.2, e.3)) ENTRIES_OF_{constant_of(titles[at])}" for at in kept]
     out += ["rows_of Nothing = []"]
     out += ["", "-- the names of a table, in their order", "abbrev pub namings_of : Table → List Naming"]
     out += [f"namings_of {titles[at]} = map (λ e. (e.0.now, e.1)) NAMES_OF_{constant_of(titles[at])}" for at in kept]
@@ -182,8 +182,8 @@ def main():
     out += ["use Rattle.std.proofs.Common.{◌≡◌, true, refl}"]
     out += ["use Rattle.spa_names.specs.declared.table.Table.{Table}"]
     out += [f"use Rattle.spa_names.specs.declared.table.Table.TheVariants.{{{', '.join(variants)}}}"]
-    out += ["use Rattle.spa_names.proofs.Sound.{numbers_rise, names_rise, names_come_back, numbers_are_named}"]
-    for fact in ("numbers_rise", "names_rise", "names_come_back", "numbers_are_named"):
+    out += ["use Rattle.spa_names.proofs.Sound.{names_begin, numbers_rise, names_rise, names_come_back, numbers_are_named}"]
+    for fact in ("names_begin", "numbers_rise", "names_rise", "names_come_back", "numbers_are_named"):
         out += ["", f"pub {fact}-all : (table : Table) → {fact} table ≡ true"]
         out += [f"{fact}-all {variant} = refl" for variant in variants]
     write("proofs/Facts.antt", out)

@@ -1,3 +1,5 @@
+pub mod Leaves
+pub mod Choosing
 pub mod Digits
 pub mod Completeness
 pub mod Soundness

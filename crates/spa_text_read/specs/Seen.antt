@@ -1,5 +1,5 @@
 -- The frames and values of the grammar that the reader's own types stand for. Only the crate's private clauses cite it.
-use Rattle.std.specs.Prelude.{◌≡◌, List, map, Bool, Option, Some, None, ⊤}
+use Rattle.std.specs.Prelude.{◌≡◌, List, map, Bool, codes, Option, option_map, Some, None, ⊤}
 use Rattle.spa_format.specs.Kind.{Kind, none_kind, bool_kind, id_kind, int_kind, long_kind, float_kind, double_kind, rectangle_kind, fraction_kind, fd_kind, Fixed, none, bool, id, int, long, float, double, rectangle, fraction, fd}
 use Rattle.spa_format.specs.Tree.{Tree, fixed, bytes, bitmap, array, choice, pointer, struct, object}
 use Rattle.spa_value.specs.declared.array.ValueArray.{ValueArray}
@@ -8,16 +8,19 @@ use Rattle.spa_value.specs.declared.value.Value.{Value}
 use Rattle.spa_value.specs.View.{view}
 use Rattle.spa_value.specs.Views.{views, property_views}
 use Rattle.spa_text_read.specs.Grammar as grammar
-use Rattle.spa_text_read.specs.Grammar.{Leaf, a_number, a_text, some_bytes, a_bitmap, a_pointer, tree, leaf, begun, Opening, a_struct, an_array, a_choice, an_object, close}
+use Rattle.spa_text_read.specs.Grammar.{Leaf, a_number, a_text, some_bytes, a_bitmap, a_pointer, tree, leaf, begun, Opening, a_struct, an_array, a_choice, an_object, close, hex_bytes, pointer_at, tagged_scalar, two_words}
 use Rattle.json.specs.Json.{after_end_array}
 use Rattle.json.specs.Token.{Token}
 use Rattle.json.specs.declared.token.Token as Rust
 use Rattle.json.specs.Reads.{token_of}
 use Rattle.spa_names.specs.declared.entry.Expected.{Expected}
-use Rattle.spa_text_read.specs.Tokens.{head}
+use Rattle.spa_text_read.specs.Options.{Reading}
+use Rattle.spa_text_read.specs.Tokens.{any_text, head}
 use Rattle.spa_text_read.specs.Shapes.{shape_of}
 use Rattle.spa_text_read.specs.Steps as steps
 use Rattle.spa_text_read.specs.Steps.{Frame, in_struct, in_array, in_choice, in_object, frame, ended, wants, ends, expects}
+use Rattle.spa_text_read.specs.declared.tag.Tag.{Tag}
+use Rattle.spa_text_read.specs.declared.tag.Tag.TheVariants as tag
 use Rattle.spa_text_read.specs.declared.inside.Inside.{Inside}
 use Rattle.spa_text_read.specs.declared.inside.Inside.TheVariants as inside
 use Rattle.spa_text_read.specs.declared.inside.Opened.{Opened}
@@ -80,6 +83,21 @@ leaf_of (array k xs) = a_number none
 leaf_of (choice s f k x xs) = a_number none
 leaf_of (struct vs) = a_number none
 leaf_of (object t i ps) = a_number none
+
+-- what a reading says as a leaf
+abbrev pub says : {A : Type 0} → (A → Leaf) → Option (A × List Token) → Option (Leaf × List Token)
+says f r = option_map (λ p. (f p.0, p.1)) r
+
+-- a value without members by its object's first key, up to the brace behind it
+abbrev pub leaf_at : Expected → Tag → Reading Leaf
+leaf_at c (tag.Scalar k) ts = says (λ x. a_number x) (tagged_scalar k c.ids ts)
+leaf_at c tag.String ts = says (λ s. a_text s) (any_text ts)
+leaf_at c tag.Bytes ts = says (λ s. some_bytes s) (hex_bytes ts)
+leaf_at c tag.Bitmap ts = says (λ s. a_bitmap s) (hex_bytes ts)
+leaf_at c tag.Width ts = says (λ p. a_number (rectangle p.0 p.1)) (two_words (codes "height") ts)
+leaf_at c tag.Num ts = says (λ p. a_number (fraction p.0 p.1)) (two_words (codes "denom") ts)
+leaf_at c tag.Pointer ts = says (λ p. a_pointer p.0 p.1) (pointer_at ts)
+leaf_at c _ ts = None
 
 abbrev pub opened_of : Opened → grammar.Opened
 opened_of (opened.Leaf v) = leaf (leaf_of (view v))

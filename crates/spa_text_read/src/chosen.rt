@@ -75,49 +75,44 @@ fn choice_of<T: CanonicalFixedSizedPod>(
 }
 
 /// A choice of one value.
+#[tactic(auto, using(crate::proofs::Choosing::one_chosen, crate::proofs::Choosing::not_one))]
 fn one<T: CanonicalFixedSizedPod>(values: &[T]) -> Option<ChoiceEnum<T>>
     ensures { MatchOption result ((n : ℕ) → grammar.chosen none_choice n T.kind (map T.fixed values.now) ≡ None) (λ c. (n : ℕ) → grammar.chosen none_choice n T.kind (map T.fixed values.now) ≡ Some (choice_enum_tree T.kind T.fixed n c)) }
 {
-    let (value, rest) = values.split_first()?;
-    match rest.split_first() {
-        None => Some(ChoiceEnum::None(*value)),
-        Some(_) => None,
+    match values {
+        [value] => Some(ChoiceEnum::None(*value)),
+        _ => None,
     }
 }
 
 /// A default with its minimum and maximum.
+#[tactic(auto, using(crate::proofs::Choosing::three_chosen, crate::proofs::Choosing::not_three))]
 fn three<T: CanonicalFixedSizedPod>(values: &[T]) -> Option<ChoiceEnum<T>>
     ensures { MatchOption result ((n : ℕ) → grammar.chosen range_choice n T.kind (map T.fixed values.now) ≡ None) (λ c. (n : ℕ) → grammar.chosen range_choice n T.kind (map T.fixed values.now) ≡ Some (choice_enum_tree T.kind T.fixed n c)) }
 {
-    let (default, rest) = values.split_first()?;
-    let (min, rest) = rest.split_first()?;
-    let (max, rest) = rest.split_first()?;
-    match rest.split_first() {
-        None => Some(ChoiceEnum::Range {
+    match values {
+        [default, min, max] => Some(ChoiceEnum::Range {
             default: *default,
             min: *min,
             max: *max,
         }),
-        Some(_) => None,
+        _ => None,
     }
 }
 
 /// A default with its minimum, maximum and step.
+#[tactic(auto, using(crate::proofs::Choosing::four_chosen, crate::proofs::Choosing::not_four))]
 fn four<T: CanonicalFixedSizedPod>(values: &[T]) -> Option<ChoiceEnum<T>>
     ensures { MatchOption result ((n : ℕ) → grammar.chosen step_choice n T.kind (map T.fixed values.now) ≡ None) (λ c. (n : ℕ) → grammar.chosen step_choice n T.kind (map T.fixed values.now) ≡ Some (choice_enum_tree T.kind T.fixed n c)) }
 {
-    let (default, rest) = values.split_first()?;
-    let (min, rest) = rest.split_first()?;
-    let (max, rest) = rest.split_first()?;
-    let (step, rest) = rest.split_first()?;
-    match rest.split_first() {
-        None => Some(ChoiceEnum::Step {
+    match values {
+        [default, min, max, step] => Some(ChoiceEnum::Step {
             default: *default,
             min: *min,
             max: *max,
             step: *step,
         }),
-        Some(_) => None,
+        _ => None,
     }
 }
 

@@ -82,7 +82,6 @@ impl Nest {
     }
 
     /// Puts the innermost, which is read, into the one around it. Whether there is one.
-    #[tactic(auto, using(crate::proofs::Nesting::end_within, crate::proofs::Nesting::end_without_value, crate::proofs::Nesting::end_unput))]
     fn end(&mut self, reader: &mut Reader<'_>) -> Result<bool, Cause>
         ensures ended { IfOk result (λ within. EndsWithin within self.old reader.old self.new reader.new) }
         ensures refused { IfErr result (λ e. e ≢ Cause.OutOfMemory → steps.give_ended (steps.value_of (frame_of self.old.inner)) (stack_of self.old.outer.items) reader.old ≡ steps.refused) }

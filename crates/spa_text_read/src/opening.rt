@@ -3,10 +3,12 @@ ghost use Rattle.std.specs.Prelude.{◌≡◌, ◌≢◌, ◌≤◌, IfErr, IfOk
 ghost use Rattle.json.specs.Reads.{token_of};
 ghost use Rattle.spa_utils.specs.declared.types.SpaTypes as types;
 ghost use Rattle.spa_text_read.specs.Grammar as grammar;
-ghost use Rattle.spa_text_read.specs.Tokens.{after_end_object};
+ghost use Rattle.spa_text_read.specs.Grammar.{a_text, tree};
+ghost use Rattle.spa_text_read.specs.Tokens.{after_end_object, any_text};
 ghost use Rattle.spa_text_read.specs.declared.inside.Opened.TheVariants.{Leaf};
-ghost use Rattle.spa_text_read.specs.Seen.{IsFresh, IsNumber, IsOpened, kind_in, items_in, number_in, opened_of, opening_of};
+ghost use Rattle.spa_text_read.specs.Seen.{IsFresh, IsNumber, IsOpened, kind_in, items_in, leaf_at, leaf_of, number_in, opened_of, opening_of, says};
 ghost use Rattle.spa_text_read.specs.Shapes.{shape_of};
+ghost use Rattle.spa_value.specs.View.{view};
 
 use crate::cause::Cause;
 use crate::inside::{Inside, OpenObject, Opened};
@@ -78,7 +80,9 @@ fn open_tagged(
 {
     match tag {
         Tag::Struct => {
-            begin_array(reader).ok_or(Cause::Token)?;
+            if begin_array(reader).is_none() {
+                return Err(Cause::Token);
+            }
             Ok(Opened::Begun(Inside::Struct {
                 tagged: true,
                 members: Vec::new(alloc),
@@ -87,30 +91,82 @@ fn open_tagged(
         Tag::Array => Ok(Opened::Begun(array_at(alloc, reader, expected)?)),
         Tag::Choice => Ok(Opened::Begun(choice_at(alloc, reader, expected)?)),
         Tag::Object => Ok(Opened::Begun(object_at(alloc, reader)?)),
-        Tag::Scalar(scalar) => {
-            let token = any_token(reader).ok_or(Cause::Token)?;
-            let value = scalar_of(scalar, expected.ids, token).ok_or(Cause::Number)?;
-            end_leaf(value, reader)
-        }
-        Tag::String => {
-            let text = any_text(reader).ok_or(Cause::Token)?;
-            end_leaf(Value::String(String::from_str(alloc, text)?), reader)
-        }
-        Tag::Bytes => end_leaf(Value::Bytes(hex_bytes(alloc, reader)?), reader),
-        Tag::Bitmap => end_leaf(Value::Bitmap(hex_bytes(alloc, reader)?), reader),
-        Tag::Width => {
-            let (width, height) = two_words(reader, "height").ok_or(Cause::Number)?;
-            end_leaf(Value::Rectangle(Rectangle { width, height }), reader)
-        }
-        Tag::Num => {
-            let (num, denom) = two_words(reader, "denom").ok_or(Cause::Number)?;
-            end_leaf(Value::Fraction(Fraction { num, denom }), reader)
-        }
-        Tag::Pointer => {
-            let (type_, address) = pointer_at(reader).ok_or(Cause::Number)?;
-            end_leaf(Value::Pointer(type_, address), reader)
-        }
-        Tag::Other => Err(Cause::Token),
+        _ => match leaf_at(alloc, reader, tag, expected) {
+            Ok(value) => end_leaf(value, reader),
+            Err(cause) => Err(cause),
+        },
+    }
+}
+
+/// Reads a value without members, up to the brace behind it.
+#[tactic(auto, using(crate::proofs::ViewLaws::number_leaf, crate::proofs::ViewLaws::number_tree))]
+fn leaf_at(
+    alloc: Global,
+    reader: &mut Reader<'_>,
+    tag: Tag,
+    expected: Expected,
+) -> Result<Value, Cause>
+    ensures value { IfOk result (λ v. leaf_at expected tag reader.old ≡ Some (leaf_of (view v), reader.new)) }
+    ensures leaf { IfOk result (λ v. tree (leaf_of (view v)) ≡ view v) }
+    ensures refused { IfErr result (λ e. e ≢ Cause.OutOfMemory → leaf_at expected tag reader.old ≡ None) }
+    ensures no_more { length reader.new ≤ length reader.old }
+{
+    match tag {
+        Tag::Scalar(scalar) => scalar_at(reader, scalar, expected.ids),
+        Tag::String => text_at(alloc, reader),
+        Tag::Bytes => match hex_bytes(alloc, reader) {
+            Ok(bytes) => Ok(Value::Bytes(bytes)),
+            Err(cause) => Err(cause),
+        },
+        Tag::Bitmap => match hex_bytes(alloc, reader) {
+            Ok(bytes) => Ok(Value::Bitmap(bytes)),
+            Err(cause) => Err(cause),
+        },
+        Tag::Width => match two_words(reader, "height") {
+            Some((width, height)) => Ok(Value::Rectangle(Rectangle { width, height })),
+            None => Err(Cause::Number),
+        },
+        Tag::Num => match two_words(reader, "denom") {
+            Some((num, denom)) => Ok(Value::Fraction(Fraction { num, denom })),
+            None => Err(Cause::Number),
+        },
+        Tag::Pointer => match pointer_at(reader) {
+            Some((type_, address)) => Ok(Value::Pointer(type_, address)),
+            None => Err(Cause::Number),
+        },
+        _ => Err(Cause::Token),
+    }
+}
+
+/// Takes a number of this type.
+fn scalar_at(reader: &mut Reader<'_>, scalar: Scalar, ids: Table) -> Result<Value, Cause>
+    ensures said { IfOk result (λ v. grammar.tagged_scalar scalar ids reader.old ≡ Some (number_in v, reader.new)) }
+    ensures number { IfOk result (λ v. IsNumber v) }
+    ensures refused { IfErr result (λ _. grammar.tagged_scalar scalar ids reader.old ≡ None) }
+    ensures no_more { length reader.new ≤ length reader.old }
+{
+    let Some(token) = any_token(reader) else {
+        return Err(Cause::Token);
+    };
+    match scalar_of(scalar, ids, token) {
+        Some(value) => Ok(value),
+        None => Err(Cause::Number),
+    }
+}
+
+/// Takes a text.
+fn text_at(alloc: Global, reader: &mut Reader<'_>) -> Result<Value, Cause>
+    ensures value { IfOk result (λ v. says (λ s. a_text s) (any_text reader.old) ≡ Some (leaf_of (view v), reader.new)) }
+    ensures leaf { IfOk result (λ v. tree (leaf_of (view v)) ≡ view v) }
+    ensures refused { IfErr result (λ e. e ≢ Cause.OutOfMemory → any_text reader.old ≡ None) }
+    ensures no_more { length reader.new ≤ length reader.old }
+{
+    let Some(text) = any_text(reader) else {
+        return Err(Cause::Token);
+    };
+    match String::from_str(alloc, text) {
+        Ok(text) => Ok(Value::String(text)),
+        Err(_) => Err(Cause::OutOfMemory),
     }
 }
 
@@ -191,10 +247,15 @@ fn array_at(alloc: Global, reader: &mut Reader<'_>, expected: Expected) -> Resul
     ensures fresh { IfOk result (λ i. IsFresh i) }
     ensures no_more { length reader.new ≤ length reader.old }
 {
-    let type_ = name_or_word(reader, Table::Types).ok_or(Cause::Type)?;
-    let values = no_elements(alloc, type_).ok_or(Cause::Type)?;
-    key(reader, "values").ok_or(Cause::Token)?;
-    begin_array(reader).ok_or(Cause::Token)?;
+    let Some(type_) = name_or_word(reader, Table::Types) else {
+        return Err(Cause::Type);
+    };
+    let Some(values) = no_elements(alloc, type_) else {
+        return Err(Cause::Type);
+    };
+    if key(reader, "values").is_none() || begin_array(reader).is_none() {
+        return Err(Cause::Token);
+    }
     Ok(Inside::Array {
         ids: expected.ids,
         values,
@@ -207,11 +268,18 @@ fn object_at(alloc: Global, reader: &mut Reader<'_>) -> Result<Inside, Cause>
     ensures fresh { IfOk result (λ i. IsFresh i) }
     ensures no_more { length reader.new ≤ length reader.old }
 {
-    let type_ = name_or_word(reader, Table::Types).ok_or(Cause::Number)?;
-    key(reader, "id").ok_or(Cause::Token)?;
-    let id = name_or_word(reader, ids_of(type_)).ok_or(Cause::Number)?;
-    key(reader, "props").ok_or(Cause::Token)?;
-    begin_object(reader).ok_or(Cause::Token)?;
+    let Some(type_) = name_or_word(reader, Table::Types) else {
+        return Err(Cause::Number);
+    };
+    if key(reader, "id").is_none() {
+        return Err(Cause::Token);
+    }
+    let Some(id) = name_or_word(reader, ids_of(type_)) else {
+        return Err(Cause::Number);
+    };
+    if key(reader, "props").is_none() || begin_object(reader).is_none() {
+        return Err(Cause::Token);
+    }
     Ok(Inside::Object(OpenObject {
         type_,
         id,
@@ -268,16 +336,27 @@ fn choice_at(alloc: Global, reader: &mut Reader<'_>, expected: Expected) -> Resu
     ensures fresh { IfOk result (λ i. IsFresh i) }
     ensures no_more { length reader.new ≤ length reader.old }
 {
-    let name = any_text(reader).ok_or(Cause::Token)?;
-    let shape = shape_named(name).ok_or(Cause::Type)?;
-    let first = any_key(reader).ok_or(Cause::Token)?;
-    let (flags, second) = choice_flags(reader, first).ok_or(Cause::Number)?;
-    let (type_, third) = choice_type(reader, second, expected.type_.0).ok_or(Cause::Type)?;
-    let values = no_elements(alloc, type_).ok_or(Cause::Type)?;
-    if third != "values" {
+    let Some(name) = any_text(reader) else {
+        return Err(Cause::Token);
+    };
+    let Some(shape) = shape_named(name) else {
+        return Err(Cause::Type);
+    };
+    let Some(first) = any_key(reader) else {
+        return Err(Cause::Token);
+    };
+    let Some((flags, second)) = choice_flags(reader, first) else {
+        return Err(Cause::Number);
+    };
+    let Some((type_, third)) = choice_type(reader, second, expected.type_.0) else {
+        return Err(Cause::Type);
+    };
+    let Some(values) = no_elements(alloc, type_) else {
+        return Err(Cause::Type);
+    };
+    if third != "values" || begin_array(reader).is_none() {
         return Err(Cause::Token);
     }
-    begin_array(reader).ok_or(Cause::Token)?;
     Ok(Inside::Choice {
         shape,
         flags,

@@ -47,19 +47,29 @@ fn format(alloc: Global, channels: Option<i32>) -> Result<AudioFormat, AllocErro
     })
 }
 
+/// What is written of the format with as many channels.
+fn format_written(alloc: Global, channels: Option<i32>) -> Result<Vec<u8>, GenError> {
+    put(Vec::new(alloc), &format(alloc, channels)?)
+}
+
 #[test]
 fn declared_types_are_written(rt: HostRuntime) -> Result<(), Fail> {
     let alloc = rt.alloc();
     assert_written(&rt, alloc, &curve(alloc)?, CURVE)?;
-    assert_written(&rt, alloc, &format(alloc, Some(2))?, FORMAT)?;
-    assert_written(&rt, alloc, &format(alloc, None)?, WITHOUT_CHANNELS)
+    let written = format_written(alloc, Some(2))?;
+    assert_words(&rt, alloc, written.as_slice(), FORMAT)?;
+    let written = format_written(alloc, None)?;
+    assert_words(&rt, alloc, written.as_slice(), WITHOUT_CHANNELS)
 }
 
 /// How many bytes follow what is read, and that written again; or why it isn't read.
+type Again<'a> = Result<(usize, Result<Vec<u8>, GenError>), DeserializeError<&'a [u8]>>;
+
+/// Reads what these bytes begin with, and writes it again.
 fn read_again<'de, P: PodDeserialize<'de> + PodSerialize + Drop>(
     alloc: Global,
     input: &'de [u8],
-) -> Result<(usize, Result<Vec<u8>, GenError>), DeserializeError<&'de [u8]>> {
+) -> Again<'de> {
     match PodDeserializer::deserialize_from::<P>(alloc, input) {
         Ok((rest, it)) => {
             let written = put(Vec::new(alloc), &it);
@@ -69,11 +79,21 @@ fn read_again<'de, P: PodDeserialize<'de> + PodSerialize + Drop>(
     }
 }
 
+/// The same of a curve.
+fn curve_again(alloc: Global, input: &[u8]) -> Again<'_> {
+    read_again::<Curve>(alloc, input)
+}
+
+/// The same of a format.
+fn format_again(alloc: Global, input: &[u8]) -> Again<'_> {
+    read_again::<AudioFormat>(alloc, input)
+}
+
 /// Compares what is read of these words, written again, with the wanted words.
 fn assert_again(
     rt: &impl Abort,
     alloc: Global,
-    found: Result<(usize, Result<Vec<u8>, GenError>), DeserializeError<&[u8]>>,
+    found: Again<'_>,
     wanted: &str,
 ) -> Result<(), Fail> {
     match found {
@@ -92,19 +112,9 @@ fn declared_types_come_back(rt: HostRuntime) -> Result<(), Fail> {
     let curve = bytes_spelled(alloc, CURVE)?;
     let format = bytes_spelled(alloc, FORMAT)?;
     let without = bytes_spelled(alloc, WITHOUT_CHANNELS)?;
-    assert_again(
-        &rt,
-        alloc,
-        read_again::<Curve>(alloc, curve.as_slice()),
-        CURVE,
-    )?;
-    assert_again(
-        &rt,
-        alloc,
-        read_again::<AudioFormat>(alloc, format.as_slice()),
-        FORMAT,
-    )?;
-    let found = read_again::<AudioFormat>(alloc, without.as_slice());
+    assert_again(&rt, alloc, curve_again(alloc, curve.as_slice()), CURVE)?;
+    assert_again(&rt, alloc, format_again(alloc, format.as_slice()), FORMAT)?;
+    let found = format_again(alloc, without.as_slice());
     assert_again(&rt, alloc, found, WITHOUT_CHANNELS)
 }
 
@@ -112,17 +122,12 @@ fn declared_types_come_back(rt: HostRuntime) -> Result<(), Fail> {
 fn properties_stand_in_any_order(rt: HostRuntime) -> Result<(), Fail> {
     let alloc = rt.alloc();
     let input = bytes_spelled(alloc, MIXED)?;
-    let found = read_again::<AudioFormat>(alloc, input.as_slice());
+    let found = format_again(alloc, input.as_slice());
     assert_again(&rt, alloc, found, FORMAT)
 }
 
 /// Compares the refusal of these words.
-fn assert_refusal(
-    rt: &impl Abort,
-    found: Result<(usize, Result<Vec<u8>, GenError>), DeserializeError<&[u8]>>,
-    wanted: &str,
-    at: usize,
-) {
+fn assert_refusal(rt: &impl Abort, found: Again<'_>, wanted: &str, at: usize) {
     let Err(e) = found else {
         assert!(rt; false, "read at {at}");
         return;
@@ -135,16 +140,11 @@ fn cut_pods_are_refused(rt: HostRuntime) -> Result<(), Fail> {
     let alloc = rt.alloc();
     let curve = bytes_spelled(alloc, CURVE)?;
     for len in 0..curve.len() {
-        assert_refusal(&rt, read_again::<Curve>(alloc, &curve[..len]), "Short", len);
+        assert_refusal(&rt, curve_again(alloc, &curve[..len]), "Short", len);
     }
     let format = bytes_spelled(alloc, FORMAT)?;
     for len in 0..format.len() {
-        assert_refusal(
-            &rt,
-            read_again::<AudioFormat>(alloc, &format[..len]),
-            "Short",
-            len,
-        );
+        assert_refusal(&rt, format_again(alloc, &format[..len]), "Short", len);
     }
     Ok(())
 }
@@ -163,12 +163,7 @@ fn other_pods_are_refused(rt: HostRuntime) -> Result<(), Fail> {
     ];
     for (index, (words, wanted)) in rows.iter().enumerate() {
         let input = bytes_spelled(alloc, words)?;
-        assert_refusal(
-            &rt,
-            read_again::<Curve>(alloc, input.as_slice()),
-            wanted,
-            index,
-        );
+        assert_refusal(&rt, curve_again(alloc, input.as_slice()), wanted, index);
     }
     let rows = [
         // Another id, another type, a property that has to be there.
@@ -178,12 +173,7 @@ fn other_pods_are_refused(rt: HostRuntime) -> Result<(), Fail> {
     ];
     for (index, (words, wanted)) in rows.iter().enumerate() {
         let input = bytes_spelled(alloc, words)?;
-        assert_refusal(
-            &rt,
-            read_again::<AudioFormat>(alloc, input.as_slice()),
-            wanted,
-            index,
-        );
+        assert_refusal(&rt, format_again(alloc, input.as_slice()), wanted, index);
     }
     Ok(())
 }

@@ -207,12 +207,15 @@ fn next_item<'a>(
     ensures refused { OnErr result ((f : Frame) → IsListed f braced expected → steps.next_item f reader.old (after_end_array reader.old) ≡ None) }
     ensures fewer { OnOk result (length reader.new < length reader.old) }
 {
-    match item(reader).ok_or(Cause::Token)? {
+    let Some(found) = item(reader) else {
+        return Err(Cause::Token);
+    };
+    match found {
         Some(head) => Ok(Next::Wants(head, expected)),
-        None => {
-            close(reader, braced).ok_or(Cause::Token)?;
-            Ok(Next::Ended)
-        }
+        None => match close(reader, braced) {
+            Some(()) => Ok(Next::Ended),
+            None => Err(Cause::Token),
+        },
     }
 }
 
@@ -224,16 +227,26 @@ impl OpenObject {
         ensures refused { OnErr result (steps.after_key_read self.old.type_ self.old.id (property_views self.old.properties.items) (read_key reader.old) ≡ None) }
         ensures fewer { OnOk result (length reader.new < length reader.old) }
     {
-        let Some(name) = next_key(reader).ok_or(Cause::Token)? else {
-            end_object(reader).ok_or(Cause::Token)?;
-            return Ok(Next::Ended);
+        let Some(found) = next_key(reader) else {
+            return Err(Cause::Token);
+        };
+        let Some(name) = found else {
+            return match end_object(reader) {
+                Some(()) => Ok(Next::Ended),
+                None => Err(Cause::Token),
+            };
         };
         let keys = keys_of(self.type_);
-        self.key = key_number(keys, name).ok_or(Cause::Number)?;
-        let (flags, braced, head) = property_at(reader).ok_or(Cause::Token)?;
+        let Some(key) = key_number(keys, name) else {
+            return Err(Cause::Number);
+        };
+        self.key = key;
+        let Some((flags, braced, head)) = property_at(reader) else {
+            return Err(Cause::Token);
+        };
         self.flags = PropertyFlags::from_bits_retain(flags);
         self.braced = braced;
-        Ok(Next::Wants(head, expected_under(keys, self.key)))
+        Ok(Next::Wants(head, expected_under(keys, key)))
     }
 
     /// Puts the value of the property whose key and flags are read behind the others.

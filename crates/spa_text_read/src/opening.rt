@@ -43,19 +43,21 @@ pub(crate) fn open(
     match head {
         Token::Null => Ok(Opened::Leaf(Value::None)),
         Token::Bool(value) => Ok(Opened::Leaf(Value::Bool(value))),
-        Token::Number(_) => {
-            let value = scalar_of(bare(expected.type_.0), expected.ids, head).ok_or(Cause::Number)?;
-            Ok(Opened::Leaf(value))
-        }
+        Token::Number(_) => match scalar_of(bare(expected.type_.0), expected.ids, head) {
+            Some(value) => Ok(Opened::Leaf(value)),
+            None => Err(Cause::Number),
+        },
         Token::String(text) => {
             if takes_text(expected.type_.0) {
-                let value = scalar_of(bare(expected.type_.0), expected.ids, head).ok_or(
-                    Cause::Number,
-                )?;
-                return Ok(Opened::Leaf(value));
+                return match scalar_of(bare(expected.type_.0), expected.ids, head) {
+                    Some(value) => Ok(Opened::Leaf(value)),
+                    None => Err(Cause::Number),
+                };
             }
-            let text = String::from_str(alloc, text)?;
-            Ok(Opened::Leaf(Value::String(text)))
+            match String::from_str(alloc, text) {
+                Ok(text) => Ok(Opened::Leaf(Value::String(text))),
+                Err(_) => Err(Cause::OutOfMemory),
+            }
         }
         Token::BeginArray => Ok(Opened::Begun(Inside::Struct {
             tagged: false,
@@ -190,7 +192,9 @@ fn hex_bytes(alloc: Global, reader: &mut Reader<'_>) -> Result<Vec<u8>, Cause>
     ensures refused { IfErr result (λ e. e ≢ Cause.OutOfMemory → grammar.hex_bytes reader.old ≡ None) }
     ensures no_more { length reader.new ≤ length reader.old }
 {
-    let text = any_text(reader).ok_or(Cause::Token)?;
+    let Some(text) = any_text(reader) else {
+        return Err(Cause::Token);
+    };
     match hex::decode(alloc, text) {
         Ok(bytes) => Ok(bytes),
         Err(hex::FromHexError::OutOfMemory) => Err(Cause::OutOfMemory),

@@ -1,11 +1,11 @@
 -- What two values filter to, from pod to pod.
 use Rattle.std.proofs.Common.{◌≡◌, ◌≢◌, ◌&&◌, Bool, true, false, ℕ, ◌<◌, ◌^◌, List, ◌++◌, length, refl, sym, ap, ◌∙◌, subst, arith}
-use Rattle.spa_format.specs.Kind.{Kind, Fixed, content, type_number}
+use Rattle.spa_format.specs.Kind.{Kind, Fixed, content, fixed_body, kind_of, type_number}
 use Rattle.spa_format.specs.Tree.{Shape, none_choice, range_choice, step_choice, enum_choice, flags_choice, Tree, fixed, choice, choice_type, type_of}
 use Rattle.spa_format.specs.Pod.{IsBody, IsPod}
 use Rattle.spa_format.specs.Normal.{kept_flags}
-use Rattle.spa_format.specs.Typed.{IsTyped}
-use Rattle.spa_format.specs.Encoding.{encoded_body, encoding_of}
+use Rattle.spa_format.specs.Typed.{IsTyped, IsTypedFixed}
+use Rattle.spa_format.specs.Encoding.{encoded_body, encoding_of, framed}
 use Rattle.spa_format.proofs.Back.{encoding_is_pod}
 use Rattle.spa_format.proofs.Shapes.{choice_only, fixed_only}
 use Rattle.spa_format.proofs.Unique.{one_value, same_body}
@@ -13,9 +13,13 @@ use Rattle.spa_bytes.specs.Opening.{Opens}
 use Rattle.spa_fixed.specs.Choices.{choice_enum_tree}
 use Rattle.spa_utils.specs.declared.choice.ChoiceEnum.{ChoiceEnum}
 use Rattle.spa_utils.specs.declared.choice.ChoiceEnum.TheVariants as E
-use Rattle.spa_offers.specs.Admits.{Admits, AreSupported, IsCommon, IsMeeting, IsPlain, IsSupported, choice_flags_of, plain_of}
-use Rattle.spa_filter.specs.CommonPods.{HasBody, IsAppended, IsCommonAppended, IsOffered, IsWritten}
-use Rattle.spa_filter.proofs.Plain.{IsPlainTree, IsMeeting-same}
+use Rattle.spa_offers.specs.Admits.{Admits, AreSupported, HasCommon, IsCommon, IsMeeting, IsPlain, IsSupported, choice_flags_of, plain_of}
+use Rattle.spa_offers.specs.Offers.{IsContent}
+use Rattle.spa_offers.proofs.Offering.{kind_of-admitted, only_contents}
+use Rattle.spa_filter.specs.CommonPods.{HasBody, IsAppended, IsCommonAppended, IsCommonRefused, IsOffered, IsUnwritten, IsWritten}
+use Rattle.spa_filter.specs.declared.refused.Refused.{Refused}
+use Rattle.spa_filter.specs.declared.refused.Refused.TheVariants.{Apart, TooLarge, OutOfMemory}
+use Rattle.spa_filter.proofs.Plain.{IsPlainTree, IsMeeting-same, none-apart}
 
 -- a pod of a choice without flags, as it is written
 zero_kept : (s : Shape) (f : ℕ) → f ≡ 0 → kept_flags s f ≡ f
@@ -43,6 +47,17 @@ appended_choice t old new e z h l p =
     subst (λ u. IsAppended u old new) (sym i.5)
     (appended_by i.0 i.1 i.2 i.3 i.4 old new (subst (λ u. choice_flags_of u ≡ 0) i.5 z) (subst IsTyped i.5 h)
     (subst (λ u. length (encoded_body u) < 2 ^ 32) i.5 l) (subst (λ u. new ≡ old ++ encoding_of u) i.5 p))
+
+-- and one of a content
+pub appended_fixed : (x : Fixed) (type : ℕ) (k : Kind) (old new : List ℕ) → type ≡ type_number k → kind_of x ≡ k → IsTypedFixed x →
+    new ≡ old ++ framed type (fixed_body x) → IsAppended (fixed x) old new
+appended_fixed x type k old new t e h p =
+    let its : IsPod (encoding_of (fixed x)) (fixed x) = encoding_is_pod (fixed x) h (record { no_nul = λ n. n; fits = λ n. n }) in
+    record {
+      pod = encoding_of (fixed x);
+      written = record { its_pod = its; same = refl };
+      parts = p ∙ ap (λ n. old ++ framed n (fixed_body x)) (t ∙ ap type_number (sym e));
+    }
 
 pub choice_typed : {T : Type 0} (k : Kind) (f : T → Fixed) (n : ℕ) (e : ChoiceEnum T) → type_of (choice_enum_tree k f n e) ≡ choice_type
 choice_typed k f n (E.None y) = refl
@@ -73,6 +88,11 @@ offered k v w t b c x e h s i j l p a =
       admitted = subst (λ u. Admits u v) whole (subst (Admits t) (sym same) a);
     }
 
+-- the choice that was read of a body is its own
+pub same_choice : {T : Type 0} (k : Kind) (f : T → Fixed) (n : ℕ) (e : ChoiceEnum T) (w : Tree) (c : List ℕ) → HasBody w choice_type c →
+    IsBody (choice_enum_tree k f n e) c → choice_enum_tree k f n e ≡ w
+same_choice k f n e w c h i = same_body (choice_enum_tree k f n e) w c (choice_typed k f n e ∙ sym h.its_type) i h.content
+
 pub plain_tree : (v : Tree) → IsPlain v → IsPlainTree v
 plain_tree (choice s f k d vs) h = absurd h
 plain_tree _ h = record { supported = tt; own = refl; alone = λ x h. h; itself = refl; unflagged = refl; unbounded = refl; no_flags = refl }
@@ -80,6 +100,19 @@ plain_tree _ h = record { supported = tt; own = refl; alone = λ x h. h; itself 
 pub plain_typed : (v : Tree) → type_of v ≢ choice_type → IsPlain v
 plain_typed (choice s f k d vs) n = absurd (n refl)
 plain_typed _ n = tt
+
+-- a plain value of a body of fixed size
+pub record IsContentOf (v : Tree) (x : Fixed) : Type 0 where
+  pub same : v ≡ fixed x
+  pub alone : (y : Tree) → Admits v y → y ≡ v
+
+pub plain_is : (k : Kind) (v : Tree) (b : List ℕ) (x : Fixed) → type_of v ≡ type_number k → IsBody v b → x ≡ content k b → IsContentOf v x
+plain_is k v b x e h s =
+    let y = fixed_only v k e in
+    let is : IsBody (fixed y.0) b = subst (λ u. IsBody u b) y.2 h in
+    let says : y.0 ≡ x = is.says ∙ ap (λ n. content n b) y.1 ∙ sym s in
+    let same : v ≡ fixed x = y.2 ∙ ap (λ z. fixed z) says in
+    record { same = same; alone = (plain_tree v (subst IsPlain (sym same) tt)).alone }
 
 and_false : (b c : Bool) → c ≡ false → (b && c) ≡ false
 and_false true c e = e
@@ -139,6 +172,16 @@ appended_same v w pod other old new h k i j e p =
       appended = record { pod = pod; written = i; parts = p };
     }
 
+-- and two whose pods aren't
+pub plain_apart : (v w : Tree) (pod other : List ℕ) → IsPlain v → IsPlain w → IsWritten v pod → IsWritten w other → pod ≢ other →
+    AreSupported v w × ¬ (HasCommon v w)
+plain_apart v w pod other h k i j n =
+    let t = plain_tree v h in
+    let u = plain_tree w k in (
+      (t.supported, u.supported, (false_and _ _ t.unflagged, false_and _ _ t.unbounded)),
+      none-apart v w t u (λ e. n (i.same ∙ ap encoding_of e ∙ sym j.same)),
+    )
+
 -- what two choices filter to
 pub appended_over : (v w t u y : Tree) (a b old new : List ℕ) → HasBody v choice_type a → HasBody w choice_type b → type_of t ≡ choice_type → type_of u ≡ choice_type →
     IsBody t a → IsBody u b → AreSupported t u → IsMeeting t u y → IsAppended y old new → IsCommonAppended v w old new
@@ -154,3 +197,29 @@ appended_over v w t u y a b old new h k i j l m s e p =
 
 pub with_type : (v : Tree) (type other : ℕ) (body : List ℕ) → HasBody v type body → type ≡ other → HasBody v other body
 with_type v type other body h e = record { its_type = h.its_type ∙ e; content = h.content }
+
+-- two choices of which none is admitted by both, as to their bodies
+pub none_over : (v w t u : Tree) → t ≡ v → u ≡ w → ¬ (HasCommon t u) → ¬ (HasCommon v w)
+none_over v w t u f g n h = n (subst (λ x. HasCommon x u) (sym f) (subst (HasCommon v) (sym g) h))
+
+-- what two choices filter to admits a content of their type
+unwritten_by : (k : Kind) (v w y z : Tree) (e : Refused) → ((x : Fixed) → Admits v (fixed x) → kind_of x ≡ k) → AreSupported v w → (m : IsMeeting v w y) → IsContent z →
+    z ≡ plain_of y → ((x : Fixed) → kind_of x ≡ k → Admits y (fixed x) → IsUnwritten y e) → IsCommonRefused v w e
+unwritten_by k v w y (fixed x) e kinds s m c same p =
+    let common = subst (IsCommon v w) (sym same) m.admitted in
+    of_cause e (p x (kinds x common.0) ((m.each (fixed x)).1 common))
+  where
+    of_cause : (e : Refused) → IsUnwritten y e → IsCommonRefused v w e
+    of_cause Apart h = absurd h
+    of_cause TooLarge h = record { value = y; supported = s; meeting = m; large = h }
+    of_cause OutOfMemory h = tt
+unwritten_by k v w y z e kinds s m c same p = absurd c
+
+-- why it isn't written, as to their bodies
+pub unwritten_over : {T : Type 0} (k : Kind) (f : T → Fixed) (its : (x : T) → kind_of (f x) ≡ k) (n : ℕ) (c : ChoiceEnum T) (v w u y : Tree) (e : Refused) →
+    choice_enum_tree k f n c ≡ v → u ≡ w → AreSupported (choice_enum_tree k f n c) u → (m : IsMeeting (choice_enum_tree k f n c) u y) →
+    ((x : Fixed) → kind_of x ≡ k → Admits y (fixed x) → IsUnwritten y e) → IsCommonRefused v w e
+unwritten_over k f its n c v w u y e first second s m p =
+    let t = choice_enum_tree k f n c in
+    let refused = unwritten_by k t u y (plain_of y) e (kind_of-admitted k f its n c) s m (only_contents k f n c (plain_of y) m.admitted.0) refl p in
+    subst (λ x. IsCommonRefused x w e) first (subst (λ x. IsCommonRefused t x e) second refused)

@@ -10,3 +10,4 @@ pub mod Passing
 pub mod Settled
 pub mod CommonPods
 pub mod EnumValues
+pub mod Apart

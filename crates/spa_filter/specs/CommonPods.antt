@@ -1,10 +1,17 @@
 -- What two values filter to, from pod to pod.
-use Rattle.std.specs.Prelude.{◌≡◌, ℕ, List, ◌∷◌, ◌++◌, map}
+use Rattle.std.specs.Prelude.{⊤, ◌≡◌, ◌≢◌, ℕ, List, ◌∷◌, ◌++◌, map}
+use Rattle.spa_format.specs.Words.{word_at}
 use Rattle.spa_format.specs.Kind.{Kind, Fixed, content}
-use Rattle.spa_format.specs.Tree.{Tree, choice, enum_choice, type_of}
+use Rattle.spa_format.specs.Tree.{Tree, choice, choice_type, enum_choice, type_of}
 use Rattle.spa_format.specs.Pod.{IsBody, IsPod}
 use Rattle.spa_format.specs.Encoding.{encoding_of}
-use Rattle.spa_offers.specs.Admits.{Admits, AreSupported, IsMeeting, IsPlain, IsSupported}
+use Rattle.spa_format.specs.Writable.{IsTooLarge}
+use Rattle.spa_offers.specs.Admits.{Admits, AreSupported, HasCommon, IsMeeting, IsPlain, IsSupported}
+use Rattle.spa_filter.specs.Refusals.{IsValueRefusal}
+use Rattle.spa_filter.specs.declared.error.FilterError.{FilterError}
+use Rattle.spa_filter.specs.declared.error.FilterError.TheVariants as error
+use Rattle.spa_filter.specs.declared.refused.Refused.{Refused}
+use Rattle.spa_filter.specs.declared.refused.Refused.TheVariants.{Apart, TooLarge, OutOfMemory}
 
 -- a pod of this value, as it is written
 pub record IsWritten (v : Tree) (pod : List ℕ) : Type 0 where
@@ -41,3 +48,43 @@ pub record AreEnumValues (k : Kind) (default : Fixed) (values : List (List ℕ))
   pub others : List Fixed
   pub contents : map (content k) values ≡ default ∷ others
   pub its_body : IsBody (choice enum_choice flags k default others) body
+
+-- where a common value is sought for the two, none is there
+abbrev pub AreApart : Tree → Tree → Type 0
+AreApart v w = AreSupported v w → ¬ (HasCommon v w)
+
+-- the two filter to a value in whose encoding a size word is past 32 bits
+pub record IsCommonTooLarge (v w : Tree) : Type 0 where
+  pub value : Tree
+  pub supported : AreSupported v w
+  pub meeting : IsMeeting v w value
+  pub large : IsTooLarge value
+
+-- why no pod of a value to which the two filter was appended
+abbrev pub IsCommonRefused : Tree → Tree → Refused → Type 0
+IsCommonRefused v w Apart = AreApart v w
+IsCommonRefused v w TooLarge = IsCommonTooLarge v w
+IsCommonRefused v w OutOfMemory = ⊤
+
+-- why the plain value v isn't one that the choice w admits
+abbrev pub IsOfferRefused : Tree → Tree → Refused → Type 0
+IsOfferRefused v w Apart = AreApart v w
+IsOfferRefused v w TooLarge = ⊥
+IsOfferRefused v w OutOfMemory = ⊤
+
+-- why it wasn't, as the two stand under a key
+abbrev pub IsPodRefusal : ℕ → Tree → Tree → FilterError → Type 0
+IsPodRefusal key v w error.TooLarge = IsCommonTooLarge v w
+IsPodRefusal key v w e = IsValueRefusal key v w e
+
+-- the choice of a body is over another type, or memory ran out
+abbrev pub IsOfOtherType : ℕ → List ℕ → Refused → Type 0
+IsOfOtherType type body Apart = (w : Tree) → HasBody w choice_type body → word_at body 12 ≢ type
+IsOfOtherType type body TooLarge = ⊥
+IsOfOtherType type body OutOfMemory = ⊤
+
+-- why a value isn't written
+abbrev pub IsUnwritten : Tree → Refused → Type 0
+IsUnwritten y Apart = ⊥
+IsUnwritten y TooLarge = IsTooLarge y
+IsUnwritten y OutOfMemory = ⊤

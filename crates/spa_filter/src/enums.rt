@@ -1,13 +1,16 @@
 //! Two Enums, looked at where they lie.
-ghost use Rattle.std.specs.Prelude.{◌≡◌, ◌↔◌, Contains, IfOk, IfSome, IsTrue, OnOk, map, true};
+ghost use Rattle.std.specs.Prelude.{◌≡◌, ◌↔◌, Contains, IfErr, IfOk, IfSome, IsTrue, OnOk, map};
 ghost use Rattle.spa_format.specs.Kind.{content};
 ghost use Rattle.spa_format.specs.Tree.{Tree, choice_type};
-ghost use Rattle.spa_filter.specs.CommonPods.{AreEnumValues, HasBody, IsCommonAppended};
+ghost use Rattle.spa_format.specs.Words.{word_at};
+ghost use Rattle.spa_filter.specs.CommonPods.{AreEnumValues, HasBody, IsCommonAppended, IsCommonRefused};
 ghost use Rattle.spa_offers.specs.Offers.{IsDefault, IsKept, IsOneMoreKept};
 
+use crate::choices::{put_choice_of, put_read};
+use crate::refused::Refused;
 use bitflags::Flags;
 use spa_bytes::{HEADER_LEN, SECOND_WORD, u32_at};
-use spa_fixed::{ENUM_SHAPE, open_array, put_choice};
+use spa_fixed::{ENUM_SHAPE, open_array};
 use spa_offers::{Element, is_among, is_same};
 use spa_utils::{Choice, ChoiceEnum, ChoiceFlags};
 use std::alloc::{AllocError, Global};
@@ -109,35 +112,34 @@ fn shared_default<T: Element, const N: usize>(
     *other
 }
 
-/// Appends the pod of an Enum of the values that the Enums of two bodies share.
+/// Appends the pod of an Enum of the values that the Enums of two bodies share, the first of which is over this type.
 pub(crate) fn put_shared<T: Element, const N: usize>(
     alloc: Global,
     out: &mut Vec<u8>,
     a: &[u8],
     b: &[u8],
-) -> bool
-    requires { T.SIZE ≡ N }
-    ensures { result ≡ true → (v w : Tree) → HasBody v choice_type a.now → HasBody w choice_type b.now → IsCommonAppended v w out.old.items out.new.items }
+) -> Result<(), Refused>
+    requires size { T.SIZE ≡ N }
+    requires over { word_at a.now 12 ≡ T.TYPE }
+    ensures appended { OnOk result ((v w : Tree) → HasBody v choice_type a.now → HasBody w choice_type b.now → IsCommonAppended v w out.old.items out.new.items) }
+    ensures cause { IfErr result (λ e. (v w : Tree) → HasBody v choice_type a.now → HasBody w choice_type b.now → IsCommonRefused v w e) }
 {
     let Some(ours) = enum_view::<T, N>(a) else {
-        return false;
+        return put_read::<T>(alloc, out, a, b);
     };
     let Some(theirs) = enum_view::<T, N>(b) else {
-        return false;
+        return put_read::<T>(alloc, out, a, b);
     };
     let Ok(values) = shared::<T, N>(alloc, ours.1, theirs.1) else {
-        return false;
+        return Err(Refused::OutOfMemory);
     };
     let Some(other) = values.first() else {
-        return false;
+        return Err(Refused::Apart);
     };
     let default = shared_default(&ours.0, ours.1, &theirs.0, theirs.1, other);
     let values = ChoiceEnum::Enum {
         default,
         alternatives: values,
     };
-    match put_choice(out, &Choice(ChoiceFlags::empty(), values)) {
-        Ok(()) => true,
-        Err(_) => false,
-    }
+    put_choice_of::<T>(out, &Choice(ChoiceFlags::empty(), values))
 }

@@ -1,6 +1,7 @@
 //! Two offers are filtered: to an object under each of whose keys stands a value that admits exactly what both sides admit.
 #![tactic(auto)]
 
+mod choices;
 mod common_pods;
 mod enums;
 mod error;
@@ -8,7 +9,10 @@ mod filtering;
 mod keyed;
 pub mod laws;
 mod met;
+mod refused;
 mod settling;
+mod support;
+mod types;
 mod values;
 
 pub use common_pods::put_common;

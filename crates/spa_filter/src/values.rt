@@ -89,7 +89,7 @@ fn are_sayable(a: &Value, b: &Value) -> bool
 }
 
 /// Whether both are true.
-fn are_both(first: bool, second: bool) -> bool
+pub(crate) fn are_both(first: bool, second: bool) -> bool
     ensures { result ≡ (first && second) }
 {
     first && second
@@ -140,7 +140,7 @@ fn typed_shapes<T: Element>(choice: &Choice<T>) -> (bool, bool)
 
 /// Whether two choices over one type are supported, and a choice can say what both admit.
 pub(crate) fn are_meetable<T: Element>(a: &Choice<T>, b: &Choice<T>) -> bool
-    ensures { result ≡ true → AreSupported (choice_tree T.kind T.fixed a.now) (choice_tree T.kind T.fixed b.now) }
+    ensures { IsTrue result ↔ AreSupported (choice_tree T.kind T.fixed a.now) (choice_tree T.kind T.fixed b.now) }
 {
     if !is_shape_supported(a) || !is_shape_supported(b) {
         return false;

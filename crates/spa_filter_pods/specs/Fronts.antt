@@ -4,8 +4,7 @@ use Rattle.spa_format.specs.Tree.{Tree, object}
 use Rattle.spa_format.specs.Front.{Begins, IsRefused}
 use Rattle.spa_format.specs.Encoding.{encoding_of}
 use Rattle.spa_format.specs.Pod.{IsPod}
-use Rattle.spa_format.specs.Normal.{normal_of}
-use Rattle.spa_format.specs.Writable.{HasNul, IsTooLarge}
+use Rattle.spa_format.specs.Writable.{IsTooLarge}
 use Rattle.spa_leaf.specs.Reading.{MayLackMemory}
 use Rattle.spa_filter.specs.Filtering.{IsFilter}
 use Rattle.spa_filter.specs.Refusals.{AreRefused}
@@ -70,20 +69,9 @@ OnNoFilter fact OutOfMemory = ⊤
 OnNoFilter fact TooLarge = ⊤
 OnNoFilter fact _ = fact
 
--- the value can be written without a refusal for a text, and reads back as itself
-pub record ReadsBack (v : Tree) : Type 0 where
-  pub no_nul : ¬ (HasNul v)
-  pub normal : normal_of v ≡ v
-
 -- what one side is refused for
 abbrev pub IsFrontRefused : Side → List ℕ → FilterError → Type 0
 IsFrontRefused side input (Unread s) = (s ≡ side) × IsRefused input
 IsFrontRefused side input (NotObject s) = (s ≡ side) × BeginsOther input
 IsFrontRefused side input OutOfMemory = MayLackMemory input
 IsFrontRefused side input _ = ⊥
-
--- what the object to which two filter isn't written for
-abbrev pub IsWriteRefused : Tree → FilterError → Type 0
-IsWriteRefused met TooLarge = IsTooLarge met
-IsWriteRefused met OutOfMemory = ⊤
-IsWriteRefused met _ = ⊥

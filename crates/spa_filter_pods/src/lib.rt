@@ -1,6 +1,7 @@
 //! Filtering from bytes to bytes: the objects of two pods are filtered, and the answer is written.
 #![tactic(auto)]
 
+mod answer;
 mod common_pods;
 mod pods;
 mod views;

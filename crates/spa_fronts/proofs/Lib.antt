@@ -4,3 +4,4 @@ pub mod Passed
 pub mod Opening
 pub mod Joined
 pub mod Same
+pub mod ObjectPods

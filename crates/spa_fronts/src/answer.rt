@@ -1,5 +1,5 @@
 //! An object that is written property by property.
-ghost use Rattle.std.specs.Prelude.{◌≡◌, ◌-◌, ◌<◌, ◌++◌, drop, length, true};
+ghost use Rattle.std.specs.Prelude.{◌≡◌, ◌-◌, ◌<◌, ◌≤◌, ◌++◌, drop, false, length, true};
 ghost use Rattle.spa_format.specs.Words.{size_limit, word_bytes};
 ghost use Rattle.spa_fronts.specs.Written.{open_header};
 
@@ -33,9 +33,10 @@ pub fn put_pod(out: &mut Vec<u8>, pod: &[u8]) -> bool
     out.extend_from_slice(pod).is_ok()
 }
 
-/// Puts the size into the header.
+/// Puts the size into the header, where it is below 4294967296.
 pub fn finish(out: &mut Vec<u8>) -> bool
     ensures size { result ≡ true → length out.old.items - 8 < size_limit }
+    ensures large { result ≡ false → 16 ≤ length out.old.items → size_limit ≤ length out.old.items - 8 }
     ensures bytes { result ≡ true → out.new.items ≡ word_bytes (length out.old.items - 8) ++ drop 4 out.old.items }
 {
     if out.len() < PROPERTIES_AT {

@@ -4,11 +4,9 @@ ghost use Rattle.spa_format.specs.Front.{HasFront};
 ghost use Rattle.spa_format.specs.Tree.{Properties};
 ghost use Rattle.spa_format.specs.Words.{header_size, size_limit};
 ghost use Rattle.spa_fronts.specs.KeyOrder.{length_behind};
-ghost use Rattle.spa_fronts.specs.Written.{AreWritten, BeginsWritten, HasFirst, IsFound, found_at};
+ghost use Rattle.spa_fronts.specs.Written.{AreWritten, HasFirst, IsFound, found_at};
 
-use spa_bytes::{HEADER_LEN, SECOND_WORD, extent_of, open, u32_at};
-use spa_scan::canonical_front;
-use spa_utils::SpaTypes;
+use spa_bytes::{HEADER_LEN, SECOND_WORD, extent_of, u32_at};
 
 /// An object where it lies.
 #[derive(Clone, Copy)]
@@ -19,29 +17,6 @@ pub struct ObjectView<'a> {
     pub id: u32,
     /// The bytes of its properties.
     pub properties: &'a [u8],
-}
-
-/// The object at the front of the input, where that is its own rewriting.
-pub fn canonical_object(input: &[u8]) -> Option<ObjectView<'_>>
-    ensures object { IfSome result (λ object. BeginsWritten input.now object.type_ object.id object.properties.now) }
-    ensures words { IfSome result (λ object. (object.type_ < size_limit) × (object.id < size_limit)) }
-{
-    let front = open(input)?;
-    if front.type_ != SpaTypes::Object.0 {
-        return None;
-    }
-    if front.body.len() < HEADER_LEN {
-        return None;
-    }
-    let Some(_rest) = canonical_front(input) else {
-        return None;
-    };
-    let (_, properties) = front.body.split_at(HEADER_LEN);
-    Some(ObjectView {
-        type_: u32_at(front.body, 0),
-        id: u32_at(front.body, SECOND_WORD),
-        properties,
-    })
 }
 
 /// The first of some properties, where it lies.

@@ -1,5 +1,5 @@
 //! Whole pods where they lie.
-ghost use Rattle.std.specs.Prelude.{◌≡◌, ◌≢◌, true};
+ghost use Rattle.std.specs.Prelude.{◌≡◌, ◌≢◌, ◌↔◌, IsTrue, true};
 ghost use Rattle.spa_format.specs.Pod.{IsPod};
 ghost use Rattle.spa_format.specs.Tree.{Tree, choice_type, type_of};
 
@@ -21,7 +21,7 @@ pub fn is_plain(pod: &[u8]) -> bool
 
 /// Whether two pods are the same: small ones by two numbers each.
 pub fn are_same(pod: &[u8], other: &[u8]) -> bool
-    ensures { result ≡ true → pod.now ≡ other.now }
+    ensures { IsTrue result ↔ (pod.now ≡ other.now) }
 {
     if pod.len() != SMALL_LEN || other.len() != SMALL_LEN {
         return pod == other;

@@ -1,13 +1,14 @@
 //! Two objects meet where they lie.
-ghost use Rattle.std.specs.Prelude.{◌≡◌, ◌≢◌, ◌++◌, IfSome, List, Some, true, ℕ};
+ghost use Rattle.std.specs.Prelude.{◌≡◌, ◌≢◌, ◌<◌, ◌++◌, IfSome, List, Some, true, ℕ};
 ghost use Rattle.spa_format.specs.Kind.{Kind, body_size, bool_kind, type_number};
 ghost use Rattle.spa_format.specs.Tree.{Properties, Tree, fixed, join_properties};
-ghost use Rattle.spa_format.specs.Words.{word_bytes};
+ghost use Rattle.spa_format.specs.Words.{size_limit, word_bytes};
 ghost use Rattle.spa_negotiate.specs.Admits.{plain_of};
 ghost use Rattle.spa_negotiate_pods.specs.Fronts.{BeginBoth, MeetIn};
 ghost use Rattle.spa_negotiate.specs.Keys.{value_at};
 ghost use Rattle.spa_negotiate.specs.Meeting.{CanMeet, Settles};
 ghost use Rattle.spa_negotiate_pods.specs.Offering.{value_of};
+ghost use Rattle.spa_fronts.specs.Fronts.{BeginsView};
 ghost use Rattle.spa_fronts.specs.KeyOrder.{IsKeyed};
 ghost use Rattle.spa_fronts.specs.Written.{AreWritten, IsWritten};
 ghost use Rattle.spa_negotiate_pods.specs.Written.{IsMetBehind, IsPut, IsSettledBy};
@@ -15,8 +16,8 @@ ghost use Rattle.spa_negotiate_pods.specs.Written.{IsMetBehind, IsPut, IsSettled
 use crate::offer_view::{first_common, offer_view};
 use spa_bytes::{joined, two_words, u32_at, u64_at, wide_body, word_body};
 use spa_fronts::{
-    Keyed, PropertyView, are_same, canonical_object, finish, first_property, is_plain, put_header,
-    put_key, put_pod, raised,
+    Keyed, ObjectView, PropertyView, are_same, finish, first_property, is_plain, object_in,
+    object_pod, put_header, put_key, put_pod, raised,
 };
 use std::alloc::Global;
 
@@ -29,14 +30,29 @@ const ONE_WORD: usize = 4;
 /// The length in bytes of a body of two words.
 const TWO_WORDS: usize = 8;
 
-/// The bytes of the object in which the objects at the fronts of two inputs meet, where these are their own rewritings, and nothing
-/// is in the way. `None` says nothing: the two are to be read then.
+/// The bytes of the object in which the objects at the fronts of two inputs meet, where nothing is in the way: they are
+/// looked at where they lie, or where their rewritings do. `None` says nothing: the two are to be read then.
 pub(crate) fn meet_views(alloc: Global, a: &[u8], b: &[u8]) -> Option<Vec<u8>>
     ensures accepted { IfSome result (λ _. BeginBoth a.now b.now CanMeet) }
     ensures value { IfSome result (λ bytes. BeginBoth a.now b.now (MeetIn bytes.items)) }
 {
-    let ours = canonical_object(a)?;
-    let theirs = canonical_object(b)?;
+    let Ok(first) = object_pod(alloc, a) else {
+        return None;
+    };
+    let Ok(second) = object_pod(alloc, b) else {
+        return None;
+    };
+    let ours = object_in(first.bytes())?;
+    let theirs = object_in(second.bytes())?;
+    meet_objects(alloc, &ours, &theirs)
+}
+
+/// The bytes of the object in which two objects meet.
+fn meet_objects(alloc: Global, ours: &ObjectView<'_>, theirs: &ObjectView<'_>) -> Option<Vec<u8>>
+    requires { (ours.now.type_ < size_limit) × (ours.now.id < size_limit) }
+    ensures accepted { IfSome result (λ _. (a b : List ℕ) → BeginsView a ours.now → BeginsView b theirs.now → BeginBoth a b CanMeet) }
+    ensures value { IfSome result (λ bytes. (a b : List ℕ) → BeginsView a ours.now → BeginsView b theirs.now → BeginBoth a b (MeetIn bytes.items)) }
+{
     if ours.type_ != theirs.type_ {
         return None;
     }

@@ -7,8 +7,8 @@ use Rattle.spa_filter_pods.proofs.views.filter_others.Given as goal
 
 abbrev pub invariant-loop-first : goal.invariant-loop-first
 invariant-loop-first l =
-    (ps qs : Properties) (head : List ℕ) → AreWritten ps l.ours.properties.now → AreWritten qs l.theirs.properties.now → IsFilteredBehind ps qs ps head l.initial.out.items →
-    IsOtherLeft ps qs l.theirs.properties.now head l.left l.out.items l.bound
+    (ps qs : Properties) (head : List ℕ) → AreWritten ps l.ours.properties.now → AreWritten qs l.theirs.properties.now → IsFilteredBehind ps qs ps head l.initial.out →
+    IsOtherLeft ps qs l.theirs.properties.now head l.left l.out l.bound
 
 abbrev pub decreases-loop-first : goal.decreases-loop-first
 decreases-loop-first l = length l.left

@@ -1,32 +1,16 @@
-use Rattle.std.proofs.Common.{◌++◌, ◌∙◌, sym, ap, subst}
-use Rattle.spa_fronts.specs.Written.{AreWritten, open_header}
-use Rattle.spa_negotiate_pods.proofs.Meetings.{are_met}
+use Rattle.std.proofs.Common.{sym, subst}
+use Rattle.spa_fronts.specs.Fronts.{BeginsObjectIn}
+use Rattle.spa_negotiate_pods.proofs.Passing.{if_some}
 use Rattle.spa_negotiate_pods.proofs.views.meet_views.Goals as goal
 
-pub returns-then-finish-clause-accepted : goal.returns-then-finish-clause-accepted
-returns-then-finish-clause-accepted c =
-    let header = open_header c.in_ok-ours.ours.type_ c.in_ok-ours.ours.id in
-    let begun = c.put_header.ensures c.if-not-put_header.false ∙ ap (λ l. l ++ header) c.in-Ok.ensures.items in
-    let words = c.in_ok-ours.ensures.words in
-    let ours = c.in-Ok-new.ensures.properties in
-    let theirs = c.in-Ok-new-2.ensures.properties in
-    let met =
-    are_met _ _ _ _ _ _ _ _ _ _ _ _ words.0 words.1 c.in_ok-ours.ensures.object c.in_ok-theirs.ensures.object c.if-ours-theirs.false begun
-    (λ ps qs w v. c.settle_first.ensures c.if-not-settle_first.false ps qs (subst (AreWritten ps) (sym ours) w) (subst (AreWritten qs) (sym theirs) v))
-    (λ ps qs head w v. c.settle_others.ensures c.if-not-settle_others.false ps qs head (subst (AreWritten ps) (sym ours) w) (subst (AreWritten qs) (sym theirs) v))
-    (c.finish.ensures.size c.if-finish.true) (c.finish.ensures.bytes c.if-finish.true) in
-    met.can
+pub returns-clause-accepted : goal.returns-clause-accepted
+returns-clause-accepted c =
+    let first = c.in_ok-ours.ensures.object c.args.a.now (subst (BeginsObjectIn c.args.a.now) (sym c.bytes.ensures) c.in-Ok.ensures.object) in
+    let second = c.in_ok-theirs.ensures.object c.args.b.now (subst (BeginsObjectIn c.args.b.now) (sym c.bytes-2.ensures) c.in-Ok-object_pod.ensures.object) in
+    if_some c.meet_objects.result (λ bytes f. f _ _ first second) c.meet_objects.ensures.accepted
 
-pub returns-then-finish-clause-value : goal.returns-then-finish-clause-value
-returns-then-finish-clause-value c =
-    let header = open_header c.in_ok-ours.ours.type_ c.in_ok-ours.ours.id in
-    let begun = c.put_header.ensures c.if-not-put_header.false ∙ ap (λ l. l ++ header) c.in-Ok.ensures.items in
-    let words = c.in_ok-ours.ensures.words in
-    let ours = c.in-Ok-new.ensures.properties in
-    let theirs = c.in-Ok-new-2.ensures.properties in
-    let met =
-    are_met _ _ _ _ _ _ _ _ _ _ _ _ words.0 words.1 c.in_ok-ours.ensures.object c.in_ok-theirs.ensures.object c.if-ours-theirs.false begun
-    (λ ps qs w v. c.settle_first.ensures c.if-not-settle_first.false ps qs (subst (AreWritten ps) (sym ours) w) (subst (AreWritten qs) (sym theirs) v))
-    (λ ps qs head w v. c.settle_others.ensures c.if-not-settle_others.false ps qs head (subst (AreWritten ps) (sym ours) w) (subst (AreWritten qs) (sym theirs) v))
-    (c.finish.ensures.size c.if-finish.true) (c.finish.ensures.bytes c.if-finish.true) in
-    met.meet
+pub returns-clause-value : goal.returns-clause-value
+returns-clause-value c =
+    let first = c.in_ok-ours.ensures.object c.args.a.now (subst (BeginsObjectIn c.args.a.now) (sym c.bytes.ensures) c.in-Ok.ensures.object) in
+    let second = c.in_ok-theirs.ensures.object c.args.b.now (subst (BeginsObjectIn c.args.b.now) (sym c.bytes-2.ensures) c.in-Ok-object_pod.ensures.object) in
+    if_some c.meet_objects.result (λ bytes f. f _ _ first second) c.meet_objects.ensures.value

@@ -7,7 +7,7 @@ pub returns-then-is_plain-2 : goal.returns-then-is_plain-2
 returns-then-is_plain-2 c = λ e v w first second.
     elim c.if-are_same.branch [
       | then-are_same b ↦
-          let same = c.are_same.ensures b.if-are_same.true in
+          let same = c.are_same.ensures.0 b.if-are_same.true in
           put_same v w _ _ _ _ _ (plain_typed v (c.is_plain.ensures c.if-is_plain.true v first.its_pod)) same first second
           (ap (λ o. o.items) b.out-is ∙ b.put.ensures (sym b.result-is ∙ e))
       | else-are_same b ↦ absurd (true≢false (sym e ∙ b.result-is ∙ b.if-are_same.false))

@@ -1,0 +1,109 @@
+//! Two choices over one type, read where their pods lie.
+ghost use Rattle.std.specs.Prelude.{◌≡◌, IfErr, IfOk, OnOk};
+ghost use Rattle.spa_fixed.specs.Choices.{choice_tree};
+ghost use Rattle.spa_format.specs.Kind.{Fixed, kind_of};
+ghost use Rattle.spa_format.specs.Pod.{IsBody};
+ghost use Rattle.spa_format.specs.Tree.{Tree, choice_type, fixed};
+ghost use Rattle.spa_format.specs.Words.{word_at};
+ghost use Rattle.spa_value.specs.View.{view};
+ghost use Rattle.spa_offers.specs.Admits.{Admits, choice_flags_of};
+ghost use Rattle.spa_filter.specs.CommonPods.{HasBody, IsAppended, IsCommonAppended, IsCommonRefused, IsOfOtherType, IsUnwritten};
+
+use crate::refused::Refused;
+use crate::values::are_meetable;
+use spa_bytes::{HEADER_LEN, SECOND_WORD, u32_at};
+use spa_fixed::{put_choice, put_fixed, read_choice};
+use spa_offers::{Element, meet, offer_of};
+use spa_sink::GenError;
+use spa_utils::Choice;
+use spa_value::Value;
+use std::alloc::Global;
+
+/// Where the values of a choice begin in its body: behind its shape and flags, and their size and type.
+pub(crate) const VALUES_AT: usize = 16;
+
+/// The choice over a type of which this is the body. The body of such a choice is refused for lack of memory alone.
+#[inline(never)]
+pub(crate) fn choice_over<T: Element>(alloc: Global, body: &[u8]) -> Result<Choice<T>, Refused>
+    ensures choice { IfOk result (λ choice. IsBody (choice_tree T.kind T.fixed choice) body.now) }
+    ensures cause { IfErr result (IsOfOtherType T.TYPE body.now) }
+{
+    if body.len() < VALUES_AT {
+        return Err(Refused::Apart);
+    }
+    if u32_at(body, HEADER_LEN + SECOND_WORD) != T::TYPE {
+        return Err(Refused::Apart);
+    }
+    match read_choice(alloc, body) {
+        Ok(choice) => Ok(choice),
+        Err(_) => Err(Refused::OutOfMemory),
+    }
+}
+
+/// Appends the pod of a value to which the choices of two bodies filter, the first of which is over this type.
+pub(crate) fn put_read<T: Element>(
+    alloc: Global,
+    out: &mut Vec<u8>,
+    a: &[u8],
+    b: &[u8],
+) -> Result<(), Refused>
+    requires { word_at a.now 12 ≡ T.TYPE }
+    ensures appended { OnOk result ((v w : Tree) → HasBody v choice_type a.now → HasBody w choice_type b.now → IsCommonAppended v w out.old.items out.new.items) }
+    ensures cause { IfErr result (λ e. (v w : Tree) → HasBody v choice_type a.now → HasBody w choice_type b.now → IsCommonRefused v w e) }
+{
+    let ours = choice_over::<T>(alloc, a)?;
+    let theirs = choice_over::<T>(alloc, b)?;
+    if !are_meetable(&ours, &theirs) {
+        return Err(Refused::Apart);
+    }
+    let Ok(met) = meet(alloc, &offer_of(&ours.1), &offer_of(&theirs.1)) else {
+        return Err(Refused::OutOfMemory);
+    };
+    match met {
+        Some(value) => put_value::<T>(out, &value),
+        None => Err(Refused::Apart),
+    }
+}
+
+/// Appends the pod of a value that admits contents of this type, and has no flags of its own.
+fn put_value<T: Element>(out: &mut Vec<u8>, value: &Value) -> Result<(), Refused>
+    ensures appended { OnOk result (choice_flags_of (view value.now) ≡ 0 → IsAppended (view value.now) out.old.items out.new.items) }
+    ensures cause { IfErr result (λ e. (x : Fixed) → kind_of x ≡ T.kind → Admits (view value.now) (fixed x) → IsUnwritten (view value.now) e) }
+{
+    match value {
+        Value::Choice(choice) => match T::in_choice(choice) {
+            Some(choice) => put_choice_of::<T>(out, choice),
+            None => Err(Refused::Apart),
+        },
+        _ => match T::in_value(value) {
+            Some(x) => put_element::<T>(out, &x),
+            None => Err(Refused::Apart),
+        },
+    }
+}
+
+/// Appends the pod of a choice.
+pub(crate) fn put_choice_of<T: Element>(
+    out: &mut Vec<u8>,
+    choice: &Choice<T>,
+) -> Result<(), Refused>
+    ensures appended { OnOk result (choice_flags_of (choice_tree T.kind T.fixed choice.now) ≡ 0 → IsAppended (choice_tree T.kind T.fixed choice.now) out.old.items out.new.items) }
+    ensures cause { IfErr result (IsUnwritten (choice_tree T.kind T.fixed choice.now)) }
+{
+    match put_choice(out, choice) {
+        Ok(()) => Ok(()),
+        Err(GenError::TooLarge) => Err(Refused::TooLarge),
+        Err(_) => Err(Refused::OutOfMemory),
+    }
+}
+
+/// Appends the pod of an element.
+fn put_element<T: Element>(out: &mut Vec<u8>, x: &T) -> Result<(), Refused>
+    ensures appended { OnOk result (IsAppended (fixed (T.fixed x.now)) out.old.items out.new.items) }
+    ensures cause { IfErr result (IsUnwritten (fixed (T.fixed x.now))) }
+{
+    match put_fixed(out, x) {
+        Ok(()) => Ok(()),
+        Err(_) => Err(Refused::OutOfMemory),
+    }
+}

@@ -1,0 +1,83 @@
+use Rattle.std.proofs.Common.{refl, sym, subst}
+use Rattle.spa_filter.specs.declared.error.FilterError.TheVariants.{OutOfMemory}
+use Rattle.spa_fronts.specs.Written.{AreWritten}
+use Rattle.spa_filter_pods.specs.Written.{AreViewsRefused}
+use Rattle.spa_filter_pods.proofs.Filterings.{are_filtered, are_large, lack_memory, mismatch, refused_views}
+use Rattle.spa_filter_pods.proofs.Passing.{if_err, if_ok, on_if, passed_on}
+use Rattle.spa_filter_pods.proofs.views.filter_objects.Goals as goal
+
+pub returns-then-ours-theirs-clause-cause : goal.returns-then-ours-theirs-clause-cause
+returns-then-ours-theirs-clause-cause c = λ a b h k. mismatch a b _ _ _ _ _ _ h k c.if-ours-theirs.true
+
+pub returns-in_err-first-clause-cause : goal.returns-in_err-first-clause-cause
+returns-in_err-first-clause-cause c =
+    passed_on _ OutOfMemory _ c.from_residual.ensures.1 (λ a b h k. lack_memory a b _ _ _ _ _ _ OutOfMemory h k c.if-ours-theirs.false refl)
+
+pub returns-in_err-second-clause-cause : goal.returns-in_err-second-clause-cause
+returns-in_err-second-clause-cause c =
+    passed_on _ OutOfMemory _ c.from_residual-in_err-second.ensures.1 (λ a b h k. lack_memory a b _ _ _ _ _ _ OutOfMemory h k c.if-ours-theirs.false refl)
+
+pub returns-in_err-out-clause-cause : goal.returns-in_err-out-clause-cause
+returns-in_err-out-clause-cause c =
+    passed_on _ _ _ c.from_residual-in_err-out.ensures.1 (λ a b h k. lack_memory a b _ _ _ _ _ _ _ h k c.if-ours-theirs.false c.in_err-out.ensures.cause)
+
+pub returns-in_err-filter_first-clause-cause : goal.returns-in_err-filter_first-clause-cause
+returns-in_err-filter_first-clause-cause c =
+    passed_on _ _ _ c.from_residual-in_err-filter_first.ensures.1
+    (λ a b h k.
+    let ours = c.in_ok-first.ensures.properties in
+    let theirs = c.in_ok-second.ensures.properties in
+    refused_views a b _ _ _ _ _ _ _ h k c.if-ours-theirs.false
+    (λ ps qs w v. c.in_err-filter_first.ensures.cause ps qs (subst (AreWritten ps) (sym ours) w) (subst (AreWritten qs) (sym theirs) v)))
+
+pub returns-in_err-filter_others-clause-cause : goal.returns-in_err-filter_others-clause-cause
+returns-in_err-filter_others-clause-cause c =
+    passed_on _ _ _ c.from_residual-in_err-filter_others.ensures.1
+    (λ a b h k.
+    let ours = c.in_ok-first.ensures.properties in
+    let theirs = c.in_ok-second.ensures.properties in
+    refused_views a b _ _ _ _ _ _ _ h k c.if-ours-theirs.false
+    (λ ps qs w v.
+    let x = subst (AreWritten ps) (sym ours) w in
+    let y = subst (AreWritten qs) (sym theirs) v in
+    c.in_err-filter_others.ensures.cause ps qs _ x y (c.in_ok-filter_first.ensures.filtered ps qs x y)))
+
+pub returns-clause-accepted : goal.returns-clause-accepted
+returns-clause-accepted c =
+    on_if c.ended.result
+    (λ bytes e a b h k.
+    let ours = c.in_ok-first.ensures.properties in
+    let theirs = c.in_ok-second.ensures.properties in
+    let one = c.if-ours-theirs.false in
+    (are_filtered a b _ _ _ _ _ _ _ _ _ h k one c.in_ok-out.ensures.begun
+    (λ ps qs w v. c.in_ok-filter_first.ensures.filtered ps qs (subst (AreWritten ps) (sym ours) w) (subst (AreWritten qs) (sym theirs) v))
+    (λ ps qs head w v. c.in_ok-filter_others.ensures.filtered ps qs head (subst (AreWritten ps) (sym ours) w) (subst (AreWritten qs) (sym theirs) v))
+    _ c.requires.0 c.requires.1 e.small e.size e.parts).can)
+    c.ended.ensures.ended
+
+pub returns-clause-value : goal.returns-clause-value
+returns-clause-value c =
+    if_ok c.ended.result
+    (λ bytes e a b h k.
+    let ours = c.in_ok-first.ensures.properties in
+    let theirs = c.in_ok-second.ensures.properties in
+    let one = c.if-ours-theirs.false in
+    (are_filtered a b _ _ _ _ _ _ _ _ _ h k one c.in_ok-out.ensures.begun
+    (λ ps qs w v. c.in_ok-filter_first.ensures.filtered ps qs (subst (AreWritten ps) (sym ours) w) (subst (AreWritten qs) (sym theirs) v))
+    (λ ps qs head w v. c.in_ok-filter_others.ensures.filtered ps qs head (subst (AreWritten ps) (sym ours) w) (subst (AreWritten qs) (sym theirs) v))
+    _ c.requires.0 c.requires.1 e.small e.size e.parts).filter)
+    c.ended.ensures.ended
+
+pub returns-clause-cause : goal.returns-clause-cause
+returns-clause-cause c =
+    if_err c.ended.result
+    (λ e u a b h k.
+    let ours = c.in_ok-first.ensures.properties in
+    let theirs = c.in_ok-second.ensures.properties in
+    let one = c.if-ours-theirs.false in
+    subst (AreViewsRefused a b) (sym u.cause)
+    (are_large a b _ _ _ _ _ _ _ _ _ h k one c.in_ok-out.ensures.begun
+    (λ ps qs w v. c.in_ok-filter_first.ensures.filtered ps qs (subst (AreWritten ps) (sym ours) w) (subst (AreWritten qs) (sym theirs) v))
+    (λ ps qs head w v. c.in_ok-filter_others.ensures.filtered ps qs head (subst (AreWritten ps) (sym ours) w) (subst (AreWritten qs) (sym theirs) v))
+    u.large))
+    c.ended.ensures.cause

@@ -1,0 +1,143 @@
+-- The pods of objects at the fronts of inputs.
+use Rattle.std.proofs.Common.{◌≡◌, ◌≢◌, ℕ, ◌-◌, ◌≤◌, List, [], length, take, drop, refl, sym, ap, ◌∙◌, subst, arith, length-drop}
+use Rattle.std.proofs.lemmas.List.{append-nil, take_all, take-take, length-take-le}
+use Rattle.spa_format.specs.Words.{word_at, extent, body_of}
+use Rattle.spa_format.specs.Tree.{Tree, fixed, string, bytes, bitmap, array, choice, pointer, struct, object, struct_type, object_type, Trees, no_trees, member, type_of}
+use Rattle.spa_format.specs.Pod.{AreMembers, IsPod}
+use Rattle.spa_format.specs.Encoding.{encoding_of}
+use Rattle.spa_format.specs.Front.{Begins, HasFront, IsRefused, front_of, rest_of}
+use Rattle.spa_format.specs.Typed.{IsBytes}
+use Rattle.spa_format.proofs.Fronts.{front_of_whole, size_of_front, type_of_front}
+use Rattle.spa_format.proofs.Shapes.{object_only}
+use Rattle.spa_format.proofs.Unique.{one_value}
+use Rattle.spa_bytes.specs.Opening.{Opens}
+use Rattle.spa_scan.specs.Canonical.{BeginsCanonical}
+use Rattle.spa_scan.specs.Depth.{depth_of, levels_looked_into}
+use Rattle.spa_rewrite.specs.Rewriting.{IsRewriting}
+use Rattle.spa_rewrite.specs.Shorter.{ArePodsWithin}
+use Rattle.std.specs.Prelude.{IfErr, IfOk, IsErrAnd, Result, Ok, Err}
+use Rattle.std.proofs.lemmas.Result.{err_from_is_err_and}
+use Rattle.spa_fronts.specs.Fronts.{BeginsNoObject, BeginsObjectIn, IsNoObject, IsUnread}
+use Rattle.spa_fronts.specs.declared.front.NoObject.{NoObject}
+use Rattle.spa_fronts.specs.declared.front.NoObject.TheVariants.{Unread, Other, OutOfMemory}
+use Rattle.spa_fronts.specs.Written.{BeginsWritten}
+use Rattle.spa_fronts.proofs.Opening.{begins_written}
+
+-- the type of the value with which an input begins
+pub begun_type : (input : List ℕ) (v : Tree) → Begins input v → type_of v ≡ word_at input 4
+begun_type input v b = sym b.pod.its_type ∙ type_of_front input
+
+-- a front that is its own rewriting
+pub lying_object : (input rest pod : List ℕ) → (c : BeginsCanonical input rest) → word_at input 4 ≡ object_type → pod ≡ front_of input → BeginsObjectIn input pod
+lying_object input rest pod c t e =
+    let i = object_only c.value (begun_type input c.value c.begins.begins ∙ t) in
+    record {
+      type = i.0;
+      id = i.1;
+      values = i.2;
+      begins = subst (Begins input) i.3 c.begins.begins;
+      written = record {
+        its_pod = subst (λ b. IsPod b (object i.0 i.1 i.2)) (sym e) (subst (IsPod (front_of input)) i.3 c.begins.begins.pod);
+        same = e ∙ c.same ∙ ap encoding_of i.3;
+      };
+    }
+
+-- the rewriting of a front
+pub rewritten_object : (input out : List ℕ) → (r : IsRewriting input out) → word_at input 4 ≡ object_type → BeginsObjectIn input out
+rewritten_object input out r t =
+    let i = object_only r.value (begun_type input r.value r.begins ∙ t) in
+    record {
+      type = i.0;
+      id = i.1;
+      values = i.2;
+      begins = subst (Begins input) i.3 r.begins;
+      written = record { its_pod = subst (IsPod out) i.3 r.again; same = r.written ∙ ap encoding_of i.3 };
+    }
+
+-- what stands before the rest
+pub front_before : (input rest : List ℕ) → HasFront input → rest ≡ rest_of input → take (length input - length rest) input ≡ front_of input
+front_before input rest h e =
+    let n = extent (word_at input 0) in
+    let whole = h.whole in
+    let behind : length rest ≡ length input - n = ap length e ∙ length-drop n input in
+    let same : length input - length rest ≡ n = omega arith in
+    ap (λ m. take m input) same
+
+front_twice : (input : List ℕ) → front_of (front_of input) ≡ front_of input
+front_twice input =
+    ap (λ n. take (extent n) (front_of input)) (size_of_front input) ∙ take-take (extent (word_at input 0)) (extent (word_at input 0)) input (omega arith)
+
+-- a front that is pods one after another is one of another value
+pub other_of_members : (input : List ℕ) → HasFront input → word_at input 4 ≢ object_type → (vs : Trees) → AreMembers vs (front_of input) → BeginsNoObject input
+other_of_members input h t no_trees m =
+    let long = length-take-le (extent (word_at input 0)) input h.whole in
+    let none = ap length m in
+    absurd (omega arith)
+other_of_members input h t (member v vs) m =
+    let whole = front_of_whole (front_of input) m.0 m.1 (type_of v) _ m.2 m.3 in
+    let its : IsPod (front_of input) v = subst (λ b. IsPod b v) (whole.1 ∙ front_twice input) m.3 in
+    let begins : Begins input v = record { there = h; pod = its } in
+    record { value = v; begins = begins; other = λ e. t (sym (begun_type input v begins) ∙ e) }
+
+flat : (v : Tree) → type_of v ≢ struct_type → type_of v ≢ object_type → depth_of v ≡ 0
+flat (fixed x) s o = refl
+flat (string b) s o = refl
+flat (bytes b) s o = refl
+flat (bitmap b) s o = refl
+flat (array k xs) s o = refl
+flat (choice h f k x xs) s o = refl
+flat (pointer t a) s o = refl
+flat (struct vs) s o = absurd (s refl)
+flat (object t i ps) s o = absurd (o refl)
+
+-- a front in which nothing nests is refused where it isn't pods one after another
+pub refused_flat : (input : List ℕ) → word_at input 4 ≢ struct_type → word_at input 4 ≢ object_type → ¬ (ArePodsWithin levels_looked_into (front_of input)) →
+    IsRefused input
+refused_flat input s o n v b =
+    let type = begun_type input v b in
+    let zero_deep = flat v (λ e. s (sym type ∙ e)) (λ e. o (sym type ∙ e)) in
+    n (record {
+      values = member v no_trees;
+      members = (front_of input, [], sym (append-nil (front_of input)), b.pod, refl);
+      shallow = omega arith;
+    })
+
+-- a pod is at its own front
+pub pod_there : (pod : List ℕ) (v : Tree) → IsPod pod v → HasFront pod
+pod_there pod v p = let w = p.whole in record { header = omega arith; whole = omega arith }
+
+-- an object of its pod, opened
+pub object_inside : (input pod body behind properties : List ℕ) (type : ℕ) → IsBytes pod → Opens pod type body behind → properties ≡ drop 8 body →
+    BeginsObjectIn input pod → BeginsWritten input (word_at body 0) (word_at body 4) properties
+object_inside input pod body behind properties type h o d b =
+    let v = object b.type b.id b.values in
+    let p = b.written.its_pod in
+    let whole : front_of pod ≡ pod = take_all (extent (word_at pod 0)) pod (omega (arith, p.whole)) in
+    let begins : Begins pod v = record { there = pod_there pod v p; pod = subst (λ c. IsPod c v) (sym whole) p } in
+    let canonical : BeginsCanonical pod (rest_of pod) =
+    record { value = v; begins = record { begins = begins; follows = refl }; same = whole ∙ b.written.same } in
+    let m = begins_written pod (rest_of pod) body behind properties type h canonical o (o.its_type ∙ p.its_type) d in
+    let same = one_value (front_of pod) v (object (word_at body 0) (word_at body 4) m.values) begins.pod m.begins.pod in
+    record { values = m.values; begins = subst (Begins input) same b.begins; written = m.written }
+
+-- the body of an object's pod has its type and id
+pub object_long : (input pod : List ℕ) → BeginsObjectIn input pod → 8 ≤ length (body_of pod)
+object_long input pod b = b.written.its_pod.content.0
+
+-- the rewriting of a front that is no object's
+pub other_rewritten : (input out : List ℕ) → word_at input 4 ≢ object_type → (r : IsRewriting input out) → BeginsNoObject input
+other_rewritten input out t r = record { value = r.value; begins = r.begins; other = λ e. t (sym (begun_type input r.value r.begins) ∙ e) }
+
+pub no_object_of : (input : List ℕ) (why : NoObject) → IsUnread input why → IsNoObject input why
+no_object_of input Unread h = h
+no_object_of input Other h = absurd h
+no_object_of input OutOfMemory h = h
+
+-- a result that is no refusal
+pub of_ok : {T E P : Type 0} {Q : T → Type 0} (r : Result T E) → ((e : E) → r ≡ Err e → ⊥) → ((v : T) → Q v → P) → IfOk r Q → P
+of_ok (Ok v) n f h = f v h
+of_ok (Err e) n f h = absurd (n e refl)
+
+-- a refusal that is passed on by a `?`
+pub passed_on : {T E : Type 0} (r : Result T E) (e : E) (Q : E → Type 0) → IsErrAnd r (λ y. y ≡ e) → Q e → IfErr r Q
+passed_on r e Q h q = let p = err_from_is_err_and r h in rw (p.1, p.2) q

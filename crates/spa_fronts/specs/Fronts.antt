@@ -1,0 +1,46 @@
+-- Objects at the fronts of inputs, as they are written: docs/NEGOTIATION.md, "From bytes to bytes".
+use Rattle.std.specs.Prelude.{◌≢◌, ℕ, List}
+use Rattle.spa_format.specs.Tree.{Tree, object, object_type, Properties, type_of}
+use Rattle.spa_format.specs.Front.{Begins, IsRefused}
+use Rattle.spa_leaf.specs.Reading.{MayLackMemory}
+use Rattle.spa_fronts.specs.Written.{BeginsWritten, IsWritten}
+use Rattle.spa_fronts.specs.declared.object_view.ObjectView.{ObjectView}
+use Rattle.spa_fronts.specs.declared.front.ObjectPod.{ObjectPod}
+use Rattle.spa_fronts.specs.declared.front.ObjectPod.TheVariants.{Lying, Rewritten}
+use Rattle.spa_fronts.specs.declared.front.NoObject.{NoObject}
+use Rattle.spa_fronts.specs.declared.front.NoObject.TheVariants.{Unread, Other, OutOfMemory}
+
+-- the front of the input is a pod of an object, and this is that object's pod as it is written
+pub record BeginsObjectIn (input pod : List ℕ) : Type 0 where
+  pub type : ℕ
+  pub id : ℕ
+  pub values : Properties
+  pub begins : Begins input (object type id values)
+  pub written : IsWritten (object type id values) pod
+
+-- the front of the input is a pod of the object that is looked at
+abbrev pub BeginsView : List ℕ → ObjectView → Type 0
+BeginsView input view = BeginsWritten input view.type_ view.id view.properties.now
+
+-- the bytes of the pod
+abbrev pub bytes_of : ObjectPod → List ℕ
+bytes_of (Lying pod) = pod.now
+bytes_of (Rewritten bytes) = bytes.items
+
+-- the front of the input is a pod of a value that is no object
+pub record BeginsNoObject (input : List ℕ) : Type 0 where
+  pub value : Tree
+  pub begins : Begins input value
+  pub other : type_of value ≢ object_type
+
+-- why no object is at the front of the input
+abbrev pub IsNoObject : List ℕ → NoObject → Type 0
+IsNoObject input Unread = IsRefused input
+IsNoObject input Other = BeginsNoObject input
+IsNoObject input OutOfMemory = MayLackMemory input
+
+-- why the front isn't there as it is written
+abbrev pub IsUnread : List ℕ → NoObject → Type 0
+IsUnread input Unread = IsRefused input
+IsUnread input Other = ⊥
+IsUnread input OutOfMemory = MayLackMemory input

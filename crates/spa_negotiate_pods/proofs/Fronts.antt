@@ -1,5 +1,5 @@
 -- The objects at the fronts of two inputs, and the bytes of that in which they meet.
-use Rattle.std.proofs.Common.{◌≡◌, ℕ, zero, suc, List, [], ◌∷◌, take, ◌∙◌, true, inl, inr, arith, Result, Ok, Err, IfOk, Vec, Global}
+use Rattle.std.proofs.Common.{◌≡◌, ℕ, zero, suc, List, [], ◌∷◌, take, ◌∙◌, true, inl, inr, arith, sym, subst, Result, Ok, Err, IfOk, Vec, Global}
 use Rattle.std.specs.Bool.{IsTrue}
 use Rattle.spa_format.specs.Encoding.{encoding_of}
 use Rattle.spa_format.specs.Fixation.{all_settled, are_settled}
@@ -13,9 +13,13 @@ use Rattle.spa_format.specs.Words.{word_at, extent}
 use Rattle.spa_format.specs.Writable.{IsWritable}
 use Rattle.spa_negotiate.specs.declared.error.Side.TheVariants.{First, Second}
 use Rattle.spa_negotiate.specs.declared.error.NegotiateError.{NegotiateError}
-use Rattle.spa_negotiate.specs.declared.error.NegotiateError.TheVariants.{Unread, NotObject, OutOfMemory}
-use Rattle.spa_negotiate_pods.specs.Fronts.{BeginsObject, BeginBoth, MeetIn, ReadsBack, IsFrontRefused, AreFrontsRefused}
-use Rattle.spa_negotiate.specs.Meeting.{Meet}
+use Rattle.spa_negotiate.specs.declared.error.NegotiateError.TheVariants.{TypeMismatch, Unsupported, Disjoint, Unread, NotObject, TooLarge, OutOfMemory}
+use Rattle.spa_negotiate_pods.specs.Fronts.{BeginsObject, BeginBoth, IsObject, MeetIn, OnNoMeeting, ReadsBack, IsFrontRefused, AreFrontsRefused}
+use Rattle.spa_negotiate.specs.Meeting.{CanMeet, Meet}
+use Rattle.spa_negotiate.specs.Refusals.{AreRefused, OnDisagreement}
+use Rattle.spa_negotiate.proofs.Refusing.{cannot_meet}
+use Rattle.spa_fronts.specs.Fronts.{BeginsObjectIn}
+use Rattle.spa_fronts.specs.Written.{BeginsWritten}
 use Rattle.spa_negotiate_pods.proofs.Values.{NoNul-met, IsNormal-met, are_settled-met}
 
 -- the second side's refusal, behind a first side that is an object
@@ -106,3 +110,67 @@ pub settled-both : (a b bytes : List ℕ) → WalksFindProperties → SettledAre
     IsTrue (all_settled (property_walk (properties_of bytes)))
 settled-both a b bytes walks settled m =
     settled-met walks settled m.ours m.theirs m.holds.met bytes m.holds.meet m.holds.pod
+
+-- the first side's refusal
+pub first_refused : (a b : List ℕ) (e : NegotiateError) → IsFrontRefused First a e → AreFrontsRefused a b e
+first_refused a b (Unread First) h = h.1
+first_refused a b (Unread Second) h = let no : Second ≡ First = h.0 in cc
+first_refused a b (NotObject First) h = h.1
+first_refused a b (NotObject Second) h = let no : Second ≡ First = h.0 in cc
+first_refused a b OutOfMemory h = inl h
+first_refused a b _ h = absurd h
+
+pub begins_object : (input pod : List ℕ) → BeginsObjectIn input pod → BeginsObject input
+begins_object input pod b = record { value = object b.type b.id b.values; begins = b.begins; is_object = tt }
+
+-- two objects of two types
+pub mismatch : (a b ours theirs : List ℕ) (t i u j : ℕ) → BeginsWritten a t i ours → BeginsWritten b u j theirs → ¬ (t ≡ u) →
+    BeginBoth a b (λ v w. AreRefused v w TypeMismatch)
+mismatch a b ours theirs t i u j h k n =
+    record {
+      ours = object t i h.values;
+      theirs = object u j k.values;
+      first = h.begins;
+      second = k.begins;
+      holds = λ e. n (sym e);
+    }
+
+-- the law that a pod is of one value
+module _ (one : (b : List ℕ) (v w : Tree) → IsPod b v → IsPod b w → v ≡ w) where
+  same : (input : List ℕ) (v w : Tree) → Begins input v → Begins input w → v ≡ w
+  same input v w h k = one (front_of input) v w h.pod k.pod
+
+  no_pair : (a b : List ℕ) (e : NegotiateError) → BeginBoth a b (λ v w. AreRefused v w e) → OnNoMeeting (¬ (BeginBoth a b CanMeet)) e
+  no_pair a b e h = of_error e (cannot_meet h.ours h.theirs e h.holds)
+    where
+      against : ¬ (CanMeet h.ours h.theirs) → ¬ (BeginBoth a b CanMeet)
+      against n k =
+          n (subst (λ v. CanMeet v h.theirs) (same a k.ours h.ours k.first h.first)
+          (subst (CanMeet k.ours) (same b k.theirs h.theirs k.second h.second) k.holds))
+
+      of_error : (x : NegotiateError) → OnDisagreement (¬ (CanMeet h.ours h.theirs)) x → OnNoMeeting (¬ (BeginBoth a b CanMeet)) x
+      of_error OutOfMemory n = tt
+      of_error TooLarge n = tt
+      of_error _ n = against n
+
+  first_object : (v w : Tree) → CanMeet v w → IsObject v
+  first_object (object t i ps) w h = tt
+  first_object v w h = absurd h
+
+  second_object : (v w : Tree) → CanMeet v w → IsObject w
+  second_object (object t i ps) (object u j qs) h = tt
+  second_object (object t i ps) w h = absurd h
+  second_object v w h = absurd h
+
+  -- what is refused can't meet, where memory and size aren't the cause
+  pub no_meeting : (a b : List ℕ) (e : NegotiateError) → AreFrontsRefused a b e → OnNoMeeting (¬ (BeginBoth a b CanMeet)) e
+  no_meeting a b (Unread First) h = λ k. h k.ours k.first
+  no_meeting a b (Unread Second) h = λ k. h.1 k.theirs k.second
+  no_meeting a b (NotObject First) h = λ k. h.no_object (subst IsObject (same a k.ours h.value k.first h.begins) (first_object k.ours k.theirs k.holds))
+  no_meeting a b (NotObject Second) h =
+      λ k. h.1.no_object (subst IsObject (same b k.theirs h.1.value k.second h.1.begins) (second_object k.ours k.theirs k.holds))
+  no_meeting a b TooLarge h = tt
+  no_meeting a b OutOfMemory h = tt
+  no_meeting a b TypeMismatch h = no_pair a b TypeMismatch h
+  no_meeting a b (Unsupported k) h = no_pair a b (Unsupported k) h
+  no_meeting a b (Disjoint k) h = no_pair a b (Disjoint k) h

@@ -45,7 +45,8 @@ pub fn negotiate_pods(alloc: Global, a: &[u8], b: &[u8]) -> Result<Vec<u8>, Nego
     pods_have_one_value();
     walks_find_members();
     settled_properties_are_settled();
-    if let Some(bytes) = meet_views(alloc, a, b) {
+    let views = meet_views(alloc, a, b)?;
+    if let Some(bytes) = views {
         return Ok(bytes);
     }
     let first = object_at(alloc, a, Side::First)?;

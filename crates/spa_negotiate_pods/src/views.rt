@@ -1,24 +1,26 @@
 //! Two objects meet where they lie.
-ghost use Rattle.std.specs.Prelude.{◌≡◌, ◌≢◌, ◌<◌, ◌++◌, IfSome, List, Some, true, ℕ};
+ghost use Rattle.std.specs.Prelude.{◌≡◌, ◌≢◌, ◌<◌, ◌++◌, IfErr, IfOk, IfSome, List, OnSome, Some, true, ℕ};
 ghost use Rattle.spa_format.specs.Kind.{Kind, body_size, bool_kind, type_number};
 ghost use Rattle.spa_format.specs.Tree.{Properties, Tree, fixed, join_properties};
 ghost use Rattle.spa_format.specs.Words.{size_limit, word_bytes};
 ghost use Rattle.spa_negotiate.specs.Admits.{plain_of};
-ghost use Rattle.spa_negotiate_pods.specs.Fronts.{BeginBoth, MeetIn};
+ghost use Rattle.spa_negotiate_pods.specs.Fronts.{AreFrontsRefused, BeginBoth, IsFrontRefused, MeetIn, OnNoMeeting};
 ghost use Rattle.spa_negotiate.specs.Keys.{value_at};
 ghost use Rattle.spa_negotiate.specs.Meeting.{CanMeet, Settles};
 ghost use Rattle.spa_negotiate_pods.specs.Offering.{value_of};
-ghost use Rattle.spa_fronts.specs.Fronts.{BeginsView};
+ghost use Rattle.spa_fronts.specs.Fronts.{BeginsObjectIn, BeginsView, bytes_of};
 ghost use Rattle.spa_fronts.specs.KeyOrder.{IsKeyed};
 ghost use Rattle.spa_fronts.specs.Written.{AreWritten, IsWritten};
 ghost use Rattle.spa_negotiate_pods.specs.Written.{IsMetBehind, IsPut, IsSettledBy};
 
 use crate::offer_view::{first_common, offer_view};
 use spa_bytes::{joined, two_words, u32_at, u64_at, wide_body, word_body};
+use spa_format::laws::pods_have_one_value;
 use spa_fronts::{
-    Keyed, ObjectView, PropertyView, are_same, finish, first_property, is_plain, object_in,
-    object_pod, put_header, put_key, put_pod, raised,
+    Keyed, NoObject, ObjectPod, ObjectView, PropertyView, are_same, finish, first_property,
+    is_plain, object_in, object_pod, put_header, put_key, put_pod, raised,
 };
+use spa_negotiate::{NegotiateError, Side};
 use std::alloc::Global;
 
 /// Where the properties of an object begin in its pod: behind its header, its type and its id.
@@ -30,32 +32,55 @@ const ONE_WORD: usize = 4;
 /// The length in bytes of a body of two words.
 const TWO_WORDS: usize = 8;
 
-/// The bytes of the object in which the objects at the fronts of two inputs meet, where nothing is in the way: they are
-/// looked at where they lie, or where their rewritings do. `None` says nothing: the two are to be read then.
-pub(crate) fn meet_views(alloc: Global, a: &[u8], b: &[u8]) -> Option<Vec<u8>>
-    ensures accepted { IfSome result (λ _. BeginBoth a.now b.now CanMeet) }
-    ensures value { IfSome result (λ bytes. BeginBoth a.now b.now (MeetIn bytes.items)) }
+/// The bytes of the object in which the objects at the fronts of two inputs meet: they are looked at where they lie, or where their
+/// rewritings do. `None` says nothing: the two are to be read then.
+///
+/// The refusals: `Unread` and `NotObject`, of the first side before the second; then `TypeMismatch`.
+pub(crate) fn meet_views(
+    alloc: Global,
+    a: &[u8],
+    b: &[u8],
+) -> Result<Option<Vec<u8>>, NegotiateError>
+    ensures accepted { IfOk result (λ met. OnSome met (BeginBoth a.now b.now CanMeet)) }
+    ensures refused { IfErr result (OnNoMeeting (¬ (BeginBoth a.now b.now CanMeet))) }
+    ensures value { IfOk result (λ met. IfSome met (λ bytes. BeginBoth a.now b.now (MeetIn bytes.items))) }
+    ensures cause { IfErr result (AreFrontsRefused a.now b.now) }
 {
-    let Ok(first) = object_pod(alloc, a) else {
-        return None;
+    pods_have_one_value();
+    let first = pod_at(alloc, a, Side::First)?;
+    let second = pod_at(alloc, b, Side::Second)?;
+    let Some(ours) = object_in(first.bytes()) else {
+        unreachable!()
     };
-    let Ok(second) = object_pod(alloc, b) else {
-        return None;
+    let Some(theirs) = object_in(second.bytes()) else {
+        unreachable!()
     };
-    let ours = object_in(first.bytes())?;
-    let theirs = object_in(second.bytes())?;
-    meet_objects(alloc, &ours, &theirs)
+    if ours.type_ != theirs.type_ {
+        return Err(NegotiateError::TypeMismatch);
+    }
+    Ok(meet_objects(alloc, &ours, &theirs))
 }
 
-/// The bytes of the object in which two objects meet.
+/// The pod of the object at the front of a side's bytes.
+fn pod_at(alloc: Global, bytes: &[u8], side: Side) -> Result<ObjectPod<'_>, NegotiateError>
+    ensures object { IfOk result (λ pod. BeginsObjectIn bytes.now (bytes_of pod)) }
+    ensures cause { IfErr result (IsFrontRefused side bytes.now) }
+{
+    match object_pod(alloc, bytes) {
+        Ok(pod) => Ok(pod),
+        Err(NoObject::Unread) => Err(NegotiateError::Unread(side)),
+        Err(NoObject::Other) => Err(NegotiateError::NotObject(side)),
+        Err(NoObject::OutOfMemory) => Err(NegotiateError::OutOfMemory),
+    }
+}
+
+/// The bytes of the object in which two objects meet, where nothing is in the way.
 fn meet_objects(alloc: Global, ours: &ObjectView<'_>, theirs: &ObjectView<'_>) -> Option<Vec<u8>>
-    requires { (ours.now.type_ < size_limit) × (ours.now.id < size_limit) }
+    requires words { (ours.now.type_ < size_limit) × (ours.now.id < size_limit) }
+    requires one { ours.now.type_ ≡ theirs.now.type_ }
     ensures accepted { IfSome result (λ _. (a b : List ℕ) → BeginsView a ours.now → BeginsView b theirs.now → BeginBoth a b CanMeet) }
     ensures value { IfSome result (λ bytes. (a b : List ℕ) → BeginsView a ours.now → BeginsView b theirs.now → BeginBoth a b (MeetIn bytes.items)) }
 {
-    if ours.type_ != theirs.type_ {
-        return None;
-    }
     let Ok(mut out) = Vec::with_capacity(alloc, PROPERTIES_AT + ours.properties.len()) else {
         return None;
     };

@@ -1,7 +1,8 @@
 use Rattle.std.proofs.Common.{ap, subst}
+use Rattle.std.specs.Prelude.{IfSome, OnSome}
 use Rattle.spa_value.specs.View.{object_view, view}
-use Rattle.spa_negotiate_pods.specs.Fronts.{BeginsObject}
-use Rattle.spa_negotiate.specs.Meeting.{Meet}
+use Rattle.spa_negotiate_pods.specs.Fronts.{BeginBoth, BeginsObject, MeetIn}
+use Rattle.spa_negotiate.specs.Meeting.{CanMeet, Meet}
 use Rattle.spa_negotiate_pods.proofs.Fronts.{second_refused, ReadsBack-met, MeetIn-written, settled-both, settled-written}
 use Rattle.spa_negotiate_pods.proofs.Passing.{passed_on}
 use Rattle.spa_negotiate_pods.proofs.pods.negotiate_pods.Goals as goal
@@ -10,7 +11,7 @@ pub returns-in-Some-clause-fixated : goal.returns-in-Some-clause-fixated
 returns-in-Some-clause-fixated c =
     let walks = c.walks_find_members.ensures.of_object in
     let settled = c.settled_properties_are_settled.ensures in
-    settled-both c.args.a.now c.args.b.now c.in-Some.bytes.items walks settled c.in-Some.ensures.value
+    settled-both c.args.a.now c.args.b.now c.in-Some.bytes.items walks settled (subst (λ o. IfSome o (λ bytes. BeginBoth c.args.a.now c.args.b.now (MeetIn bytes.items))) c.in-Some.is c.in_ok-views.ensures.value)
 
 pub returns-in_err-second-clause-cause : goal.returns-in_err-second-clause-cause
 returns-in_err-second-clause-cause c =
@@ -57,3 +58,11 @@ returns-clause-fixated c =
     let walks = c.walks_find_members.ensures.of_object in
     let settled = c.settled_properties_are_settled.ensures in
     settled-written v w x met walks settled _ c.encoded.ensures.pod
+
+pub returns-in-Some-clause-accepted : goal.returns-in-Some-clause-accepted
+returns-in-Some-clause-accepted c =
+    subst (λ o. OnSome o (BeginBoth c.args.a.now c.args.b.now CanMeet)) c.in-Some.is c.in_ok-views.ensures.accepted
+
+pub returns-in-Some-clause-value : goal.returns-in-Some-clause-value
+returns-in-Some-clause-value c =
+    subst (λ o. IfSome o (λ bytes. BeginBoth c.args.a.now c.args.b.now (MeetIn bytes.items))) c.in-Some.is c.in_ok-views.ensures.value

@@ -10,7 +10,7 @@ returns-then-finish-clause-accepted c = λ a b h k.
     let ours = c.in-Ok-new.ensures.properties in
     let theirs = c.in-Ok-new-2.ensures.properties in
     let met =
-    are_met a b _ _ _ _ _ _ _ _ _ _ c.requires.0 c.requires.1 h k c.if-ours-theirs.false begun
+    are_met a b _ _ _ _ _ _ _ _ _ _ c.requires.words.0 c.requires.words.1 h k c.requires.one begun
     (λ ps qs w v. c.settle_first.ensures c.if-not-settle_first.false ps qs (subst (AreWritten ps) (sym ours) w) (subst (AreWritten qs) (sym theirs) v))
     (λ ps qs head w v. c.settle_others.ensures c.if-not-settle_others.false ps qs head (subst (AreWritten ps) (sym ours) w) (subst (AreWritten qs) (sym theirs) v))
     (c.finish.ensures.size c.if-finish.true) (c.finish.ensures.bytes c.if-finish.true) in
@@ -23,7 +23,7 @@ returns-then-finish-clause-value c = λ a b h k.
     let ours = c.in-Ok-new.ensures.properties in
     let theirs = c.in-Ok-new-2.ensures.properties in
     let met =
-    are_met a b _ _ _ _ _ _ _ _ _ _ c.requires.0 c.requires.1 h k c.if-ours-theirs.false begun
+    are_met a b _ _ _ _ _ _ _ _ _ _ c.requires.words.0 c.requires.words.1 h k c.requires.one begun
     (λ ps qs w v. c.settle_first.ensures c.if-not-settle_first.false ps qs (subst (AreWritten ps) (sym ours) w) (subst (AreWritten qs) (sym theirs) v))
     (λ ps qs head w v. c.settle_others.ensures c.if-not-settle_others.false ps qs head (subst (AreWritten ps) (sym ours) w) (subst (AreWritten qs) (sym theirs) v))
     (c.finish.ensures.size c.if-finish.true) (c.finish.ensures.bytes c.if-finish.true) in

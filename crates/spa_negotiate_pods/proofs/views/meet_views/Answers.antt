@@ -1,16 +1,50 @@
 use Rattle.std.proofs.Common.{sym, subst}
+use Rattle.spa_negotiate.specs.declared.error.NegotiateError.TheVariants.{TypeMismatch}
 use Rattle.spa_fronts.specs.Fronts.{BeginsObjectIn}
-use Rattle.spa_negotiate_pods.proofs.Passing.{if_some}
+use Rattle.spa_negotiate_pods.proofs.Fronts.{begins_object, first_refused, mismatch, no_meeting, second_refused}
+use Rattle.spa_negotiate_pods.proofs.Passing.{if_some, on_some, passed_on}
 use Rattle.spa_negotiate_pods.proofs.views.meet_views.Goals as goal
+
+pub returns-in_err-first-clause-refused : goal.returns-in_err-first-clause-refused
+returns-in_err-first-clause-refused c =
+    passed_on _ _ _ c.from_residual.ensures.1
+    (no_meeting c.pods_have_one_value.ensures c.args.a.now c.args.b.now _ (first_refused c.args.a.now c.args.b.now _ c.in_err-first.ensures.cause))
+
+pub returns-in_err-first-clause-cause : goal.returns-in_err-first-clause-cause
+returns-in_err-first-clause-cause c =
+    passed_on _ _ _ c.from_residual.ensures.1 (first_refused c.args.a.now c.args.b.now _ c.in_err-first.ensures.cause)
+
+pub returns-in_err-second-clause-refused : goal.returns-in_err-second-clause-refused
+returns-in_err-second-clause-refused c =
+    passed_on _ _ _ c.from_residual-in_err-second.ensures.1
+    (no_meeting c.pods_have_one_value.ensures c.args.a.now c.args.b.now _
+    (second_refused c.args.a.now c.args.b.now (begins_object _ _ c.in_ok-first.ensures.object) _ c.in_err-second.ensures.cause))
+
+pub returns-in_err-second-clause-cause : goal.returns-in_err-second-clause-cause
+returns-in_err-second-clause-cause c =
+    passed_on _ _ _ c.from_residual-in_err-second.ensures.1
+    (second_refused c.args.a.now c.args.b.now (begins_object _ _ c.in_ok-first.ensures.object) _ c.in_err-second.ensures.cause)
+
+pub returns-then-ours-theirs-clause-refused : goal.returns-then-ours-theirs-clause-refused
+returns-then-ours-theirs-clause-refused c =
+    let first = c.in-Some.ensures.object c.args.a.now (subst (BeginsObjectIn c.args.a.now) (sym c.bytes.ensures) c.in_ok-first.ensures.object) in
+    let second = c.in-Some-object_in.ensures.object c.args.b.now (subst (BeginsObjectIn c.args.b.now) (sym c.bytes-2.ensures) c.in_ok-second.ensures.object) in
+    no_meeting c.pods_have_one_value.ensures c.args.a.now c.args.b.now TypeMismatch (mismatch c.args.a.now c.args.b.now _ _ _ _ _ _ first second c.if-ours-theirs.true)
+
+pub returns-then-ours-theirs-clause-cause : goal.returns-then-ours-theirs-clause-cause
+returns-then-ours-theirs-clause-cause c =
+    let first = c.in-Some.ensures.object c.args.a.now (subst (BeginsObjectIn c.args.a.now) (sym c.bytes.ensures) c.in_ok-first.ensures.object) in
+    let second = c.in-Some-object_in.ensures.object c.args.b.now (subst (BeginsObjectIn c.args.b.now) (sym c.bytes-2.ensures) c.in_ok-second.ensures.object) in
+    mismatch c.args.a.now c.args.b.now _ _ _ _ _ _ first second c.if-ours-theirs.true
 
 pub returns-clause-accepted : goal.returns-clause-accepted
 returns-clause-accepted c =
-    let first = c.in_ok-ours.ensures.object c.args.a.now (subst (BeginsObjectIn c.args.a.now) (sym c.bytes.ensures) c.in-Ok.ensures.object) in
-    let second = c.in_ok-theirs.ensures.object c.args.b.now (subst (BeginsObjectIn c.args.b.now) (sym c.bytes-2.ensures) c.in-Ok-object_pod.ensures.object) in
-    if_some c.meet_objects.result (λ bytes f. f _ _ first second) c.meet_objects.ensures.accepted
+    let first = c.in-Some.ensures.object c.args.a.now (subst (BeginsObjectIn c.args.a.now) (sym c.bytes.ensures) c.in_ok-first.ensures.object) in
+    let second = c.in-Some-object_in.ensures.object c.args.b.now (subst (BeginsObjectIn c.args.b.now) (sym c.bytes-2.ensures) c.in_ok-second.ensures.object) in
+    on_some c.meet_objects.result (λ bytes f. f _ _ first second) c.meet_objects.ensures.accepted
 
 pub returns-clause-value : goal.returns-clause-value
 returns-clause-value c =
-    let first = c.in_ok-ours.ensures.object c.args.a.now (subst (BeginsObjectIn c.args.a.now) (sym c.bytes.ensures) c.in-Ok.ensures.object) in
-    let second = c.in_ok-theirs.ensures.object c.args.b.now (subst (BeginsObjectIn c.args.b.now) (sym c.bytes-2.ensures) c.in-Ok-object_pod.ensures.object) in
+    let first = c.in-Some.ensures.object c.args.a.now (subst (BeginsObjectIn c.args.a.now) (sym c.bytes.ensures) c.in_ok-first.ensures.object) in
+    let second = c.in-Some-object_in.ensures.object c.args.b.now (subst (BeginsObjectIn c.args.b.now) (sym c.bytes-2.ensures) c.in_ok-second.ensures.object) in
     if_some c.meet_objects.result (λ bytes f. f _ _ first second) c.meet_objects.ensures.value

@@ -1,7 +1,8 @@
 -- What is printed, pod by pod.
 use Rattle.std.proofs.Common.{◌≡◌, ◌≢◌, ◌≤◌, ℕ, ◌-◌, List, [], ◌∷◌, ◌++◌, Option, refl, sym, inl, inr, arith, length, ◌∙◌, ap, subst, length-append, append_assoc, append-nil}
 use Rattle.std.specs.Borrow.{Bor}
-use Rattle.std.specs.Prelude.{◌⊎◌}
+use Rattle.std.specs.Prelude.{◌⊎◌, Result, Ok, Err, IfErr}
+use Rattle.std.specs.Result.{IsErrAnd}
 use Rattle.std.proofs.lemmas.List.{take-append-drop}
 use Rattle.spa_format.specs.Words.{extent, word_at}
 use Rattle.spa_format.specs.Front.{Begins, IsRefused, front_of, rest_of}
@@ -116,6 +117,11 @@ stops layout mark start left old out origin place size WriteFailed so some fits 
 
 pub runs_out : (origin : Origin) (start : List ℕ) (size : ℕ) (why : Failure) → why ≡ OutOfMemory → IsStopped origin start size why
 runs_out origin start size why e = subst (IsStopped origin start size) (sym e) tt
+
+-- a refusal that is handed on
+pub told : {T : Type 0} (P : Failure → Type 0) (r : Result T Failure) (why : Failure) → IsErrAnd r (λ w. w ≡ why) → P why → IfErr r P
+told P (Ok x) why h p = absurd h
+told P (Err w) why h p = subst P (sym h) p
 
 -- behind first pods it stops in the whole
 pub stops_whole : (origin : Origin) (input first left : List ℕ) (vs : Trees) (why : Failure) → input ≡ first ++ left → AreMembers vs first →

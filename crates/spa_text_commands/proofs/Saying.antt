@@ -1,6 +1,6 @@
 -- What is said, line by line and pod by pod.
 use Rattle.std.specs.Io.KnownBytes.{Appends, Keeps}
-use Rattle.std.proofs.Common.{◌≡◌, ◌≤◌, ℕ, ◌+◌, ◌-◌, List, [], ◌∷◌, ◌++◌, Option, Some, None, refl, sym, inl, inr, arith, take, length, ◌∙◌, ap, subst, length-drop, append_assoc, append-nil}
+use Rattle.std.proofs.Common.{◌≡◌, ◌≤◌, ◌<◌, ℕ, ◌+◌, ◌-◌, List, [], ◌∷◌, ◌++◌, Option, Some, None, refl, sym, inl, inr, arith, take, length, ◌∙◌, ap, subst, length-drop, append_assoc, append-nil}
 use Rattle.std.specs.Prelude.{◌⊎◌, codes, Result, Ok, Err, OnOk}
 use Rattle.std.proofs.lemmas.List.{length-take-le, take_all}
 use Rattle.spa_format.specs.Words.{extent, word_at}
@@ -148,6 +148,12 @@ walked b h =
 
 shorter : (b : List ℕ) → HasFront b → length (rest_of b) ≤ length b
 shorter b h = let d : length (rest_of b) ≡ length b - extent (word_at b 0) = length-drop (extent (word_at b 0)) b in omega (arith, d)
+
+pub shrinks : (b behind : List ℕ) → HasFront b → behind ≡ rest_of b → length behind < length b
+shrinks b behind h e =
+    let d : length (rest_of b) ≡ length b - extent (word_at b 0) = length-drop (extent (word_at b 0)) b in
+    let l = ap length e in
+    let s = h.header in omega (arith, d, l, s)
 
 pub goes_on : (bytes left behind : List ℕ) (a b c : Option (List ℕ)) (l m n : List ℕ) → HasFront left → behind ≡ rest_of left →
     SoFar bytes left a l b m → Adds b m c n → SoFar bytes behind a l c n

@@ -3,8 +3,9 @@ use crate::inside::Label;
 use crate::parts::{Parts, Scalar, Shown};
 use ryu::Buffer;
 use spa_names::{Table, ids_of, name_of, path_of};
+use spa_utils::SpaTypes;
 use std::alloc::AllocError;
-use std::fmt::Write;
+use std::fmt::{Display, Write};
 use std::num::{f32_from_bits_with_nan, f64_from_bits_with_nan};
 
 /// The deepest lines that are indented in full; deeper ones are indented as these, and tell their depth.
@@ -65,65 +66,111 @@ pub(crate) fn put_value(
 ) -> Result<(), AllocError> {
     let size = value.body.len();
     match parts {
-        Parts::Scalar(scalar) => return put_scalar(text, scalar),
-        Parts::Struct(_) => write!(text, "Struct: size {size}")?,
-        Parts::Object { type_, id, .. } => write!(
+        Parts::Scalar(scalar) => put_scalar(text, scalar),
+        Parts::Struct(_) => put_word(text, "Struct: size", size),
+        Parts::Object { type_, id, .. } => put_object(text, size, type_, id),
+        Parts::Sequence { unit, .. } => put_pair(
             text,
-            "Object: size {size}, type {} ({}), id {} ({id})",
+            "Sequence: size",
+            size,
+            ", unit ",
+            path_or_unknown(Table::Types, unit),
+        ),
+        Parts::Array { size, type_, .. } => put_pair(
+            text,
+            "Array: child.size",
+            size,
+            ", child.type ",
             path_or_unknown(Table::Types, type_.0),
-            type_.0,
-            path_or_unknown(ids_of(type_), id)
-        )?,
-        Parts::Sequence { unit, .. } => write!(
-            text,
-            "Sequence: size {size}, unit {}",
-            path_or_unknown(Table::Types, unit)
-        )?,
-        Parts::Array { size, type_, .. } => write!(
-            text,
-            "Array: child.size {size}, child.type {}",
-            path_or_unknown(Table::Types, type_.0)
-        )?,
+        ),
         Parts::Choice {
             shape,
             flags,
             size: child,
             ..
-        } => write!(
-            text,
-            "Choice: type {}, flags {flags:08x} {size} {child}",
-            path_or_unknown(Table::Choices, shape)
-        )?,
-        Parts::Bytes(_) => match name_of(Table::Types, value.type_.0) {
-            Some(name) => write!(text, "{name}: size {size}")?,
-            None => write!(text, "Type {}: size {size}", value.type_.0)?,
-        },
+        } => put_choice(text, shape, flags, size, child),
+        Parts::Bytes(_) => put_size(text, value.type_.0, size),
     }
-    Ok(())
+}
+
+fn put_object(text: &mut String, size: usize, type_: SpaTypes, id: u32) -> Result<(), AllocError> {
+    write!(
+        text,
+        "Object: size {size}, type {} ({}), id {} ({id})",
+        path_or_unknown(Table::Types, type_.0),
+        type_.0,
+        path_or_unknown(ids_of(type_), id)
+    )
+}
+
+fn put_choice(
+    text: &mut String,
+    shape: u32,
+    flags: u32,
+    size: usize,
+    child: u32,
+) -> Result<(), AllocError> {
+    write!(
+        text,
+        "Choice: type {}, flags {flags:08x} {size} {child}",
+        path_or_unknown(Table::Choices, shape)
+    )
+}
+
+/// Writes the type of bytes, by its name where it has one, and how many they are.
+fn put_size(text: &mut String, type_: u32, size: usize) -> Result<(), AllocError> {
+    match name_of(Table::Types, type_) {
+        Some(name) => {
+            text.push_str(name)?;
+            put_word(text, ": size", size)
+        }
+        None => put_pair(text, "Type", type_, ": size ", size),
+    }
 }
 
 /// Writes what a value without others inside says.
 fn put_scalar(text: &mut String, scalar: Scalar<'_>) -> Result<(), AllocError> {
     match scalar {
-        Scalar::Bool(value) => write!(text, "Bool {value}")?,
-        Scalar::Id(number, names) => {
-            write!(text, "Id {number:<8} ({})", path_or_unknown(names, number))?
-        }
-        Scalar::Int(number) => write!(text, "Int {number}")?,
-        Scalar::Long(number) => write!(text, "Long {number}")?,
-        Scalar::Float(bits) => return put_float(text, bits),
-        Scalar::Double(bits) => return put_double(text, bits),
-        Scalar::Text(body) => return put_text(text, body),
-        Scalar::Rectangle(width, height) => write!(text, "Rectangle {width}x{height}")?,
-        Scalar::Fraction(num, denom) => write!(text, "Fraction {num}/{denom}")?,
-        Scalar::Fd(number) => write!(text, "Fd {number}")?,
-        Scalar::Pointer(type_, address) => write!(
-            text,
-            "Pointer {} {address:#x}",
-            path_or_unknown(Table::Types, type_)
-        )?,
+        Scalar::Bool(value) => put_word(text, "Bool", value),
+        Scalar::Id(number, names) => put_id(text, number, names),
+        Scalar::Int(number) => put_word(text, "Int", number),
+        Scalar::Long(number) => put_word(text, "Long", number),
+        Scalar::Float(bits) => put_float(text, bits),
+        Scalar::Double(bits) => put_double(text, bits),
+        Scalar::Text(body) => put_text(text, body),
+        Scalar::Rectangle(width, height) => put_pair(text, "Rectangle", width, "x", height),
+        Scalar::Fraction(num, denom) => put_pair(text, "Fraction", num, "/", denom),
+        Scalar::Fd(number) => put_word(text, "Fd", number),
+        Scalar::Pointer(type_, address) => put_pointer(text, type_, address),
     }
-    Ok(())
+}
+
+fn put_id(text: &mut String, number: u32, names: Table) -> Result<(), AllocError> {
+    write!(text, "Id {number:<8} ({})", path_or_unknown(names, number))
+}
+
+fn put_pointer(text: &mut String, type_: u32, address: u64) -> Result<(), AllocError> {
+    write!(
+        text,
+        "Pointer {} {address:#x}",
+        path_or_unknown(Table::Types, type_)
+    )
+}
+
+/// Writes a word, and what follows it.
+fn put_word<T: Display + Copy>(text: &mut String, word: &str, value: T) -> Result<(), AllocError> {
+    write!(text, "{word} {value}")
+}
+
+/// Writes a word, and what follows it, with this between.
+fn put_pair<S: Display + Copy, T: Display + Copy>(
+    text: &mut String,
+    word: &str,
+    first: S,
+    between: &str,
+    second: T,
+) -> Result<(), AllocError> {
+    write!(text, "{word} {first}{between}{second}")
 }
 
 /// Writes a float by its shortest digits, one that is no number by its bits.

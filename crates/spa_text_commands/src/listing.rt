@@ -32,7 +32,7 @@ struct Listing<'a> {
 }
 
 /// Lists a top-level pod that begins at this byte of the input, and what is inside it.
-#[tactic(auto, using(crate::proofs::Saying::adds_adds, crate::proofs::Saying::adds_may))]
+#[tactic(auto, using(crate::proofs::Saying::adds_adds))]
 pub(crate) fn list<W: Write + Drop>(
     alloc: Global,
     page: &mut Page<W>,

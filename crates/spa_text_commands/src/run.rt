@@ -88,7 +88,7 @@ fn show<R: Read, W: Write + Drop>(alloc: Global, input: &mut R, device: W) -> (A
     (Answer::Refused(why), page.device)
 }
 
-#[tactic(auto, using(crate::proofs::Saying::begins, crate::proofs::Saying::goes_on, crate::proofs::Saying::ends))]
+#[tactic(auto, using(crate::proofs::Saying::begins))]
 /// Lists the pods that the bytes begin with, and answers how many bytes follow them.
 fn list_all<W: Write + Drop>(
     alloc: Global,
@@ -147,7 +147,6 @@ fn read<R: Read, W: Write + Drop>(alloc: Global, input: &mut R, device: W) -> (A
 }
 
 /// Writes the lines of text that differ of the pods that the files of these names consist of, once all are compared.
-#[tactic(auto, using(crate::proofs::Compared::not_compared, crate::proofs::Compared::same, crate::proofs::Compared::differ))]
 fn diff<S: Sources, W: Write + Drop>(
     alloc: Global,
     files: &S,

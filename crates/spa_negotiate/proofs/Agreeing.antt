@@ -79,7 +79,7 @@ IsIndexed-offer v o i h =
     (subst (λ vs. IsIndexedBy (rule_of v) (plain_of v ∷ vs) o.index) (sym i.values) own))
 
 -- a supported value has the rule of one,
-IsSupportedRule-value : (v : Tree) → IsSupported v → IsSupportedRule (rule_of v)
+pub IsSupportedRule-value : (v : Tree) → IsSupported v → IsSupportedRule (rule_of v)
 IsSupportedRule-value (choice none_choice f k d vs) h = tt
 IsSupportedRule-value (choice enum_choice f k d vs) h = tt
 IsSupportedRule-value (choice range_choice f id_kind d vs) h = tt
@@ -90,7 +90,7 @@ IsSupportedRule-value (choice _ f k d vs) h = absurd h
 IsSupportedRule-value v h = tt
 
 -- and no other value has
-IsSupported-rule : (v : Tree) → IsSupportedRule (rule_of v) → IsSupported v
+pub IsSupported-rule : (v : Tree) → IsSupportedRule (rule_of v) → IsSupported v
 IsSupported-rule (choice none_choice f k d vs) h = tt
 IsSupported-rule (choice enum_choice f k d vs) h = tt
 IsSupported-rule (choice range_choice f id_kind d vs) h = tt
@@ -99,6 +99,11 @@ IsSupported-rule (choice range_choice f long_kind d vs) h = tt
 IsSupported-rule (choice range_choice f k d vs) h = absurd h
 IsSupported-rule (choice _ f k d vs) h = absurd h
 IsSupported-rule v h = tt
+
+-- a plain value is supported
+pub IsSupported-plain : (v : Tree) → IsPlain v → IsSupported v
+IsSupported-plain (choice s f k d vs) h = absurd h
+IsSupported-plain _ h = tt
 
 -- a supported value's offer has a supported rule,
 pub IsSupportedRule-offer : (v : Tree) (o : Offer) → IsOfferOf v o → IsSupported v →

@@ -2,7 +2,7 @@
 use Rattle.std.proofs.Common.{◌≡◌, ◌≢◌, ◌<◌, ◌≤◌, ◌==◌, ℕ, [], Bool, true, false, if◌then◌else◌, true≢false, None, refl, sym, ap, ◌∙◌, arith}
 use Rattle.std.specs.Prelude.{ℤ}
 use Rattle.spa_format.specs.Kind.{Kind, id_kind, int_kind, long_kind, type_number, kind_of, Fixed, none, bool, id, int, long, float, double, rectangle, fraction, fd}
-use Rattle.spa_format.specs.Tree.{Tree, fixed, choice, object, type_of, array_type, choice_type, object_type}
+use Rattle.spa_format.specs.Tree.{Tree, fixed, choice, type_of, array_type, choice_type, object_type}
 use Rattle.spa_value.specs.declared.array.ValueArray.{ValueArray}
 use Rattle.spa_value.specs.declared.choice_value.ChoiceValue.{ChoiceValue}
 use Rattle.spa_value.specs.declared.object.Object.{Object}

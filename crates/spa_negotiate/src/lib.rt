@@ -10,4 +10,5 @@ mod numbers;
 mod offer;
 
 pub use error::{NegotiateError, Side};
-pub use negotiation::negotiate;
+pub use negotiation::{common, negotiate};
+pub use offer::is_supported;

@@ -140,8 +140,10 @@ fn settle(alloc: Global, property: &Property, others: &Keyed<'_>) -> Result<Valu
     }
 }
 
-/// A plain value that both admit.
-fn common(alloc: Global, key: u32, a: &Value, b: &Value) -> Result<Value, NegotiateError>
+/// A plain value that both admit: of a key that two objects have, the value of that in which they meet.
+///
+/// The refusals: `Unsupported` of this key, before `Disjoint` of it.
+pub fn common(alloc: Global, key: u32, a: &Value, b: &Value) -> Result<Value, NegotiateError>
     ensures plain { IfOk result (λ x. IsPlain (view x)) }
     ensures common { IfOk result (λ x. IsCommon (view a.now) (view b.now) (view x)) }
     ensures cause { IfErr result (IsKeyRefusal key (Some (view a.now)) (Some (view b.now))) }

@@ -3,7 +3,7 @@ ghost use Rattle.std.specs.Prelude.{◌≡◌, ◌↔◌, IfOk, IsTrue, [], ◌�
 ghost use Rattle.spa_format.specs.Tree.{fixed};
 ghost use Rattle.spa_value.specs.View.{choice_view, view};
 ghost use Rattle.spa_fixed.specs.Choices.{choice_enum_tree};
-ghost use Rattle.spa_negotiate.specs.Admits.{IsPlain, plain_of};
+ghost use Rattle.spa_negotiate.specs.Admits.{IsPlain, IsSupported, plain_of};
 ghost use Rattle.spa_negotiate.specs.Numbering.{HasAll};
 ghost use Rattle.spa_negotiate.specs.Offers.{IsIndexed, IsOfferOf, further_values_of, indexed_of, rule_of};
 
@@ -229,5 +229,33 @@ pub(crate) fn settled(value: &Value) -> Result<Value, AllocError>
     match value {
         Value::Choice(choice) => Ok(settled_choice(choice)),
         _ => Ok(value.clone()?),
+    }
+}
+
+/// The rule of a choice over any type.
+fn rule_of_choice(choice: &ChoiceValue) -> Rule
+    ensures { result ≡ rule_of (choice_view choice.now) }
+{
+    match choice {
+        ChoiceValue::Bool(choice) => rule_of(&choice.1),
+        ChoiceValue::Id(choice) => rule_of(&choice.1),
+        ChoiceValue::Int(choice) => rule_of(&choice.1),
+        ChoiceValue::Long(choice) => rule_of(&choice.1),
+        ChoiceValue::Float(choice) => rule_of(&choice.1),
+        ChoiceValue::Double(choice) => rule_of(&choice.1),
+        ChoiceValue::Rectangle(choice) => rule_of(&choice.1),
+        ChoiceValue::Fraction(choice) => rule_of(&choice.1),
+        ChoiceValue::Fd(choice) => rule_of(&choice.1),
+    }
+}
+
+/// Whether a common value is sought for this one and others.
+pub fn is_supported(value: &Value) -> bool
+    ensures { IsTrue result ↔ IsSupported (view value.now) }
+{
+    trees_have_their_types();
+    match value {
+        Value::Choice(choice) => rule_of_choice(choice).is_supported(),
+        _ => true,
     }
 }

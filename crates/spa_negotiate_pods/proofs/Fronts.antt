@@ -1,26 +1,22 @@
 -- The objects at the fronts of two inputs, and the bytes of that in which they meet.
-use Rattle.std.proofs.Common.{◌≡◌, ℕ, zero, suc, List, [], ◌∷◌, take, ◌∙◌, true, inl, inr, arith, sym, subst, Result, Ok, Err, IfOk, Vec, Global}
+use Rattle.std.proofs.Common.{◌≡◌, ℕ, List, ◌∙◌, true, inl, inr, sym, subst}
 use Rattle.std.specs.Bool.{IsTrue}
-use Rattle.spa_format.specs.Encoding.{encoding_of}
 use Rattle.spa_format.specs.Fixation.{all_settled, are_settled}
 use Rattle.spa_format.specs.Front.{Begins, front_of}
-use Rattle.spa_format.specs.Normal.{normal_of}
 use Rattle.spa_format.specs.Pod.{IsPod}
 use Rattle.spa_format.specs.Tree.{Tree, object, Properties}
 use Rattle.spa_format.specs.Walk.{ArePropertiesOf, property_walk, properties_of}
-use Rattle.spa_format.specs.Typed.{IsBytes}
-use Rattle.spa_format.specs.Words.{word_at, extent}
-use Rattle.spa_format.specs.Writable.{IsWritable}
+use Rattle.spa_negotiate.specs.declared.error.Side.{Side}
 use Rattle.spa_negotiate.specs.declared.error.Side.TheVariants.{First, Second}
 use Rattle.spa_negotiate.specs.declared.error.NegotiateError.{NegotiateError}
 use Rattle.spa_negotiate.specs.declared.error.NegotiateError.TheVariants.{TypeMismatch, Unsupported, Disjoint, Unread, NotObject, TooLarge, OutOfMemory}
-use Rattle.spa_negotiate_pods.specs.Fronts.{BeginsObject, BeginBoth, IsObject, MeetIn, OnNoMeeting, ReadsBack, IsFrontRefused, AreFrontsRefused}
+use Rattle.spa_negotiate_pods.specs.Fronts.{BeginsObject, BeginBoth, IsObject, MeetIn, OnNoMeeting, IsFrontRefused, AreFrontsRefused, AreViewsRefused}
 use Rattle.spa_negotiate.specs.Meeting.{CanMeet, Meet}
 use Rattle.spa_negotiate.specs.Refusals.{AreRefused, OnDisagreement}
 use Rattle.spa_negotiate.proofs.Refusing.{cannot_meet}
 use Rattle.spa_fronts.specs.Fronts.{BeginsObjectIn}
 use Rattle.spa_fronts.specs.Written.{BeginsWritten}
-use Rattle.spa_negotiate_pods.proofs.Values.{NoNul-met, IsNormal-met, are_settled-met}
+use Rattle.spa_negotiate_pods.proofs.Values.{are_settled-met}
 
 -- the second side's refusal, behind a first side that is an object
 pub second_refused : (a b : List ℕ) → BeginsObject a → (e : NegotiateError) →
@@ -31,38 +27,6 @@ second_refused a b first (NotObject First) h = let no : First ≡ Second = h.0 i
 second_refused a b first (NotObject Second) h = (first, h.1)
 second_refused a b first OutOfMemory h = inr (inl (first, h))
 second_refused a b first _ h = absurd h
-
-IsBytes-take : (n : ℕ) (b : List ℕ) → IsBytes b → IsBytes (take n b)
-IsBytes-take zero b h i = omega arith
-IsBytes-take (suc n) [] h i = omega arith
-IsBytes-take (suc n) (x ∷ xs) h zero = h zero
-IsBytes-take (suc n) (x ∷ xs) h (suc i) = IsBytes-take n xs (λ j. h (suc j)) i
-
--- the laws of what bytes say
-abbrev ReadingsAreNormal : Type 0
-ReadingsAreNormal = (b : List ℕ) (v : Tree) → IsPod b v → normal_of v ≡ v
-
-abbrev ReadingsAreWritable : Type 0
-ReadingsAreWritable = (b : List ℕ) (v : Tree) → IsBytes b → IsPod b v → IsWritable v
-
--- what was read reads back,
-pub ReadsBack-begun : ReadingsAreNormal → ReadingsAreWritable → (b : List ℕ) → IsBytes b → (v : Tree) →
-    Begins b v → ReadsBack v
-ReadsBack-begun normal writable b h v begins =
-    let front = front_of b in
-    let bytes = IsBytes-take (extent (word_at b 0)) b h in
-    record {
-      no_nul = (writable front v bytes begins.pod).no_nul;
-      normal = normal front v begins.pod;
-    }
-
--- and so does that in which two of these meet
-pub ReadsBack-met : (v w x : Tree) → ReadsBack v → ReadsBack w → Meet v w x → ReadsBack x
-ReadsBack-met v w x first second met =
-    record {
-      no_nul = NoNul-met v w x first.no_nul second.no_nul met;
-      normal = IsNormal-met v w x first.normal second.normal met;
-    }
 
 -- the law of walks over properties, and that of those that need no fixation
 abbrev WalksFindProperties : Type 0
@@ -83,29 +47,7 @@ settled-met walks settled (object t i ps) (object u j qs) _ b h p = absurd h
 settled-met walks settled (object t i ps) _ x b h p = absurd h
 settled-met walks settled _ w x b h p = absurd h
 
--- The inputs begin with v and w, which meet in x, and the result is how x was written.
-pub MeetIn-written : (a b : List ℕ) (v w x : Tree) → Begins a v → Begins b w → Meet v w x →
-    (r : Result (Vec ℕ Global) NegotiateError) → IfOk r (λ bytes. bytes.items ≡ encoding_of x) →
-    IfOk r (λ bytes. IsPod bytes.items x) → IfOk r (λ bytes. BeginBoth a b (MeetIn bytes.items))
-MeetIn-written a b v w x first second met (Ok bytes) e p =
-    record {
-      ours = v;
-      theirs = w;
-      first = first;
-      second = second;
-      holds = record { met = x; meet = met; encoding = e; pod = p };
-    }
-MeetIn-written a b v w x first second met (Err why) e p = tt
-
--- What is written so needs no fixation.
-pub settled-written : (v w x : Tree) → Meet v w x → WalksFindProperties → SettledAreSettled →
-    (r : Result (Vec ℕ Global) NegotiateError) → IfOk r (λ bytes. IsPod bytes.items x) →
-    IfOk r (λ bytes. IsTrue (all_settled (property_walk (properties_of bytes.items))))
-settled-written v w x met walks settled (Ok bytes) p =
-    settled-met walks settled v w x bytes.items met p
-settled-written v w x met walks settled (Err why) p = tt
-
--- The same of bytes in which the objects at two fronts meet.
+-- bytes in which the objects at two fronts meet need none
 pub settled-both : (a b bytes : List ℕ) → WalksFindProperties → SettledAreSettled → BeginBoth a b (MeetIn bytes) →
     IsTrue (all_settled (property_walk (properties_of bytes)))
 settled-both a b bytes walks settled m =
@@ -122,6 +64,29 @@ first_refused a b _ h = absurd h
 
 pub begins_object : (input pod : List ℕ) → BeginsObjectIn input pod → BeginsObject input
 begins_object input pod b = record { value = object b.type b.id b.values; begins = b.begins; is_object = tt }
+
+-- objects that are there aren't refused for what their fronts are
+never_unread : (s : Side) (v w : Tree) → AreRefused v w (Unread s) → ⊥
+never_unread s (object t i ps) (object u j qs) r = r.1
+never_unread s (object t i ps) w r = absurd r
+never_unread s v w r = absurd r
+
+never_other : (s : Side) (v w : Tree) → AreRefused v w (NotObject s) → ⊥
+never_other s (object t i ps) (object u j qs) r = r.1
+never_other s (object t i ps) w r = absurd r
+never_other s v w r = absurd r
+
+-- what two objects are refused for that were looked at
+pub views_refused : (a b : List ℕ) (e : NegotiateError) → AreViewsRefused a b e → AreFrontsRefused a b e
+views_refused a b TypeMismatch h = h
+views_refused a b (Unsupported k) h = h
+views_refused a b (Disjoint k) h = h
+views_refused a b (Unread First) h = absurd (never_unread First h.ours h.theirs h.holds)
+views_refused a b (Unread Second) h = absurd (never_unread Second h.ours h.theirs h.holds)
+views_refused a b (NotObject First) h = absurd (never_other First h.ours h.theirs h.holds)
+views_refused a b (NotObject Second) h = absurd (never_other Second h.ours h.theirs h.holds)
+views_refused a b TooLarge h = h
+views_refused a b OutOfMemory h = inr (inr h)
 
 -- two objects of two types
 pub mismatch : (a b ours theirs : List ℕ) (t i u j : ℕ) → BeginsWritten a t i ours → BeginsWritten b u j theirs → ¬ (t ≡ u) →

@@ -1,7 +1,7 @@
 pub mod Passing
-pub mod Objects
 pub mod Values
 pub mod OfferViews
 pub mod Putting
+pub mod Leaves
 pub mod Meetings
 pub mod Fronts

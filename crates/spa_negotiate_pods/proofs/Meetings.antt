@@ -1,20 +1,26 @@
 -- Two objects meet where they lie: what is put, and what is left of each side.
-use Rattle.std.proofs.Common.{◌≡◌, ℕ, ◌-◌, ◌<◌, ◌≤◌, ◌^◌, List, [], ◌++◌, ◌==◌, not, length, drop, refl, sym, ap, ◌∙◌, subst, arith, append_assoc, Bool, true, false, true≢false, if◌then◌else◌, Some}
+use Rattle.std.proofs.Common.{◌≡◌, inl, ℕ, ◌-◌, ◌<◌, ◌≤◌, ◌^◌, List, [], ◌++◌, ◌==◌, not, length, drop, refl, sym, ap, ◌∙◌, subst, arith, append_assoc, length-append, Bool, true, false, true≢false, if◌then◌else◌, Some}
 use Rattle.std.specs.List.{All}
 use Rattle.std.proofs.lemmas.List.{append-nil}
-use Rattle.spa_format.specs.Words.{header_size, word_bytes}
-use Rattle.spa_format.specs.Front.{rest_of}
+use Rattle.spa_format.specs.Words.{header_size, size_limit, word_bytes}
+use Rattle.spa_format.specs.Encoding.{property_encodings}
+use Rattle.spa_format.specs.Front.{HasFront, rest_of}
 use Rattle.spa_format.specs.Tree.{Tree, object, Properties, no_properties, property, join_properties}
 use Rattle.spa_format.specs.Typed.{IsBytes}
 use Rattle.spa_negotiate.specs.Admits.{plain_of}
-use Rattle.spa_negotiate_pods.specs.Fronts.{BeginBoth, MeetIn}
+use Rattle.spa_negotiate_pods.specs.Fronts.{AreViewsRefused, BeginBoth, MeetIn, MeetTooLarge}
 use Rattle.spa_negotiate.specs.Keys.{value_at, key_list, keys_of}
 use Rattle.spa_negotiate.specs.Meeting.{AgreeAt, CanMeet, Settles, SettlesKeys}
 use Rattle.spa_negotiate.specs.PropertyLists.{contains}
+use Rattle.spa_negotiate.specs.Refusals.{AreRefused, IsKeyRefusal, IsRefusal}
+use Rattle.spa_negotiate.specs.declared.error.NegotiateError.{NegotiateError}
+use Rattle.spa_negotiate.specs.declared.error.NegotiateError.TheVariants.{Unsupported, Disjoint, OutOfMemory}
+use Rattle.spa_negotiate.proofs.Refusing.{AreRefused-properties, IsRefusal-first}
 use Rattle.spa_fronts.specs.Written.{AreWritten, BeginsWritten, HasFirst, IsWritten, has_key, open_header}
 use Rattle.spa_fronts.specs.KeyOrder.{AreBelow, ArePassed, bytes_behind}
 use Rattle.spa_fronts.proofs.Passed.{below_on, passed_on}
-use Rattle.spa_fronts.proofs.Joined.{object_written, written_joined, written_one}
+use Rattle.spa_format.proofs.WordLemmas.{length-word_bytes}
+use Rattle.spa_fronts.proofs.Joined.{header_long, object_written, written_joined, written_one}
 use Rattle.spa_fronts.proofs.Listed.{AreListed, listed}
 use Rattle.spa_negotiate_pods.specs.Written.{IsMetBehind, IsPut, IsSettledBy}
 use Rattle.spa_negotiate.proofs.Settling.{AgreeAt-settled, SettlesKeys-seen, SettlesKeys-first, SettlesKeys-other}
@@ -131,12 +137,27 @@ first_put ps qs ours head left pod rest out new k fl bound next w n f s l a p i 
               (SettlesKeys-first ps qs i.done i.met.met rs j g v by.value e i.met.settles fresh put.plain settles);
         }
 
-pub first_ended : (ps qs : Properties) (ours head left out : List ℕ) (bound : ℕ) → length left ≡ 0 → IsFirstLeft ps qs ours head left out bound → IsMetBehind ps qs ps head out
-first_ended ps qs ours head left out bound z i = of_rest i.passed.rest i.passed.all i.list
+-- a key of the first side that is new is refused for what the two sides have under it
+pub first_refused : (ps qs : Properties) (ours head left pod rest out : List ℕ) (k fl bound : ℕ) (e : NegotiateError) → AreWritten ps ours →
+    HasFirst left k fl pod rest → SaysNew true k ours left bound → ((v : Tree) → IsWritten v pod → IsKeyRefusal k (Some v) (value_at k qs) e) →
+    IsFirstLeft ps qs ours head left out bound → IsRefusal ps qs e
+first_refused ps qs ours head left pod rest out k fl bound error w f s p i = of_rest i.passed.rest i.passed.all i.list
+  where
+    of_rest : (rs : Properties) → ps ≡ join_properties i.done rs → AreListed rs left → IsRefusal ps qs error
+    of_rest no_properties e m = absurd (let z = ap length m in let h = f.header in omega arith)
+    of_rest (property j g v rs) e m =
+        let same : k ≡ j = f.its_key ∙ sym m.0.key in
+        let fresh = contains_key k j i.done true same (s ps i.done w i.passed i.below) in
+        let refused : IsKeyRefusal j (Some v) (value_at j qs) error =
+        subst (λ n. IsKeyRefusal n (Some v) (value_at n qs) error) same (p v (subst (IsWritten v) (sym f.its_pod) m.0.written)) in
+        IsRefusal-first ps qs i.done i.met.met rs j g v error e i.met.settles fresh refused
+
+pub first_ended : (ps qs : Properties) (ours head left out : List ℕ) (bound : ℕ) → (header_size ≤ length left → ¬ (HasFront (drop header_size left))) → IsFirstLeft ps qs ours head left out bound → IsMetBehind ps qs ps head out
+first_ended ps qs ours head left out bound n i = of_rest i.passed.rest i.passed.all i.list
   where
     of_rest : (rs : Properties) → ps ≡ join_properties i.done rs → AreListed rs left → IsMetBehind ps qs ps head out
     of_rest no_properties e m = subst (λ ss. IsMetBehind ps qs ss head out) (sym (e ∙ join_properties-none i.done)) i.met
-    of_rest (property j g v rs) e m = absurd (let h = m.0.header in omega arith)
+    of_rest (property j g v rs) e m = absurd (n m.0.header m.0.there)
 
 -- the second side, of which this is left
 pub record IsOtherLeft (ps qs : Properties) (theirs head left out : List ℕ) (bound : ℕ) : Type 0 where
@@ -214,30 +235,82 @@ other_ended ps qs theirs head left out bound z i = of_rest i.passed.rest i.passe
     of_rest no_properties e m = subst (λ ss. IsMetBehind ps qs (join_properties ps ss) head out) (sym (e ∙ join_properties-none i.done)) i.met
     of_rest (property j g v rs) e m = absurd (let h = m.0.header in omega arith)
 
+-- what two objects of one type are refused for under a key is none of the size of the answer
+not_large : (a b : List ℕ) (ps qs : Properties) (e : NegotiateError) → IsRefusal ps qs e → BeginBoth a b (λ v w. AreRefused v w e) → AreViewsRefused a b e
+not_large a b ps qs (Unsupported k) r h = h
+not_large a b ps qs (Disjoint k) r h = h
+not_large a b ps qs OutOfMemory r h = h
+not_large a b ps qs _ r h = absurd r
+
+pub refused_views : (a b ours theirs : List ℕ) (t i u j : ℕ) (e : NegotiateError) → BeginsWritten a t i ours → BeginsWritten b u j theirs → t ≡ u →
+    ((ps qs : Properties) → AreWritten ps ours → AreWritten qs theirs → IsRefusal ps qs e) → AreViewsRefused a b e
+refused_views a b ours theirs t i u j e h k same r =
+    let refused = r h.values k.values h.written k.written in
+    not_large a b h.values k.values e refused
+    (record {
+      ours = object t i h.values;
+      theirs = object u j k.values;
+      first = h.begins;
+      second = k.begins;
+      holds = AreRefused-properties t i u j h.values k.values e (sym same) refused;
+    })
+
+pub lack_memory : (a b ours theirs : List ℕ) (t i u j : ℕ) (e : NegotiateError) → BeginsWritten a t i ours → BeginsWritten b u j theirs → t ≡ u → e ≡ OutOfMemory →
+    AreViewsRefused a b e
+lack_memory a b ours theirs t i u j e h k same is =
+    subst (AreViewsRefused a b) (sym is) (refused_views a b ours theirs t i u j OutOfMemory h k same (λ ps qs w v. tt))
+
 -- what two objects meet in
 pub record AreMet (a b bytes : List ℕ) : Type 0 where
   pub can : BeginBoth a b CanMeet
   pub meet : BeginBoth a b (MeetIn bytes)
 
-pub are_met : (a b ours theirs first second third bytes : List ℕ) (t i u j : ℕ) → t < 2 ^ 32 → i < 2 ^ 32 → BeginsWritten a t i ours → BeginsWritten b u j theirs → t ≡ u →
-    first ≡ open_header t i →
-    ((ps qs : Properties) → AreWritten ps ours → AreWritten qs theirs → IsMetBehind ps qs ps first second) →
-    ((ps qs : Properties) (head : List ℕ) → AreWritten ps ours → AreWritten qs theirs → IsMetBehind ps qs ps head second → IsMetBehind ps qs (join_properties ps qs) head third) →
-    length third - 8 < 2 ^ 32 → bytes ≡ word_bytes (length third - 8) ++ drop 4 third → AreMet a b bytes
-are_met a b ours theirs first second third bytes t i u j ft fi h k e o f g s d =
-    let ps = h.values in
-    let qs = k.values in
-    let m = f ps qs h.written k.written in
-    let n = g ps qs first h.written k.written m in
-    let agreed : All (AgreeAt ps qs) (keys_of ps) = subst (All (AgreeAt ps qs)) m.settles.keys (AgreeAt-settled ps qs m.met m.settles.values) in
-    let w = object_written t i n.met n.bytes third bytes ft fi n.written (n.parts ∙ ap (λ y. y ++ n.bytes) o) s d in
-    record {
-      can = record { ours = object t i ps; theirs = object u j qs; first = h.begins; second = k.begins; holds = (sym e, agreed) };
-      meet = record {
-        ours = object t i ps;
-        theirs = object u j qs;
+module _ (a b ours theirs first second third : List ℕ) (t i u j : ℕ) (h : BeginsWritten a t i ours) (k : BeginsWritten b u j theirs) (e : t ≡ u) (o : first ≡ open_header t i)
+    (f : (ps qs : Properties) → AreWritten ps ours → AreWritten qs theirs → IsMetBehind ps qs ps first second)
+    (g : (ps qs : Properties) (head : List ℕ) → AreWritten ps ours → AreWritten qs theirs → IsMetBehind ps qs ps head second → IsMetBehind ps qs (join_properties ps qs) head third) where
+  all_met : IsMetBehind h.values k.values (join_properties h.values k.values) first third
+  all_met = g h.values k.values first h.written k.written (f h.values k.values h.written k.written)
+
+  pub are_met : (bytes : List ℕ) → t < 2 ^ 32 → i < 2 ^ 32 → length third - 8 < 2 ^ 32 → bytes ≡ word_bytes (length third - 8) ++ drop 4 third → AreMet a b bytes
+  are_met bytes ft fi s d =
+      let ps = h.values in
+      let qs = k.values in
+      let m = f ps qs h.written k.written in
+      let n = all_met in
+      let agreed : All (AgreeAt ps qs) (keys_of ps) = subst (All (AgreeAt ps qs)) m.settles.keys (AgreeAt-settled ps qs m.met m.settles.values) in
+      let w = object_written t i n.met n.bytes third bytes ft fi n.written (n.parts ∙ ap (λ y. y ++ n.bytes) o) s d in
+      record {
+        can = record { ours = object t i ps; theirs = object u j qs; first = h.begins; second = k.begins; holds = (sym e, agreed) };
+        meet = record {
+          ours = object t i ps;
+          theirs = object u j qs;
+          first = h.begins;
+          second = k.begins;
+          holds = record { met = object t i n.met; meet = (sym e, refl, refl, n.settles); encoding = w.encoding; pod = w.pod };
+        };
+      }
+
+  -- they meet in what can't be written
+  pub are_large : (16 ≤ length third → size_limit ≤ length third - 8) → BeginBoth a b MeetTooLarge
+  are_large l =
+      let m = all_met in
+      let body = word_bytes t ++ (word_bytes i ++ property_encodings m.met) in
+      let e0 = length-append (word_bytes t) (word_bytes i ++ property_encodings m.met) in
+      let e1 = length-append (word_bytes i) (property_encodings m.met) in
+      let e2 = length-word_bytes t in
+      let e3 = length-word_bytes i in
+      let e4 = header_long t i in
+      let e5 = length-append first m.bytes in
+      let e6 = ap length o in
+      let e7 = ap length m.parts in
+      let e8 = ap length m.written.same in
+      let long : 16 ≤ length third = omega arith in
+      let past = l long in
+      let large : size_limit ≤ length body = omega arith in
+      record {
+        ours = object t i h.values;
+        theirs = object u j k.values;
         first = h.begins;
         second = k.begins;
-        holds = record { met = object t i n.met; meet = (sym e, refl, refl, n.settles); encoding = w.encoding; pod = w.pod };
-      };
-    }
+        holds = record { met = object t i m.met; meet = (sym e, refl, refl, m.settles); large = inl large };
+      }

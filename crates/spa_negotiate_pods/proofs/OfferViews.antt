@@ -1,10 +1,10 @@
 -- What values offer where their pods lie.
-use Rattle.std.proofs.Common.{◌≡◌, ◌≢◌, ◌⊎◌, inl, inr, ℕ, ◌<◌, ◌≤◌, List, [], ◌∷◌, length, take, drop, map, suc, refl, sym, ap, ◌∙◌, subst, arith}
+use Rattle.std.proofs.Common.{◌≡◌, ◌⊎◌, inl, inr, ℕ, ◌<◌, ◌≤◌, List, [], ◌∷◌, length, take, drop, map, suc, refl, sym, ap, ◌∙◌, subst, arith}
 use Rattle.std.specs.Prelude.{◌≤ℤ◌, Contains}
 use Rattle.std.specs.Int.{w32, w64, cast_signed}
 use Rattle.std.proofs.lemmas.List.{length-take-le, drop-drop, take_all, drop_all}
 use Rattle.spa_format.specs.Words.{word_at, word_bytes, wide_at, wide_bytes}
-use Rattle.spa_format.specs.Kind.{Kind, bool_kind, id_kind, int_kind, long_kind, Fixed, id, int, long, content, body_size, type_number}
+use Rattle.spa_format.specs.Kind.{Kind, id_kind, int_kind, long_kind, Fixed, id, int, long, content, body_size, type_number}
 use Rattle.spa_format.specs.Tree.{Shape, none_choice, range_choice, step_choice, enum_choice, flags_choice, shape_number, Tree, fixed, choice, choice_type, type_of}
 use Rattle.spa_format.specs.Pod.{AreElements, IsBody, IsPod, values_taken}
 use Rattle.spa_format.specs.Typed.{IsBytes}
@@ -142,7 +142,6 @@ shared a b value t l h v w o p =
     record {
       kind = o.kind;
       its_type = o.its_type;
-      no_truth = o.no_truth;
       long = omega arith;
       common = (both.0, subst (λ k. Admits w (fixed (value_of k value))) same both.1);
     }
@@ -165,7 +164,6 @@ plain_offer v pod body rest type offer o t p r e s b =
       further = [];
       its_type = e ∙ t.its_type;
       its_size = s ∙ size;
-      no_truth = t.no_truth;
       values =
           subst (AreElements k (i.0 ∷ [])) (sym b)
           (t.long, record { whole = ap length all ∙ size; says = says ∙ ap (content k) (sym all) }, none);
@@ -213,7 +211,6 @@ choice_offer v body offer t h y ro ra rb rc e s d =
     let k = i.2 in
     let c = subst (λ w. IsBody w body) i.5 h in
     let its : offer.type_ ≡ type_number k = e ∙ sym (word_at-drop 8 4 body) ∙ c.values.child_type in
-    let same : y.kind ≡ k = same_kind y.kind k (sym y.its_type ∙ its) in
     let whole : choice i.0 i.1 k i.3 (values_taken i.0 c.all) ≡ v = ap (choice i.0 i.1 k i.3) (sym c.first) ∙ sym i.5 in
     record {
       kind = k;
@@ -221,7 +218,6 @@ choice_offer v body offer t h y ro ra rb rc e s d =
       further = c.all;
       its_type = its;
       its_size = s ∙ sym (word_at-drop 8 0 body) ∙ c.values.child_size;
-      no_truth = subst (λ j. j ≢ bool_kind) same y.no_truth;
       values = subst (AreElements k (i.3 ∷ c.all)) (drop-drop 8 8 body ∙ sym d) c.values.elements;
       plain = ap plain_of i.5;
       admits = λ x a.

@@ -4,8 +4,7 @@ use Rattle.spa_format.specs.Tree.{Tree, object}
 use Rattle.spa_format.specs.Front.{Begins, IsRefused}
 use Rattle.spa_format.specs.Encoding.{encoding_of}
 use Rattle.spa_format.specs.Pod.{IsPod}
-use Rattle.spa_format.specs.Normal.{normal_of}
-use Rattle.spa_format.specs.Writable.{HasNul, IsTooLarge}
+use Rattle.spa_format.specs.Writable.{IsTooLarge}
 use Rattle.spa_leaf.specs.Reading.{MayLackMemory}
 use Rattle.spa_negotiate.specs.Meeting.{Meet}
 use Rattle.spa_negotiate.specs.Refusals.{AreRefused}
@@ -70,10 +69,10 @@ OnNoMeeting fact OutOfMemory = ⊤
 OnNoMeeting fact TooLarge = ⊤
 OnNoMeeting fact _ = fact
 
--- the value can be written without a refusal for a text, and reads back as itself
-pub record ReadsBack (v : Tree) : Type 0 where
-  pub no_nul : ¬ (HasNul v)
-  pub normal : normal_of v ≡ v
+-- what two inputs are refused for that begin with objects
+abbrev pub AreViewsRefused : (a b : List ℕ) → NegotiateError → Type 0
+AreViewsRefused a b TooLarge = BeginBoth a b MeetTooLarge
+AreViewsRefused a b e = BeginBoth a b (λ v w. AreRefused v w e)
 
 -- what one side is refused for
 abbrev pub IsFrontRefused : Side → List ℕ → NegotiateError → Type 0
@@ -81,9 +80,3 @@ IsFrontRefused side input (Unread s) = (s ≡ side) × IsRefused input
 IsFrontRefused side input (NotObject s) = (s ≡ side) × BeginsOther input
 IsFrontRefused side input OutOfMemory = MayLackMemory input
 IsFrontRefused side input _ = ⊥
-
--- what the object in which two meet isn't written for
-abbrev pub IsWriteRefused : Tree → NegotiateError → Type 0
-IsWriteRefused met TooLarge = IsTooLarge met
-IsWriteRefused met OutOfMemory = ⊤
-IsWriteRefused met _ = ⊥

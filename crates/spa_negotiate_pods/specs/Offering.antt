@@ -1,7 +1,7 @@
 -- What a value offers where its pod lies.
-use Rattle.std.specs.Prelude.{◌≡◌, ◌≢◌, ℕ, ◌<◌, ◌≤◌, List, ◌∷◌, map, length, take, Contains}
-use Rattle.spa_format.specs.Kind.{Kind, bool_kind, type_number, body_size, content, Fixed}
-use Rattle.spa_format.specs.Tree.{Tree, fixed}
+use Rattle.std.specs.Prelude.{⊤, ◌≡◌, ℕ, ◌<◌, ◌≤◌, List, ◌∷◌, map, length, take, Contains}
+use Rattle.spa_format.specs.Kind.{Kind, type_number, body_size, content, Fixed}
+use Rattle.spa_format.specs.Tree.{Tree, fixed, struct, object}
 use Rattle.spa_format.specs.Pod.{AreElements}
 use Rattle.spa_negotiate.specs.Admits.{IsAtMost, Admits, IsCommon, plain_of}
 use Rattle.spa_negotiate_pods.specs.declared.offer_view.OfferView.{OfferView}
@@ -12,11 +12,10 @@ use Rattle.spa_negotiate_pods.specs.declared.offer_view.Rule.TheVariants.{Only, 
 abbrev pub value_of : Kind → List ℕ → Fixed
 value_of k b = content k (take (body_size k) b)
 
--- this is the type of a kind over which there are choices, truth values aside
+-- this is the type of a kind over which there are choices
 pub record IsElementType (type : ℕ) : Type 0 where
   pub kind : Kind
   pub its_type : type ≡ type_number kind
-  pub no_truth : kind ≢ bool_kind
   pub long : 0 < body_size kind
 
 -- x is admitted by this rule, default and further values
@@ -34,7 +33,6 @@ pub record IsOffer (v : Tree) (offer : OfferView) : Type 0 where
   pub further : List Fixed
   pub its_type : offer.type_ ≡ type_number kind
   pub its_size : offer.size ≡ body_size kind
-  pub no_truth : kind ≢ bool_kind
   pub values : AreElements kind (default ∷ further) offer.values.now
   pub plain : plain_of v ≡ fixed default
   pub admits : (x : Tree) → AdmitsBy offer.rule (fixed default) (map (λ y. fixed y) further) x → Admits v x
@@ -47,7 +45,6 @@ HasValues offer = (0 < offer.size) × (offer.size ≤ length offer.values.now)
 pub record IsShared (v w : Tree) (type : ℕ) (b : List ℕ) : Type 0 where
   pub kind : Kind
   pub its_type : type ≡ type_number kind
-  pub no_truth : kind ≢ bool_kind
   pub long : body_size kind ≤ length b
   pub common : IsCommon v w (fixed (value_of kind b))
 
@@ -56,3 +53,9 @@ abbrev pub AreAdmitting : OfferView → OfferView → List ℕ → Type 0
 AreAdmitting a b bytes =
     (v w : Tree) (o : IsOffer v a) (p : IsOffer w b)
     → Admits v (fixed (value_of o.kind bytes)) × Admits w (fixed (value_of p.kind bytes))
+
+-- the value is a struct or an object
+abbrev pub HasMembers : Tree → Type 0
+HasMembers (struct vs) = ⊤
+HasMembers (object type id ps) = ⊤
+HasMembers _ = ⊥

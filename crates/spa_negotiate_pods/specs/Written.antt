@@ -1,9 +1,12 @@
 -- What two objects meet in, property by property.
 use Rattle.std.specs.Prelude.{◌≡◌, ℕ, List, ◌++◌, Option}
+use Rattle.spa_format.specs.Encoding.{encoding_of}
+use Rattle.spa_format.specs.Typed.{IsTyped}
 use Rattle.spa_format.specs.Words.{word_bytes}
+use Rattle.spa_format.specs.Writable.{IsWritable}
 use Rattle.spa_format.specs.Tree.{Tree, Properties}
 use Rattle.spa_fronts.specs.Written.{AreWritten, IsWritten}
-use Rattle.spa_negotiate.specs.Admits.{IsPlain}
+use Rattle.spa_negotiate.specs.Admits.{IsCommon, IsPlain}
 use Rattle.spa_negotiate.specs.Meeting.{Settles, SettlesKeys}
 
 -- a property with this key, no flags and this plain value was appended, as it is written
@@ -13,7 +16,16 @@ pub record IsPut (key : ℕ) (value : Tree) (old new : List ℕ) : Type 0 where
   pub written : IsWritten value pod
   pub parts : new ≡ old ++ ((word_bytes key ++ word_bytes 0) ++ pod)
 
--- the same with a value that settles what the two sides have under the key
+-- a property with this key, no flags and a plain value that both admit was appended
+pub record IsCommonPut (ours theirs : Tree) (key : ℕ) (old new : List ℕ) : Type 0 where
+  pub value : Tree
+  pub plain : IsPlain value
+  pub common : IsCommon ours theirs value
+  pub typed : IsTyped value
+  pub writable : IsWritable value
+  pub parts : new ≡ old ++ ((word_bytes key ++ word_bytes 0) ++ encoding_of value)
+
+-- one with a value that settles what the two sides have under the key
 pub record IsSettledBy (ours theirs : Option Tree) (key : ℕ) (old new : List ℕ) : Type 0 where
   pub value : Tree
   pub settles : Settles ours theirs value

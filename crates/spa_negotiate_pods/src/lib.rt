@@ -3,6 +3,7 @@
 
 mod offer_view;
 mod pods;
+mod settling;
 mod views;
 
 pub use pods::negotiate_pods;

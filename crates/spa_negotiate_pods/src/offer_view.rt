@@ -51,8 +51,7 @@ pub(crate) struct OfferView<'a> {
     pub(crate) values: &'a [u8],
 }
 
-/// What the value of a pod offers, where that is a choice or of a type over which there are choices, and not over truth values,
-/// since bytes that differ may be one of these.
+/// What the value of a pod offers, where that is a choice or of a type over which there are choices.
 pub(crate) fn offer_view(pod: &[u8]) -> Option<OfferView<'_>>
     ensures { IfSome result (λ offer. (v : Tree) → IsPod pod.now v → IsOffer v offer) }
 {
@@ -93,11 +92,12 @@ fn choice_view(body: &[u8]) -> Option<OfferView<'_>>
     })
 }
 
-/// Whether there are choices over values of this type, truth values aside.
+/// Whether there are choices over values of this type.
 fn is_element_type(type_: u32) -> bool
     ensures { result ≡ true → IsElementType type_ }
 {
     match SpaTypes(type_) {
+        SpaTypes::Bool => true,
         SpaTypes::Id => true,
         SpaTypes::Int => true,
         SpaTypes::Long => true,
@@ -311,7 +311,7 @@ fn are_long_enums(a: &OfferView<'_>, b: &OfferView<'_>) -> bool {
 }
 
 /// The first of these that both offers admit: a's default, b's default, a's alternatives, b's alternatives, a's minimum, b's
-/// minimum. The bytes behind it don't count.
+/// minimum. The bytes behind it don't count. `None` says nothing.
 pub(crate) fn first_common<'v>(
     alloc: Global,
     a: &OfferView<'v>,

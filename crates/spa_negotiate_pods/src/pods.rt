@@ -1,25 +1,16 @@
 //! The objects of two pods meet.
-ghost use Rattle.std.specs.Prelude.{◌≡◌, ◌↔◌, IfErr, IfOk, IsTrue, OnOk};
-ghost use Rattle.spa_format.specs.Encoding.{encoding_of};
+ghost use Rattle.std.specs.Prelude.{IfErr, IfOk, IsTrue, OnOk};
 ghost use Rattle.spa_format.specs.Fixation.{all_settled};
-ghost use Rattle.spa_format.specs.Front.{Begins};
-ghost use Rattle.spa_format.specs.Pod.{IsPod};
 ghost use Rattle.spa_format.specs.Walk.{properties_of, property_walk};
-ghost use Rattle.spa_value.specs.View.{object_view, view};
-ghost use Rattle.spa_negotiate_pods.specs.Fronts.{AreFrontsRefused, BeginBoth, IsFrontRefused, IsObject, IsWriteRefused, MeetIn, OnNoMeeting, ReadsBack};
-ghost use Rattle.spa_negotiate.specs.Meeting.{CanMeet, Meet};
-ghost use Rattle.spa_negotiate.specs.Refusals.{AreRefused, OnDisagreement};
+ghost use Rattle.spa_fronts.specs.Fronts.{BeginsObjectIn, bytes_of};
+ghost use Rattle.spa_negotiate.specs.Meeting.{CanMeet};
+ghost use Rattle.spa_negotiate_pods.specs.Fronts.{AreFrontsRefused, BeginBoth, IsFrontRefused, MeetIn, OnNoMeeting};
 
-use crate::views::meet_views;
-use spa_fixed::DeserializeError;
-use spa_format::laws::{pods_have_one_value, readings_are_normal};
+use crate::views::meet_objects;
+use spa_format::laws::pods_have_one_value;
 use spa_format::view_laws::{settled_properties_are_settled, walks_find_members};
-use spa_negotiate::{NegotiateError, Side, negotiate};
-use spa_sink::GenError;
-use spa_typed_read::PodDeserializer;
-use spa_value::laws::{objects_are_their_fields, trees_have_their_types};
-use spa_value::{Held, Object, Value};
-use spa_write::write_value;
+use spa_fronts::{NoObject, ObjectPod, object_in, object_pod};
+use spa_negotiate::{NegotiateError, Side};
 use std::alloc::Global;
 
 /// The encoding of the object in which the objects at the fronts of two inputs meet, by the rules of `negotiate`. What follows
@@ -41,84 +32,29 @@ pub fn negotiate_pods(alloc: Global, a: &[u8], b: &[u8]) -> Result<Vec<u8>, Nego
     // and a refusal is one that stands.
     ensures cause { IfErr result (AreFrontsRefused a.now b.now) }
 {
-    objects_are_their_fields();
     pods_have_one_value();
     walks_find_members();
     settled_properties_are_settled();
-    let views = meet_views(alloc, a, b)?;
-    if let Some(bytes) = views {
-        return Ok(bytes);
-    }
     let first = object_at(alloc, a, Side::First)?;
     let second = object_at(alloc, b, Side::Second)?;
-    let met = meeting(alloc, &*first, &*second)?;
-    encoded(alloc, met)
+    let Some(ours) = object_in(first.bytes()) else {
+        unreachable!()
+    };
+    let Some(theirs) = object_in(second.bytes()) else {
+        unreachable!()
+    };
+    meet_objects(alloc, &ours, &theirs)
 }
 
-/// The object at the front of a side's bytes.
-fn object_at(alloc: Global, bytes: &[u8], side: Side) -> Result<Held, NegotiateError>
-    ensures value { IfOk result (λ held. Begins bytes.now (view held)) }
-    ensures object { IfOk result (λ held. IsObject (view held)) }
-    ensures back { IfOk result (λ held. ReadsBack (view held)) }
+/// The pod of the object at the front of a side's bytes.
+fn object_at(alloc: Global, bytes: &[u8], side: Side) -> Result<ObjectPod<'_>, NegotiateError>
+    ensures object { IfOk result (λ pod. BeginsObjectIn bytes.now (bytes_of pod)) }
     ensures cause { IfErr result (IsFrontRefused side bytes.now) }
 {
-    readings_are_normal();
-    match PodDeserializer::deserialize_any_from(alloc, bytes) {
-        Ok((_rest, value)) => {
-            let held = Held::from(value);
-            if is_object(&*held) {
-                return Ok(held);
-            }
-            Err(NegotiateError::NotObject(side))
-        }
-        Err(DeserializeError::OutOfMemory) => Err(NegotiateError::OutOfMemory),
-        Err(_) => Err(NegotiateError::Unread(side)),
-    }
-}
-
-/// Whether the value is an object.
-fn is_object(value: &Value) -> bool
-    ensures { IsTrue result ↔ IsObject (view value.now) }
-{
-    trees_have_their_types();
-    match value {
-        Value::Object(_) => true,
-        _ => false,
-    }
-}
-
-/// The object in which two values meet that are objects.
-fn meeting(alloc: Global, a: &Value, b: &Value) -> Result<Object, NegotiateError>
-    requires first { IsObject (view a.now) }
-    requires second { IsObject (view b.now) }
-    ensures accepted { OnOk result (CanMeet (view a.now) (view b.now)) }
-    ensures refused { IfErr result (OnDisagreement (¬ (CanMeet (view a.now) (view b.now)))) }
-    ensures value { IfOk result (λ met. Meet (view a.now) (view b.now) (object_view met)) }
-    ensures cause { IfErr result (AreRefused (view a.now) (view b.now)) }
-{
-    trees_have_their_types();
-    match a {
-        Value::Object(ours) => match b {
-            Value::Object(theirs) => negotiate(alloc, ours, theirs),
-            _ => unreachable!(),
-        },
-        _ => unreachable!(),
-    }
-}
-
-/// The encoding of an object.
-fn encoded(alloc: Global, object: Object) -> Result<Vec<u8>, NegotiateError>
-    requires { ReadsBack (object_view object) }
-    ensures encoding { IfOk result (λ bytes. bytes.items ≡ encoding_of (object_view object)) }
-    ensures pod { IfOk result (λ bytes. IsPod bytes.items (object_view object)) }
-    ensures cause { IfErr result (IsWriteRefused (object_view object)) }
-{
-    let value = Held::from(Value::Object(object));
-    let mut bytes = Vec::new(alloc);
-    match write_value(alloc, &mut bytes, &*value) {
-        Ok(_len) => Ok(bytes),
-        Err(GenError::TooLarge) => Err(NegotiateError::TooLarge),
-        Err(GenError::OutOfMemory) => Err(NegotiateError::OutOfMemory),
-        Err(_) => unreachable!(),
+    match object_pod(alloc, bytes) {
+        Ok(pod) => Ok(pod),
+        Err(NoObject::Unread) => Err(NegotiateError::Unread(side)),
+        Err(NoObject::Other) => Err(NegotiateError::NotObject(side)),
+        Err(NoObject::OutOfMemory) => Err(NegotiateError::OutOfMemory),
     }
 }

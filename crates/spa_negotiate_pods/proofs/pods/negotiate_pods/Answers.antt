@@ -1,68 +1,60 @@
-use Rattle.std.proofs.Common.{ap, subst}
-use Rattle.std.specs.Prelude.{IfSome, OnSome}
-use Rattle.spa_value.specs.View.{object_view, view}
-use Rattle.spa_negotiate_pods.specs.Fronts.{BeginBoth, BeginsObject, MeetIn}
-use Rattle.spa_negotiate.specs.Meeting.{CanMeet, Meet}
-use Rattle.spa_negotiate_pods.proofs.Fronts.{second_refused, ReadsBack-met, MeetIn-written, settled-both, settled-written}
-use Rattle.spa_negotiate_pods.proofs.Passing.{passed_on}
+use Rattle.std.proofs.Common.{sym, subst}
+use Rattle.spa_fronts.specs.Fronts.{BeginsObjectIn}
+use Rattle.spa_negotiate_pods.proofs.Fronts.{begins_object, first_refused, no_meeting, second_refused, settled-both, views_refused}
+use Rattle.spa_negotiate_pods.proofs.Passing.{if_err, if_ok, on_ok, passed_on}
 use Rattle.spa_negotiate_pods.proofs.pods.negotiate_pods.Goals as goal
 
-pub returns-in-Some-clause-fixated : goal.returns-in-Some-clause-fixated
-returns-in-Some-clause-fixated c =
-    let walks = c.walks_find_members.ensures.of_object in
-    let settled = c.settled_properties_are_settled.ensures in
-    settled-both c.args.a.now c.args.b.now c.in-Some.bytes.items walks settled (subst (λ o. IfSome o (λ bytes. BeginBoth c.args.a.now c.args.b.now (MeetIn bytes.items))) c.in-Some.is c.in_ok-views.ensures.value)
+pub returns-in_err-first-clause-refused : goal.returns-in_err-first-clause-refused
+returns-in_err-first-clause-refused c =
+    passed_on _ _ _ c.from_residual.ensures.1
+    (no_meeting c.pods_have_one_value.ensures c.args.a.now c.args.b.now _ (first_refused c.args.a.now c.args.b.now _ c.in_err-first.ensures.cause))
+
+pub returns-in_err-first-clause-cause : goal.returns-in_err-first-clause-cause
+returns-in_err-first-clause-cause c =
+    passed_on _ _ _ c.from_residual.ensures.1 (first_refused c.args.a.now c.args.b.now _ c.in_err-first.ensures.cause)
+
+pub returns-in_err-second-clause-refused : goal.returns-in_err-second-clause-refused
+returns-in_err-second-clause-refused c =
+    passed_on _ _ _ c.from_residual-in_err-second.ensures.1
+    (no_meeting c.pods_have_one_value.ensures c.args.a.now c.args.b.now _
+    (second_refused c.args.a.now c.args.b.now (begins_object _ _ c.in_ok-first.ensures.object) _ c.in_err-second.ensures.cause))
 
 pub returns-in_err-second-clause-cause : goal.returns-in_err-second-clause-cause
 returns-in_err-second-clause-cause c =
-    let first : BeginsObject c.args.a.now =
-    record {
-      value = view c.in_ok-first.first;
-      begins = c.in_ok-first.ensures.value;
-      is_object = c.in_ok-first.ensures.object;
-    } in
     passed_on _ _ _ c.from_residual-in_err-second.ensures.1
-    (second_refused c.args.a.now c.args.b.now first _ c.in_err-second.ensures.cause)
+    (second_refused c.args.a.now c.args.b.now (begins_object _ _ c.in_ok-first.ensures.object) _ c.in_err-second.ensures.cause)
 
-pub encoded-requires : goal.encoded-requires
-encoded-requires c =
-    let v = view c.in_ok-first.first in
-    let w = view c.in_ok-second.second in
-    let x = object_view c.in_ok-met.met in
-    let met : Meet v w x =
-    subst (λ t. Meet t w x) (ap view c.deref.ensures)
-    (subst (λ t. Meet (view c.deref.result.now) t x) (ap view c.deref-2.ensures) c.in_ok-met.ensures.value) in
-    ReadsBack-met v w x c.in_ok-first.ensures.back c.in_ok-second.ensures.back met
+pub returns-clause-accepted : goal.returns-clause-accepted
+returns-clause-accepted c =
+    let first = c.in-Some.ensures.object c.args.a.now (subst (BeginsObjectIn c.args.a.now) (sym c.bytes.ensures) c.in_ok-first.ensures.object) in
+    let second = c.in-Some-object_in.ensures.object c.args.b.now (subst (BeginsObjectIn c.args.b.now) (sym c.bytes-2.ensures) c.in_ok-second.ensures.object) in
+    on_ok c.meet_objects.result (λ f. f _ _ first second) c.meet_objects.ensures.accepted
+
+pub returns-clause-refused : goal.returns-clause-refused
+returns-clause-refused c =
+    let first = c.in-Some.ensures.object c.args.a.now (subst (BeginsObjectIn c.args.a.now) (sym c.bytes.ensures) c.in_ok-first.ensures.object) in
+    let second = c.in-Some-object_in.ensures.object c.args.b.now (subst (BeginsObjectIn c.args.b.now) (sym c.bytes-2.ensures) c.in_ok-second.ensures.object) in
+    if_err c.meet_objects.result
+    (λ e f. no_meeting c.pods_have_one_value.ensures c.args.a.now c.args.b.now e (views_refused c.args.a.now c.args.b.now e (f _ _ first second)))
+    c.meet_objects.ensures.cause
 
 pub returns-clause-value : goal.returns-clause-value
 returns-clause-value c =
-    let v = view c.in_ok-first.first in
-    let w = view c.in_ok-second.second in
-    let x = object_view c.in_ok-met.met in
-    let met : Meet v w x =
-    subst (λ t. Meet t w x) (ap view c.deref.ensures)
-    (subst (λ t. Meet (view c.deref.result.now) t x) (ap view c.deref-2.ensures) c.in_ok-met.ensures.value) in
-    let first = c.in_ok-first.ensures.value in
-    let second = c.in_ok-second.ensures.value in
-    let written = c.encoded.ensures in
-    MeetIn-written _ _ v w x first second met _ written.encoding written.pod
+    let first = c.in-Some.ensures.object c.args.a.now (subst (BeginsObjectIn c.args.a.now) (sym c.bytes.ensures) c.in_ok-first.ensures.object) in
+    let second = c.in-Some-object_in.ensures.object c.args.b.now (subst (BeginsObjectIn c.args.b.now) (sym c.bytes-2.ensures) c.in_ok-second.ensures.object) in
+    if_ok c.meet_objects.result (λ bytes f. f _ _ first second) c.meet_objects.ensures.value
 
 pub returns-clause-fixated : goal.returns-clause-fixated
 returns-clause-fixated c =
-    let v = view c.in_ok-first.first in
-    let w = view c.in_ok-second.second in
-    let x = object_view c.in_ok-met.met in
-    let met : Meet v w x =
-    subst (λ t. Meet t w x) (ap view c.deref.ensures)
-    (subst (λ t. Meet (view c.deref.result.now) t x) (ap view c.deref-2.ensures) c.in_ok-met.ensures.value) in
-    let walks = c.walks_find_members.ensures.of_object in
-    let settled = c.settled_properties_are_settled.ensures in
-    settled-written v w x met walks settled _ c.encoded.ensures.pod
+    let first = c.in-Some.ensures.object c.args.a.now (subst (BeginsObjectIn c.args.a.now) (sym c.bytes.ensures) c.in_ok-first.ensures.object) in
+    let second = c.in-Some-object_in.ensures.object c.args.b.now (subst (BeginsObjectIn c.args.b.now) (sym c.bytes-2.ensures) c.in_ok-second.ensures.object) in
+    if_ok c.meet_objects.result
+    (λ bytes f.
+    settled-both c.args.a.now c.args.b.now bytes.items c.walks_find_members.ensures.of_object c.settled_properties_are_settled.ensures (f _ _ first second))
+    c.meet_objects.ensures.value
 
-pub returns-in-Some-clause-accepted : goal.returns-in-Some-clause-accepted
-returns-in-Some-clause-accepted c =
-    subst (λ o. OnSome o (BeginBoth c.args.a.now c.args.b.now CanMeet)) c.in-Some.is c.in_ok-views.ensures.accepted
-
-pub returns-in-Some-clause-value : goal.returns-in-Some-clause-value
-returns-in-Some-clause-value c =
-    subst (λ o. IfSome o (λ bytes. BeginBoth c.args.a.now c.args.b.now (MeetIn bytes.items))) c.in-Some.is c.in_ok-views.ensures.value
+pub returns-clause-cause : goal.returns-clause-cause
+returns-clause-cause c =
+    let first = c.in-Some.ensures.object c.args.a.now (subst (BeginsObjectIn c.args.a.now) (sym c.bytes.ensures) c.in_ok-first.ensures.object) in
+    let second = c.in-Some-object_in.ensures.object c.args.b.now (subst (BeginsObjectIn c.args.b.now) (sym c.bytes-2.ensures) c.in_ok-second.ensures.object) in
+    if_err c.meet_objects.result (λ e f. views_refused c.args.a.now c.args.b.now e (f _ _ first second)) c.meet_objects.ensures.cause

@@ -1,30 +1,61 @@
-use Rattle.std.proofs.Common.{◌++◌, ◌∙◌, sym, ap, subst}
-use Rattle.spa_fronts.specs.Written.{AreWritten, open_header}
-use Rattle.spa_negotiate_pods.proofs.Meetings.{are_met}
+use Rattle.std.proofs.Common.{refl, sym, subst}
+use Rattle.spa_negotiate.specs.declared.error.NegotiateError.TheVariants.{OutOfMemory}
+use Rattle.spa_fronts.specs.Written.{AreWritten}
+use Rattle.spa_negotiate_pods.proofs.Fronts.{mismatch}
+use Rattle.spa_negotiate_pods.proofs.Meetings.{are_large, are_met, lack_memory, refused_views}
+use Rattle.spa_negotiate_pods.proofs.Passing.{passed_on}
 use Rattle.spa_negotiate_pods.proofs.views.meet_objects.Goals as goal
 
-pub returns-then-finish-clause-accepted : goal.returns-then-finish-clause-accepted
-returns-then-finish-clause-accepted c = λ a b h k.
-    let header = open_header c.args.ours.now.type_ c.args.ours.now.id in
-    let begun = c.put_header.ensures c.if-not-put_header.false ∙ ap (λ l. l ++ header) c.in-Ok.ensures.items in
-    let ours = c.in-Ok-new.ensures.properties in
-    let theirs = c.in-Ok-new-2.ensures.properties in
-    let met =
-    are_met a b _ _ _ _ _ _ _ _ _ _ c.requires.words.0 c.requires.words.1 h k c.requires.one begun
-    (λ ps qs w v. c.settle_first.ensures c.if-not-settle_first.false ps qs (subst (AreWritten ps) (sym ours) w) (subst (AreWritten qs) (sym theirs) v))
-    (λ ps qs head w v. c.settle_others.ensures c.if-not-settle_others.false ps qs head (subst (AreWritten ps) (sym ours) w) (subst (AreWritten qs) (sym theirs) v))
-    (c.finish.ensures.size c.if-finish.true) (c.finish.ensures.bytes c.if-finish.true) in
-    met.can
+pub returns-then-ours-theirs-clause-cause : goal.returns-then-ours-theirs-clause-cause
+returns-then-ours-theirs-clause-cause c = λ a b h k. mismatch a b _ _ _ _ _ _ h k c.if-ours-theirs.true
 
-pub returns-then-finish-clause-value : goal.returns-then-finish-clause-value
-returns-then-finish-clause-value c = λ a b h k.
-    let header = open_header c.args.ours.now.type_ c.args.ours.now.id in
-    let begun = c.put_header.ensures c.if-not-put_header.false ∙ ap (λ l. l ++ header) c.in-Ok.ensures.items in
-    let ours = c.in-Ok-new.ensures.properties in
-    let theirs = c.in-Ok-new-2.ensures.properties in
-    let met =
-    are_met a b _ _ _ _ _ _ _ _ _ _ c.requires.words.0 c.requires.words.1 h k c.requires.one begun
-    (λ ps qs w v. c.settle_first.ensures c.if-not-settle_first.false ps qs (subst (AreWritten ps) (sym ours) w) (subst (AreWritten qs) (sym theirs) v))
+pub returns-in_err-first-clause-cause : goal.returns-in_err-first-clause-cause
+returns-in_err-first-clause-cause c =
+    passed_on _ OutOfMemory _ c.from_residual.ensures.1 (λ a b h k. lack_memory a b _ _ _ _ _ _ OutOfMemory h k c.if-ours-theirs.false refl)
+
+pub returns-in_err-second-clause-cause : goal.returns-in_err-second-clause-cause
+returns-in_err-second-clause-cause c =
+    passed_on _ OutOfMemory _ c.from_residual-in_err-second.ensures.1 (λ a b h k. lack_memory a b _ _ _ _ _ _ OutOfMemory h k c.if-ours-theirs.false refl)
+
+pub returns-in_err-out-clause-cause : goal.returns-in_err-out-clause-cause
+returns-in_err-out-clause-cause c =
+    passed_on _ _ _ c.from_residual-in_err-out.ensures.1 (λ a b h k. lack_memory a b _ _ _ _ _ _ _ h k c.if-ours-theirs.false c.in_err-out.ensures.cause)
+
+pub returns-in_err-settle_first-clause-cause : goal.returns-in_err-settle_first-clause-cause
+returns-in_err-settle_first-clause-cause c =
+    passed_on _ _ _ c.from_residual-in_err-settle_first.ensures.1
+    (λ a b h k.
+    let ours = c.in_ok-first.ensures.properties in
+    let theirs = c.in_ok-second.ensures.properties in
+    refused_views a b _ _ _ _ _ _ _ h k c.if-ours-theirs.false
+    (λ ps qs w v. c.in_err-settle_first.ensures.cause ps qs (subst (AreWritten ps) (sym ours) w) (subst (AreWritten qs) (sym theirs) v)))
+
+pub returns-then-not-settle_others-clause-cause : goal.returns-then-not-settle_others-clause-cause
+returns-then-not-settle_others-clause-cause c = λ a b h k. lack_memory a b _ _ _ _ _ _ OutOfMemory h k c.if-ours-theirs.false refl
+
+pub returns-then-not-finish-clause-cause : goal.returns-then-not-finish-clause-cause
+returns-then-not-finish-clause-cause c = λ a b h k.
+    let ours = c.in_ok-first.ensures.properties in
+    let theirs = c.in_ok-second.ensures.properties in
+    are_large a b _ _ _ _ _ _ _ _ _ h k c.if-ours-theirs.false c.in_ok-out.ensures.begun
+    (λ ps qs w v. c.in_ok-settle_first.ensures.settled ps qs (subst (AreWritten ps) (sym ours) w) (subst (AreWritten qs) (sym theirs) v))
     (λ ps qs head w v. c.settle_others.ensures c.if-not-settle_others.false ps qs head (subst (AreWritten ps) (sym ours) w) (subst (AreWritten qs) (sym theirs) v))
-    (c.finish.ensures.size c.if-finish.true) (c.finish.ensures.bytes c.if-finish.true) in
-    met.meet
+    (c.finish.ensures.large c.if-not-finish.true)
+
+pub returns-clause-accepted : goal.returns-clause-accepted
+returns-clause-accepted c = λ a b h k.
+    let ours = c.in_ok-first.ensures.properties in
+    let theirs = c.in_ok-second.ensures.properties in
+    (are_met a b _ _ _ _ _ _ _ _ _ h k c.if-ours-theirs.false c.in_ok-out.ensures.begun
+    (λ ps qs w v. c.in_ok-settle_first.ensures.settled ps qs (subst (AreWritten ps) (sym ours) w) (subst (AreWritten qs) (sym theirs) v))
+    (λ ps qs head w v. c.settle_others.ensures c.if-not-settle_others.false ps qs head (subst (AreWritten ps) (sym ours) w) (subst (AreWritten qs) (sym theirs) v))
+    _ c.requires.0 c.requires.1 (c.finish.ensures.size c.if-not-finish.false) (c.finish.ensures.bytes c.if-not-finish.false)).can
+
+pub returns-clause-value : goal.returns-clause-value
+returns-clause-value c = λ a b h k.
+    let ours = c.in_ok-first.ensures.properties in
+    let theirs = c.in_ok-second.ensures.properties in
+    (are_met a b _ _ _ _ _ _ _ _ _ h k c.if-ours-theirs.false c.in_ok-out.ensures.begun
+    (λ ps qs w v. c.in_ok-settle_first.ensures.settled ps qs (subst (AreWritten ps) (sym ours) w) (subst (AreWritten qs) (sym theirs) v))
+    (λ ps qs head w v. c.settle_others.ensures c.if-not-settle_others.false ps qs head (subst (AreWritten ps) (sym ours) w) (subst (AreWritten qs) (sym theirs) v))
+    _ c.requires.0 c.requires.1 (c.finish.ensures.size c.if-not-finish.false) (c.finish.ensures.bytes c.if-not-finish.false)).meet

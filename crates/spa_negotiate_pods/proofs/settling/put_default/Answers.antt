@@ -1,5 +1,5 @@
 use Rattle.spa_negotiate_pods.proofs.Putting.{plain_typed, put_plain, put_offered}
-use Rattle.spa_negotiate_pods.proofs.views.put_default.Goals as goal
+use Rattle.spa_negotiate_pods.proofs.settling.put_default.Goals as goal
 
 pub returns-then-is_plain : goal.returns-then-is_plain
 returns-then-is_plain c = λ e v w. put_plain v _ _ _ _ (plain_typed v (c.is_plain.ensures c.if-is_plain.true v w.its_pod)) w (c.put.ensures e)

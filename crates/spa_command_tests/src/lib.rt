@@ -1,4 +1,4 @@
-//! Tests of what the three programs do, over streams that break off and files that are held, and of the names that texts have.
+//! Tests of what the three programs do, over streams that break off and files that are held, and of values as text and their names.
 //! There is nothing here but tests.
 #![tactic(auto)]
 
@@ -12,5 +12,7 @@ mod names;
 mod pods;
 #[cfg(test)]
 mod streams;
+#[cfg(test)]
+mod text;
 #[cfg(test)]
 mod texts;

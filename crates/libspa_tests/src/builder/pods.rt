@@ -1,5 +1,5 @@
 //! Pods added as what they say.
-use crate::compare::{are_words, assert_holds_at};
+use crate::bytes::{are_words, assert_holds_at};
 use spa_builder::{Builder, builder_add};
 use spa_spelling::bytes_of;
 use spa_utils::Errno;

@@ -1,5 +1,5 @@
 //! The forms of `builder_add!`.
-use crate::compare::{are_words, assert_holds, assert_holds_at};
+use crate::bytes::{are_words, assert_holds, assert_holds_at};
 use spa_builder::{Builder, builder_add};
 use spa_utils::{Errno, Float32, Float64, Fraction, Id, Rectangle};
 use spa_value::Value;

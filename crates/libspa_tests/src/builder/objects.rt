@@ -1,5 +1,5 @@
 //! The forms of `object!` and `property!`, by what the objects are written as.
-use crate::compare::{are_words, assert_holds_at};
+use crate::bytes::{are_words, assert_holds_at};
 use bitflags::Flags;
 use spa_sink::GenError;
 use spa_typed_write::PodSerializer;

@@ -1,5 +1,5 @@
 //! Lists of calls, what each is answered, and the words in the vector at the end.
-use crate::compare::{are_words, assert_holds};
+use crate::bytes::{are_words, assert_holds};
 use spa_builder::{BuildCall, replay};
 use spa_utils::Errno;
 use std::alloc::{AllocError, Global};

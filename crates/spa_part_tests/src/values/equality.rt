@@ -1,6 +1,6 @@
 //! Values, and parts of values, equal themselves alone.
 use crate::compare::assert_same;
-use crate::values::{arrays, choices, deep_values, distinct_values, properties};
+use crate::values::table::{arrays, choices, deep_values, distinct_values, properties};
 use spa_value::{Value, same};
 use std::alloc::{AllocError, Global};
 use std::process::Abort;

@@ -6,6 +6,26 @@ use std::fmt::Debug;
 use std::process::Abort;
 use std::test::Fail;
 
+/// Whether the bytes are these words.
+pub(crate) fn are_words(alloc: Global, found: &[u8], words: &[u32]) -> Result<bool, AllocError> {
+    Ok(found == bytes_of(alloc, words)?.as_slice())
+}
+
+/// Compares bytes. The text says where.
+pub(crate) fn assert_bytes(rt: &impl Abort, found: &[u8], wanted: &[u8], place: &str) {
+    assert_eq!(rt; found, wanted, "at {place}");
+}
+
+/// Compares texts. The third one says where.
+pub(crate) fn assert_said(rt: &impl Abort, found: &str, wanted: &str, place: &str) {
+    assert_eq!(rt; found, wanted, "at {place}");
+}
+
+/// Something holds. The text says what.
+pub(crate) fn assert_holds(rt: &impl Abort, holds: bool, what: &str) {
+    assert!(rt; holds, "{what}");
+}
+
 /// The first bytes of these words, as many as `size` says.
 pub(crate) fn cut_bytes(alloc: Global, words: &[u32], size: usize) -> Result<Vec<u8>, AllocError> {
     let mut bytes = bytes_of(alloc, words)?;
@@ -38,11 +58,6 @@ pub(crate) fn assert_same_at<T: PartialEq + Debug>(
     words: &[u32],
 ) {
     assert_eq!(rt; *found, *wanted, "at {words:?}");
-}
-
-/// Something holds. The text says what.
-pub(crate) fn assert_holds(rt: &impl Abort, holds: bool, what: &str) {
-    assert!(rt; holds, "{what}");
 }
 
 /// Something holds of the row of these words.

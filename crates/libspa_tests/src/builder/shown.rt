@@ -2,7 +2,7 @@
 use crate::builder::objects::is_written;
 use crate::builder::shown::by_calls::format_pod;
 use crate::builder::shown::by_value::format_object;
-use crate::compare::{are_words, assert_holds};
+use crate::bytes::{are_words, assert_holds};
 use spa_utils::Errno;
 use std::alloc::{AllocError, Global};
 use std::test::Fail;

@@ -15,6 +15,7 @@ use spa_utils::{
     Rectangle, SpaTypes,
 };
 use spa_value::PropertyFlags;
+use spa_view::PodPropFlags;
 use std::alloc::AllocError;
 
 fn same_id(a: Id, b: Id) -> bool
@@ -168,6 +169,12 @@ fn same_gen_error(a: GenError, b: GenError) -> bool
 }
 
 fn same_property_flags(a: PropertyFlags, b: PropertyFlags) -> bool
+    ensures { IsTrue result ↔ a.0 ≡ b.0 }
+{
+    a == b
+}
+
+fn same_pod_flags(a: PodPropFlags, b: PodPropFlags) -> bool
     ensures { IsTrue result ↔ a.0 ≡ b.0 }
 {
     a == b

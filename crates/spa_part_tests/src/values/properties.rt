@@ -1,6 +1,6 @@
 //! Properties and their flags.
 use crate::compare::{assert_holds, assert_same, assert_same_at};
-use crate::values::int_property;
+use crate::values::table::int_property;
 use bitflags::Flags;
 use spa_value::{Property, PropertyFlags, Value};
 use std::process::Abort;

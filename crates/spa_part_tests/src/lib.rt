@@ -1,4 +1,5 @@
-//! Tests of views, readers and writers, each by the calls of its own crate. There is nothing here but tests.
+//! Tests of the library's parts, each by the calls of its own crate: small types, values and events; views, readers and writers. There is
+//! nothing here but tests.
 #![tactic(auto)]
 
 #[cfg(test)]
@@ -19,6 +20,8 @@ mod hostile_sizes;
 mod reading;
 #[cfg(test)]
 mod sized;
+#[cfg(test)]
+mod values;
 #[cfg(test)]
 mod viewing;
 #[cfg(test)]

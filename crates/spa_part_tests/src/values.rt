@@ -1,4 +1,4 @@
-//! The tests, by subject.
+//! Small types, dictionaries and result codes; values, and the bodies, outputs and devices below them; events.
 mod arrays;
 mod choices;
 mod clones;
@@ -13,3 +13,4 @@ mod printing;
 mod properties;
 mod refusals;
 mod results;
+mod table;

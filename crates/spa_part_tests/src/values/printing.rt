@@ -1,6 +1,6 @@
 //! Values printed by a loop: texts from outside, and beside `{:?}`.
 use crate::compare::assert_holds;
-use crate::values::{distinct_values, worked_values};
+use crate::values::table::{distinct_values, worked_values};
 use bitflags::Flags;
 use spa_print::Printed;
 use spa_value::{Held, Object, Property, PropertyFlags, Value};

@@ -1,5 +1,5 @@
 //! What a builder gives in the end.
-use crate::compare::{are_words, assert_holds};
+use crate::bytes::{are_words, assert_holds};
 use spa_builder::Builder;
 use spa_utils::Errno;
 use std::alloc::{AllocError, Global};

@@ -1,6 +1,6 @@
 //! A clone equals its source.
 use crate::compare::assert_same;
-use crate::values::{
+use crate::values::table::{
     arrays, choices, deep_values, distinct_values, objects, properties, worked_values,
 };
 use std::alloc::AllocError;

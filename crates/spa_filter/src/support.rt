@@ -8,13 +8,11 @@ ghost use Rattle.spa_orders.specs.Flags.{IsFlagKind};
 ghost use Rattle.spa_orders.specs.Order.{IsOrderedKind};
 ghost use Rattle.spa_steps.specs.Steps.{IsStepKind};
 
+use crate::choices::VALUES_AT;
 use crate::values::are_both;
 use spa_bytes::{HEADER_LEN, SECOND_WORD, open, u32_at};
 use spa_fixed::{FLAGS_SHAPE, RANGE_SHAPE, STEP_SHAPE};
 use spa_utils::SpaTypes;
-
-/// Where the values of a choice begin in its body: behind its shape and flags, and their size and type.
-const VALUES_AT: usize = 16;
 
 /// What is asked of a value before it is met.
 #[derive(Clone, Copy)]

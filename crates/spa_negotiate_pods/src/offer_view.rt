@@ -8,13 +8,11 @@ ghost use Rattle.spa_negotiate.specs.Admits.{Admits, IsAtMostFixed};
 ghost use Rattle.spa_negotiate_pods.specs.Offering.{AreAdmitting, HasValues, IsElementType, IsOffer, IsShared, value_of};
 ghost use Rattle.spa_negotiate_pods.specs.declared.offer_view.Rule.TheVariants.{Among, Between, Only};
 
-use spa_bytes::{HEADER_LEN, SECOND_WORD, open, u32_at, u64_at};
+use spa_bytes::{HEADER_LEN, open, u32_at, u64_at};
 use spa_fixed::{ENUM_SHAPE, NONE_SHAPE, RANGE_SHAPE};
+use spa_leaf::{CHOICE_HEADER_LEN, VALUE_TYPE_AT};
 use spa_utils::SpaTypes;
 use std::alloc::{AllocError, Global};
-
-/// Where the values of a choice begin in its body: behind its shape and flags, and their size and type.
-const VALUES_AT: usize = 16;
 
 /// The length in bytes of a body of one word.
 const ONE_WORD: usize = 4;
@@ -75,15 +73,15 @@ pub(crate) fn offer_view(pod: &[u8]) -> Option<OfferView<'_>>
 fn choice_view(body: &[u8]) -> Option<OfferView<'_>>
     ensures { IfSome result (λ offer. (v : Tree) → type_of v ≡ choice_type → IsBody v body.now → IsOffer v offer) }
 {
-    if body.len() < VALUES_AT {
+    if body.len() < CHOICE_HEADER_LEN {
         return None;
     }
-    let type_ = u32_at(body, HEADER_LEN + SECOND_WORD);
+    let type_ = u32_at(body, VALUE_TYPE_AT);
     if !is_element_type(type_) {
         return None;
     }
     let size = u32_at(body, HEADER_LEN) as usize;
-    let (_, values) = body.split_at(VALUES_AT);
+    let (_, values) = body.split_at(CHOICE_HEADER_LEN);
     Some(OfferView {
         rule: rule_by(u32_at(body, 0), type_),
         type_,

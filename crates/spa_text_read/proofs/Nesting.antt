@@ -1,8 +1,7 @@
 -- Steps within the values that are begun.
 use Rattle.std.proofs.Common.{◌≡◌, ◌≢◌, List, [], ◌∷◌, ◌++◌, Bool, true, false, Result, refl, sym, ap, ◌∙◌, subst}
-use Rattle.std.specs.Prelude.{IfErr, IfOk, IsErrAnd, Ok, Err, Option, Some, None, map, reverse}
+use Rattle.std.specs.Prelude.{IfErr, IfOk, Ok, Err, Option, Some, None, map, reverse}
 use Rattle.std.proofs.lemmas.List.{reverse-append}
-use Rattle.std.proofs.lemmas.Result.{err_from_is_err_and}
 use Rattle.json.specs.Token.{Token}
 use Rattle.spa_format.specs.Tree.{Tree}
 use Rattle.spa_value.specs.declared.value.Value.{Value}
@@ -219,10 +218,6 @@ reads_more ts us t w h v r =
 
     differ : t ∷ us ≡ [] → ⊥
     differ e = cc
-
--- what a refusal that is passed on says
-pub passed_on : {T E : Type 0} (r : Result T E) (e : E) (Q : E → Type 0) → IsErrAnd r (λ y. y ≡ e) → Q e → IfErr r Q
-passed_on r e Q h q = let p = err_from_is_err_and r h in rw (p.1, p.2) q
 
 -- where it comes to a value behind which more stands, no value is the whole
 pub reads_behind : (ts left us : List Token) (t : Token) (w : Tree) → ComesTo nothing ts (Some (w, left)) → left ≡ t ∷ us → (v : Tree) →

@@ -55,23 +55,32 @@ fn choice_of<T: CanonicalFixedSizedPod>(
 ) -> Option<Choice<T>>
     ensures { MatchOption result (grammar.chosen (shape_of shape) flags T.kind (map T.fixed values.items) ≡ None) (λ c. grammar.chosen (shape_of shape) flags T.kind (map T.fixed values.items) ≡ Some (choice_tree T.kind T.fixed c)) }
 {
-    let chosen = match shape {
-        Shape::None => one(values.as_slice())?,
-        Shape::Range => three(values.as_slice())?,
-        Shape::Step => four(values.as_slice())?,
-        Shape::Enum => {
-            let (default, alternatives) = split(values)?;
-            ChoiceEnum::Enum {
+    match chosen(shape, values) {
+        Some(chosen) => Some(Choice(ChoiceFlags::from_bits_retain(flags), chosen)),
+        None => None,
+    }
+}
+
+/// The same without its flags.
+fn chosen<T: CanonicalFixedSizedPod>(shape: Shape, values: Vec<T>) -> Option<ChoiceEnum<T>>
+    ensures { MatchOption result ((n : ℕ) → grammar.chosen (shape_of shape) n T.kind (map T.fixed values.items) ≡ None) (λ c. (n : ℕ) → grammar.chosen (shape_of shape) n T.kind (map T.fixed values.items) ≡ Some (choice_enum_tree T.kind T.fixed n c)) }
+{
+    match shape {
+        Shape::None => one(values.as_slice()),
+        Shape::Range => three(values.as_slice()),
+        Shape::Step => four(values.as_slice()),
+        Shape::Enum => match split(values) {
+            Some((default, alternatives)) => Some(ChoiceEnum::Enum {
                 default,
                 alternatives,
-            }
-        }
-        Shape::Flags => {
-            let (default, flags) = split(values)?;
-            ChoiceEnum::Flags { default, flags }
-        }
-    };
-    Some(Choice(ChoiceFlags::from_bits_retain(flags), chosen))
+            }),
+            None => None,
+        },
+        Shape::Flags => match split(values) {
+            Some((default, flags)) => Some(ChoiceEnum::Flags { default, flags }),
+            None => None,
+        },
+    }
 }
 
 /// A choice of one value.

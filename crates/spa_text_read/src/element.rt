@@ -76,7 +76,9 @@ fn push<T: Copy>(values: &mut Vec<T>, value: T) -> Result<(), Cause>
     ensures ok { OnOk result (values.new.items ≡ values.old.items ++ value ∷ []) }
     ensures memory { IfErr result (λ e. e ≡ Cause.OutOfMemory) }
 {
-    values.reserve(1)?;
+    if values.reserve(1).is_err() {
+        return Err(Cause::OutOfMemory);
+    }
     values.push_reserved(value);
     Ok(())
 }

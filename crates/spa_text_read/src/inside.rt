@@ -300,14 +300,22 @@ fn property_at<'a>(reader: &mut Reader<'a>) -> Option<(u32, bool, Token<'a>)>
     ensures taken { MatchOption result (grammar.property_at reader.old ≡ None) (λ p. grammar.property_at reader.old ≡ Some ((p.0, (p.1, token_of p.2)), reader.new)) }
     ensures no_more { length reader.new ≤ length reader.old }
 {
-    let first = head(reader)?;
+    let Some(first) = head(reader) else {
+        return None;
+    };
     if !is_flags(first) {
         return Some((0, false, first));
     }
-    let flags = word(reader)?;
-    key(reader, "value")?;
-    let first = head(reader)?;
-    Some((flags, true, first))
+    let Some(flags) = word(reader) else {
+        return None;
+    };
+    if key(reader, "value").is_none() {
+        return None;
+    }
+    match head(reader) {
+        Some(first) => Some((flags, true, first)),
+        None => None,
+    }
 }
 
 /// Puts a member behind the others.
@@ -333,6 +341,8 @@ fn put_value(values: &mut ValueArray, value: Value) -> Result<(), Cause>
 {
     let found = element_of(&value);
     discard(value);
-    let element = found.ok_or(Cause::Type)?;
-    put_element(values, element)
+    match found {
+        Some(element) => put_element(values, element),
+        None => Err(Cause::Type),
+    }
 }

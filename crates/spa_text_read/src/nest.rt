@@ -34,9 +34,10 @@ impl Nest {
         ensures refused { IfErr result (λ e. e ≢ Cause.OutOfMemory → steps.step (frame_of self.old.inner) (stack_of self.old.outer.items) reader.old ≡ steps.refused) }
         ensures fewer { OnOk result (length reader.new < length reader.old) }
     {
-        match self.inner.next(reader)? {
-            Next::Ended => self.end(reader),
-            Next::Wants(head, expected) => self.begin_value(alloc, reader, head, expected),
+        match self.inner.next(reader) {
+            Ok(Next::Ended) => self.end(reader),
+            Ok(Next::Wants(head, expected)) => self.begin_value(alloc, reader, head, expected),
+            Err(cause) => Err(cause),
         }
     }
 
@@ -53,15 +54,16 @@ impl Nest {
         ensures refused { IfErr result (λ e. e ≢ Cause.OutOfMemory → steps.after_opening (frame_of self.old.inner ∷ stack_of self.old.outer.items) (opens expected (token_of head.entry) reader.old) ≡ steps.refused) }
         ensures no_more { length reader.new ≤ length reader.old }
     {
-        match open(alloc, reader, head, expected)? {
-            Opened::Leaf(value) => {
-                self.inner.put(value, reader)?;
-                Ok(true)
-            }
-            Opened::Begun(begun) => {
-                self.push(begun)?;
-                Ok(true)
-            }
+        match open(alloc, reader, head, expected) {
+            Ok(Opened::Leaf(value)) => match self.inner.put(value, reader) {
+                Ok(()) => Ok(true),
+                Err(cause) => Err(cause),
+            },
+            Ok(Opened::Begun(begun)) => match self.push(begun) {
+                Ok(()) => Ok(true),
+                Err(cause) => Err(cause),
+            },
+            Err(cause) => Err(cause),
         }
     }
 
@@ -91,9 +93,13 @@ impl Nest {
             return Ok(false);
         };
         let ended = mem::replace(&mut self.inner, around);
-        let value = ended.into_value()?;
-        self.inner.put(value, reader)?;
-        Ok(true)
+        match ended.into_value() {
+            Ok(value) => match self.inner.put(value, reader) {
+                Ok(()) => Ok(true),
+                Err(cause) => Err(cause),
+            },
+            Err(cause) => Err(cause),
+        }
     }
 
     /// Takes apart what is read, by loops: it may be nested deep. Appends the path of the value that was being read, as far as there is

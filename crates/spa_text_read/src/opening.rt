@@ -90,9 +90,18 @@ fn open_tagged(
                 members: Vec::new(alloc),
             }))
         }
-        Tag::Array => Ok(Opened::Begun(array_at(alloc, reader, expected)?)),
-        Tag::Choice => Ok(Opened::Begun(choice_at(alloc, reader, expected)?)),
-        Tag::Object => Ok(Opened::Begun(object_at(alloc, reader)?)),
+        Tag::Array => match array_at(alloc, reader, expected) {
+            Ok(array) => Ok(Opened::Begun(array)),
+            Err(cause) => Err(cause),
+        },
+        Tag::Choice => match choice_at(alloc, reader, expected) {
+            Ok(choice) => Ok(Opened::Begun(choice)),
+            Err(cause) => Err(cause),
+        },
+        Tag::Object => match object_at(alloc, reader) {
+            Ok(object) => Ok(Opened::Begun(object)),
+            Err(cause) => Err(cause),
+        },
         _ => match leaf_at(alloc, reader, tag, expected) {
             Ok(value) => end_leaf(value, reader),
             Err(cause) => Err(cause),
@@ -207,10 +216,16 @@ fn two_words(reader: &mut Reader<'_>, name: &str) -> Option<(u32, u32)>
     ensures taken { MatchOption result (grammar.two_words name.now reader.old ≡ None) (λ p. grammar.two_words name.now reader.old ≡ Some (p, reader.new)) }
     ensures no_more { length reader.new ≤ length reader.old }
 {
-    let first = word(reader)?;
-    key(reader, name)?;
-    let second = word(reader)?;
-    Some((first, second))
+    let Some(first) = word(reader) else {
+        return None;
+    };
+    if key(reader, name).is_none() {
+        return None;
+    }
+    match word(reader) {
+        Some(second) => Some((first, second)),
+        None => None,
+    }
 }
 
 /// Takes a type and an address.
@@ -218,11 +233,19 @@ fn pointer_at(reader: &mut Reader<'_>) -> Option<(u32, u64)>
     ensures taken { MatchOption result (grammar.pointer_at reader.old ≡ None) (λ p. grammar.pointer_at reader.old ≡ Some (p, reader.new)) }
     ensures no_more { length reader.new ≤ length reader.old }
 {
-    let type_ = name_or_word(reader, Table::Types)?;
-    key(reader, "address")?;
-    let text = any_text(reader)?;
-    let address = wide_bits(text)?;
-    Some((type_, address))
+    let Some(type_) = name_or_word(reader, Table::Types) else {
+        return None;
+    };
+    if key(reader, "address").is_none() {
+        return None;
+    }
+    let Some(text) = any_text(reader) else {
+        return None;
+    };
+    match wide_bits(text) {
+        Some(address) => Some((type_, address)),
+        None => None,
+    }
 }
 
 /// No elements of this type, where it has a fixed size.
@@ -316,9 +339,13 @@ fn choice_flags<'a>(reader: &mut Reader<'a>, name: &'a str) -> Option<(u32, &'a 
     if name != "flags" {
         return Some((0, name));
     }
-    let flags = word(reader)?;
-    let next = any_key(reader)?;
-    Some((flags, next))
+    let Some(flags) = word(reader) else {
+        return None;
+    };
+    match any_key(reader) {
+        Some(next) => Some((flags, next)),
+        None => None,
+    }
 }
 
 /// The type of a choice's values, where this is its key, else the one that is expected; and the key behind it.
@@ -329,9 +356,13 @@ fn choice_type<'a>(reader: &mut Reader<'a>, name: &'a str, expected: u32) -> Opt
     if name != "of" {
         return Some((expected, name));
     }
-    let type_ = name_or_word(reader, Table::Types)?;
-    let next = any_key(reader)?;
-    Some((type_, next))
+    let Some(type_) = name_or_word(reader, Table::Types) else {
+        return None;
+    };
+    match any_key(reader) {
+        Some(next) => Some((type_, next)),
+        None => None,
+    }
 }
 
 /// Begins a choice, behind its first key.

@@ -107,13 +107,15 @@ fn read_whole(alloc: Global, reader: &mut Reader<'_>, path: &mut String) -> Resu
     ensures value { IfOk result (λ v. ReadsAs nothing (view v) reader.old []) }
     ensures refused { IfErr result (λ e. e ≢ Cause.OutOfMemory → (v : Tree) → ¬ (ReadsAs nothing v reader.old [])) }
 {
-    let value = read_value(alloc, reader, path)?;
-    match reader.next() {
-        Some(_) => {
-            discard(value);
-            Err(Cause::End)
-        }
-        None => Ok(value),
+    match read_value(alloc, reader, path) {
+        Ok(value) => match reader.next() {
+            Some(_) => {
+                discard(value);
+                Err(Cause::End)
+            }
+            None => Ok(value),
+        },
+        Err(cause) => Err(cause),
     }
 }
 
@@ -123,10 +125,13 @@ fn read_value(alloc: Global, reader: &mut Reader<'_>, path: &mut String) -> Resu
     ensures value { IfOk result (λ v. ComesTo nothing reader.old (Some (view v, reader.new))) }
     ensures refused { IfErr result (λ e. e ≢ Cause.OutOfMemory → ComesTo nothing reader.old None) }
 {
-    let first = head(reader).ok_or(Cause::Token)?;
-    let inner = match open(alloc, reader, first, Expected::NOTHING)? {
-        Opened::Leaf(value) => return Ok(value),
-        Opened::Begun(inside) => inside,
+    let Some(first) = head(reader) else {
+        return Err(Cause::Token);
+    };
+    let inner = match open(alloc, reader, first, Expected::NOTHING) {
+        Ok(Opened::Leaf(value)) => return Ok(value),
+        Ok(Opened::Begun(inside)) => inside,
+        Err(cause) => return Err(cause),
     };
     let outer = Vec::new(alloc);
     let mut nest = Nest { inner, outer };

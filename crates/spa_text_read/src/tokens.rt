@@ -111,8 +111,10 @@ pub(crate) fn name_or_word(reader: &mut Reader<'_>, table: Table) -> Option<u32>
     ensures taken { MatchOption result (spec.name_or_word table reader.old ≡ None) (λ n. spec.name_or_word table reader.old ≡ Some (n, reader.new)) }
     ensures no_more { length reader.new ≤ length reader.old }
 {
-    let token = reader.next()?;
-    number_by_name(table, token)
+    match reader.next() {
+        Some(token) => number_by_name(table, token),
+        None => None,
+    }
 }
 
 /// Takes the first token of a value; of an object its brace and its first key, which is answered.
@@ -120,14 +122,13 @@ pub(crate) fn head<'a>(reader: &mut Reader<'a>) -> Option<Token<'a>>
     ensures taken { MatchOption result (spec.head reader.old ≡ None) (λ t. spec.head reader.old ≡ Some (token_of t, reader.new)) }
     ensures no_more { length reader.new ≤ length reader.old }
 {
-    let token = reader.next()?;
-    match token {
-        Token::BeginObject => {
-            let key = any_key(reader)?;
-            Some(Token::Key(key))
-        }
-        Token::EndObject | Token::EndArray | Token::Key(_) | Token::Bad => None,
-        token => Some(token),
+    match reader.next() {
+        Some(Token::BeginObject) => match any_key(reader) {
+            Some(key) => Some(Token::Key(key)),
+            None => None,
+        },
+        Some(Token::EndObject | Token::EndArray | Token::Key(_) | Token::Bad) => None,
+        token => token,
     }
 }
 
@@ -137,14 +138,14 @@ pub(crate) fn item<'a>(reader: &mut Reader<'a>) -> Option<Option<Token<'a>>>
     ensures fewer { IfSome result (λ _. length reader.new < length reader.old) }
     ensures no_more { length reader.new ≤ length reader.old }
 {
-    match reader.next()? {
-        Token::EndArray => Some(None),
-        Token::BeginObject => {
-            let key = any_key(reader)?;
-            Some(Some(Token::Key(key)))
-        }
-        Token::EndObject | Token::Key(_) | Token::Bad => None,
-        token => Some(Some(token)),
+    match reader.next() {
+        None | Some(Token::EndObject | Token::Key(_) | Token::Bad) => None,
+        Some(Token::EndArray) => Some(None),
+        Some(Token::BeginObject) => match any_key(reader) {
+            Some(key) => Some(Some(Token::Key(key))),
+            None => None,
+        },
+        token => Some(token),
     }
 }
 
@@ -154,9 +155,9 @@ pub(crate) fn next_key<'a>(reader: &mut Reader<'a>) -> Option<Option<&'a str>>
     ensures fewer { IfSome result (λ _. length reader.new < length reader.old) }
     ensures no_more { length reader.new ≤ length reader.old }
 {
-    match reader.next()? {
-        Token::Key(key) => Some(Some(key)),
-        Token::EndObject => Some(None),
+    match reader.next() {
+        Some(Token::Key(key)) => Some(Some(key)),
+        Some(Token::EndObject) => Some(None),
         _ => None,
     }
 }

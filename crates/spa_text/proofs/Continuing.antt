@@ -1,11 +1,12 @@
 -- Values with others in them, read from what is printed of them.
-use Rattle.std.proofs.Common.{◌≡◌, ◌≢◌, ℕ, zero, suc, length, ◌<◌, ◌^◌, List, [], ◌∷◌, ◌++◌, Bool, true, false, refl, sym, ap, subst, ◌∙◌, append-nil, append_assoc, true≢false}
-use Rattle.std.specs.Prelude.{Option, Some, None, Result, Ok, Err, IfOk, OnOk, IsOk, codes, decimal, if◌then◌else◌, reverse}
+use Rattle.std.proofs.Common.{◌≡◌, ◌≢◌, ℕ, zero, suc, length, ◌<◌, ◌^◌, List, [], ◌∷◌, ◌++◌, Bool, true, false, refl, sym, ap, subst, ◌∙◌, append-nil, append_assoc}
+use Rattle.std.specs.Prelude.{Some, None, codes, decimal, if◌then◌else◌, reverse}
 use Rattle.std.specs.Str.{bytes_eq}
 use Rattle.std.proofs.lemmas.List.{reverse-append}
 use Rattle.json.specs.Token.{Token}
 use Rattle.spa_format.specs.Tree.{Tree, Trees, Properties, property, fixed, string, bytes, bitmap, array, choice, pointer, struct, object}
-use Rattle.spa_value.specs.declared.value.Value.{Value}
+use Rattle.spa_value.specs.declared.value.Value.{Value, roll-Value, roll-out-Value}
+use Rattle.spa_value.specs.declared.value.Value.TheVariants as V
 use Rattle.spa_value.specs.declared.object.Property.{Property}
 use Rattle.spa_value.specs.View.{view}
 use Rattle.spa_value.specs.Views.{property_views, views}
@@ -19,7 +20,7 @@ use Rattle.spa_text_read.specs.Options.{◌>>=◌}
 use Rattle.std.proofs.lemmas.Slice.Eq.{bytes_eq-Decides}
 use Rattle.spa_text.specs.Printed.{HasNoFloat, flags_end, flags_front, name_token, tokens_of}
 use Rattle.spa_text_read.specs.Tokens.{after_end_object}
-use Rattle.spa_text.specs.Left.{AreAround, Continues, IsLeft, IsWithin, PrintsOrBegins}
+use Rattle.spa_text.specs.Left.{AreAround, Continues, IsLeft, IsWithin, PrintsOrBegins, PrintsWhole}
 use Rattle.spa_text.specs.Written.{BeginsProperty, Opens, Prints, PutsKey, PutsName, closing}
 use Rattle.spa_text.specs.declared.printing.Begun.{Begun}
 use Rattle.spa_text.proofs.Appending.{append_on}
@@ -259,20 +260,23 @@ object_opened t i o p q r s u w e a d b f g c = record {
       ∙ ap (λ x. Token.begin_object ∷ Token.key (codes "type") ∷ name_token Types t ∷ Token.key (codes "id") ∷ x ∷ Token.key (codes "props") ∷ Token.begin_object ∷ []) b.exact;
 }
 
-pub leaf_ended : {E F : Type 0} (c : Expected) (u v : Tree) (o n : List Token) (r : Result (Unit {0}) E) (q : Result (Option Begun) F) → u ≡ v →
-    OnOk r (Prints c v o n) → OnOk r (IfOk q (λ b. b ≡ None)) → IfOk q (λ _. IsOk r) → IfOk q (λ b. PrintsOrBegins c u b o n)
-leaf_ended c u v o n (Ok x) (Ok b) s w e d =
-    subst (λ y. PrintsOrBegins c u y o n) (sym e) (reads, leaf_whole c u v o n s w)
+-- a value that is printed is not begun
+pub printed_whole : (c : Expected) (v : Tree) (o n : List Token) → Prints c v o n → PrintsOrBegins c v None o n
+printed_whole c v o n w = (reads, leaf_whole c v o n w)
   where
-    reads : Continues (λ ts rest. ts ≡ rest) (ReadsAs c u) o n
+    reads : Continues (λ ts rest. ts ≡ rest) (ReadsAs c v) o n
     reads = record {
       ts = w.ts;
       appended = w.appended;
-      continued = λ us rest z. subst (λ t. ReadsAs c t (w.ts ++ us) rest) (sym s) (subst (λ t. ReadsAs c v (w.ts ++ us) t) z (w.reads us));
+      continued = λ us rest z. subst (ReadsAs c v (w.ts ++ us)) z (w.reads us);
     }
-leaf_ended c u v o n (Err y) (Ok b) s w e d = absurd (true≢false (sym d))
-leaf_ended c u v o n (Ok x) (Err z) s w e d = tt
-leaf_ended c u v o n (Err y) (Err z) s w e d = tt
+
+pub not_begun : (c : Expected) (v : Value) (o n : List Token) → ((x : _) → v ≢ V.Struct x) → ((x : _) → v ≢ V.Object x) →
+    PrintsWhole c v o n → PrintsOrBegins c (view v) None o n
+not_begun c (V.Struct' s r) o n a b w =
+    absurd (a _ (sym (roll-out-Value (V.Struct' s r)) ∙ ap roll-Value (V.outs-Struct' s r) ∙ V.rolls-Struct _))
+not_begun c (V.Object x) o n a b w = absurd (b x refl)
+not_begun c _ o n a b w = printed_whole c _ o n w
 
 -- ---- The values that are begun
 

@@ -38,9 +38,8 @@ behind_both n l o t r e = sym (append_assoc n l r) ∙ ap (λ x. x ++ r) e ∙ a
 done : {A : Type 0} (n t : List A) → n ++ [] ≡ t → n ≡ t
 done n t e = sym (append-nil n) ∙ e
 
-pub leaf_whole : (c : Expected) (u v : Tree) (o n : List Token) → u ≡ v → Prints c v o n → Leaves (HasNoFloat u) (tokens_of c u) ⊤ [] o n
-leaf_whole c u v o n s w h =
-    (tt, append-nil n ∙ w.appended ∙ ap (λ l. o ++ l) (w.exact (subst HasNoFloat s h)) ∙ ap (λ t. o ++ tokens_of c t) (sym s))
+pub leaf_whole : (c : Expected) (v : Tree) (o n : List Token) → Prints c v o n → Leaves (HasNoFloat v) (tokens_of c v) ⊤ [] o n
+leaf_whole c v o n w h = (tt, append-nil n ∙ w.appended ∙ ap (λ l. o ++ l) (w.exact h))
 
 -- ---- Members
 

@@ -2,12 +2,15 @@
 use Rattle.std.specs.Prelude.{◌≡◌, ⊤, ◌+◌, ◌≤◌, ℕ, List, [], ◌∷◌, ◌++◌, Option, Some, None}
 use Rattle.json.specs.Token.{Token}
 use Rattle.spa_format.specs.Tree.{Tree, member_node_count, property_node_count}
+use Rattle.spa_value.specs.declared.value.Value.{Value}
+use Rattle.spa_value.specs.declared.value.Value.TheVariants as V
+use Rattle.spa_value.specs.View.{view}
 use Rattle.spa_value.specs.Views.{property_views, views}
 use Rattle.spa_names.specs.declared.entry.Expected.{Expected}
 use Rattle.spa_text_read.specs.Grammar.{AreMembers, AreProperties, ReadsAs, close}
 use Rattle.spa_text.specs.Printed.{HasNoFloat, HaveNoFloat, HoldNoFloat, member_tokens, property_tokens, tokens_of}
 use Rattle.spa_text_read.specs.Tokens.{after_end_object}
-use Rattle.spa_text.specs.Written.{closing}
+use Rattle.spa_text.specs.Written.{Prints, closing}
 use Rattle.spa_text.specs.declared.printing.Begun.{Begun}
 use Rattle.spa_text.specs.declared.printing.Left.{Left}
 use Rattle.spa_text.specs.declared.printing.Left.TheVariants as left
@@ -66,6 +69,12 @@ Leaves P whole Q rest old new = P → Q × (new ++ rest ≡ old ++ whole)
 abbrev pub LeavesWithin : (P : Type 0) (whole : List Token) (inner : Begun) (around : List Begun) (old new : List Token) → Type 0
 LeavesWithin P whole inner around old new =
     Leaves P whole (LeavesNoFloat inner.left × AroundNoFloat around) (left_tokens inner.left ++ around_tokens around) old new
+
+-- a value without members is printed; nothing is said of one with members
+abbrev pub PrintsWhole : Expected → Value → List Token → List Token → Type 0
+PrintsWhole c (V.Struct' s r) old new = ⊤
+PrintsWhole c (V.Object x) old new = ⊤
+PrintsWhole c v old new = Prints c (view v) old new
 
 -- a value is printed, or begun
 abbrev pub PrintsOrBegins : Expected → Tree → Option Begun → List Token → List Token → Type 0

@@ -1,11 +1,11 @@
 //! Values printed as text.
-ghost use Rattle.std.specs.Prelude.{◌≡◌, ◌+◌, ◌≤◌, ◌++◌, [], List, ℕ, IfOk, IsOk, OnErr, OnOk, IfSome, MatchOption, Some, None, decimal};
+ghost use Rattle.std.specs.Prelude.{◌≡◌, ◌+◌, ◌≤◌, ◌++◌, [], List, ℕ, IfOk, OnErr, OnOk, IfSome, MatchOption, Some, None, decimal};
 ghost use Rattle.std.specs.Str.{IsUtf8};
 ghost use Rattle.json.specs.Lex.{tokens};
 ghost use Rattle.spa_format.specs.Tree.{member_node_count, node_count, struct};
 ghost use Rattle.spa_text_read.specs.Grammar.{ReadsAs, an_object, key_number, nothing};
 ghost use Rattle.spa_text.specs.Line.{AreGood, HasNoEnd};
-ghost use Rattle.spa_text.specs.Left.{IsLess, PrintsNext, PrintsOrBegins, left_count};
+ghost use Rattle.spa_text.specs.Left.{IsLess, PrintsNext, PrintsOrBegins, PrintsWhole, left_count};
 ghost use Rattle.spa_text.specs.Printed as printed;
 ghost use Rattle.spa_text.specs.Printed.{HasNoFloat, key_text, tokens_of};
 ghost use Rattle.spa_text.specs.Written.{BeginsProperty, Opens, Prints, PutsKey};
@@ -105,17 +105,6 @@ fn print_value(alloc: Global, out: &mut Out, value: &Value) -> Result<(), AllocE
     }
 }
 
-/// Nothing is begun where the value is printed.
-fn ended<'a>(printed: Result<(), AllocError>) -> Result<Option<Begun<'a>>, AllocError>
-    ensures ok { OnOk printed (IfOk result (λ begun. begun ≡ None)) }
-    ensures err { IfOk result (λ _. IsOk printed) }
-{
-    match printed {
-        Ok(()) => Ok(None),
-        Err(refused) => Err(refused),
-    }
-}
-
 /// Prints a value that has no members, or begins one that has.
 #[tactic(auto, using(crate::proofs::Counting::some_node, crate::proofs::Counting::struct_nodes))]
 fn print_or_begin<'a>(
@@ -128,24 +117,49 @@ fn print_or_begin<'a>(
     ensures fewer { IfOk result (λ begun. MatchOption begun (1 ≤ node_count (view value.now)) (λ b. left_count b.left + 1 ≡ node_count (view value.now))) }
 {
     match value {
-        Value::Struct(members) => Ok(Some(begin_struct(out, members.as_slice())?)),
-        Value::Object(object) => Ok(Some(begin_object(out, object)?)),
-        Value::None => ended(().print(alloc, out, expected)),
-        Value::Bool(x) => ended(x.print(alloc, out, expected)),
-        Value::Id(x) => ended(x.print(alloc, out, expected)),
-        Value::Int(x) => ended(x.print(alloc, out, expected)),
-        Value::Long(x) => ended(x.print(alloc, out, expected)),
-        Value::Float(x) => ended(x.print(alloc, out, expected)),
-        Value::Double(x) => ended(x.print(alloc, out, expected)),
-        Value::Rectangle(x) => ended(x.print(alloc, out, expected)),
-        Value::Fraction(x) => ended(x.print(alloc, out, expected)),
-        Value::Fd(x) => ended(x.print(alloc, out, expected)),
-        Value::String(text) => ended(print_text(out, text.as_str(), expected)),
-        Value::Bytes(bytes) => ended(print_bytes(alloc, out, bytes.as_slice(), expected)),
-        Value::Bitmap(bytes) => ended(print_bitmap(alloc, out, bytes.as_slice(), expected)),
-        Value::Pointer(type_, at) => ended(print_pointer(alloc, out, *type_, *at, expected)),
-        Value::ValueArray(array) => ended(print_array(alloc, out, array, expected)),
-        Value::Choice(choice) => ended(print_choice(alloc, out, choice, expected)),
+        Value::Struct(members) => match begin_struct(out, members.as_slice()) {
+            Ok(begun) => Ok(Some(begun)),
+            Err(refused) => Err(refused),
+        },
+        Value::Object(object) => match begin_object(out, object) {
+            Ok(begun) => Ok(Some(begun)),
+            Err(refused) => Err(refused),
+        },
+        _ => match print_whole(alloc, out, value, expected) {
+            Ok(()) => Ok(None),
+            Err(refused) => Err(refused),
+        },
+    }
+}
+
+/// Prints a value that has no members; nothing of one that has.
+fn print_whole(
+    alloc: Global,
+    out: &mut Out,
+    value: &Value,
+    expected: Expected,
+) -> Result<(), AllocError>
+    ensures { OnOk result (PrintsWhole expected value.now out.old.tokens out.new.tokens) }
+{
+    match value {
+        Value::Struct(_) => Ok(()),
+        Value::Object(_) => Ok(()),
+        Value::None => ().print(alloc, out, expected),
+        Value::Bool(x) => x.print(alloc, out, expected),
+        Value::Id(x) => x.print(alloc, out, expected),
+        Value::Int(x) => x.print(alloc, out, expected),
+        Value::Long(x) => x.print(alloc, out, expected),
+        Value::Float(x) => x.print(alloc, out, expected),
+        Value::Double(x) => x.print(alloc, out, expected),
+        Value::Rectangle(x) => x.print(alloc, out, expected),
+        Value::Fraction(x) => x.print(alloc, out, expected),
+        Value::Fd(x) => x.print(alloc, out, expected),
+        Value::String(text) => print_text(out, text.as_str(), expected),
+        Value::Bytes(bytes) => print_bytes(alloc, out, bytes.as_slice(), expected),
+        Value::Bitmap(bytes) => print_bitmap(alloc, out, bytes.as_slice(), expected),
+        Value::Pointer(type_, at) => print_pointer(alloc, out, *type_, *at, expected),
+        Value::ValueArray(array) => print_array(alloc, out, array, expected),
+        Value::Choice(choice) => print_choice(alloc, out, choice, expected),
     }
 }
 

@@ -3,7 +3,6 @@ use Rattle.std.proofs.Common.{◌≡◌, ℕ, ◌==◌, Bool, true, false, List,
 use Rattle.std.specs.List.{find, list_all}
 use Rattle.std.proofs.lemmas.Bool.Decides.{nat_tests}
 use Rattle.std.specs.Str.{IsCharBoundary, bytes_eq}
-use Rattle.spa_names.specs.declared.entry.Expected.{Expected}
 use Rattle.spa_names.specs.declared.table.Table.{Table}
 use Rattle.spa_names.specs.Rows.{Row, Naming, name_in, row_of}
 use Rattle.spa_names.specs.Tables.{rows_of, namings_of}
@@ -37,7 +36,7 @@ begins_whole : (bs : List ℕ) (at : ℕ) → (nat_lt at (length bs) && nat_lt (
 begins_whole bs at is = grind (arith, nat_tests, is)
 
 -- where the name of a row begins, its text is cut between characters
-pub name_begins : (table : Table) (number : ℕ) (entry : ℕ × Bor (List ℕ) × ℕ × Expected) → Some (row_of entry) ≡ row_at table number → IsCharBoundary entry.1.now entry.2
+pub name_begins : (table : Table) (number : ℕ) (entry : ℕ × Bor (List ℕ) × ℕ × ℕ) → Some (row_of entry) ≡ row_at table number → IsCharBoundary entry.1.now entry.2
 name_begins table number entry same =
     let passes = found_passes (λ row. row.0 == number) begins (rows_of table) (names_begin-all table) (row_of entry) (sym same) in
     begins_whole entry.1.now entry.2 passes.1

@@ -8,7 +8,6 @@ use Rattle.std.specs.Ordering.{is_eq, nat_cmp}
 use Rattle.std.proofs.lemmas.Bool.Decides.{nat_tests}
 use Rattle.std.proofs.lemmas.Cmp.{nat_cmp_total, nat_list_cmp_total}
 use Rattle.std.proofs.lemmas.Map.Text.{is_eq-slice_cmp}
-use Rattle.spa_names.specs.declared.entry.Expected.{Expected}
 use Rattle.spa_names.specs.declared.table.Table.{Table}
 use Rattle.spa_names.specs.Rows.{row_of, naming_of}
 use Rattle.spa_names.specs.Tables.{rows_of, namings_of}
@@ -20,7 +19,7 @@ use Rattle.spa_names.proofs.Searching.{rises, rises-map, find-map, searched}
 is_eq-nat_cmp : (x y : ℕ) → (x == y) ≡ is_eq (nat_cmp x y)
 is_eq-nat_cmp x y = grind (arith, nat_tests)
 
-module _ (table : Table) (number : ℕ) (entries : List (ℕ × Bor (List ℕ) × ℕ × Expected)) (same : map row_of entries ≡ rows_of table) where
+module _ (table : Table) (number : ℕ) (entries : List (ℕ × Bor (List ℕ) × ℕ × ℕ)) (same : map row_of entries ≡ rows_of table) where
   entries_rise : rises nat_cmp (λ entry. entry.0) entries ≡ true
   entries_rise = sym (rises-map row_of nat_cmp (λ row. row.0) entries) ∙ rw same (numbers_rise-all table)
 
@@ -28,7 +27,7 @@ module _ (table : Table) (number : ℕ) (entries : List (ℕ × Bor (List ℕ) �
   row_at-entries = rw (← same) (find-map row_of (λ row. row.0 == number) entries)
 
   pub entry_found : (r : Result ℕ ℕ) → IsSearchInRange r (length entries) → IsBinarySearchResult (λ entry. nat_cmp entry.0 number) entries r →
-      MatchResult r (λ at. (d : ℕ × Bor (List ℕ) × ℕ × Expected) → Some (row_of (get_or entries at d)) ≡ row_at table number) (λ at. None ≡ row_at table number)
+      MatchResult r (λ at. (d : ℕ × Bor (List ℕ) × ℕ × ℕ) → Some (row_of (get_or entries at d)) ≡ row_at table number) (λ at. None ≡ row_at table number)
   entry_found (Ok at) in_range is =
       let found = searched nat_cmp_total (λ entry. entry.0) number (λ entry. entry.0 == number) (λ entry. is_eq-nat_cmp entry.0 number) entries entries_rise (Ok at) in_range is in
       λ d. sym (row_at-entries ∙ ap (option_map row_of) (found d))

@@ -1,7 +1,9 @@
 -- The rows of the tables.
-use Rattle.std.specs.Prelude.{ℕ, List, drop}
+use Rattle.std.specs.Prelude.{ℕ, List, drop, get_or}
 use Rattle.std.specs.Borrow.{Bor}
 use Rattle.spa_names.specs.declared.entry.Expected.{Expected}
+use Rattle.spa_names.specs.declared.entry.TheConstants.Expected.{NOTHING}
+use Rattle.spa_names.specs.declared.key_entries.TheConstants.{EXPECTED}
 
 -- a number, PipeWire's name for it, how many bytes of that stand before its own name, and what is expected under it as a key
 abbrev pub Row : Type 0
@@ -16,8 +18,8 @@ abbrev pub Naming : Type 0
 Naming = List ℕ × ℕ
 
 -- the row that an entry of the code is
-abbrev pub row_of : ℕ × Bor (List ℕ) × ℕ × Expected → Row
-row_of entry = (entry.0, entry.1.now, entry.2, entry.3)
+abbrev pub row_of : ℕ × Bor (List ℕ) × ℕ × ℕ → Row
+row_of entry = (entry.0, entry.1.now, entry.2, get_or EXPECTED entry.3 NOTHING)
 
 -- the name and number that one of the code is
 abbrev pub naming_of : Bor (List ℕ) × ℕ → Naming

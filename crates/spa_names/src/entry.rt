@@ -24,9 +24,9 @@ impl Expected {
 }
 
 /// What a table says of a number: the number; PipeWire's name for it; how many bytes of that stand before its own name, which is no
-/// other number's in the table; and what is expected where the number is a key. A constant of structs with texts in them has no name
-/// in clauses, so these are tuples.
-pub(crate) type Entry = (u32, &'static str, usize, Expected);
+/// other number's in the table; and where the number is a key the place in `EXPECTED` of what is expected under it. A constant of
+/// structs with texts in them has no name in clauses, so these are tuples.
+pub(crate) type Entry = (u32, &'static str, usize, usize);
 
 /// A name of a table, and its number.
 pub(crate) type Naming = (&'static str, u32);

@@ -1,11 +1,14 @@
 //! Names looked up by numbers, and numbers by names.
-ghost use Rattle.std.specs.Prelude.{◌≡◌};
+ghost use Rattle.std.specs.Prelude.{◌≡◌, get_or};
 ghost use Rattle.std.specs.Option.{option_map};
+ghost use Rattle.spa_names.specs.declared.entry.TheConstants.Expected.{NOTHING};
+ghost use Rattle.spa_names.specs.declared.key_entries.TheConstants.{EXPECTED};
 ghost use Rattle.spa_names.specs.Rows.{row_of};
 ghost use Rattle.spa_names.specs.Lookup.{expected_under, ids_of, keys_of, name_of, number_of, object_at, path_of, row_at};
 
 use crate::contents::{entries_of, namings_of};
 use crate::entry::{Entry, Expected};
+use crate::key_entries::EXPECTED;
 use crate::table::{OBJECTS, Table};
 use spa_utils::SpaTypes;
 
@@ -35,7 +38,18 @@ pub fn expected_under(keys: Table, key: u32) -> Expected
     ensures { result ≡ expected_under keys key }
 {
     match entry_of(keys, key) {
-        Some(entry) => entry.3,
+        Some(entry) => expected_at(entry.3),
+        None => Expected::NOTHING,
+    }
+}
+
+/// What stands there in `EXPECTED`.
+fn expected_at(place: usize) -> Expected
+    ensures { result ≡ get_or EXPECTED place NOTHING }
+{
+    let expected: &'static [Expected] = &EXPECTED;
+    match expected.get(place) {
+        Some(found) => *found,
         None => Expected::NOTHING,
     }
 }

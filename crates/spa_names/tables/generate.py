@@ -13,6 +13,7 @@ from pathlib import Path
 
 CRATE = Path(__file__).resolve().parent.parent
 ARRAY = 13
+NOTHING = (0, 0, "Nothing")
 OF_C = "by tables/generate.py from the headers of PipeWire 0.3.65. Do not edit."
 
 
@@ -77,13 +78,11 @@ def constant_of(title):
     return "".join(("_" if at and it.isupper() and not title[at - 1].isupper() else "") + it for at, it in enumerate(title)).upper()
 
 
-def entries_in(table, expected_of):
+def entries_in(table, place_of):
     """The lines of a table's entries, of which each number has one."""
     rows = {}
     for number, name, path, type_, values in named(table):
-        expected = expected_of(type_, values)
-        gap = " " if expected == "Expected::NOTHING" else "\n        "
-        rows.setdefault(number, f'    ({number}, "{path}", {len(path) - len(name)},{gap}{expected}),')
+        rows.setdefault(number, f'    ({number}, "{path}", {len(path) - len(name)}, {place_of(type_, values)}),')
     return [rows[it] for it in sorted(rows)]
 
 
@@ -105,19 +104,26 @@ def main():
         element, ids = 0, values
         if type_ == ARRAY and values >= 0:
             _, element, _, ids = tables[values][0]
-        return f"Expected {{ type_: SpaTypes({type_}), element: SpaTypes({element}), ids: Table::{title(ids)} }}"
+        return type_, element, title(ids)
 
     def constants_of(ours):
         return ", ".join("ENTRIES_OF_" + constant_of(titles[it]) for it in kept if it in ours)
 
     is_keys = {at for at in kept if titles[at].endswith("Keys")}
+    under_keys = {expected_of(type_, values) for at in is_keys for _, _, _, type_, values in named(tables[at])}
+    expected = [NOTHING, *sorted(under_keys - {NOTHING})]
     of_rows = (("key_entries", is_keys, "whose numbers are keys"), ("id_entries", set(kept) - is_keys, "whose numbers are types and ids"))
     for module, ours, what in of_rows:
         out = [f"// Written {OF_C}", f"//! The entries of the tables {what}, by their numbers.", ""]
-        out += ["use crate::entry::{Entry, Expected};"]
-        out += ["use crate::table::Table;", "use spa_utils::SpaTypes;"] if ours == is_keys else []
+        if ours == is_keys:
+            out += ["use crate::entry::{Entry, Expected};", "use crate::table::Table;", "use spa_utils::SpaTypes;"]
+            out += ["", "/// What is expected under keys, each once: an entry names its place. The first stands for nothing."]
+            out += ["#[rattlefmt::skip]", f"pub(crate) const EXPECTED: [Expected; {len(expected)}] = ["]
+            out += [f"    Expected {{ type_: SpaTypes({it[0]}), element: SpaTypes({it[1]}), ids: Table::{it[2]} }}," for it in expected] + ["];"]
+        else:
+            out += ["use crate::entry::Entry;"]
         for at in [it for it in kept if it in ours]:
-            rows = entries_in(tables[at], expected_of if ours == is_keys else lambda *_: "Expected::NOTHING")
+            rows = entries_in(tables[at], lambda *of: expected.index(expected_of(*of) if ours == is_keys else NOTHING))
             out += ["", "#[rattlefmt::skip]", f"pub(crate) const ENTRIES_OF_{constant_of(titles[at])}: [Entry; {len(rows)}] = ["]
             out += rows + ["];"]
         write(f"src/{module}.rt", out)
@@ -159,17 +165,18 @@ def main():
     write("src/contents.rt", out)
 
     out = [f"-- Written {OF_C}", "-- The contents of each table."]
-    out += ["use Rattle.std.specs.Prelude.{List, [], map, ⊤}"]
+    out += ["use Rattle.std.specs.Prelude.{List, [], get_or, map, ⊤}"]
     out += ["use Rattle.spa_names.specs.Rows.{Row, Naming}"]
+    out += ["use Rattle.spa_names.specs.declared.entry.TheConstants.Expected.{NOTHING}"]
     out += ["use Rattle.spa_names.specs.declared.table.Table.{Table}"]
     variants = [titles[at] for at in kept] + ["Nothing"]
     out += [f"use Rattle.spa_names.specs.declared.table.Table.TheVariants.{{{', '.join(variants)}}}"]
     constants = [constant_of(titles[at]) for at in kept]
-    out += [f"use Rattle.spa_names.specs.declared.key_entries.TheConstants.{{{constants_of(is_keys)}}}"]
+    out += [f"use Rattle.spa_names.specs.declared.key_entries.TheConstants.{{EXPECTED, {constants_of(is_keys)}}}"]
     out += [f"use Rattle.spa_names.specs.declared.id_entries.TheConstants.{{{constants_of(set(kept) - is_keys)}}}"]
     out += [f"use Rattle.spa_names.specs.declared.names.TheConstants.{{{', '.join('NAMES_OF_' + it for it in constants)}}}"]
     out += ["", "-- the entries of a table, by their numbers", "abbrev pub rows_of : Table → List Row"]
-    out += [f"rows_of {titles[at]} = map (λ e. (e.0, e.1.now, e.2, e.3)) ENTRIES_OF_{constant_of(titles[at])}" for at in kept]
+    out += [f"rows_of {titles[at]} = map (λ e. (e.0, e.1.now, e.2, get_or EXPECTED e.3 NOTHING)) ENTRIES_OF_{constant_of(titles[at])}" for at in kept]
     out += ["rows_of Nothing = []"]
     out += ["", "-- the names of a table, in their order", "abbrev pub namings_of : Table → List Naming"]
     out += [f"namings_of {titles[at]} = map (λ e. (e.0.now, e.1)) NAMES_OF_{constant_of(titles[at])}" for at in kept]

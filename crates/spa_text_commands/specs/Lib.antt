@@ -4,3 +4,4 @@ pub mod Extent
 pub mod Lines
 pub mod Texts
 pub mod Unread
+pub mod Asked

@@ -59,7 +59,7 @@ pub(crate) struct Inside<'a> {
 }
 
 impl<'a> Inside<'a> {
-    /// What is inside these parts of a value, whose body begins at this place; None where its own line says all.
+    /// What is inside these parts of a value inside so many, whose body begins at this place; None where its own line says all.
     pub(crate) fn of(
         parts: Parts<'a>,
         ids: Table,
@@ -104,17 +104,17 @@ impl<'a> Inside<'a> {
             kind,
             left,
             place: place.saturating_add(front),
-            depth,
+            depth: depth.saturating_add(1),
         })
     }
 
-    /// Rows of these bytes.
+    /// Rows of these bytes, which stand inside so many values.
     pub(crate) fn rows(bytes: &'a [u8], place: usize, depth: usize) -> Inside<'a> {
         Inside {
             kind: Kind::Rows,
             left: bytes,
             place,
-            depth,
+            depth: depth.saturating_add(1),
         }
     }
 

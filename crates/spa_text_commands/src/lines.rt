@@ -30,40 +30,42 @@ fn path_or_unknown(table: Table, number: u32) -> &'static str {
 }
 
 /// Begins a line inside so many values.
-pub(crate) fn put_indent(text: &mut String, depth: usize) -> Result<(), AllocError> {
+fn put_indent(text: &mut String, depth: usize) -> Result<(), AllocError> {
     for _ in 0..depth.min(DEEPEST) {
         text.push_str("  ")?;
     }
     if depth > DEEPEST {
-        write!(text, "({depth}) ")?;
+        return write!(text, "({depth}) ");
     }
     Ok(())
 }
 
-/// Writes the key of a property, or the offset and type of a control.
-pub(crate) fn put_label(text: &mut String, label: Label) -> Result<(), AllocError> {
+/// Writes the line of a property's key, or of a control's offset and type.
+pub(crate) fn put_label(text: &mut String, depth: usize, label: Label) -> Result<(), AllocError> {
+    put_indent(text, depth)?;
     match label {
-        Label::Bare => {}
+        Label::Bare => Ok(()),
         Label::Property { keys, key, flags } => write!(
             text,
             "Prop: key {} ({key}), flags {flags:08x}",
             path_or_unknown(keys, key)
-        )?,
+        ),
         Label::Control { offset, type_ } => write!(
             text,
             "Control: offset {offset}, type {}",
             path_or_unknown(Table::Controls, type_)
-        )?,
+        ),
     }
-    Ok(())
 }
 
-/// Writes a value's type, and what it says or is made of.
+/// Writes the line of a value: its type, and what it says or is made of.
 pub(crate) fn put_value(
     text: &mut String,
+    depth: usize,
     value: Shown<'_>,
     parts: Parts<'_>,
 ) -> Result<(), AllocError> {
+    put_indent(text, depth)?;
     let size = value.body.len();
     match parts {
         Parts::Scalar(scalar) => put_scalar(text, scalar),
@@ -176,23 +178,19 @@ fn put_pair<S: Display + Copy, T: Display + Copy>(
 /// Writes a float by its shortest digits, one that is no number by its bits.
 fn put_float(text: &mut String, bits: u32) -> Result<(), AllocError> {
     if bits & FLOAT_MAGNITUDE > FLOAT_INFINITY {
-        write!(text, "Float nan ({bits:#x})")?;
-        return Ok(());
+        return write!(text, "Float nan ({bits:#x})");
     }
     text.push_str("Float ")?;
-    text.push_str(Buffer::new().format(f32_from_bits_with_nan(bits)))?;
-    Ok(())
+    text.push_str(Buffer::new().format(f32_from_bits_with_nan(bits)))
 }
 
 /// Writes a double by its shortest digits, one that is no number by its bits.
 fn put_double(text: &mut String, bits: u64) -> Result<(), AllocError> {
     if bits & DOUBLE_MAGNITUDE > DOUBLE_INFINITY {
-        write!(text, "Double nan ({bits:#x})")?;
-        return Ok(());
+        return write!(text, "Double nan ({bits:#x})");
     }
     text.push_str("Double ")?;
-    text.push_str(Buffer::new().format(f64_from_bits_with_nan(bits)))?;
-    Ok(())
+    text.push_str(Buffer::new().format(f64_from_bits_with_nan(bits)))
 }
 
 /// Writes a text without the NUL behind it. What could move a terminal is written by its number, and so are the bytes of what is
@@ -227,12 +225,11 @@ fn put_bytes(text: &mut String, bytes: &[u8]) -> Result<(), AllocError> {
 /// Writes a letter of a text.
 fn put_letter(text: &mut String, letter: char) -> Result<(), AllocError> {
     match letter {
-        '"' => text.push_str("\\\"")?,
-        '\\' => text.push_str("\\\\")?,
-        _ if letter.is_control() => write!(text, "\\u{:04x}", letter as u32)?,
-        _ => text.push(letter)?,
+        '"' => text.push_str("\\\""),
+        '\\' => text.push_str("\\\\"),
+        _ if letter.is_control() => write!(text, "\\u{:04x}", letter as u32),
+        _ => text.push(letter),
     }
-    Ok(())
 }
 
 /// Writes a byte of what is no UTF-8.
@@ -240,12 +237,34 @@ fn put_byte(text: &mut String, byte: u8) -> Result<(), AllocError> {
     if byte.is_ascii() {
         return put_letter(text, byte as char);
     }
-    write!(text, "\\x{byte:02x}")?;
-    Ok(())
+    write!(text, "\\x{byte:02x}")
+}
+
+/// Writes the line of bytes that are no whole item.
+pub(crate) fn put_rest(text: &mut String, depth: usize, size: usize) -> Result<(), AllocError> {
+    put_indent(text, depth)?;
+    put_word(text, "Rest: size", size)
+}
+
+/// Writes the line of a refusal of the pod that begins at this byte.
+pub(crate) fn put_refusal(
+    text: &mut String,
+    depth: usize,
+    place: usize,
+    refusal: &str,
+) -> Result<(), AllocError> {
+    put_indent(text, depth)?;
+    put_pair(text, "! byte", place, ": ", refusal)
 }
 
 /// Writes a row of a dump: the place of its first byte, and its bytes.
-pub(crate) fn put_row(text: &mut String, place: usize, row: &[u8]) -> Result<(), AllocError> {
+pub(crate) fn put_row(
+    text: &mut String,
+    depth: usize,
+    place: usize,
+    row: &[u8],
+) -> Result<(), AllocError> {
+    put_indent(text, depth)?;
     write!(text, "{place:08x}:")?;
     for byte in row {
         write!(text, " {byte:02x}")?;

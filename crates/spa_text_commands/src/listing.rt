@@ -5,17 +5,16 @@ ghost use Rattle.spa_text_commands.specs.Lines.{Adds, MayAdd};
 
 use crate::answer::Failure;
 use crate::inside::{Inside, Item, Label};
-use crate::lines::{put_indent, put_label, put_row, put_value};
+use crate::lines::{put_label, put_refusal, put_rest, put_row, put_value};
 use crate::page::Page;
 use crate::parts::{Parts, Shown};
 use spa_names::Table;
 use spa_rewrite::accept_all;
 use spa_view::{Pod, whole_bytes};
 use std::alloc::Global;
-use std::fmt::Write as _;
 use std::io::Write;
 
-/// How many bytes stand before the value of a property or a control, and before the body of a pod.
+/// How many bytes stand before the value of a property or a control.
 const FRONT_LEN: usize = 8;
 
 /// The refusal where fewer bytes are left than a pod takes.
@@ -32,7 +31,6 @@ struct Listing<'a> {
 }
 
 /// Lists a top-level pod that begins at this byte of the input, and what is inside it.
-#[tactic(auto, using(crate::proofs::Saying::adds_adds))]
 pub(crate) fn list<W: Write + Drop>(
     alloc: Global,
     page: &mut Page<W>,
@@ -49,25 +47,39 @@ pub(crate) fn list<W: Write + Drop>(
         refusal,
         alloc,
     };
-    listing.add_value(page, Shown::of_pod(pod, Table::Nothing), place, 0)?;
-    // Each turn shows an item or closes a level, of which an input has far fewer than this.
-    for _ in 0..u64::MAX {
-        let Some(level) = listing.levels.last_mut() else {
-            break;
-        };
-        let place = level.place;
-        let depth = level.depth;
-        match level.next() {
-            Some(item) => listing.add_item(page, item, place, depth)?,
-            None => {
-                listing.levels.pop();
-            }
-        }
-    }
-    listing.add_refusal(page, place, 0)
+    listing.add_pod(page, pod, place)
 }
 
 impl<'a> Listing<'a> {
+    /// Adds the lines of the top-level pod, which begins at this byte, and of what is inside it.
+    #[tactic(auto, using(crate::proofs::Saying::adds_adds))]
+    fn add_pod<W: Write + Drop>(
+        &mut self,
+        page: &mut Page<W>,
+        pod: Pod<'a>,
+        place: usize,
+    ) -> Result<(), Failure>
+        ensures added { OnOk result (Adds (W.contents page.old.device) (string_bytes page.old.waiting) (W.contents page.new.device) (string_bytes page.new.waiting)) }
+        ensures cause { IfErr result IsCutOff }
+    {
+        self.add_value(page, Shown::of_pod(pod, Table::Nothing), place, 0)?;
+        // Each turn shows an item or closes a level, of which an input has far fewer than this.
+        for _ in 0..u64::MAX {
+            let Some(level) = self.levels.last_mut() else {
+                break;
+            };
+            let place = level.place;
+            let depth = level.depth;
+            match level.next() {
+                Some(item) => self.add_item(page, item, place, depth)?,
+                None => {
+                    self.levels.pop();
+                }
+            }
+        }
+        self.add_refusal(page, place, 0)
+    }
+
     /// Adds the lines of an item that begins at this byte.
     #[tactic(auto, using(crate::proofs::Saying::adds_adds, crate::proofs::Saying::adds_may))]
     fn add_item<W: Write + Drop>(
@@ -83,9 +95,8 @@ impl<'a> Listing<'a> {
         match item {
             Item::Value(Label::Bare, value) => self.add_value(page, value, place, depth),
             Item::Value(label, value) => {
-                put_indent(&mut page.line, depth)?;
-                put_label(&mut page.line, label)?;
-                page.end_line()?;
+                let begun = put_label(&mut page.line, depth, label);
+                page.end_line(begun)?;
                 self.add_value(
                     page,
                     value,
@@ -94,9 +105,8 @@ impl<'a> Listing<'a> {
                 )
             }
             Item::Row(row) => {
-                put_indent(&mut page.line, depth)?;
-                put_row(&mut page.line, place, row)?;
-                page.end_line()
+                let begun = put_row(&mut page.line, depth, place, row);
+                page.end_line(begun)
             }
             Item::Rest(bytes) => self.add_rest(page, bytes, place, depth),
         }
@@ -114,13 +124,12 @@ impl<'a> Listing<'a> {
         ensures added { OnOk result (Adds (W.contents page.old.device) (string_bytes page.old.waiting) (W.contents page.new.device) (string_bytes page.new.waiting)) }
         ensures cause { IfErr result IsCutOff }
     {
-        put_indent(&mut page.line, depth)?;
-        write!(page.line, "Rest: size {}", bytes.len())?;
-        page.end_line()?;
+        let begun = put_rest(&mut page.line, depth, bytes.len());
+        page.end_line(begun)?;
         if self.refusal == Some(SHORT) {
             self.add_refusal(page, place, depth)?;
         }
-        self.open(Inside::rows(bytes, place, depth.saturating_add(1)))
+        self.open(Inside::rows(bytes, place, depth))
     }
 
     /// Adds the line of a value that begins at this byte, and opens it where it has others inside.
@@ -136,34 +145,38 @@ impl<'a> Listing<'a> {
         ensures cause { IfErr result IsCutOff }
     {
         let parts = value.parts();
-        put_indent(&mut page.line, depth)?;
-        put_value(&mut page.line, value, parts)?;
-        page.end_line()?;
-        if self.is_refused_at(value, parts)? {
-            self.add_refusal(page, place, depth)?;
-        }
-        let body_place = match value.pod {
-            Some(_) => place.saturating_add(FRONT_LEN),
-            None => place,
-        };
-        match Inside::of(parts, value.ids, body_place, depth.saturating_add(1)) {
+        let begun = put_value(&mut page.line, depth, value, parts);
+        page.end_line(begun)?;
+        self.add_refusal_of(page, value, parts, place, depth)?;
+        match Inside::of(parts, value.ids, value.body_place(place), depth) {
             Some(inside) => self.open(inside),
             None => Ok(()),
         }
     }
 
-    /// Whether the refusal that isn't shown yet is that of this value.
-    fn is_refused_at(&self, value: Shown<'a>, parts: Parts<'a>) -> Result<bool, Failure>
+    /// Adds the line of the refusal, where it isn't shown yet and is that of this value.
+    #[tactic(auto, using(crate::proofs::Saying::may_nothing))]
+    fn add_refusal_of<W: Write + Drop>(
+        &mut self,
+        page: &mut Page<W>,
+        value: Shown<'a>,
+        parts: Parts<'a>,
+        place: usize,
+        depth: usize,
+    ) -> Result<(), Failure>
+        ensures added { OnOk result (MayAdd (W.contents page.old.device) (string_bytes page.old.waiting) (W.contents page.new.device) (string_bytes page.new.waiting)) }
         ensures cause { IfErr result IsCutOff }
     {
         if self.refusal.is_none() || has_members(parts) {
-            return Ok(false);
+            return Ok(());
         }
         let Some(pod) = value.pod else {
-            return Ok(false);
+            return Ok(());
         };
-        let found = refusal_of(self.alloc, pod)?;
-        Ok(found == self.refusal)
+        if refusal_of(self.alloc, pod)? == self.refusal {
+            return self.add_refusal(page, place, depth);
+        }
+        Ok(())
     }
 
     /// Adds the line of the refusal, where it isn't shown yet.
@@ -180,9 +193,8 @@ impl<'a> Listing<'a> {
         let Some(refusal) = self.refusal.take() else {
             return Ok(());
         };
-        put_indent(&mut page.line, depth)?;
-        write!(page.line, "! byte {place}: {refusal}")?;
-        page.end_line()
+        let begun = put_refusal(&mut page.line, depth, place, refusal);
+        page.end_line(begun)
     }
 
     fn open(&mut self, inside: Inside<'a>) -> Result<(), Failure>

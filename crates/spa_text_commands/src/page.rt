@@ -6,7 +6,7 @@ ghost use Rattle.spa_text_commands.specs.Lines.{Adds};
 ghost use Rattle.spa_text_commands.specs.declared.answer.Failure as Failure;
 
 use crate::answer::Failure;
-use std::alloc::Global;
+use std::alloc::{AllocError, Global};
 use std::io::Write;
 
 /// The lines are written whenever this many bytes of them wait.
@@ -33,12 +33,13 @@ impl<W: Write + Drop> Page<W> {
         }
     }
 
-    /// Ends the line that is begun.
+    /// Ends the line that is begun, where there was memory to begin it.
     #[tactic(auto, using(crate::proofs::Saying::line_waits, crate::proofs::Saying::line_written))]
-    pub(crate) fn end_line(&mut self) -> Result<(), Failure>
+    pub(crate) fn end_line(&mut self, begun: Result<(), AllocError>) -> Result<(), Failure>
         ensures added { OnOk result (Adds (W.contents self.old.device) (string_bytes self.old.waiting) (W.contents self.new.device) (string_bytes self.new.waiting)) }
         ensures cause { IfErr result IsCutOff }
     {
+        begun?;
         self.line.push_str("\n")?;
         self.waiting.push_str(self.line.as_str())?;
         self.line.clear();

@@ -93,6 +93,14 @@ impl<'a> Shown<'a> {
         }
     }
 
+    /// Where its body begins, where it begins itself at this place: a pod's behind its header.
+    pub(crate) fn body_place(&self, place: usize) -> usize {
+        match self.pod {
+            Some(_) => place.saturating_add(HEADER_LEN),
+            None => place,
+        }
+    }
+
     /// The value taken apart.
     pub(crate) fn parts(&self) -> Parts<'a> {
         match self.members() {

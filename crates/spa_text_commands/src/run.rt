@@ -5,6 +5,7 @@ ghost use Rattle.spa_text_commands.specs.Answers.{AreFilesRefused, AreTwoWords, 
 ghost use Rattle.spa_text_commands.specs.declared.answer.Answer.TheVariants.{Misused};
 ghost use Rattle.spa_text_commands.specs.declared.answer.Origin.TheVariants.{Input};
 ghost use Rattle.spa_text_commands.specs.declared.printing.Layout as Layout;
+ghost use Rattle.spa_text_commands.specs.Asked.{Asks, IsDone};
 ghost use Rattle.spa_text_commands.specs.Lines.{Lists};
 ghost use Rattle.spa_text_commands.specs.Texts.{Prints, Reads, RefusesPods, RefusesTexts};
 ghost use Rattle.spa_text_commands.specs.Unread.{ComparesFiles, IsWritten};
@@ -27,7 +28,6 @@ use std::io::{Read, Write};
 /// consists of, and by `diff` and two names the texts that differ of the pods that these files consist of.
 ///
 /// The arguments are settled before anything is read, and what is asked for is read whole before anything is written.
-#[tactic(auto, using(crate::proofs::Saying::keeps_itself, crate::proofs::Compared::as_asked))]
 pub fn run<R: Read, S: Sources, W: Write + Drop>(
     alloc: Global,
     words: &[&str],
@@ -48,13 +48,52 @@ pub fn run<R: Read, S: Sources, W: Write + Drop>(
         IsCompared result.0 (S.holds files.now ours) (S.holds files.now theirs) (W.contents device) (W.contents result.1) }
     ensures misuse { ¬ (IsUse words.now) → (result.0 ≡ Misused) × Keeps (W.contents device) (W.contents result.1) }
 {
+    do_work(alloc, asked(words), input, files, device)
+}
+
+/// What the program's words ask for.
+#[derive(Clone, Copy)]
+enum Work<'a> {
+    Show,
+    Print(Layout),
+    Read,
+    /// The files of these names are compared.
+    Diff(&'a str, &'a str),
+    /// The words are none of the program's.
+    Nothing,
+}
+
+/// Settles what the words ask for.
+fn asked<'a>(words: &[&'a str]) -> Work<'a>
+    ensures { Asks words.now result }
+{
     match words {
-        ["show"] => show(alloc, input, device),
-        ["print"] => print(alloc, Layout::OneLine, input, device),
-        ["print", "--pretty"] => print(alloc, Layout::Indented, input, device),
-        ["read"] => read(alloc, input, device),
-        ["diff", ours, theirs] => diff(alloc, files, *ours, *theirs, device),
-        _ => (Answer::Misused, device),
+        ["show"] => Work::Show,
+        ["print"] => Work::Print(Layout::OneLine),
+        ["print", "--pretty"] => Work::Print(Layout::Indented),
+        ["read"] => Work::Read,
+        ["diff", ours, theirs] => Work::Diff(*ours, *theirs),
+        _ => Work::Nothing,
+    }
+}
+
+/// Does what is asked for.
+#[tactic(auto, using(crate::proofs::Saying::keeps_itself))]
+fn do_work<R: Read, S: Sources, W: Write + Drop>(
+    alloc: Global,
+    work: Work<'_>,
+    input: &mut R,
+    files: &S,
+    device: W,
+) -> (Answer, W)
+    ensures { IsDone work.entry result.0 (R.remaining input.old) (S.holds files.now) (W.contents device) (W.contents result.1) }
+{
+    match work {
+        Work::Show => show(alloc, input, device),
+        Work::Print(layout) => print(alloc, layout, input, device),
+        Work::Read => read(alloc, input, device),
+        Work::Diff(ours, theirs) => diff(alloc, files, ours, theirs, device),
+        Work::Nothing => (Answer::Misused, device),
     }
 }
 

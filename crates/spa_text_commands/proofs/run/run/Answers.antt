@@ -1,5 +1,20 @@
-use Rattle.spa_text_commands.proofs.Compared.{is_use}
+use Rattle.spa_text_commands.proofs.Asked.{compared, indented, misused, printed, read, shown}
 use Rattle.spa_text_commands.proofs.run.run.Goals as goal
 
-pub returns-in-diff-clause-misuse : goal.returns-in-diff-clause-misuse
-returns-in-diff-clause-misuse g c = λ no_use. absurd (no_use (is_use c.args.words.now _ c.in-diff.len_at_least c.in-diff.len_below c.in-diff.is-diff))
+pub returns-clause-show : goal.returns-clause-show
+returns-clause-show g c = λ h. shown _ _ _ _ _ _ _ c.asked.ensures c.do_work.ensures h
+
+pub returns-clause-print : goal.returns-clause-print
+returns-clause-print g c = λ h. printed _ _ _ _ _ _ _ c.asked.ensures c.do_work.ensures h
+
+pub returns-clause-pretty : goal.returns-clause-pretty
+returns-clause-pretty g c = λ h. indented _ _ _ _ _ _ _ c.asked.ensures c.do_work.ensures h
+
+pub returns-clause-read : goal.returns-clause-read
+returns-clause-read g c = λ h. read _ _ _ _ _ _ _ c.asked.ensures c.do_work.ensures h
+
+pub returns-clause-diff : goal.returns-clause-diff
+returns-clause-diff g c = λ ours theirs h. compared _ _ _ _ _ _ _ c.asked.ensures c.do_work.ensures ours theirs h
+
+pub returns-clause-misuse : goal.returns-clause-misuse
+returns-clause-misuse g c = λ no. misused _ _ _ _ _ _ _ c.asked.ensures c.do_work.ensures no

@@ -1,6 +1,6 @@
 use Rattle.std.specs.Prelude.{string_bytes}
 use Rattle.spa_text_commands.specs.Lines.{Adds}
-use Rattle.spa_text_commands.proofs.listing.list.Given as goal
+use Rattle.spa_text_commands.proofs.listing.Listing.add_pod.Given as goal
 
 abbrev pub invariant-loop : goal.invariant-loop
 invariant-loop g l =

@@ -23,6 +23,7 @@ one_word (x ∷ y ∷ more) u v a b = absurd a
 unlike : (words : List (Bor (List ℕ))) (u v : List ℕ) → bytes_eq u v ≡ false → bytes_eq v v ≡ true → IsOneWord words u → IsOneWord words v → ⊥
 unlike words u v d e a b = true≢false (sym (subst (λ w. bytes_eq w v ≡ true) (sym (one_word words u v a b)) e) ∙ d)
 
+-- one word is neither two nor three, and two aren't three
 one_or_two : (words : List (Bor (List ℕ))) (u v w : List ℕ) → IsOneWord words u → AreTwoWords words v w → ⊥
 one_or_two [] u v w a b = a
 one_or_two (x ∷ []) u v w a b = b
@@ -39,6 +40,7 @@ two_or_three (x ∷ []) t u v w a b = a
 two_or_three (x ∷ y ∷ []) t u v w a b = b
 two_or_three (x ∷ y ∷ z ∷ more) t u v w a b = a
 
+-- the names of the files are told once
 names : (words : List (Bor (List ℕ))) (s t u v : List ℕ) → AsksDiff words s t → AsksDiff words u v → (s ≡ u) × (t ≡ v)
 names [] s t u v a b = absurd a
 names (x ∷ []) s t u v a b = absurd a
@@ -46,6 +48,7 @@ names (x ∷ y ∷ []) s t u v a b = absurd a
 names (x ∷ y ∷ z ∷ []) s t u v a b = (a.1 ∙ sym b.1, a.2 ∙ sym b.2)
 names (x ∷ y ∷ z ∷ w ∷ more) s t u v a b = absurd a
 
+-- each use, by what was asked for and done
 module _ (words : List (Bor (List ℕ))) (answer : Answer) (remaining : Option (List ℕ)) (holds : List ℕ → Option (List ℕ)) (old new : Option (List ℕ)) where
   pub shown : (w : Work) → Asks words w → IsDone w answer remaining holds old new → IsOneWord words (codes "show") →
       OnAnswer answer (ShowsAll remaining old new) (IsNotShown remaining old new)

@@ -1,7 +1,7 @@
 pub mod Answers
+pub mod Asked
 pub mod Differences
 pub mod Extent
 pub mod Lines
 pub mod Texts
 pub mod Unread
-pub mod Asked

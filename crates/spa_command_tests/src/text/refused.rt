@@ -4,48 +4,47 @@ use spa_value::discard;
 use std::alloc::Global;
 use std::process::Abort;
 
-/// Texts that are refused, and why.
-const REFUSED: [(&str, Cause); 25] = [
-    ("", Cause::Token),
-    ("[", Cause::Token),
-    ("[1,]", Cause::Token),
-    ("[1 2]", Cause::Token),
-    ("1 2", Cause::End),
-    ("[]]", Cause::End),
-    ("nul", Cause::Token),
-    ("\"a\u{1}b\"", Cause::Token),
-    (
-        "{\"type\":\"No such type\",\"id\":3,\"props\":{}}",
-        Cause::Number,
-    ),
-    ("{}", Cause::Token),
-    ("{\"other\":1}", Cause::Token),
-    ("2147483648", Cause::Number),
-    ("1.0", Cause::Number),
-    ("1e2", Cause::Number),
-    ("{\"id\":4294967296}", Cause::Number),
-    ("{\"id\":-1}", Cause::Number),
-    ("{\"long\":9223372036854775808}", Cause::Number),
-    ("{\"float\":1e39}", Cause::Number),
-    ("{\"float\":\"0x7fc0000\"}", Cause::Number),
-    ("{\"bytes\":\"0\"}", Cause::Number),
-    ("{\"array\":\"String\",\"values\":[]}", Cause::Type),
-    ("{\"array\":\"Int\",\"values\":[\"a\"]}", Cause::Type),
-    (
-        "{\"choice\":\"Range\",\"of\":\"Int\",\"values\":[1,2]}",
-        Cause::Count,
-    ),
-    ("{\"choice\":\"Range\",\"values\":[1,2,3]}", Cause::Type),
-    (
-        "{\"type\":\"Format\",\"id\":3,\"props\":{\"no such key\":1}}",
-        Cause::Number,
-    ),
-];
+/// Texts, a line each, with a token that can't stand where it does.
+const TOKENS: &str = "[\n[1,]\n[1 2]\nnul\n\"a\u{1}b\"\n{}\n{\"other\":1}";
+
+/// Texts with more than a value.
+const ENDS: &str = "1 2\n[]]";
+
+/// Texts with a number that doesn't fit, or a name of none.
+const NUMBERS: &str = r#"2147483648
+1.0
+1e2
+{"id":4294967296}
+{"id":-1}
+{"long":9223372036854775808}
+{"float":1e39}
+{"float":"0x7fc0000"}
+{"bytes":"0"}
+{"type":"No such type","id":3,"props":{}}
+{"type":"Format","id":3,"props":{"no such key":1}}"#;
+
+/// Texts with a value of another type than is wanted there, or of a type that isn't told.
+const TYPES: &str = r#"{"array":"String","values":[]}
+{"array":"Int","values":["a"]}
+{"choice":"Range","values":[1,2,3]}"#;
+
+/// A choice with too few values.
+const COUNT: &str = r#"{"choice":"Range","of":"Int","values":[1,2]}"#;
 
 #[test]
 fn refusals_have_their_causes(rt: HostRuntime) {
-    for (text, wanted) in REFUSED {
-        assert_refused(&rt, rt.alloc(), text, wanted);
+    let alloc = rt.alloc();
+    assert_refused(&rt, alloc, "", Cause::Token);
+    assert_refused(&rt, alloc, COUNT, Cause::Count);
+    assert_each_refused(&rt, alloc, TOKENS, Cause::Token);
+    assert_each_refused(&rt, alloc, ENDS, Cause::End);
+    assert_each_refused(&rt, alloc, NUMBERS, Cause::Number);
+    assert_each_refused(&rt, alloc, TYPES, Cause::Type);
+}
+
+fn assert_each_refused(rt: &impl Abort, alloc: Global, texts: &str, wanted: Cause) {
+    for text in texts.lines() {
+        assert_refused(rt, alloc, text, wanted);
     }
 }
 

@@ -1,9 +1,7 @@
 //! Texts that nest deep.
-use spa_text::{print, read};
-use spa_value::{Held, Value, same};
+use super::{assert_so, is_read_as, printed};
+use spa_value::{Held, Value};
 use std::alloc::{AllocError, Global};
-use std::process::Abort;
-use std::test::Fail;
 
 /// How deep the text nests.
 const LEVELS: usize = 100_000;
@@ -31,36 +29,30 @@ fn nested_structs(alloc: Global) -> Result<Held, AllocError> {
     Ok(nested)
 }
 
-/// Whether the text is read as this value.
-fn is_read_as(alloc: Global, text: &str, wanted: &Value) -> Result<bool, AllocError> {
-    match read(alloc, text) {
-        Ok(value) => {
-            let held = Held::from(value);
-            same(alloc, &*held, wanted)
-        }
-        Err(_) => Ok(false),
-    }
+/// Whether the text is read as the value.
+fn is_deep_read(alloc: Global) -> Result<bool, AllocError> {
+    let text = nested_text(alloc)?;
+    let wanted = nested_structs(alloc)?;
+    is_read_as(alloc, text.as_str(), &*wanted)
+}
+
+/// Whether the value is printed as the text.
+fn is_deep_printed(alloc: Global) -> Result<bool, AllocError> {
+    let value = nested_structs(alloc)?;
+    let wanted = nested_text(alloc)?;
+    Ok(printed(alloc, &*value)? == Some(wanted))
 }
 
 #[test]
-fn deep_texts_are_read(rt: HostRuntime) -> Result<(), Fail> {
-    let text = nested_text(rt.alloc())?;
-    let wanted = nested_structs(rt.alloc())?;
-    let is_read = is_read_as(rt.alloc(), text.as_str(), &*wanted)?;
-    assert_holds(&rt, is_read);
+fn deep_texts_are_read(rt: HostRuntime) -> Result<(), AllocError> {
+    let holds = is_deep_read(rt.alloc())?;
+    assert_so(&rt, holds, "deep brackets");
     Ok(())
 }
 
 #[test]
-fn deep_values_are_printed(rt: HostRuntime) -> Result<(), Fail> {
-    let value = nested_structs(rt.alloc())?;
-    let wanted = nested_text(rt.alloc())?;
-    let mut bytes = Vec::new(rt.alloc());
-    print(rt.alloc(), &*value, &mut bytes)?;
-    assert_holds(&rt, bytes.as_slice() == wanted.as_bytes());
+fn deep_values_are_printed(rt: HostRuntime) -> Result<(), AllocError> {
+    let holds = is_deep_printed(rt.alloc())?;
+    assert_so(&rt, holds, "deep structs");
     Ok(())
-}
-
-fn assert_holds(rt: &impl Abort, holds: bool) {
-    assert!(rt; holds, "another value or text, or refused");
 }

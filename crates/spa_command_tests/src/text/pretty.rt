@@ -1,112 +1,160 @@
 //! Values printed on lines of their own, beside what `jq` makes of their lines.
-use spa_text::{print, print_pretty, read};
-use spa_value::{Held, Value, same};
+use super::{assert_so, is_read_as, printed, value_of};
+use spa_text::print_pretty;
+use spa_value::{Held, Value};
 use std::alloc::{AllocError, Global};
 use std::process::Abort;
-use std::test::Fail;
 
-/// Lines as they are printed, and what `jq .` writes for them, but for its last line feed.
-const LAID_OUT: [(&str, &str); 6] = [
-    ("null", "null"),
-    ("[]", "[]"),
-    (
-        "[1,[],[null,{\"long\":2}],\"a\\nb\"]",
-        "[\n  1,\n  [],\n  [\n    null,\n    {\n      \"long\": 2\n    }\n  ],\n  \"a\\nb\"\n]",
-    ),
-    (
-        "{\"type\":999999,\"id\":3,\"props\":{}}",
-        "{\n  \"type\": 999999,\n  \"id\": 3,\n  \"props\": {}\n}",
-    ),
-    (
-        "{\"type\":\"Format\",\"id\":\"EnumFormat\",\"props\":{\"mediaType\":\"audio\",\"rate\":{\"choice\":\"Range\",\"values\":[44100,1,2147483647]},\"format\":{\"flags\":3,\"value\":\"S16LE\"}}}",
-        "{\n  \"type\": \"Format\",\n  \"id\": \"EnumFormat\",\n  \"props\": {\n    \"mediaType\": \"audio\",\n    \"rate\": {\n      \"choice\": \"Range\",\n      \"values\": [\n        44100,\n        1,\n        2147483647\n      ]\n    },\n    \"format\": {\n      \"flags\": 3,\n      \"value\": \"S16LE\"\n    }\n  }\n}",
-    ),
-    (
-        "{\"type\":\"Props\",\"id\":\"Props\",\"props\":{\"volume\":0.25,\"channelVolumes\":{\"array\":\"Float\",\"values\":[]},\"params\":[\"a\",{\"width\":640,\"height\":480}]}}",
-        "{\n  \"type\": \"Props\",\n  \"id\": \"Props\",\n  \"props\": {\n    \"volume\": 0.25,\n    \"channelVolumes\": {\n      \"array\": \"Float\",\n      \"values\": []\n    },\n    \"params\": [\n      \"a\",\n      {\n        \"width\": 640,\n        \"height\": 480\n      }\n    ]\n  }\n}",
-    ),
-];
+/// Lines as they are printed, each above what `jq .` writes for it, but for its last line feed. A blank line stands between two.
+const LAID_OUT: &str = r#"null
+null
 
-/// The value of a line is printed so, behind what stands there, and what is printed is read as the same value.
-fn assert_laid_out(rt: &impl Abort, alloc: Global, line: &str, wanted: &str) -> Result<(), Fail> {
-    let Ok(value) = read(alloc, line) else {
-        assert!(rt; false, "{line} is refused");
-        return Ok(());
+[]
+[]
+
+[1,[],[null,{"long":2}],"a\nb"]
+[
+  1,
+  [],
+  [
+    null,
+    {
+      "long": 2
+    }
+  ],
+  "a\nb"
+]
+
+{"type":999999,"id":3,"props":{}}
+{
+  "type": 999999,
+  "id": 3,
+  "props": {}
+}
+
+{"type":"Format","id":"EnumFormat","props":{"mediaType":"audio","rate":{"choice":"Range","values":[44100,1,2147483647]},"format":{"flags":3,"value":"S16LE"}}}
+{
+  "type": "Format",
+  "id": "EnumFormat",
+  "props": {
+    "mediaType": "audio",
+    "rate": {
+      "choice": "Range",
+      "values": [
+        44100,
+        1,
+        2147483647
+      ]
+    },
+    "format": {
+      "flags": 3,
+      "value": "S16LE"
+    }
+  }
+}
+
+{"type":"Props","id":"Props","props":{"volume":0.25,"channelVolumes":{"array":"Float","values":[]},"params":["a",{"width":640,"height":480}]}}
+{
+  "type": "Props",
+  "id": "Props",
+  "props": {
+    "volume": 0.25,
+    "channelVolumes": {
+      "array": "Float",
+      "values": []
+    },
+    "params": [
+      "a",
+      {
+        "width": 640,
+        "height": 480
+      }
+    ]
+  }
+}"#;
+
+/// What stands before a value that is printed.
+const FRONT: &str = "-\n";
+
+/// The value on lines of its own, behind what stands before it.
+fn printed_behind(alloc: Global, value: &Value) -> Result<Option<String>, AllocError> {
+    let mut bytes = Vec::from_slice(alloc, FRONT.as_bytes())?;
+    print_pretty(alloc, value, &mut bytes)?;
+    Ok(String::from_utf8(bytes).ok())
+}
+
+/// Whether the value is printed so, and what is printed is read as the same value.
+fn is_printed_as(alloc: Global, value: &Value, wanted: &str) -> Result<bool, AllocError> {
+    let Some(printed) = printed_behind(alloc, value)? else {
+        return Ok(false);
     };
-    let held = Held::from(value);
-    let mut bytes = Vec::from_slice(alloc, b"-\n")?;
-    print_pretty(alloc, &*held, &mut bytes)?;
-    let Some(text) = text_behind(alloc, bytes)? else {
-        assert!(rt; false, "{line} is printed otherwise than as text");
-        return Ok(());
-    };
-    assert_eq!(rt; text.as_str(), wanted, "of {line}");
-    let comes_back = is_read_as(alloc, text.as_str(), &*held)?;
-    assert!(rt; comes_back, "{text} is read as another value");
+    match printed.as_str().strip_prefix(FRONT) {
+        Some(text) => Ok(text == wanted && is_read_as(alloc, text, value)?),
+        None => Ok(false),
+    }
+}
+
+/// Whether the value of a line is laid out as it stands below that.
+fn is_laid_out(alloc: Global, row: &str) -> Result<bool, AllocError> {
+    let (line, wanted) = row.split_once('\n').unwrap_or((row, ""));
+    match value_of(alloc, line)? {
+        Some(value) => is_printed_as(alloc, &*value, wanted),
+        None => Ok(false),
+    }
+}
+
+fn assert_laid_out(rt: &impl Abort, alloc: Global, rows: &str) -> Result<(), AllocError> {
+    for row in rows.split("\n\n") {
+        let holds = is_laid_out(alloc, row)?;
+        assert_so(rt, holds, row);
+    }
     Ok(())
-}
-
-/// The text behind the first two bytes.
-fn text_behind(alloc: Global, bytes: Vec<u8>) -> Result<Option<String>, AllocError> {
-    match bytes.as_slice().split_at_checked(2) {
-        Some((_, text)) => Ok(String::from_utf8(Vec::from_slice(alloc, text)?).ok()),
-        None => Ok(None),
-    }
-}
-
-fn is_read_as(alloc: Global, text: &str, wanted: &Value) -> Result<bool, AllocError> {
-    match read(alloc, text) {
-        Ok(value) => {
-            let held = Held::from(value);
-            same(alloc, &*held, wanted)
-        }
-        Err(_) => Ok(false),
-    }
 }
 
 #[test]
-fn members_stand_on_lines_of_their_own(rt: HostRuntime) -> Result<(), Fail> {
-    for (line, wanted) in LAID_OUT {
-        assert_laid_out(&rt, rt.alloc(), line, wanted)?;
-    }
-    Ok(())
+fn members_stand_on_lines_of_their_own(rt: HostRuntime) -> Result<(), AllocError> {
+    assert_laid_out(&rt, rt.alloc(), LAID_OUT)
 }
 
 /// Ten structs, one within another: each line stands two spaces deeper.
-#[test]
-fn depth_is_two_spaces_a_level(rt: HostRuntime) -> Result<(), Fail> {
-    let mut line = String::new(rt.alloc());
-    let mut wanted = String::new(rt.alloc());
+fn nested_row(alloc: Global) -> Result<String, AllocError> {
+    let mut row = String::from_str(alloc, "[[[[[[[[[[7]]]]]]]]]]")?;
     for depth in 0..10 {
-        line.push_str("[")?;
-        wanted.push_str("[\n")?;
-        push_spaces(&mut wanted, depth + 1)?;
+        push_line(&mut row, depth, "[")?;
     }
-    line.push_str("7")?;
-    wanted.push_str("7")?;
+    push_line(&mut row, 10, "7")?;
     for depth in 0..10 {
-        line.push_str("]")?;
-        wanted.push_str("\n")?;
-        push_spaces(&mut wanted, 9 - depth)?;
-        wanted.push_str("]")?;
+        push_line(&mut row, 9 - depth, "]")?;
     }
-    assert_laid_out(&rt, rt.alloc(), line.as_str(), wanted.as_str())
+    Ok(row)
 }
 
-fn push_spaces(text: &mut String, levels: usize) -> Result<(), AllocError> {
-    for _ in 0..levels {
-        text.push_str("  ")?;
+/// Begins a line inside so many structs.
+fn push_line(row: &mut String, depth: usize, text: &str) -> Result<(), AllocError> {
+    row.push_str("\n")?;
+    for _ in 0..depth {
+        row.push_str("  ")?;
     }
+    row.push_str(text)
+}
+
+#[test]
+fn depth_is_two_spaces_a_level(rt: HostRuntime) -> Result<(), AllocError> {
+    let row = nested_row(rt.alloc())?;
+    assert_laid_out(&rt, rt.alloc(), row.as_str())?;
     Ok(())
 }
 
-/// A text with line feeds is printed on one line.
-#[test]
-fn lines_have_no_line_feed(rt: HostRuntime) -> Result<(), Fail> {
-    let alloc = rt.alloc();
+/// A text with line feeds, printed.
+fn lines_printed(alloc: Global) -> Result<Option<String>, AllocError> {
     let value = Held::from(Value::String(String::from_str(alloc, "a\nb\r\n")?));
-    let mut bytes = Vec::new(alloc);
-    print(alloc, &*value, &mut bytes)?;
-    assert_eq!(&rt; bytes.as_slice(), b"\"a\\nb\\r\\n\"".as_slice());
+    printed(alloc, &*value)
+}
+
+#[test]
+fn lines_have_no_line_feed(rt: HostRuntime) -> Result<(), AllocError> {
+    let line = lines_printed(rt.alloc())?;
+    let wanted = String::from_str(rt.alloc(), "\"a\\nb\\r\\n\"")?;
+    assert_so(&rt, line == Some(wanted), "line feeds");
     Ok(())
 }

@@ -1,7 +1,9 @@
 //! Why texts are refused.
-use spa_text::{Cause, read};
+use super::{assert_so, held};
+use spa_text::{Cause, TextError, read};
 use spa_value::discard;
-use std::alloc::Global;
+use std::alloc::{AllocError, Global};
+use std::fmt::Write;
 use std::process::Abort;
 
 /// Texts, a line each, with a token that can't stand where it does.
@@ -49,64 +51,51 @@ fn assert_each_refused(rt: &impl Abort, alloc: Global, texts: &str, wanted: Caus
 }
 
 fn assert_refused(rt: &impl Abort, alloc: Global, text: &str, wanted: Cause) {
+    let cause = held(alloc, text).err();
+    assert_so(rt, cause == Some(wanted), text);
+}
+
+/// Texts that are refused, and where: the line, the column and the path. A blank line stands between two.
+const PLACES: &str = r#"[1,
+2,x] => 2:3:[2]
+
+x => 1:1:
+
+{"type":"Format","id":3,"props":{"rate":"fast","rate":2147483648}} => 1:65:.props.rate
+
+[[],[{"array":"Int","values":[1,true]}]] => 1:37:[1][0].values"#;
+
+/// Where a text is refused, if it is.
+fn place_of(alloc: Global, text: &str) -> Result<Option<String>, AllocError> {
     match read(alloc, text) {
         Ok(value) => {
             discard(value);
-            assert!(rt; false, "{text} is read");
+            Ok(None)
         }
-        Err(error) => {
-            assert_eq!(rt; error.cause, wanted, "of {text}");
-        }
+        Err(error) => Ok(Some(said_of(alloc, &error)?)),
     }
 }
 
-/// Texts that are refused, and where: the line, the column and the path.
-const PLACES: [(&str, usize, usize, &str); 4] = [
-    ("[1,\n2,x]", 2, 3, "[2]"),
-    ("x", 1, 1, ""),
-    (
-        "{\"type\":\"Format\",\"id\":3,\"props\":{\"rate\":\"fast\",\"rate\":2147483648}}",
-        1,
-        65,
-        ".props.rate",
-    ),
-    (
-        "[[],[{\"array\":\"Int\",\"values\":[1,true]}]]",
-        1,
-        37,
-        "[1][0].values",
-    ),
-];
+fn said_of(alloc: Global, error: &TextError) -> Result<String, AllocError> {
+    let mut said = String::new(alloc);
+    write!(said, "{}:{}:{}", error.line, error.column, error.path)?;
+    Ok(said)
+}
+
+/// Whether a text is refused where its row says.
+fn is_refused_there(alloc: Global, row: &str) -> Result<bool, AllocError> {
+    let (text, wanted) = row.split_once(" => ").unwrap_or((row, ""));
+    match place_of(alloc, text)? {
+        Some(place) => Ok(place.as_str() == wanted),
+        None => Ok(false),
+    }
+}
 
 #[test]
-fn refusals_have_their_places(rt: HostRuntime) {
-    for (text, line, column, path) in PLACES {
-        assert_place(&rt, rt.alloc(), text, line, column, path);
+fn refusals_have_their_places(rt: HostRuntime) -> Result<(), AllocError> {
+    for row in PLACES.split("\n\n") {
+        let holds = is_refused_there(rt.alloc(), row)?;
+        assert_so(&rt, holds, row);
     }
-}
-
-fn assert_place(
-    rt: &impl Abort,
-    alloc: Global,
-    text: &str,
-    line: usize,
-    column: usize,
-    path: &str,
-) {
-    match read(alloc, text) {
-        Ok(value) => {
-            discard(value);
-            assert!(rt; false, "{text} is read");
-        }
-        Err(error) => {
-            let is_there = error.path.as_str() == path
-                && error.line == line
-                && error.column == column;
-            assert!(rt;
-                is_there,
-                "{text} is refused in line {}, column {}",
-                error.line, error.column
-            );
-        }
-    }
+    Ok(())
 }

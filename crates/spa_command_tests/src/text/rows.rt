@@ -1,33 +1,33 @@
 //! Texts, and what they are printed as again.
-use spa_text::{print, read};
-use spa_value::{Value, discard};
-use std::alloc::Global;
+use super::{assert_so, printed, value_of};
+use spa_text::print;
+use spa_value::Value;
+use std::alloc::{AllocError, Global};
 use std::process::Abort;
-use std::test::Fail;
 
-/// What a text is printed as, once it is read; nothing where one of the two is refused.
-fn printed_again(alloc: Global, text: &str) -> Option<String> {
-    let Ok(value) = read(alloc, text) else {
-        return None;
-    };
-    let mut bytes = Vec::new(alloc);
-    let printed = print(alloc, &value, &mut bytes);
-    discard(value);
-    match printed {
-        Ok(()) => String::from_utf8(bytes).ok(),
-        Err(_) => None,
+/// What a text is printed as, once it is read; nothing where it is refused.
+fn printed_again(alloc: Global, text: &str) -> Result<Option<String>, AllocError> {
+    match value_of(alloc, text)? {
+        Some(value) => printed(alloc, &*value),
+        None => Ok(None),
     }
 }
 
-fn assert_printed(rt: &impl Abort, alloc: Global, text: &str, wanted: &str) {
-    match printed_again(alloc, text) {
-        Some(again) => {
-            assert_eq!(rt; again.as_str(), wanted, "of {text}");
-        }
-        None => {
-            assert!(rt; false, "{text} is refused");
-        }
+/// Whether a text is printed as its row says, or, where it says nothing, as it stands.
+fn is_printed_so(alloc: Global, row: &str) -> Result<bool, AllocError> {
+    let (text, wanted) = row.split_once(" => ").unwrap_or((row, row));
+    match printed_again(alloc, text)? {
+        Some(again) => Ok(again.as_str() == wanted),
+        None => Ok(false),
     }
+}
+
+fn assert_rows(rt: &impl Abort, alloc: Global, rows: &str) -> Result<(), AllocError> {
+    for row in rows.lines() {
+        let holds = is_printed_so(alloc, row)?;
+        assert_so(rt, holds, row);
+    }
+    Ok(())
 }
 
 /// Texts as they are printed: each kind at its ends, names, flags, unknown types, repeated keys, control characters, the payloads
@@ -83,10 +83,8 @@ false
 {"type":"Props","id":"Props","props":{"volume":{"flags":4294967295,"value":0.25},"mute":true,"params":["a",{"double":1.5}]}}"#;
 
 #[test]
-fn canonical_texts_come_back(rt: HostRuntime) {
-    for text in CANONICAL.lines() {
-        assert_printed(&rt, rt.alloc(), text, text);
-    }
+fn canonical_texts_come_back(rt: HostRuntime) -> Result<(), AllocError> {
+    assert_rows(&rt, rt.alloc(), CANONICAL)
 }
 
 /// Texts in other forms, and what they are printed as. A line for each.
@@ -104,22 +102,25 @@ const LAX: &str = r#" [ 1 , 2 ]  => [1,2]
 -0 => 0"#;
 
 #[test]
-fn other_forms_are_read(rt: HostRuntime) {
-    for row in LAX.lines() {
-        match row.split_once(" => ") {
-            Some((text, wanted)) => assert_printed(&rt, rt.alloc(), text, wanted),
-            None => {
-                assert!(&rt; false, "{row} has no text to compare with");
-            }
-        }
-    }
+fn other_forms_are_read(rt: HostRuntime) -> Result<(), AllocError> {
+    assert_rows(&rt, rt.alloc(), LAX)
+}
+
+/// Two texts behind a line.
+fn print_twice(alloc: Global) -> Result<Vec<u8>, AllocError> {
+    let mut bytes = Vec::from_slice(alloc, b"a\n")?;
+    print(alloc, &Value::Int(5), &mut bytes)?;
+    print(alloc, &Value::None, &mut bytes)?;
+    Ok(bytes)
 }
 
 #[test]
-fn texts_stand_behind_what_was_there(rt: HostRuntime) -> Result<(), Fail> {
-    let mut bytes = Vec::from_slice(rt.alloc(), b"a\n")?;
-    print(rt.alloc(), &Value::Int(5), &mut bytes)?;
-    print(rt.alloc(), &Value::None, &mut bytes)?;
-    assert_eq!(&rt; bytes.as_slice(), b"a\n5null".as_slice());
+fn texts_stand_behind_what_was_there(rt: HostRuntime) -> Result<(), AllocError> {
+    let bytes = print_twice(rt.alloc())?;
+    assert_so(
+        &rt,
+        bytes.as_slice() == b"a\n5null".as_slice(),
+        "5 and null",
+    );
     Ok(())
 }

@@ -1,5 +1,4 @@
 pub mod Fronts
-pub mod Passing
 pub mod Lookups
 pub mod Filterings
 pub mod Puts

@@ -4,13 +4,14 @@ use Rattle.std.specs.List.{All}
 use Rattle.spa_format.specs.Words.{size_limit, word_bytes}
 use Rattle.spa_format.specs.Tree.{Tree, Properties}
 use Rattle.spa_format.specs.Writable.{IsTooLarge, SomeValueTooLarge}
-use Rattle.spa_fronts.specs.Written.{AreWritten, IsWritten}
+use Rattle.spa_fronts.specs.Written.{AreBehind, IsWritten}
 use Rattle.spa_filter.specs.Keys.{Offered, key_list}
 use Rattle.spa_filter.specs.Filtering.{Agree, AgreeAt, Filters, FiltersKeys}
 use Rattle.spa_filter.specs.Refusals.{AreRefused}
 use Rattle.spa_filter.specs.declared.error.FilterError.{FilterError}
 use Rattle.spa_filter.specs.declared.error.FilterError.TheVariants.{TooLarge}
-use Rattle.spa_filter_pods.specs.Fronts.{BeginBoth, FilterTooLarge}
+use Rattle.spa_fronts.specs.Fronts.{BeginBoth}
+use Rattle.spa_filter_pods.specs.Fronts.{FilterTooLarge}
 use Rattle.spa_filter_pods.specs.declared.answer.Answer.{Answer}
 
 -- a property with these flags and this value
@@ -37,12 +38,6 @@ pub record IsPutBy (ours theirs : Option Offered) (key : ℕ) (old new : Answer)
   pub filters : Filters ours theirs flags value
   pub agree : Agree ours theirs
   pub put : IsPutAs key flags value old new
-
--- behind these bytes stand properties, as they are written
-pub record AreBehind (met : Properties) (head out : List ℕ) : Type 0 where
-  pub bytes : List ℕ
-  pub parts : out ≡ head ++ bytes
-  pub written : AreWritten met bytes
 
 -- behind these bytes stand properties, as they are written, to which the two sides filter under the keys of these, and
 -- agree under each; or they can't be written

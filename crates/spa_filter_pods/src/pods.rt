@@ -1,8 +1,8 @@
 //! The objects of two pods are filtered.
 ghost use Rattle.std.specs.Prelude.{IfErr, IfOk, OnOk};
 ghost use Rattle.spa_filter.specs.Filtering.{CanFilter};
-ghost use Rattle.spa_filter_pods.specs.Fronts.{AreFrontsRefused, BeginBoth, FilterIn, IsFrontRefused, OnNoFilter};
-ghost use Rattle.spa_fronts.specs.Fronts.{BeginsObjectIn, bytes_of};
+ghost use Rattle.spa_filter_pods.specs.Fronts.{AreFrontsRefused, FilterIn, IsFrontRefused, OnNoFilter};
+ghost use Rattle.spa_fronts.specs.Fronts.{BeginBoth, BeginsObjectIn, bytes_of};
 
 use crate::views::filter_objects;
 use spa_filter::{FilterError, Side};

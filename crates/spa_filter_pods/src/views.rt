@@ -5,9 +5,9 @@ ghost use Rattle.spa_format.specs.Words.{size_limit};
 ghost use Rattle.spa_filter.specs.Filtering.{CanFilter};
 ghost use Rattle.spa_filter.specs.Keys.{offered_at};
 ghost use Rattle.spa_filter.specs.Refusals.{IsKeyRefusal, IsRefusal};
-ghost use Rattle.spa_filter_pods.specs.Fronts.{BeginBoth, FilterIn};
+ghost use Rattle.spa_filter_pods.specs.Fronts.{FilterIn};
 ghost use Rattle.spa_filter_pods.specs.Written.{AreViewsRefused, IsFilteredBehind, IsPutBy, offered};
-ghost use Rattle.spa_fronts.specs.Fronts.{BeginsView};
+ghost use Rattle.spa_fronts.specs.Fronts.{BeginBoth, BeginsView};
 ghost use Rattle.spa_fronts.specs.KeyOrder.{IsKeyed};
 ghost use Rattle.spa_fronts.specs.Written.{AreWritten, IsWritten};
 

@@ -1,16 +1,25 @@
 -- Properties behind one another, and the object that they make, as they are written.
-use Rattle.std.proofs.Common.{◌≡◌, ℕ, ◌-◌, ◌<◌, ◌≤◌, ◌^◌, List, [], ◌++◌, length, drop, refl, sym, ap, ◌∙◌, subst, arith, append_assoc, length-append}
+use Rattle.std.proofs.Common.{◌≡◌, inl, ℕ, ◌-◌, ◌<◌, ◌≤◌, ◌^◌, List, [], ◌++◌, length, drop, refl, sym, ap, ◌∙◌, subst, arith, append_assoc, length-append}
 use Rattle.std.specs.Prelude.{replicate}
 use Rattle.std.proofs.lemmas.List.{append-nil, drop_at}
-use Rattle.spa_format.specs.Words.{word_at, word_bytes, padded_size, padding}
+use Rattle.spa_format.specs.Words.{word_at, word_bytes, padded_size, padding, size_limit}
 use Rattle.spa_format.specs.Tree.{Tree, object, Properties, no_properties, property, join_properties}
 use Rattle.spa_format.specs.Pod.{AreProperties, IsBody, IsPod, IsWhole}
 use Rattle.spa_format.specs.Encoding.{encoding_of, framed, property_encodings}
+use Rattle.spa_format.specs.Writable.{IsTooLarge}
 use Rattle.spa_format.proofs.Back.{whole_frame}
 use Rattle.spa_format.proofs.Encodings.{key_words, property_encoding, whole_properties}
 use Rattle.spa_format.proofs.Sequences.{props_joined}
 use Rattle.spa_format.proofs.WordLemmas.{length-word_bytes, word_inside}
-use Rattle.spa_fronts.specs.Written.{AreWritten, IsWritten, open_header}
+use Rattle.spa_fronts.specs.Written.{AreBehind, AreWritten, IsWritten, open_header}
+
+pub join_properties-none : (ps : Properties) → join_properties ps no_properties ≡ ps
+join_properties-none no_properties = refl
+join_properties-none (property k f v ps) = ap (property k f v) (join_properties-none ps)
+
+pub join_properties-assoc : (ps qs rs : Properties) → join_properties (join_properties ps qs) rs ≡ join_properties ps (join_properties qs rs)
+join_properties-assoc no_properties qs rs = refl
+join_properties-assoc (property k f v ps) qs rs = ap (property k f v) (join_properties-assoc ps qs rs)
 
 encodings_joined : (ps qs : Properties) → property_encodings (join_properties ps qs) ≡ property_encodings ps ++ property_encodings qs
 encodings_joined no_properties qs = refl
@@ -45,7 +54,22 @@ written_one k f x pod l m w =
       same = ap (λ y. head ++ y) (w.same ∙ sym (append-nil (encoding_of x))) ∙ append_assoc (word_bytes k) (word_bytes f) (encoding_of x ++ []);
     }
 
-pub header_long : (t i : ℕ) → length (open_header t i) ≡ 16
+-- no property stands behind the bytes,
+pub behind_none : (head : List ℕ) → AreBehind no_properties head head
+behind_none head = record { bytes = []; parts = sym (append-nil head); written = record { properties = refl; same = refl } }
+
+-- and one more
+pub behind_on : (k f : ℕ) (x : Tree) (met : Properties) (pod head old new : List ℕ) → k < 2 ^ 32 → f < 2 ^ 32 → IsWritten x pod →
+    new ≡ old ++ ((word_bytes k ++ word_bytes f) ++ pod) → AreBehind met head old → AreBehind (join_properties met (property k f x no_properties)) head new
+behind_on k f x met pod head old new l m w p h =
+    let piece = (word_bytes k ++ word_bytes f) ++ pod in
+    record {
+      bytes = h.bytes ++ piece;
+      parts = p ∙ ap (λ y. y ++ piece) h.parts ∙ append_assoc head h.bytes piece;
+      written = written_joined met (property k f x no_properties) h.bytes piece h.written (written_one k f x pod l m w);
+    }
+
+header_long : (t i : ℕ) → length (open_header t i) ≡ 16
 header_long t i =
     let e0 = length-append (word_bytes 0 ++ word_bytes 15) (word_bytes t ++ word_bytes i) in
     let e1 = length-append (word_bytes 0) (word_bytes 15) in
@@ -61,9 +85,12 @@ pub record IsWrittenObject (t i : ℕ) (met : Properties) (b : List ℕ) : Type 
   pub encoding : b ≡ encoding_of (object t i met)
   pub pod : IsPod b (object t i met)
 
-pub object_written : (t i : ℕ) (met : Properties) (bytes out b : List ℕ) → t < 2 ^ 32 → i < 2 ^ 32 → AreWritten met bytes → out ≡ open_header t i ++ bytes →
+pub object_written : (t i : ℕ) (met : Properties) (out b : List ℕ) → t < 2 ^ 32 → i < 2 ^ 32 → AreBehind met (open_header t i) out →
     length out - 8 < 2 ^ 32 → b ≡ word_bytes (length out - 8) ++ drop 4 out → IsWrittenObject t i met b
-object_written t i met bytes out b ft fi w o f e =
+object_written t i met out b ft fi h f e =
+    let bytes = h.bytes in
+    let o = h.parts in
+    let w = h.written in
     let body = word_bytes t ++ (word_bytes i ++ property_encodings met) in
     let head = word_bytes t ++ word_bytes i in
     let e0 = length-append (word_bytes t) (word_bytes i ++ property_encodings met) in
@@ -98,3 +125,21 @@ object_written t i met bytes out b ft fi w o f e =
       encoding = encoding;
       pod = subst (λ c. IsPod c (object t i met)) (sym encoding) framed_pod;
     }
+
+-- an object whose size can't be put there can't be written
+pub object_large : (t i : ℕ) (met : Properties) (out : List ℕ) → AreBehind met (open_header t i) out → (16 ≤ length out → size_limit ≤ length out - 8) →
+    IsTooLarge (object t i met)
+object_large t i met out h l =
+    let body = word_bytes t ++ (word_bytes i ++ property_encodings met) in
+    let e0 = length-append (word_bytes t) (word_bytes i ++ property_encodings met) in
+    let e1 = length-append (word_bytes i) (property_encodings met) in
+    let e2 = length-word_bytes t in
+    let e3 = length-word_bytes i in
+    let e4 = header_long t i in
+    let e5 = length-append (open_header t i) h.bytes in
+    let e6 = ap length h.parts in
+    let e7 = ap length h.written.same in
+    let long : 16 ≤ length out = omega arith in
+    let past = l long in
+    let large : size_limit ≤ length body = omega arith in
+    inl large

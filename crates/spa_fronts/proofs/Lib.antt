@@ -1,7 +1,10 @@
+pub mod Passing
 pub mod Listed
 pub mod KeyOrders
 pub mod Passed
 pub mod Opening
 pub mod Joined
+pub mod Sides
 pub mod Same
 pub mod ObjectPods
+pub mod Both

@@ -15,9 +15,8 @@ use Rattle.spa_scan.specs.Canonical.{BeginsCanonical}
 use Rattle.spa_scan.specs.Depth.{depth_of, levels_looked_into}
 use Rattle.spa_rewrite.specs.Rewriting.{IsRewriting}
 use Rattle.spa_rewrite.specs.Shorter.{ArePodsWithin}
-use Rattle.std.specs.Prelude.{IfErr, IfOk, IsErrAnd, Result, Ok, Err}
-use Rattle.std.proofs.lemmas.Result.{err_from_is_err_and}
-use Rattle.spa_fronts.specs.Fronts.{BeginsNoObject, BeginsObjectIn, IsNoObject, IsUnread}
+use Rattle.std.specs.Prelude.{IfOk, Result, Ok, Err}
+use Rattle.spa_fronts.specs.Fronts.{BeginsObject, BeginsObjectIn, BeginsOther, IsNoObject, IsObject, IsUnread}
 use Rattle.spa_fronts.specs.declared.front.NoObject.{NoObject}
 use Rattle.spa_fronts.specs.declared.front.NoObject.TheVariants.{Unread, Other, OutOfMemory}
 use Rattle.spa_fronts.specs.Written.{BeginsWritten}
@@ -26,6 +25,14 @@ use Rattle.spa_fronts.proofs.Opening.{begins_written}
 -- the type of the value with which an input begins
 pub begun_type : (input : List ℕ) (v : Tree) → Begins input v → type_of v ≡ word_at input 4
 begun_type input v b = sym b.pod.its_type ∙ type_of_front input
+
+no_object : (v : Tree) → type_of v ≢ object_type → ¬ (IsObject v)
+no_object (object t i ps) n h = n refl
+no_object _ n h = h
+
+-- an input with the pod of an object begins with one
+pub begins_object : (input pod : List ℕ) → BeginsObjectIn input pod → BeginsObject input
+begins_object input pod b = record { value = object b.type b.id b.values; begins = b.begins; is_object = tt }
 
 -- a front that is its own rewriting
 pub lying_object : (input rest pod : List ℕ) → (c : BeginsCanonical input rest) → word_at input 4 ≡ object_type → pod ≡ front_of input → BeginsObjectIn input pod
@@ -68,7 +75,7 @@ front_twice input =
     ap (λ n. take (extent n) (front_of input)) (size_of_front input) ∙ take-take (extent (word_at input 0)) (extent (word_at input 0)) input (omega arith)
 
 -- a front that is pods one after another is one of another value
-pub other_of_members : (input : List ℕ) → HasFront input → word_at input 4 ≢ object_type → (vs : Trees) → AreMembers vs (front_of input) → BeginsNoObject input
+pub other_of_members : (input : List ℕ) → HasFront input → word_at input 4 ≢ object_type → (vs : Trees) → AreMembers vs (front_of input) → BeginsOther input
 other_of_members input h t no_trees m =
     let long = length-take-le (extent (word_at input 0)) input h.whole in
     let none = ap length m in
@@ -77,7 +84,7 @@ other_of_members input h t (member v vs) m =
     let whole = front_of_whole (front_of input) m.0 m.1 (type_of v) _ m.2 m.3 in
     let its : IsPod (front_of input) v = subst (λ b. IsPod b v) (whole.1 ∙ front_twice input) m.3 in
     let begins : Begins input v = record { there = h; pod = its } in
-    record { value = v; begins = begins; other = λ e. t (sym (begun_type input v begins) ∙ e) }
+    record { value = v; begins = begins; no_object = no_object v (λ e. t (sym (begun_type input v begins) ∙ e)) }
 
 flat : (v : Tree) → type_of v ≢ struct_type → type_of v ≢ object_type → depth_of v ≡ 0
 flat (fixed x) s o = refl
@@ -125,8 +132,9 @@ pub object_long : (input pod : List ℕ) → BeginsObjectIn input pod → 8 ≤ 
 object_long input pod b = b.written.its_pod.content.0
 
 -- the rewriting of a front that is no object's
-pub other_rewritten : (input out : List ℕ) → word_at input 4 ≢ object_type → (r : IsRewriting input out) → BeginsNoObject input
-other_rewritten input out t r = record { value = r.value; begins = r.begins; other = λ e. t (sym (begun_type input r.value r.begins) ∙ e) }
+pub other_rewritten : (input out : List ℕ) → word_at input 4 ≢ object_type → (r : IsRewriting input out) → BeginsOther input
+other_rewritten input out t r =
+    record { value = r.value; begins = r.begins; no_object = no_object r.value (λ e. t (sym (begun_type input r.value r.begins) ∙ e)) }
 
 pub no_object_of : (input : List ℕ) (why : NoObject) → IsUnread input why → IsNoObject input why
 no_object_of input Unread h = h
@@ -137,7 +145,3 @@ no_object_of input OutOfMemory h = h
 pub of_ok : {T E P : Type 0} {Q : T → Type 0} (r : Result T E) → ((e : E) → r ≡ Err e → ⊥) → ((v : T) → Q v → P) → IfOk r Q → P
 of_ok (Ok v) n f h = f v h
 of_ok (Err e) n f h = absurd (n e refl)
-
--- a refusal that is passed on by a `?`
-pub passed_on : {T E : Type 0} (r : Result T E) (e : E) (Q : E → Type 0) → IsErrAnd r (λ y. y ≡ e) → Q e → IfErr r Q
-passed_on r e Q h q = let p = err_from_is_err_and r h in rw (p.1, p.2) q

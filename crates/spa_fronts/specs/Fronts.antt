@@ -1,6 +1,6 @@
 -- Objects at the fronts of inputs, as they are written: docs/NEGOTIATION.md, "From bytes to bytes".
-use Rattle.std.specs.Prelude.{◌≢◌, ℕ, List}
-use Rattle.spa_format.specs.Tree.{Tree, object, object_type, Properties, type_of}
+use Rattle.std.specs.Prelude.{⊤, ℕ, List}
+use Rattle.spa_format.specs.Tree.{Tree, object, Properties}
 use Rattle.spa_format.specs.Front.{Begins, IsRefused}
 use Rattle.spa_leaf.specs.Reading.{MayLackMemory}
 use Rattle.spa_fronts.specs.Written.{BeginsWritten, IsWritten}
@@ -27,16 +27,35 @@ abbrev pub bytes_of : ObjectPod → List ℕ
 bytes_of (Lying pod) = pod.now
 bytes_of (Rewritten bytes) = bytes.items
 
--- the front of the input is a pod of a value that is no object
-pub record BeginsNoObject (input : List ℕ) : Type 0 where
+-- the value is an object
+abbrev pub IsObject : Tree → Type 0
+IsObject (object type id ps) = ⊤
+IsObject _ = ⊥
+
+-- the front of the input is a pod of an object
+pub record BeginsObject (input : List ℕ) : Type 0 where
   pub value : Tree
   pub begins : Begins input value
-  pub other : type_of value ≢ object_type
+  pub is_object : IsObject value
+
+-- the front of the input is a pod of another value
+pub record BeginsOther (input : List ℕ) : Type 0 where
+  pub value : Tree
+  pub begins : Begins input value
+  pub no_object : ¬ (IsObject value)
+
+-- the fronts of two inputs are pods of two values of which the fact holds
+pub record BeginBoth (a b : List ℕ) (Holds : Tree → Tree → Type 0) : Type 0 where
+  pub ours : Tree
+  pub theirs : Tree
+  pub first : Begins a ours
+  pub second : Begins b theirs
+  pub holds : Holds ours theirs
 
 -- why no object is at the front of the input
 abbrev pub IsNoObject : List ℕ → NoObject → Type 0
 IsNoObject input Unread = IsRefused input
-IsNoObject input Other = BeginsNoObject input
+IsNoObject input Other = BeginsOther input
 IsNoObject input OutOfMemory = MayLackMemory input
 
 -- why the front isn't there as it is written

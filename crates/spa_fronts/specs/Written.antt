@@ -56,3 +56,9 @@ pub record IsFound (found : Option Found) (flags : ℕ) (pod : List ℕ) : Type 
 -- an object behind its header, whose size isn't there yet
 abbrev pub open_header : ℕ → ℕ → List ℕ
 open_header type id = (word_bytes 0 ++ word_bytes 15) ++ (word_bytes type ++ word_bytes id)
+
+-- behind these bytes stand properties, as they are written
+pub record AreBehind (met : Properties) (head out : List ℕ) : Type 0 where
+  pub bytes : List ℕ
+  pub parts : out ≡ head ++ bytes
+  pub written : AreWritten met bytes

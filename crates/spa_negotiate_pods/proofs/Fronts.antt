@@ -1,8 +1,7 @@
 -- The objects at the fronts of two inputs, and the bytes of that in which they meet.
-use Rattle.std.proofs.Common.{◌≡◌, ℕ, List, ◌∙◌, true, inl, inr, sym, subst}
+use Rattle.std.proofs.Common.{◌≡◌, ℕ, List, ◌∙◌, true, inl, inr, sym}
 use Rattle.std.specs.Bool.{IsTrue}
 use Rattle.spa_format.specs.Fixation.{all_settled, are_settled}
-use Rattle.spa_format.specs.Front.{Begins, front_of}
 use Rattle.spa_format.specs.Pod.{IsPod}
 use Rattle.spa_format.specs.Tree.{Tree, object, Properties}
 use Rattle.spa_format.specs.Walk.{ArePropertiesOf, property_walk, properties_of}
@@ -10,12 +9,13 @@ use Rattle.spa_negotiate.specs.declared.error.Side.{Side}
 use Rattle.spa_negotiate.specs.declared.error.Side.TheVariants.{First, Second}
 use Rattle.spa_negotiate.specs.declared.error.NegotiateError.{NegotiateError}
 use Rattle.spa_negotiate.specs.declared.error.NegotiateError.TheVariants.{TypeMismatch, Unsupported, Disjoint, Unread, NotObject, TooLarge, OutOfMemory}
-use Rattle.spa_negotiate_pods.specs.Fronts.{BeginsObject, BeginBoth, IsObject, MeetIn, OnNoMeeting, IsFrontRefused, AreFrontsRefused, AreViewsRefused}
+use Rattle.spa_negotiate_pods.specs.Fronts.{MeetIn, OnNoMeeting, IsFrontRefused, AreFrontsRefused, AreViewsRefused}
 use Rattle.spa_negotiate.specs.Meeting.{CanMeet, Meet}
 use Rattle.spa_negotiate.specs.Refusals.{AreRefused, OnDisagreement}
 use Rattle.spa_negotiate.proofs.Refusing.{cannot_meet}
-use Rattle.spa_fronts.specs.Fronts.{BeginsObjectIn}
+use Rattle.spa_fronts.specs.Fronts.{BeginBoth, BeginsObject, IsObject}
 use Rattle.spa_fronts.specs.Written.{BeginsWritten}
+use Rattle.spa_fronts.proofs.Both.{begin_both, never_both, other_first, other_second}
 use Rattle.spa_negotiate_pods.proofs.Values.{are_settled-met}
 
 -- the second side's refusal, behind a first side that is an object
@@ -62,9 +62,6 @@ first_refused a b (NotObject Second) h = let no : Second ≡ First = h.0 in cc
 first_refused a b OutOfMemory h = inl h
 first_refused a b _ h = absurd h
 
-pub begins_object : (input pod : List ℕ) → BeginsObjectIn input pod → BeginsObject input
-begins_object input pod b = record { value = object b.type b.id b.values; begins = b.begins; is_object = tt }
-
 -- objects that are there aren't refused for what their fronts are
 never_unread : (s : Side) (v w : Tree) → AreRefused v w (Unread s) → ⊥
 never_unread s (object t i ps) (object u j qs) r = r.1
@@ -91,51 +88,35 @@ views_refused a b OutOfMemory h = inr (inr h)
 -- two objects of two types
 pub mismatch : (a b ours theirs : List ℕ) (t i u j : ℕ) → BeginsWritten a t i ours → BeginsWritten b u j theirs → ¬ (t ≡ u) →
     BeginBoth a b (λ v w. AreRefused v w TypeMismatch)
-mismatch a b ours theirs t i u j h k n =
-    record {
-      ours = object t i h.values;
-      theirs = object u j k.values;
-      first = h.begins;
-      second = k.begins;
-      holds = λ e. n (sym e);
-    }
+mismatch a b ours theirs t i u j h k n = begin_both h k (λ e. n (sym e))
+
+first_object : (v w : Tree) → CanMeet v w → IsObject v
+first_object (object t i ps) w h = tt
+first_object v w h = absurd h
+
+second_object : (v w : Tree) → CanMeet v w → IsObject w
+second_object (object t i ps) (object u j qs) h = tt
+second_object (object t i ps) w h = absurd h
+second_object v w h = absurd h
 
 -- the law that a pod is of one value
-module _ (one : (b : List ℕ) (v w : Tree) → IsPod b v → IsPod b w → v ≡ w) where
-  same : (input : List ℕ) (v w : Tree) → Begins input v → Begins input w → v ≡ w
-  same input v w h k = one (front_of input) v w h.pod k.pod
-
-  no_pair : (a b : List ℕ) (e : NegotiateError) → BeginBoth a b (λ v w. AreRefused v w e) → OnNoMeeting (¬ (BeginBoth a b CanMeet)) e
-  no_pair a b e h = of_error e (cannot_meet h.ours h.theirs e h.holds)
+module _ (one : (b : List ℕ) (v w : Tree) → IsPod b v → IsPod b w → v ≡ w) (a b : List ℕ) where
+  no_pair : (e : NegotiateError) → BeginBoth a b (λ v w. AreRefused v w e) → OnNoMeeting (¬ (BeginBoth a b CanMeet)) e
+  no_pair e h = of_error e (cannot_meet h.ours h.theirs e h.holds)
     where
-      against : ¬ (CanMeet h.ours h.theirs) → ¬ (BeginBoth a b CanMeet)
-      against n k =
-          n (subst (λ v. CanMeet v h.theirs) (same a k.ours h.ours k.first h.first)
-          (subst (CanMeet k.ours) (same b k.theirs h.theirs k.second h.second) k.holds))
-
       of_error : (x : NegotiateError) → OnDisagreement (¬ (CanMeet h.ours h.theirs)) x → OnNoMeeting (¬ (BeginBoth a b CanMeet)) x
       of_error OutOfMemory n = tt
       of_error TooLarge n = tt
-      of_error _ n = against n
-
-  first_object : (v w : Tree) → CanMeet v w → IsObject v
-  first_object (object t i ps) w h = tt
-  first_object v w h = absurd h
-
-  second_object : (v w : Tree) → CanMeet v w → IsObject w
-  second_object (object t i ps) (object u j qs) h = tt
-  second_object (object t i ps) w h = absurd h
-  second_object v w h = absurd h
+      of_error _ n = never_both one a b CanMeet h.ours h.theirs h.first h.second n
 
   -- what is refused can't meet, where memory and size aren't the cause
-  pub no_meeting : (a b : List ℕ) (e : NegotiateError) → AreFrontsRefused a b e → OnNoMeeting (¬ (BeginBoth a b CanMeet)) e
-  no_meeting a b (Unread First) h = λ k. h k.ours k.first
-  no_meeting a b (Unread Second) h = λ k. h.1 k.theirs k.second
-  no_meeting a b (NotObject First) h = λ k. h.no_object (subst IsObject (same a k.ours h.value k.first h.begins) (first_object k.ours k.theirs k.holds))
-  no_meeting a b (NotObject Second) h =
-      λ k. h.1.no_object (subst IsObject (same b k.theirs h.1.value k.second h.1.begins) (second_object k.ours k.theirs k.holds))
-  no_meeting a b TooLarge h = tt
-  no_meeting a b OutOfMemory h = tt
-  no_meeting a b TypeMismatch h = no_pair a b TypeMismatch h
-  no_meeting a b (Unsupported k) h = no_pair a b (Unsupported k) h
-  no_meeting a b (Disjoint k) h = no_pair a b (Disjoint k) h
+  pub no_meeting : (e : NegotiateError) → AreFrontsRefused a b e → OnNoMeeting (¬ (BeginBoth a b CanMeet)) e
+  no_meeting (Unread First) h = λ k. h k.ours k.first
+  no_meeting (Unread Second) h = λ k. h.1 k.theirs k.second
+  no_meeting (NotObject First) h = other_first one a b CanMeet first_object h
+  no_meeting (NotObject Second) h = other_second one a b CanMeet second_object h.1
+  no_meeting TooLarge h = tt
+  no_meeting OutOfMemory h = tt
+  no_meeting TypeMismatch h = no_pair TypeMismatch h
+  no_meeting (Unsupported k) h = no_pair (Unsupported k) h
+  no_meeting (Disjoint k) h = no_pair (Disjoint k) h

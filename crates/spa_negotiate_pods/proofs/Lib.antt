@@ -1,4 +1,3 @@
-pub mod Passing
 pub mod Values
 pub mod OfferViews
 pub mod Putting

@@ -1,42 +1,18 @@
 -- When the objects at the fronts of two inputs meet, and why they don't: docs/NEGOTIATION.md, "From bytes to bytes".
 use Rattle.std.specs.Prelude.{⊤, ◌≡◌, ◌⊎◌, ℕ, List}
-use Rattle.spa_format.specs.Tree.{Tree, object}
-use Rattle.spa_format.specs.Front.{Begins, IsRefused}
+use Rattle.spa_format.specs.Tree.{Tree}
+use Rattle.spa_format.specs.Front.{IsRefused}
 use Rattle.spa_format.specs.Encoding.{encoding_of}
 use Rattle.spa_format.specs.Pod.{IsPod}
 use Rattle.spa_format.specs.Writable.{IsTooLarge}
 use Rattle.spa_leaf.specs.Reading.{MayLackMemory}
+pub use Rattle.spa_fronts.specs.Fronts.{BeginBoth, BeginsObject, BeginsOther, IsObject}
 use Rattle.spa_negotiate.specs.Meeting.{Meet}
 use Rattle.spa_negotiate.specs.Refusals.{AreRefused}
 use Rattle.spa_negotiate.specs.declared.error.Side.{Side}
 use Rattle.spa_negotiate.specs.declared.error.Side.TheVariants.{First, Second}
 use Rattle.spa_negotiate.specs.declared.error.NegotiateError.{NegotiateError}
 use Rattle.spa_negotiate.specs.declared.error.NegotiateError.TheVariants.{Unread, NotObject, TooLarge, OutOfMemory}
-
--- the value is an object
-abbrev pub IsObject : Tree → Type 0
-IsObject (object type id ps) = ⊤
-IsObject _ = ⊥
-
--- the front of the input is a pod of an object
-pub record BeginsObject (input : List ℕ) : Type 0 where
-  pub value : Tree
-  pub begins : Begins input value
-  pub is_object : IsObject value
-
--- the front of the input is a pod of another value
-pub record BeginsOther (input : List ℕ) : Type 0 where
-  pub value : Tree
-  pub begins : Begins input value
-  pub no_object : ¬ (IsObject value)
-
--- the fronts of two inputs are pods of two values of which the fact holds
-pub record BeginBoth (a b : List ℕ) (Holds : Tree → Tree → Type 0) : Type 0 where
-  pub ours : Tree
-  pub theirs : Tree
-  pub first : Begins a ours
-  pub second : Begins b theirs
-  pub holds : Holds ours theirs
 
 -- the two values meet in one whose encoding these bytes are, which are a pod of it
 pub record MeetIn (bytes : List ℕ) (ours theirs : Tree) : Type 0 where

@@ -5,7 +5,7 @@ use Rattle.spa_format.specs.Typed.{IsTyped}
 use Rattle.spa_format.specs.Words.{word_bytes}
 use Rattle.spa_format.specs.Writable.{IsWritable}
 use Rattle.spa_format.specs.Tree.{Tree, Properties}
-use Rattle.spa_fronts.specs.Written.{AreWritten, IsWritten}
+use Rattle.spa_fronts.specs.Written.{AreBehind, IsWritten}
 use Rattle.spa_negotiate.specs.Admits.{IsCommon, IsPlain}
 use Rattle.spa_negotiate.specs.Meeting.{Settles, SettlesKeys}
 
@@ -34,7 +34,5 @@ pub record IsSettledBy (ours theirs : Option Tree) (key : ℕ) (old new : List �
 -- behind these bytes stand properties, as they are written, which settle the keys of these
 pub record IsMetBehind (ours theirs these : Properties) (head out : List ℕ) : Type 0 where
   pub met : Properties
-  pub bytes : List ℕ
-  pub parts : out ≡ head ++ bytes
-  pub written : AreWritten met bytes
+  pub held : AreBehind met head out
   pub settles : SettlesKeys ours theirs these met

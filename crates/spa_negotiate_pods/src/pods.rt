@@ -2,9 +2,9 @@
 ghost use Rattle.std.specs.Prelude.{IfErr, IfOk, IsTrue, OnOk};
 ghost use Rattle.spa_format.specs.Fixation.{all_settled};
 ghost use Rattle.spa_format.specs.Walk.{properties_of, property_walk};
-ghost use Rattle.spa_fronts.specs.Fronts.{BeginsObjectIn, bytes_of};
+ghost use Rattle.spa_fronts.specs.Fronts.{BeginBoth, BeginsObjectIn, bytes_of};
 ghost use Rattle.spa_negotiate.specs.Meeting.{CanMeet};
-ghost use Rattle.spa_negotiate_pods.specs.Fronts.{AreFrontsRefused, BeginBoth, IsFrontRefused, MeetIn, OnNoMeeting};
+ghost use Rattle.spa_negotiate_pods.specs.Fronts.{AreFrontsRefused, IsFrontRefused, MeetIn, OnNoMeeting};
 
 use crate::views::meet_objects;
 use spa_format::laws::pods_have_one_value;

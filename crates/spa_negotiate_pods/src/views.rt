@@ -2,14 +2,14 @@
 ghost use Rattle.std.specs.Prelude.{◌≡◌, ◌<◌, IfErr, IfOk, List, OnOk, Some, true, ℕ};
 ghost use Rattle.spa_format.specs.Tree.{Properties, Tree, join_properties};
 ghost use Rattle.spa_format.specs.Words.{size_limit};
-ghost use Rattle.spa_fronts.specs.Fronts.{BeginsView};
+ghost use Rattle.spa_fronts.specs.Fronts.{BeginBoth, BeginsView};
 ghost use Rattle.spa_fronts.specs.KeyOrder.{IsKeyed};
 ghost use Rattle.spa_fronts.specs.Written.{AreWritten, IsWritten, open_header};
 ghost use Rattle.spa_negotiate.specs.Keys.{value_at};
 ghost use Rattle.spa_negotiate.specs.Meeting.{CanMeet};
 ghost use Rattle.spa_negotiate.specs.Refusals.{IsKeyRefusal, IsRefusal};
 ghost use Rattle.spa_negotiate.specs.declared.error.NegotiateError.TheVariants.{OutOfMemory};
-ghost use Rattle.spa_negotiate_pods.specs.Fronts.{AreViewsRefused, BeginBoth, MeetIn};
+ghost use Rattle.spa_negotiate_pods.specs.Fronts.{AreViewsRefused, MeetIn};
 ghost use Rattle.spa_negotiate_pods.specs.Written.{IsMetBehind, IsSettledBy};
 
 use crate::settling::{put_common, put_default};

@@ -1,29 +1,31 @@
-use Rattle.std.proofs.Common.{sym, subst}
-use Rattle.spa_filter_pods.proofs.Filterings.{IsFirstLeft, SaysNew, first_begun, first_ended, first_put, first_refused, first_seen}
-use Rattle.spa_filter_pods.proofs.Passing.{passed_on}
+use Rattle.std.proofs.Common.{◌∙◌, ap, not, sym, subst}
+use Rattle.spa_format.specs.Tree.{no_properties}
+use Rattle.spa_fronts.proofs.Passing.{passed_on}
+use Rattle.spa_fronts.proofs.Sides.{IsSideLeft, side_begun, side_ended, side_next, side_on}
+use Rattle.spa_filter_pods.specs.Written.{IsFilteredBehind}
+use Rattle.spa_filter_pods.proofs.Filterings.{first_put, first_refused, none_passed, seen}
 use Rattle.spa_filter_pods.proofs.views.filter_first.Goals.{then-is_new+in_ok-put_filtered, else-is_new}
 use Rattle.spa_filter_pods.proofs.views.filter_first.Goals as goal
 
 pub loop-first-init : goal.loop-first-init
-loop-first-init c = λ ps qs w v. first_begun ps qs c.args.ours.now.properties.now c.args.out.now c.requires.small c.requires.first.bytes w
+loop-first-init c = λ ps qs w v.
+    side_begun no_properties ps c.args.ours.now.properties.now _ c.requires.first.bytes w (none_passed ps qs c.args.out.now c.requires.small)
 
 pub loop-first-preserved : goal.loop-first-preserved
 loop-first-preserved c = λ ps qs w v.
-    let i = c.loop-first.invariant ps qs w v in
     let first = c.in-Some.ensures.first in
-    let key = c.in-Some.first.key in
-    let said : SaysNew c.is_new.result key c.args.ours.now.properties.now c.loop-first.left.now c.loop-first.bound =
-    λ qs done x p b. c.is_new.ensures qs done _ x p b first in
+    let n = side_next first (c.loop-first.invariant ps qs w v) in
+    let said = c.is_new.ensures ps n.done _ w n.passed n.below first in
     let up = c.raised-bound.ensures in
     elim c.if-is_new.branch [
       | then-is_new+in_ok-put_filtered b ↦
-          let fresh = subst (λ r. SaysNew r key c.args.ours.now.properties.now c.loop-first.left.now c.loop-first.bound) b.if-is_new.true said in
-          subst (λ o. IsFirstLeft ps qs c.args.ours.now.properties.now c.args.out.now.bytes.items c.in-Some.first.rest.now o c.raised-bound.result) (sym b.out-is)
-          (first_put ps qs _ _ _ _ _ _ _ key _ _ _ w c.in-Some.ensures.words.0 first fresh up.0 up.1 (λ x y. b.in_ok-put_filtered.ensures.put x qs y v) i)
+          subst (λ o. IsSideLeft no_properties ps c.args.ours.now.properties.now c.in-Some.first.rest.now c.raised-bound.result (λ these. IsFilteredBehind ps qs these c.args.out.now.bytes.items o))
+          (sym b.out-is)
+          (side_on n up.0 up.1 (first_put n (said ∙ ap not b.if-is_new.true) c.in-Some.ensures.words.0 (b.in_ok-put_filtered.ensures.put n.value qs n.written v)))
       | else-is_new b ↦
-          let seen = subst (λ r. SaysNew r key c.args.ours.now.properties.now c.loop-first.left.now c.loop-first.bound) b.if-is_new.false said in
-          subst (λ o. IsFirstLeft ps qs c.args.ours.now.properties.now c.args.out.now.bytes.items c.in-Some.first.rest.now o c.raised-bound.result) (sym b.out-is)
-          (first_seen ps qs _ _ _ _ _ _ key _ _ _ w first seen up.0 up.1 i)
+          subst (λ o. IsSideLeft no_properties ps c.args.ours.now.properties.now c.in-Some.first.rest.now c.raised-bound.result (λ these. IsFilteredBehind ps qs these c.args.out.now.bytes.items o))
+          (sym b.out-is)
+          (side_on n up.0 up.1 (seen _ _ n.value (said ∙ ap not b.if-is_new.false) n.holds))
     ]
 
 pub returns-in_err-put_filtered-clause-cause : goal.returns-in_err-put_filtered-clause-cause
@@ -31,12 +33,9 @@ returns-in_err-put_filtered-clause-cause c =
     passed_on _ _ _ c.from_residual.ensures.1
     (λ ps qs w v.
     let first = c.in-Some.ensures.first in
-    let key = c.in-Some.first.key in
-    let said : SaysNew c.is_new.result key c.args.ours.now.properties.now c.loop-first.left.now c.loop-first.bound =
-    λ qs done x p b. c.is_new.ensures qs done _ x p b first in
-    let fresh = subst (λ r. SaysNew r key c.args.ours.now.properties.now c.loop-first.left.now c.loop-first.bound) c.if-is_new.true said in
-    first_refused ps qs _ _ _ _ _ _ key _ _ _ w first fresh (λ x y. c.in_err-put_filtered.ensures.cause x qs y v) (c.loop-first.invariant ps qs w v))
+    let n = side_next first (c.loop-first.invariant ps qs w v) in
+    let said = c.is_new.ensures ps n.done _ w n.passed n.below first in
+    first_refused n (said ∙ ap not c.if-is_new.true) _ (c.in_err-put_filtered.ensures.cause n.value qs n.written v))
 
 pub returns-clause-filtered : goal.returns-clause-filtered
-returns-clause-filtered c = λ ps qs w v.
-    first_ended ps qs _ _ _ _ _ c.in_default.ensures.none (c.loop-first.invariant ps qs w v)
+returns-clause-filtered c = λ ps qs w v. side_ended c.in_default.ensures.none (c.loop-first.invariant ps qs w v)

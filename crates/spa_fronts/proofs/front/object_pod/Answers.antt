@@ -1,5 +1,6 @@
 use Rattle.std.proofs.Common.{◌∙◌, sym}
-use Rattle.spa_fronts.proofs.ObjectPods.{front_before, lying_object, no_object_of, passed_on, rewritten_object}
+use Rattle.spa_fronts.proofs.ObjectPods.{front_before, lying_object, no_object_of, rewritten_object}
+use Rattle.spa_fronts.proofs.Passing.{passed_on}
 use Rattle.spa_fronts.proofs.front.object_pod.Goals as goal
 
 pub returns-in-Some-canonical_front-clause-object : goal.returns-in-Some-canonical_front-clause-object

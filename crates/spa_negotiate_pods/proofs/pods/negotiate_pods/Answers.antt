@@ -1,7 +1,8 @@
 use Rattle.std.proofs.Common.{sym, subst}
 use Rattle.spa_fronts.specs.Fronts.{BeginsObjectIn}
-use Rattle.spa_negotiate_pods.proofs.Fronts.{begins_object, first_refused, no_meeting, second_refused, settled-both, views_refused}
-use Rattle.spa_negotiate_pods.proofs.Passing.{if_err, if_ok, on_ok, passed_on}
+use Rattle.spa_fronts.proofs.ObjectPods.{begins_object}
+use Rattle.spa_fronts.proofs.Passing.{if_err, if_ok, on_ok, passed_on}
+use Rattle.spa_negotiate_pods.proofs.Fronts.{first_refused, no_meeting, second_refused, settled-both, views_refused}
 use Rattle.spa_negotiate_pods.proofs.pods.negotiate_pods.Goals as goal
 
 pub returns-in_err-first-clause-refused : goal.returns-in_err-first-clause-refused

@@ -3,7 +3,7 @@ use Rattle.spa_negotiate.specs.declared.error.NegotiateError.TheVariants.{OutOfM
 use Rattle.spa_fronts.specs.Written.{AreWritten}
 use Rattle.spa_negotiate_pods.proofs.Fronts.{mismatch}
 use Rattle.spa_negotiate_pods.proofs.Meetings.{are_large, are_met, lack_memory, refused_views}
-use Rattle.spa_negotiate_pods.proofs.Passing.{passed_on}
+use Rattle.spa_fronts.proofs.Passing.{passed_on}
 use Rattle.spa_negotiate_pods.proofs.views.meet_objects.Goals as goal
 
 pub returns-then-ours-theirs-clause-cause : goal.returns-then-ours-theirs-clause-cause

@@ -1,13 +1,14 @@
 use Rattle.std.proofs.Common.{length}
-use Rattle.spa_format.specs.Tree.{Properties}
+use Rattle.spa_format.specs.Tree.{Properties, no_properties}
 use Rattle.spa_fronts.specs.Written.{AreWritten}
-use Rattle.spa_negotiate_pods.proofs.Meetings.{IsFirstLeft}
+use Rattle.spa_fronts.proofs.Sides.{IsSideLeft}
+use Rattle.spa_negotiate_pods.specs.Written.{IsMetBehind}
 use Rattle.spa_negotiate_pods.proofs.views.settle_first.Given as goal
 
 abbrev pub invariant-loop-first : goal.invariant-loop-first
 invariant-loop-first l =
     (ps qs : Properties) → AreWritten ps l.ours.properties.now → AreWritten qs l.theirs.properties.now →
-    IsFirstLeft ps qs l.ours.properties.now l.initial.out.items l.left l.out.items l.bound
+    IsSideLeft no_properties ps l.ours.properties.now l.left l.bound (λ these. IsMetBehind ps qs these l.initial.out.items l.out.items)
 
 abbrev pub decreases-loop-first : goal.decreases-loop-first
 decreases-loop-first l = length l.left

@@ -5,7 +5,7 @@ use Rattle.std.proofs.lemmas.List.Elements.{All-cons, All-contains, All-map}
 use Rattle.std.proofs.lemmas.List.{length-take-le, take-append-drop, append-nil}
 use Rattle.spa_format.specs.Words.{word_at, word_bytes, wide_at, wide_bytes, padding}
 use Rattle.spa_format.specs.Kind.{Kind, bool_kind, Fixed, bool, kind_of, content, body_size, type_number}
-use Rattle.spa_format.specs.Tree.{none_choice, range_choice, enum_choice, Tree, fixed, choice, struct, object, choice_type, type_of, Properties, no_properties, property}
+use Rattle.spa_format.specs.Tree.{none_choice, range_choice, enum_choice, Tree, fixed, choice, choice_type, type_of, Properties, no_properties, property}
 use Rattle.spa_format.specs.Encoding.{encoding_of}
 use Rattle.spa_format.specs.Pod.{IsPod}
 use Rattle.spa_format.specs.Typed.{IsBytes, IsTyped}
@@ -21,7 +21,8 @@ use Rattle.spa_negotiate.specs.declared.error.NegotiateError.{NegotiateError}
 use Rattle.spa_negotiate.specs.declared.error.NegotiateError.TheVariants.{Disjoint}
 use Rattle.spa_negotiate.proofs.Agreeing.{IsSupported-plain}
 use Rattle.spa_negotiate.specs.Keys.{value_at}
-use Rattle.spa_negotiate_pods.specs.Offering.{HasMembers, IsOffer, IsShared, value_of}
+use Rattle.spa_negotiate_pods.specs.Offering.{IsOffer, IsShared, value_of}
+use Rattle.spa_leaf.specs.Written.{IsLeaf}
 use Rattle.spa_fronts.specs.Written.{Found, IsFound, IsWritten, found_at}
 use Rattle.spa_negotiate_pods.specs.Written.{IsCommonPut, IsPut, IsSettledBy}
 use Rattle.spa_negotiate_pods.specs.declared.offer_view.OfferView.{OfferView}
@@ -205,30 +206,29 @@ plain_apart v w key pod other h i n first second = (
   ),
 )
 
-pub plain_with_members : (v : Tree) → HasMembers v → IsPlain v
-plain_with_members (struct vs) h = tt
-plain_with_members (object t i ps) h = tt
-plain_with_members _ h = absurd h
+pub plain_with_members : (v : Tree) → ¬ (IsLeaf v) → IsPlain v
+plain_with_members (choice s f k d vs) h = h tt
+plain_with_members _ h = tt
 
-within_range : (low x : Tree) → IsAtMost low x → ¬ (HasMembers x)
-within_range (fixed l) (fixed x) h m = m
-within_range (fixed l) _ h m = absurd h
-within_range _ x h m = absurd h
+within_range : (low x : Tree) → IsAtMost low x → IsLeaf x
+within_range (fixed l) (fixed x) h = tt
+within_range (fixed l) _ h = absurd h
+within_range _ x h = absurd h
 
 -- what a value without members admits has none
-leaf_admits : (w x : Tree) → ¬ (HasMembers w) → Admits w x → ¬ (HasMembers x)
-leaf_admits (choice none_choice f k d vs) x n h m = subst HasMembers h m
-leaf_admits (choice enum_choice f k d vs) x n h m =
-    All-contains (λ y. ¬ (HasMembers y)) (fixed d ∷ map (λ y. fixed y) vs) x
-    (All-cons (λ y. ¬ (HasMembers y)) (fixed d) (map (λ y. fixed y) vs) (λ z. z) (All-map (λ y. ¬ (HasMembers y)) (λ y. fixed y) vs (λ i e l z. z))) h m
-leaf_admits (choice range_choice f k d (low ∷ high ∷ vs)) x n h m = within_range (fixed low) x h.1 m
-leaf_admits (choice range_choice f k d _) x n h m = absurd h
-leaf_admits (choice _ f k d vs) x n h m = absurd h
-leaf_admits w x n h m = n (subst HasMembers h m)
+leaf_admits : (w x : Tree) → IsLeaf w → Admits w x → IsLeaf x
+leaf_admits (choice none_choice f k d vs) x n h = subst IsLeaf (sym h) tt
+leaf_admits (choice enum_choice f k d vs) x n h =
+    All-contains IsLeaf (fixed d ∷ map (λ y. fixed y) vs) x
+    (All-cons IsLeaf (fixed d) (map (λ y. fixed y) vs) tt (All-map IsLeaf (λ y. fixed y) vs (λ i e l. tt))) h
+leaf_admits (choice range_choice f k d (low ∷ high ∷ vs)) x n h = within_range (fixed low) x h.1
+leaf_admits (choice range_choice f k d _) x n h = absurd h
+leaf_admits (choice _ f k d vs) x n h = absurd h
+leaf_admits w x n h = subst IsLeaf (sym h) n
 
 -- a value with members admits itself alone, and one without members doesn't admit it
-pub none_beside : (v w : Tree) → HasMembers v → ¬ (HasMembers w) → (x : Tree) → Admits v x → ¬ (Admits w x)
-none_beside v w h n x a b = leaf_admits w x n b (subst HasMembers (sym (plain_admits v x (plain_with_members v h) a)) h)
+pub none_beside : (v w : Tree) → ¬ (IsLeaf v) → IsLeaf w → (x : Tree) → Admits v x → ¬ (Admits w x)
+none_beside v w h n x a b = h (subst IsLeaf (plain_admits v x (plain_with_members v h) a) (leaf_admits w x n b))
 
 -- a value that two values admit was put, as it is written
 pub put_admitted : (v w : Tree) (key : ℕ) (pod old new : List ℕ) → IsWritten v pod → IsCommonPut v w key old new → IsSettledBy (Some v) (Some w) key old new

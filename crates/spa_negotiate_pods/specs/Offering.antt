@@ -1,7 +1,7 @@
 -- What a value offers where its pod lies.
-use Rattle.std.specs.Prelude.{⊤, ◌≡◌, ℕ, ◌<◌, ◌≤◌, List, ◌∷◌, map, length, take, Contains}
+use Rattle.std.specs.Prelude.{◌≡◌, ℕ, ◌<◌, ◌≤◌, List, ◌∷◌, map, length, take, Contains}
 use Rattle.spa_format.specs.Kind.{Kind, type_number, body_size, content, Fixed}
-use Rattle.spa_format.specs.Tree.{Tree, fixed, struct, object}
+use Rattle.spa_format.specs.Tree.{Tree, fixed}
 use Rattle.spa_format.specs.Pod.{AreElements}
 use Rattle.spa_negotiate.specs.Admits.{IsAtMost, Admits, IsCommon, plain_of}
 use Rattle.spa_negotiate_pods.specs.declared.offer_view.OfferView.{OfferView}
@@ -53,9 +53,3 @@ abbrev pub AreAdmitting : OfferView → OfferView → List ℕ → Type 0
 AreAdmitting a b bytes =
     (v w : Tree) (o : IsOffer v a) (p : IsOffer w b)
     → Admits v (fixed (value_of o.kind bytes)) × Admits w (fixed (value_of p.kind bytes))
-
--- the value is a struct or an object
-abbrev pub HasMembers : Tree → Type 0
-HasMembers (struct vs) = ⊤
-HasMembers (object type id ps) = ⊤
-HasMembers _ = ⊥

@@ -5,11 +5,12 @@ ghost use Rattle.spa_format.specs.Pod.{IsPod};
 ghost use Rattle.spa_format.specs.Tree.{Tree, fixed};
 ghost use Rattle.spa_format.specs.Words.{word_bytes};
 ghost use Rattle.spa_fronts.specs.Written.{IsWritten};
+ghost use Rattle.spa_leaf.specs.Written.{IsLeaf};
 ghost use Rattle.spa_value.specs.View.{view};
 ghost use Rattle.spa_negotiate.specs.Admits.{IsPlain, plain_of};
 ghost use Rattle.spa_negotiate.specs.Refusals.{IsKeyRefusal};
 ghost use Rattle.spa_negotiate.specs.declared.error.NegotiateError.TheVariants.{OutOfMemory};
-ghost use Rattle.spa_negotiate_pods.specs.Offering.{HasMembers, value_of};
+ghost use Rattle.spa_negotiate_pods.specs.Offering.{value_of};
 ghost use Rattle.spa_negotiate_pods.specs.Written.{IsCommonPut, IsPut, IsSettledBy};
 
 use crate::offer_view::{first_common, offer_view};
@@ -116,8 +117,8 @@ fn put_read(
 /// The value of a pod, unless it has members.
 fn leaf_at(alloc: Global, pod: &[u8]) -> Result<Option<Held>, NegotiateError>
     ensures value { IfOk result (λ read. IfSome read (λ value. (v : Tree) → IsPod pod.now v → view value ≡ v)) }
-    ensures leaf { IfOk result (λ read. IfSome read (λ value. ¬ (HasMembers (view value)))) }
-    ensures members { IfOk result (λ read. IfNone read ((v : Tree) → IsPod pod.now v → HasMembers v)) }
+    ensures leaf { IfOk result (λ read. IfSome read (λ value. IsLeaf (view value))) }
+    ensures members { IfOk result (λ read. IfNone read ((v : Tree) → IsPod pod.now v → ¬ (IsLeaf v))) }
     ensures cause { IfErr result (λ e. e ≡ OutOfMemory) }
 {
     pods_have_one_value();
@@ -159,9 +160,9 @@ fn put_met(
 
 /// Why a value without members doesn't meet one that has them.
 fn apart(key: u32, leaf: &Value) -> NegotiateError
-    requires { ¬ (HasMembers (view leaf.now)) }
-    ensures first { (v : Tree) → HasMembers v → IsKeyRefusal key (Some v) (Some (view leaf.now)) result }
-    ensures second { (v : Tree) → HasMembers v → IsKeyRefusal key (Some (view leaf.now)) (Some v) result }
+    requires { IsLeaf (view leaf.now) }
+    ensures first { (v : Tree) → ¬ (IsLeaf v) → IsKeyRefusal key (Some v) (Some (view leaf.now)) result }
+    ensures second { (v : Tree) → ¬ (IsLeaf v) → IsKeyRefusal key (Some (view leaf.now)) (Some v) result }
 {
     if is_supported(leaf) {
         NegotiateError::Disjoint(key)

@@ -2,8 +2,9 @@ use Rattle.std.proofs.Common.{◌≡◌, ◌∙◌, subst, sym}
 use Rattle.spa_format.specs.Pod.{IsPod}
 use Rattle.spa_format.specs.Tree.{Tree}
 use Rattle.spa_value.specs.View.{view}
-use Rattle.spa_negotiate_pods.specs.Offering.{HasMembers}
-use Rattle.spa_negotiate_pods.proofs.Leaves.{leaf_read, no_members, object_read, pod_there, struct_read}
+use Rattle.spa_leaf.specs.Written.{IsLeaf}
+use Rattle.spa_fronts.proofs.ObjectPods.{pod_there}
+use Rattle.spa_negotiate_pods.proofs.Leaves.{leaf_read, no_members, object_read, struct_read}
 use Rattle.spa_negotiate_pods.proofs.settling.leaf_at.Goals as goal
 
 pub returns-in_default-clause-members : goal.returns-in_default-clause-members
@@ -23,5 +24,5 @@ returns-in-Ok-clause-value c =
 pub returns-in-Ok-clause-leaf : goal.returns-in-Ok-clause-leaf
 returns-in-Ok-clause-leaf c =
     let its_type = c.in-Ok.ensures.its_type in
-    subst (λ value. ¬ (HasMembers (view value))) (sym c.from.ensures)
+    subst (λ value. IsLeaf (view value)) (sym c.from.ensures)
     (no_members (view c.in-Ok.value) (λ e. c.if-front.false (sym its_type ∙ e)) (λ e. c.if-front-2.false (sym its_type ∙ e)))

@@ -16,7 +16,7 @@ use Rattle.spa_filter.specs.Keys.{key_list, keys_of, offered_at}
 use Rattle.spa_filter.specs.PropertyLists.{contains}
 use Rattle.spa_filter.specs.Refusals.{AreRefused, IsKeyRefusal, IsRefusal}
 use Rattle.spa_filter.specs.declared.error.FilterError.{FilterError}
-use Rattle.spa_filter.specs.declared.error.FilterError.TheVariants.{TypeMismatch, Missing, Unsupported, Disjoint, OutOfMemory}
+use Rattle.spa_filter.specs.declared.error.FilterError.TheVariants.{Missing, Unsupported, Disjoint, OutOfMemory}
 use Rattle.spa_filter.proofs.Agreeing.{AgreeAt-push, AreRefused-properties, FiltersKeys-new, FiltersKeys-seen, IsRefusal-next}
 use Rattle.spa_filter_pods.specs.Fronts.{FilterIn, FilterTooLarge}
 use Rattle.spa_filter_pods.specs.Written.{AreViewsRefused, IsFilteredBehind, IsPutAs, IsPutBehind, IsPutBy, offered}
@@ -145,11 +145,6 @@ pub lack_memory : (a b ours theirs : List ℕ) (t i u j : ℕ) (e : FilterError)
     AreViewsRefused a b e
 lack_memory a b ours theirs t i u j e h k same is =
     subst (AreViewsRefused a b) (sym is) (refused_views a b ours theirs t i u j OutOfMemory h k same (λ ps qs w v. tt))
-
--- two objects of two types
-pub mismatch : (a b ours theirs : List ℕ) (t i u j : ℕ) → BeginsWritten a t i ours → BeginsWritten b u j theirs → ¬ (t ≡ u) →
-    BeginBoth a b (λ v w. AreRefused v w TypeMismatch)
-mismatch a b ours theirs t i u j h k n = begin_both h k (λ e. n (sym e))
 
 -- what two objects filter to
 pub record AreFiltered (a b bytes : List ℕ) : Type 0 where

@@ -50,10 +50,8 @@ views_refused a b TypeMismatch h = h
 views_refused a b (Missing k) h = h
 views_refused a b (Unsupported k) h = h
 views_refused a b (Disjoint k) h = h
-views_refused a b (Unread First) h = absurd (never_unread First h.ours h.theirs h.holds)
-views_refused a b (Unread Second) h = absurd (never_unread Second h.ours h.theirs h.holds)
-views_refused a b (NotObject First) h = absurd (never_other First h.ours h.theirs h.holds)
-views_refused a b (NotObject Second) h = absurd (never_other Second h.ours h.theirs h.holds)
+views_refused a b (Unread s) h = absurd (never_unread s h.ours h.theirs h.holds)
+views_refused a b (NotObject s) h = absurd (never_other s h.ours h.theirs h.holds)
 views_refused a b TooLarge h = h
 views_refused a b OutOfMemory h = inr (inr h)
 

@@ -35,7 +35,7 @@ contains_cases y x ys h = of_index h.0 h.1 h.2
 contains_first : (y : ℕ) (ys : List ℕ) → Contains (y ∷ ys) y
 contains_first y ys = (zero, omega arith, refl)
 
-contains_later : (y x : ℕ) (ys : List ℕ) → Contains ys x → Contains (y ∷ ys) x
+pub contains_later : {X : Type 0} (y x : X) (ys : List X) → Contains ys x → Contains (y ∷ ys) x
 contains_later y x ys h = let l = h.1 in (suc h.0, omega arith, h.2)
 
 -- a number among those of properties has a place no sooner than these begin

@@ -10,16 +10,16 @@ use Rattle.spa_fronts.proofs.Joined.{join_properties-assoc, join_properties-none
 use Rattle.spa_fronts.proofs.Listed.{AreListed, listed}
 use Rattle.spa_fronts.proofs.Passed.{below_on, passed_on}
 
--- the last properties of a side are left, and the fact holds of these and of the side's properties before what is left
-pub record IsSideLeft (these ps : Properties) (b left : List ℕ) (bound : ℕ) (Holds : Properties → Type 0) : Type 0 where
+-- some properties of a side were passed, and these bytes of it are left; the fact holds of the passed ones, behind those before the side
+pub record IsSideLeft (before ps : Properties) (b left : List ℕ) (bound : ℕ) (Holds : Properties → Type 0) : Type 0 where
   pub done : Properties
   pub passed : ArePassed ps done b left
   pub list : AreListed passed.rest left
   pub below : AreBelow bound done
-  pub holds : Holds (join_properties these done)
+  pub holds : Holds (join_properties before done)
 
--- a property is the first that is left
-pub record IsNext (these ps : Properties) (b left pod rest : List ℕ) (key flags bound : ℕ) (Holds : Properties → Type 0) : Type 0 where
+-- this property is the first that is left, with its value's pod and what is behind it
+pub record IsNext (before ps : Properties) (b left pod rest : List ℕ) (key flags bound : ℕ) (Holds : Properties → Type 0) : Type 0 where
   pub done : Properties
   pub value : Tree
   pub behind : Properties
@@ -29,22 +29,24 @@ pub record IsNext (these ps : Properties) (b left pod rest : List ℕ) (key flag
   pub below : AreBelow bound done
   pub its_rest : rest ≡ rest_of (drop header_size left)
   pub list : AreListed behind rest
-  pub holds : Holds (join_properties these done)
+  pub holds : Holds (join_properties before done)
 
-pub side_begun : (these ps : Properties) (b : List ℕ) (Holds : Properties → Type 0) → IsBytes b → AreWritten ps b → Holds these → IsSideLeft these ps b b 0 Holds
-side_begun these ps b Holds h w m = record {
+-- none was passed
+pub side_begun : (before ps : Properties) (b : List ℕ) (Holds : Properties → Type 0) → IsBytes b → AreWritten ps b → Holds before → IsSideLeft before ps b b 0 Holds
+side_begun before ps b Holds h w m = record {
   done = no_properties;
   passed = record { rest = ps; all = refl; left_is = refl };
   list = listed ps b h w.properties w.same;
   below = λ k e. absurd (true≢false (sym e));
-  holds = subst Holds (sym (join_properties-none these)) m;
+  holds = subst Holds (sym (join_properties-none before)) m;
 }
 
-pub side_next : {these ps : Properties} {b left pod rest : List ℕ} {key flags bound : ℕ} {Holds : Properties → Type 0} → HasFirst left key flags pod rest →
-    IsSideLeft these ps b left bound Holds → IsNext these ps b left pod rest key flags bound Holds
-side_next {these} {ps} {b} {left} {pod} {rest} {key} {flags} {bound} {Holds} f i = of_rest i.passed.rest i.passed.all i.list
+-- one is left
+pub side_next : {before ps : Properties} {b left pod rest : List ℕ} {key flags bound : ℕ} {Holds : Properties → Type 0} → HasFirst left key flags pod rest →
+    IsSideLeft before ps b left bound Holds → IsNext before ps b left pod rest key flags bound Holds
+side_next {before} {ps} {b} {left} {pod} {rest} {key} {flags} {bound} {Holds} f i = of_rest i.passed.rest i.passed.all i.list
   where
-    of_rest : (rs : Properties) → ps ≡ join_properties i.done rs → AreListed rs left → IsNext these ps b left pod rest key flags bound Holds
+    of_rest : (rs : Properties) → ps ≡ join_properties i.done rs → AreListed rs left → IsNext before ps b left pod rest key flags bound Holds
     of_rest no_properties e m = absurd (let z = ap length m in let h = f.header in omega arith)
     of_rest (property j g v rs) e m =
         let its_key : j ≡ key = m.0.key ∙ sym f.its_key in
@@ -62,11 +64,11 @@ side_next {these} {ps} {b} {left} {pod} {rest} {key} {flags} {bound} {Holds} f i
           holds = i.holds;
         }
 
--- it is passed
-pub side_on : {these ps : Properties} {b left pod rest : List ℕ} {key flags bound next : ℕ} {Old New : Properties → Type 0} →
-    (n : IsNext these ps b left pod rest key flags bound Old) → bound ≤ next → key < next →
-    New (join_properties (join_properties these n.done) (property key flags n.value no_properties)) → IsSideLeft these ps b rest next New
-side_on {these} {ps} {b} {left} {pod} {rest} {key} {flags} {bound} {next} {Old} {New} n l m h =
+-- that one is passed, too
+pub side_on : {before ps : Properties} {b left pod rest : List ℕ} {key flags bound next : ℕ} {Old New : Properties → Type 0} →
+    (n : IsNext before ps b left pod rest key flags bound Old) → bound ≤ next → key < next →
+    New (join_properties (join_properties before n.done) (property key flags n.value no_properties)) → IsSideLeft before ps b rest next New
+side_on {before} {ps} {b} {left} {pod} {rest} {key} {flags} {bound} {next} {Old} {New} n l m h =
     let one = property key flags n.value no_properties in
     record {
       done = join_properties n.done one;
@@ -77,14 +79,14 @@ side_on {these} {ps} {b} {left} {pod} {rest} {key} {flags} {bound} {next} {Old} 
       };
       list = n.list;
       below = below_on bound next key flags n.value n.done n.below l m;
-      holds = subst New (join_properties-assoc these n.done one) h;
+      holds = subst New (join_properties-assoc before n.done one) h;
     }
 
--- no property is left
-pub side_ended : {these ps : Properties} {b left : List ℕ} {bound : ℕ} {Holds : Properties → Type 0} → (header_size ≤ length left → ¬ (HasFront (drop header_size left))) →
-    IsSideLeft these ps b left bound Holds → Holds (join_properties these ps)
-side_ended {these} {ps} {left = left} {Holds = Holds} n i = of_rest i.passed.rest i.passed.all i.list
+-- none is left
+pub side_ended : {before ps : Properties} {b left : List ℕ} {bound : ℕ} {Holds : Properties → Type 0} → (header_size ≤ length left → ¬ (HasFront (drop header_size left))) →
+    IsSideLeft before ps b left bound Holds → Holds (join_properties before ps)
+side_ended {before} {ps} {left = left} {Holds = Holds} n i = of_rest i.passed.rest i.passed.all i.list
   where
-    of_rest : (rs : Properties) → ps ≡ join_properties i.done rs → AreListed rs left → Holds (join_properties these ps)
-    of_rest no_properties e m = subst (λ qs. Holds (join_properties these qs)) (sym (e ∙ join_properties-none i.done)) i.holds
+    of_rest : (rs : Properties) → ps ≡ join_properties i.done rs → AreListed rs left → Holds (join_properties before ps)
+    of_rest no_properties e m = subst (λ qs. Holds (join_properties before qs)) (sym (e ∙ join_properties-none i.done)) i.holds
     of_rest (property j g v rs) e m = absurd (n m.0.header m.0.there)

@@ -1,5 +1,5 @@
 -- The objects at the fronts of two inputs, and the bytes of that in which they meet.
-use Rattle.std.proofs.Common.{◌≡◌, ℕ, List, ◌∙◌, true, inl, inr, sym}
+use Rattle.std.proofs.Common.{◌≡◌, ℕ, List, ◌∙◌, true, inl, inr}
 use Rattle.std.specs.Bool.{IsTrue}
 use Rattle.spa_format.specs.Fixation.{all_settled, are_settled}
 use Rattle.spa_format.specs.Pod.{IsPod}
@@ -14,8 +14,7 @@ use Rattle.spa_negotiate.specs.Meeting.{CanMeet, Meet}
 use Rattle.spa_negotiate.specs.Refusals.{AreRefused, OnDisagreement}
 use Rattle.spa_negotiate.proofs.Refusing.{cannot_meet}
 use Rattle.spa_fronts.specs.Fronts.{BeginBoth, BeginsObject, IsObject}
-use Rattle.spa_fronts.specs.Written.{BeginsWritten}
-use Rattle.spa_fronts.proofs.Both.{begin_both, never_both, other_first, other_second}
+use Rattle.spa_fronts.proofs.Both.{never_both, other_first, other_second}
 use Rattle.spa_negotiate_pods.proofs.Values.{are_settled-met}
 
 -- the second side's refusal, behind a first side that is an object
@@ -78,17 +77,10 @@ pub views_refused : (a b : List ℕ) (e : NegotiateError) → AreViewsRefused a 
 views_refused a b TypeMismatch h = h
 views_refused a b (Unsupported k) h = h
 views_refused a b (Disjoint k) h = h
-views_refused a b (Unread First) h = absurd (never_unread First h.ours h.theirs h.holds)
-views_refused a b (Unread Second) h = absurd (never_unread Second h.ours h.theirs h.holds)
-views_refused a b (NotObject First) h = absurd (never_other First h.ours h.theirs h.holds)
-views_refused a b (NotObject Second) h = absurd (never_other Second h.ours h.theirs h.holds)
+views_refused a b (Unread s) h = absurd (never_unread s h.ours h.theirs h.holds)
+views_refused a b (NotObject s) h = absurd (never_other s h.ours h.theirs h.holds)
 views_refused a b TooLarge h = h
 views_refused a b OutOfMemory h = inr (inr h)
-
--- two objects of two types
-pub mismatch : (a b ours theirs : List ℕ) (t i u j : ℕ) → BeginsWritten a t i ours → BeginsWritten b u j theirs → ¬ (t ≡ u) →
-    BeginBoth a b (λ v w. AreRefused v w TypeMismatch)
-mismatch a b ours theirs t i u j h k n = begin_both h k (λ e. n (sym e))
 
 first_object : (v w : Tree) → CanMeet v w → IsObject v
 first_object (object t i ps) w h = tt

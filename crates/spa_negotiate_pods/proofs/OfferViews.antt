@@ -1,5 +1,5 @@
 -- What values offer where their pods lie.
-use Rattle.std.proofs.Common.{◌≡◌, ◌⊎◌, inl, inr, ℕ, ◌<◌, ◌≤◌, List, [], ◌∷◌, length, take, drop, map, suc, refl, sym, ap, ◌∙◌, subst, arith}
+use Rattle.std.proofs.Common.{◌≡◌, ◌⊎◌, inl, inr, ℕ, ◌<◌, ◌≤◌, List, [], ◌∷◌, length, take, drop, map, refl, sym, ap, ◌∙◌, subst, arith}
 use Rattle.std.specs.Prelude.{◌≤ℤ◌, Contains}
 use Rattle.std.specs.Int.{w32, w64, cast_signed}
 use Rattle.std.proofs.lemmas.List.{length-take-le, drop-drop, take_all, drop_all}
@@ -12,6 +12,7 @@ use Rattle.spa_format.proofs.FixedKinds.{same_kind}
 use Rattle.spa_format.proofs.Shapes.{choice_only, fixed_only}
 use Rattle.spa_format.proofs.WordLemmas.{IsBytes-take, word_at-take, word_at-drop}
 use Rattle.spa_bytes.specs.Opening.{Opens}
+use Rattle.spa_fronts.proofs.KeyOrders.{contains_later}
 use Rattle.spa_scan.proofs.Words.{word_there, wide_back, wide_of_take}
 use Rattle.spa_negotiate.specs.Admits.{Admits, IsAtMostFixed, IsOrderedKind, plain_of}
 use Rattle.spa_negotiate_pods.specs.Offering.{AdmitsBy, AreAdmitting, IsElementType, IsOffer, IsShared, value_of}
@@ -63,9 +64,6 @@ AreSought size values left = (k : Kind) (ys : List Fixed) → size ≡ body_size
 
 pub sought_begun : (size : ℕ) (b : List ℕ) → AreSought size b b
 sought_begun size b = λ k ys e m. record { rest = ys; elements = m; within = λ x h. h }
-
-contains_later : (y x : Tree) (ys : List Tree) → Contains ys x → Contains (y ∷ ys) x
-contains_later y x ys h = let l = h.1 in (suc h.0, omega arith, h.2)
 
 pub sought_on : (size : ℕ) (values left rest : List ℕ) → 0 < size → size ≤ length left → rest ≡ drop size left → AreSought size values left → AreSought size values rest
 sought_on size values left rest p l d s = λ k ys e m. let i = s k ys e m in of_left k ys e i.rest i.elements i.within

@@ -2,12 +2,13 @@ use Rattle.std.proofs.Common.{refl, sym, subst}
 use Rattle.spa_filter.specs.declared.error.FilterError.TheVariants.{OutOfMemory}
 use Rattle.spa_fronts.specs.Written.{AreWritten}
 use Rattle.spa_filter_pods.specs.Written.{AreViewsRefused}
-use Rattle.spa_filter_pods.proofs.Filterings.{are_filtered, are_large, lack_memory, mismatch, refused_views}
+use Rattle.spa_filter_pods.proofs.Filterings.{are_filtered, are_large, lack_memory, refused_views}
+use Rattle.spa_fronts.proofs.Both.{begin_both}
 use Rattle.spa_fronts.proofs.Passing.{if_err, if_ok, on_if, passed_on}
 use Rattle.spa_filter_pods.proofs.views.filter_objects.Goals as goal
 
 pub returns-then-ours-theirs-clause-cause : goal.returns-then-ours-theirs-clause-cause
-returns-then-ours-theirs-clause-cause c = λ a b h k. mismatch a b _ _ _ _ _ _ h k c.if-ours-theirs.true
+returns-then-ours-theirs-clause-cause c = λ a b h k. begin_both h k (λ e. c.if-ours-theirs.true (sym e))
 
 pub returns-in_err-first-clause-cause : goal.returns-in_err-first-clause-cause
 returns-in_err-first-clause-cause c =

@@ -1,13 +1,13 @@
 use Rattle.std.proofs.Common.{refl, sym, subst}
 use Rattle.spa_negotiate.specs.declared.error.NegotiateError.TheVariants.{OutOfMemory}
 use Rattle.spa_fronts.specs.Written.{AreWritten}
-use Rattle.spa_negotiate_pods.proofs.Fronts.{mismatch}
+use Rattle.spa_fronts.proofs.Both.{begin_both}
 use Rattle.spa_negotiate_pods.proofs.Meetings.{are_large, are_met, lack_memory, refused_views}
 use Rattle.spa_fronts.proofs.Passing.{passed_on}
 use Rattle.spa_negotiate_pods.proofs.views.meet_objects.Goals as goal
 
 pub returns-then-ours-theirs-clause-cause : goal.returns-then-ours-theirs-clause-cause
-returns-then-ours-theirs-clause-cause c = λ a b h k. mismatch a b _ _ _ _ _ _ h k c.if-ours-theirs.true
+returns-then-ours-theirs-clause-cause c = λ a b h k. begin_both h k (λ e. c.if-ours-theirs.true (sym e))
 
 pub returns-in_err-first-clause-cause : goal.returns-in_err-first-clause-cause
 returns-in_err-first-clause-cause c =

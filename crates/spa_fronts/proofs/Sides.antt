@@ -1,4 +1,4 @@
--- A side that is gone through property by property: what is left of it, and what holds of the properties before that.
+-- A side that is gone through property by property: what is left of it, and what holds of the properties that were passed.
 use Rattle.std.proofs.Common.{◌≡◌, ℕ, ◌<◌, ◌≤◌, List, length, drop, refl, sym, ap, ◌∙◌, subst, arith, true≢false}
 use Rattle.spa_format.specs.Words.{header_size}
 use Rattle.spa_format.specs.Tree.{Tree, Properties, no_properties, property, join_properties}
@@ -31,7 +31,7 @@ pub record IsNext (before ps : Properties) (b left pod rest : List ℕ) (key fla
   pub list : AreListed behind rest
   pub holds : Holds (join_properties before done)
 
--- none was passed
+-- none was passed yet
 pub side_begun : (before ps : Properties) (b : List ℕ) (Holds : Properties → Type 0) → IsBytes b → AreWritten ps b → Holds before → IsSideLeft before ps b b 0 Holds
 side_begun before ps b Holds h w m = record {
   done = no_properties;
@@ -41,7 +41,7 @@ side_begun before ps b Holds h w m = record {
   holds = subst Holds (sym (join_properties-none before)) m;
 }
 
--- one is left
+-- the first that is left has its place among them
 pub side_next : {before ps : Properties} {b left pod rest : List ℕ} {key flags bound : ℕ} {Holds : Properties → Type 0} → HasFirst left key flags pod rest →
     IsSideLeft before ps b left bound Holds → IsNext before ps b left pod rest key flags bound Holds
 side_next {before} {ps} {b} {left} {pod} {rest} {key} {flags} {bound} {Holds} f i = of_rest i.passed.rest i.passed.all i.list
@@ -64,7 +64,7 @@ side_next {before} {ps} {b} {left} {pod} {rest} {key} {flags} {bound} {Holds} f 
           holds = i.holds;
         }
 
--- that one is passed, too
+-- and is passed
 pub side_on : {before ps : Properties} {b left pod rest : List ℕ} {key flags bound next : ℕ} {Old New : Properties → Type 0} →
     (n : IsNext before ps b left pod rest key flags bound Old) → bound ≤ next → key < next →
     New (join_properties (join_properties before n.done) (property key flags n.value no_properties)) → IsSideLeft before ps b rest next New

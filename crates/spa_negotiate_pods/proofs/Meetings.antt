@@ -1,4 +1,4 @@
--- Two objects meet where they lie: what is put, and what is left of each side.
+-- Two objects meet where they lie: what is put while their properties are passed, and what they meet in.
 use Rattle.std.proofs.Common.{◌≡◌, ℕ, ◌-◌, ◌<◌, ◌≤◌, ◌^◌, List, ◌++◌, ◌==◌, length, drop, refl, sym, ap, ◌∙◌, subst, arith, true, false, if◌then◌else◌, Some}
 use Rattle.std.specs.List.{All}
 use Rattle.spa_format.specs.Words.{size_limit, word_bytes}
@@ -78,8 +78,7 @@ pub refused_views : (a b ours theirs : List ℕ) (t i u j : ℕ) (e : NegotiateE
     ((ps qs : Properties) → AreWritten ps ours → AreWritten qs theirs → IsRefusal ps qs e) → AreViewsRefused a b e
 refused_views a b ours theirs t i u j e h k same r =
     let refused = r h.values k.values h.written k.written in
-    not_large a b h.values k.values e refused
-    (begin_both h k (AreRefused-properties t i u j h.values k.values e (sym same) refused))
+    not_large a b h.values k.values e refused (begin_both h k (AreRefused-properties t i u j h.values k.values e (sym same) refused))
 
 pub lack_memory : (a b ours theirs : List ℕ) (t i u j : ℕ) (e : NegotiateError) → BeginsWritten a t i ours → BeginsWritten b u j theirs → t ≡ u → e ≡ OutOfMemory →
     AreViewsRefused a b e

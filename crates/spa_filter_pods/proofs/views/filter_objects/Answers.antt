@@ -1,6 +1,6 @@
 use Rattle.std.proofs.Common.{refl, sym, subst}
 use Rattle.spa_filter.specs.declared.error.FilterError.TheVariants.{OutOfMemory}
-use Rattle.spa_fronts.specs.Written.{AreWritten}
+use Rattle.spa_fronts.specs.Written.{BeginsWritten}
 use Rattle.spa_filter_pods.specs.Written.{AreViewsRefused}
 use Rattle.spa_filter_pods.proofs.Filterings.{are_filtered, are_large, lack_memory, refused_views}
 use Rattle.spa_fronts.proofs.Both.{begin_both}
@@ -26,59 +26,46 @@ pub returns-in_err-filter_first-clause-cause : goal.returns-in_err-filter_first-
 returns-in_err-filter_first-clause-cause c =
     passed_on _ _ _ c.from_residual-in_err-filter_first.ensures.1
     (λ a b h k.
-    let ours = c.in_ok-first.ensures.properties in
-    let theirs = c.in_ok-second.ensures.properties in
-    refused_views a b _ _ _ _ _ _ _ h k c.if-ours-theirs.false
-    (λ ps qs w v. c.in_err-filter_first.ensures.cause ps qs (subst (AreWritten ps) (sym ours) w) (subst (AreWritten qs) (sym theirs) v)))
+    let ours = subst (BeginsWritten a _ _) (sym c.in_ok-first.ensures.properties) h in
+    let theirs = subst (BeginsWritten b _ _) (sym c.in_ok-second.ensures.properties) k in
+    refused_views a b _ _ _ _ _ _ _ ours theirs c.if-ours-theirs.false c.in_err-filter_first.ensures.cause)
 
 pub returns-in_err-filter_others-clause-cause : goal.returns-in_err-filter_others-clause-cause
 returns-in_err-filter_others-clause-cause c =
     passed_on _ _ _ c.from_residual-in_err-filter_others.ensures.1
     (λ a b h k.
-    let ours = c.in_ok-first.ensures.properties in
-    let theirs = c.in_ok-second.ensures.properties in
-    refused_views a b _ _ _ _ _ _ _ h k c.if-ours-theirs.false
-    (λ ps qs w v.
-    let x = subst (AreWritten ps) (sym ours) w in
-    let y = subst (AreWritten qs) (sym theirs) v in
-    c.in_err-filter_others.ensures.cause ps qs _ x y (c.in_ok-filter_first.ensures.filtered ps qs x y)))
+    let ours = subst (BeginsWritten a _ _) (sym c.in_ok-first.ensures.properties) h in
+    let theirs = subst (BeginsWritten b _ _) (sym c.in_ok-second.ensures.properties) k in
+    refused_views a b _ _ _ _ _ _ _ ours theirs c.if-ours-theirs.false
+    (λ ps qs w v. c.in_err-filter_others.ensures.cause ps qs _ w v (c.in_ok-filter_first.ensures.filtered ps qs w v)))
 
 pub returns-clause-accepted : goal.returns-clause-accepted
 returns-clause-accepted c =
     on_if c.ended.result
     (λ bytes e a b h k.
-    let ours = c.in_ok-first.ensures.properties in
-    let theirs = c.in_ok-second.ensures.properties in
-    let one = c.if-ours-theirs.false in
-    (are_filtered a b _ _ _ _ _ _ _ _ _ h k one c.in_ok-out.ensures.begun
-    (λ ps qs w v. c.in_ok-filter_first.ensures.filtered ps qs (subst (AreWritten ps) (sym ours) w) (subst (AreWritten qs) (sym theirs) v))
-    (λ ps qs head w v. c.in_ok-filter_others.ensures.filtered ps qs head (subst (AreWritten ps) (sym ours) w) (subst (AreWritten qs) (sym theirs) v))
-    _ c.requires.0 c.requires.1 e.small e.size e.parts).can)
+    let ours = subst (BeginsWritten a _ _) (sym c.in_ok-first.ensures.properties) h in
+    let theirs = subst (BeginsWritten b _ _) (sym c.in_ok-second.ensures.properties) k in
+    (are_filtered a b _ _ _ _ _ _ _ _ _ ours theirs c.if-ours-theirs.false c.in_ok-out.ensures.begun
+    c.in_ok-filter_first.ensures.filtered c.in_ok-filter_others.ensures.filtered _ c.requires.0 c.requires.1 e.small e.size e.parts).can)
     c.ended.ensures.ended
 
 pub returns-clause-value : goal.returns-clause-value
 returns-clause-value c =
     if_ok c.ended.result
     (λ bytes e a b h k.
-    let ours = c.in_ok-first.ensures.properties in
-    let theirs = c.in_ok-second.ensures.properties in
-    let one = c.if-ours-theirs.false in
-    (are_filtered a b _ _ _ _ _ _ _ _ _ h k one c.in_ok-out.ensures.begun
-    (λ ps qs w v. c.in_ok-filter_first.ensures.filtered ps qs (subst (AreWritten ps) (sym ours) w) (subst (AreWritten qs) (sym theirs) v))
-    (λ ps qs head w v. c.in_ok-filter_others.ensures.filtered ps qs head (subst (AreWritten ps) (sym ours) w) (subst (AreWritten qs) (sym theirs) v))
-    _ c.requires.0 c.requires.1 e.small e.size e.parts).filter)
+    let ours = subst (BeginsWritten a _ _) (sym c.in_ok-first.ensures.properties) h in
+    let theirs = subst (BeginsWritten b _ _) (sym c.in_ok-second.ensures.properties) k in
+    (are_filtered a b _ _ _ _ _ _ _ _ _ ours theirs c.if-ours-theirs.false c.in_ok-out.ensures.begun
+    c.in_ok-filter_first.ensures.filtered c.in_ok-filter_others.ensures.filtered _ c.requires.0 c.requires.1 e.small e.size e.parts).filter)
     c.ended.ensures.ended
 
 pub returns-clause-cause : goal.returns-clause-cause
 returns-clause-cause c =
     if_err c.ended.result
     (λ e u a b h k.
-    let ours = c.in_ok-first.ensures.properties in
-    let theirs = c.in_ok-second.ensures.properties in
-    let one = c.if-ours-theirs.false in
+    let ours = subst (BeginsWritten a _ _) (sym c.in_ok-first.ensures.properties) h in
+    let theirs = subst (BeginsWritten b _ _) (sym c.in_ok-second.ensures.properties) k in
     subst (AreViewsRefused a b) (sym u.cause)
-    (are_large a b _ _ _ _ _ _ _ _ _ h k one c.in_ok-out.ensures.begun
-    (λ ps qs w v. c.in_ok-filter_first.ensures.filtered ps qs (subst (AreWritten ps) (sym ours) w) (subst (AreWritten qs) (sym theirs) v))
-    (λ ps qs head w v. c.in_ok-filter_others.ensures.filtered ps qs head (subst (AreWritten ps) (sym ours) w) (subst (AreWritten qs) (sym theirs) v))
-    u.large))
+    (are_large a b _ _ _ _ _ _ _ _ _ ours theirs c.if-ours-theirs.false c.in_ok-out.ensures.begun
+    c.in_ok-filter_first.ensures.filtered c.in_ok-filter_others.ensures.filtered u.large))
     c.ended.ensures.cause

@@ -1,6 +1,6 @@
 use Rattle.std.proofs.Common.{refl, sym, subst}
 use Rattle.spa_negotiate.specs.declared.error.NegotiateError.TheVariants.{OutOfMemory}
-use Rattle.spa_fronts.specs.Written.{AreWritten}
+use Rattle.spa_fronts.specs.Written.{BeginsWritten}
 use Rattle.spa_fronts.proofs.Both.{begin_both}
 use Rattle.spa_negotiate_pods.proofs.Meetings.{are_large, are_met, lack_memory, refused_views}
 use Rattle.spa_fronts.proofs.Passing.{passed_on}
@@ -25,37 +25,33 @@ pub returns-in_err-settle_first-clause-cause : goal.returns-in_err-settle_first-
 returns-in_err-settle_first-clause-cause c =
     passed_on _ _ _ c.from_residual-in_err-settle_first.ensures.1
     (λ a b h k.
-    let ours = c.in_ok-first.ensures.properties in
-    let theirs = c.in_ok-second.ensures.properties in
-    refused_views a b _ _ _ _ _ _ _ h k c.if-ours-theirs.false
-    (λ ps qs w v. c.in_err-settle_first.ensures.cause ps qs (subst (AreWritten ps) (sym ours) w) (subst (AreWritten qs) (sym theirs) v)))
+    let ours = subst (BeginsWritten a _ _) (sym c.in_ok-first.ensures.properties) h in
+    let theirs = subst (BeginsWritten b _ _) (sym c.in_ok-second.ensures.properties) k in
+    refused_views a b _ _ _ _ _ _ _ ours theirs c.if-ours-theirs.false c.in_err-settle_first.ensures.cause)
 
 pub returns-then-not-settle_others-clause-cause : goal.returns-then-not-settle_others-clause-cause
 returns-then-not-settle_others-clause-cause c = λ a b h k. lack_memory a b _ _ _ _ _ _ OutOfMemory h k c.if-ours-theirs.false refl
 
 pub returns-then-not-finish-clause-cause : goal.returns-then-not-finish-clause-cause
 returns-then-not-finish-clause-cause c = λ a b h k.
-    let ours = c.in_ok-first.ensures.properties in
-    let theirs = c.in_ok-second.ensures.properties in
-    are_large a b _ _ _ _ _ _ _ _ _ h k c.if-ours-theirs.false c.in_ok-out.ensures.begun
-    (λ ps qs w v. c.in_ok-settle_first.ensures.settled ps qs (subst (AreWritten ps) (sym ours) w) (subst (AreWritten qs) (sym theirs) v))
-    (λ ps qs head w v. c.settle_others.ensures c.if-not-settle_others.false ps qs head (subst (AreWritten ps) (sym ours) w) (subst (AreWritten qs) (sym theirs) v))
+    let ours = subst (BeginsWritten a _ _) (sym c.in_ok-first.ensures.properties) h in
+    let theirs = subst (BeginsWritten b _ _) (sym c.in_ok-second.ensures.properties) k in
+    are_large a b _ _ _ _ _ _ _ _ _ ours theirs c.if-ours-theirs.false c.in_ok-out.ensures.begun
+    c.in_ok-settle_first.ensures.settled (c.settle_others.ensures c.if-not-settle_others.false)
     (c.finish.ensures.large c.if-not-finish.true)
 
 pub returns-clause-accepted : goal.returns-clause-accepted
 returns-clause-accepted c = λ a b h k.
-    let ours = c.in_ok-first.ensures.properties in
-    let theirs = c.in_ok-second.ensures.properties in
-    (are_met a b _ _ _ _ _ _ _ _ _ h k c.if-ours-theirs.false c.in_ok-out.ensures.begun
-    (λ ps qs w v. c.in_ok-settle_first.ensures.settled ps qs (subst (AreWritten ps) (sym ours) w) (subst (AreWritten qs) (sym theirs) v))
-    (λ ps qs head w v. c.settle_others.ensures c.if-not-settle_others.false ps qs head (subst (AreWritten ps) (sym ours) w) (subst (AreWritten qs) (sym theirs) v))
+    let ours = subst (BeginsWritten a _ _) (sym c.in_ok-first.ensures.properties) h in
+    let theirs = subst (BeginsWritten b _ _) (sym c.in_ok-second.ensures.properties) k in
+    (are_met a b _ _ _ _ _ _ _ _ _ ours theirs c.if-ours-theirs.false c.in_ok-out.ensures.begun
+    c.in_ok-settle_first.ensures.settled (c.settle_others.ensures c.if-not-settle_others.false)
     _ c.requires.0 c.requires.1 (c.finish.ensures.size c.if-not-finish.false) (c.finish.ensures.bytes c.if-not-finish.false)).can
 
 pub returns-clause-value : goal.returns-clause-value
 returns-clause-value c = λ a b h k.
-    let ours = c.in_ok-first.ensures.properties in
-    let theirs = c.in_ok-second.ensures.properties in
-    (are_met a b _ _ _ _ _ _ _ _ _ h k c.if-ours-theirs.false c.in_ok-out.ensures.begun
-    (λ ps qs w v. c.in_ok-settle_first.ensures.settled ps qs (subst (AreWritten ps) (sym ours) w) (subst (AreWritten qs) (sym theirs) v))
-    (λ ps qs head w v. c.settle_others.ensures c.if-not-settle_others.false ps qs head (subst (AreWritten ps) (sym ours) w) (subst (AreWritten qs) (sym theirs) v))
+    let ours = subst (BeginsWritten a _ _) (sym c.in_ok-first.ensures.properties) h in
+    let theirs = subst (BeginsWritten b _ _) (sym c.in_ok-second.ensures.properties) k in
+    (are_met a b _ _ _ _ _ _ _ _ _ ours theirs c.if-ours-theirs.false c.in_ok-out.ensures.begun
+    c.in_ok-settle_first.ensures.settled (c.settle_others.ensures c.if-not-settle_others.false)
     _ c.requires.0 c.requires.1 (c.finish.ensures.size c.if-not-finish.false) (c.finish.ensures.bytes c.if-not-finish.false)).meet

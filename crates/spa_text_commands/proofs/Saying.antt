@@ -187,6 +187,11 @@ ends bytes left a b c l m absent so written =
       behind = omega (arith, e, g);
     }
 
+-- what holds whatever the result is
+pub on_any : {T E : Type 0} {P : Type 0} (r : Result T E) → P → OnOk r P
+on_any (Ok x) p = p
+on_any (Err e) p = tt
+
 pub ok_may : {T E : Type 0} (r : Result T E) (a b c : Option (List ℕ)) (l m n : List ℕ) → Adds a l b m → OnOk r (MayAdd b m c n) →
     OnOk r (Adds a l c n)
 ok_may (Ok x) a b c l m n s t = adds_may a b c l m n s t

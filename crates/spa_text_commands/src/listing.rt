@@ -52,7 +52,6 @@ pub(crate) fn list<W: Write + Drop>(
 
 impl<'a> Listing<'a> {
     /// Adds the lines of the top-level pod, which begins at this byte, and of what is inside it.
-    #[tactic(auto, using(crate::proofs::Saying::adds_adds))]
     fn add_pod<W: Write + Drop>(
         &mut self,
         page: &mut Page<W>,
@@ -63,25 +62,36 @@ impl<'a> Listing<'a> {
         ensures cause { IfErr result IsCutOff }
     {
         self.add_value(page, Shown::of_pod(pod, Table::Nothing), place, 0)?;
-        // Each turn shows an item or closes a level, of which an input has far fewer than this.
+        // Each turn shows an item or closes a value, of which an input has far fewer than this.
         for _ in 0..u64::MAX {
-            let Some(level) = self.levels.last_mut() else {
+            if self.levels.is_empty() {
                 break;
-            };
-            let place = level.place;
-            let depth = level.depth;
-            match level.next() {
-                Some(item) => self.add_item(page, item, place, depth)?,
-                None => {
-                    self.levels.pop();
-                }
+            }
+            self.add_next(page)?;
+        }
+        self.add_refusal(page, self.refusal, place, 0)
+    }
+
+    /// Adds the lines of the next item of the innermost open value, or closes the value where it has none left.
+    fn add_next<W: Write + Drop>(&mut self, page: &mut Page<W>) -> Result<(), Failure>
+        ensures added { OnOk result (MayAdd (W.contents page.old.device) (string_bytes page.old.waiting) (W.contents page.new.device) (string_bytes page.new.waiting)) }
+        ensures cause { IfErr result IsCutOff }
+    {
+        let Some(level) = self.levels.last_mut() else {
+            return Ok(());
+        };
+        let place = level.place;
+        let depth = level.depth;
+        match level.next() {
+            Some(item) => self.add_item(page, item, place, depth),
+            None => {
+                self.levels.pop();
+                Ok(())
             }
         }
-        self.add_refusal(page, place, 0)
     }
 
     /// Adds the lines of an item that begins at this byte.
-    #[tactic(auto, using(crate::proofs::Saying::adds_adds, crate::proofs::Saying::adds_may))]
     fn add_item<W: Write + Drop>(
         &mut self,
         page: &mut Page<W>,
@@ -113,7 +123,6 @@ impl<'a> Listing<'a> {
     }
 
     /// Adds the line of bytes that are no whole item.
-    #[tactic(auto, using(crate::proofs::Saying::adds_may))]
     fn add_rest<W: Write + Drop>(
         &mut self,
         page: &mut Page<W>,
@@ -126,14 +135,11 @@ impl<'a> Listing<'a> {
     {
         let begun = put_rest(&mut page.line, depth, bytes.len());
         page.end_line(begun)?;
-        if self.refusal == Some(SHORT) {
-            self.add_refusal(page, place, depth)?;
-        }
-        self.open(Inside::rows(bytes, place, depth))
+        self.add_refusal(page, Some(SHORT), place, depth)?;
+        self.open(Some(Inside::rows(bytes, place, depth)))
     }
 
     /// Adds the line of a value that begins at this byte, and opens it where it has others inside.
-    #[tactic(auto, using(crate::proofs::Saying::adds_may))]
     fn add_value<W: Write + Drop>(
         &mut self,
         page: &mut Page<W>,
@@ -148,14 +154,10 @@ impl<'a> Listing<'a> {
         let begun = put_value(&mut page.line, depth, value, parts);
         page.end_line(begun)?;
         self.add_refusal_of(page, value, parts, place, depth)?;
-        match Inside::of(parts, value.ids, value.body_place(place), depth) {
-            Some(inside) => self.open(inside),
-            None => Ok(()),
-        }
+        self.open(Inside::of(parts, value.ids, value.body_place(place), depth))
     }
 
     /// Adds the line of the refusal, where it isn't shown yet and is that of this value.
-    #[tactic(auto, using(crate::proofs::Saying::may_nothing))]
     fn add_refusal_of<W: Write + Drop>(
         &mut self,
         page: &mut Page<W>,
@@ -173,23 +175,24 @@ impl<'a> Listing<'a> {
         let Some(pod) = value.pod else {
             return Ok(());
         };
-        if refusal_of(self.alloc, pod)? == self.refusal {
-            return self.add_refusal(page, place, depth);
-        }
-        Ok(())
+        let refusal = refusal_of(self.alloc, pod)?;
+        self.add_refusal(page, refusal, place, depth)
     }
 
-    /// Adds the line of the refusal, where it isn't shown yet.
-    #[tactic(auto, using(crate::proofs::Saying::may_nothing, crate::proofs::Saying::may_adds))]
+    /// Adds the line of this refusal, where it is the reader's and isn't shown yet.
     fn add_refusal<W: Write + Drop>(
         &mut self,
         page: &mut Page<W>,
+        wanted: Option<&'static str>,
         place: usize,
         depth: usize,
     ) -> Result<(), Failure>
         ensures added { OnOk result (MayAdd (W.contents page.old.device) (string_bytes page.old.waiting) (W.contents page.new.device) (string_bytes page.new.waiting)) }
         ensures cause { IfErr result IsCutOff }
     {
+        if self.refusal != wanted {
+            return Ok(());
+        }
         let Some(refusal) = self.refusal.take() else {
             return Ok(());
         };
@@ -197,9 +200,13 @@ impl<'a> Listing<'a> {
         page.end_line(begun)
     }
 
-    fn open(&mut self, inside: Inside<'a>) -> Result<(), Failure>
+    /// Opens a value, where it has something inside.
+    fn open(&mut self, inside: Option<Inside<'a>>) -> Result<(), Failure>
         ensures cause { IfErr result IsCutOff }
     {
+        let Some(inside) = inside else {
+            return Ok(());
+        };
         if self.levels.push(inside).is_err() {
             return Err(Failure::OutOfMemory);
         }

@@ -159,7 +159,6 @@ impl From<ReadError> for Failure {
 }
 
 /// Writes the line of this answer, nothing where nothing was refused.
-#[tactic(auto, using(crate::proofs::Saying::appends_nothing))]
 pub fn tell<E: Write>(faults: &mut E, answer: &Answer) -> io::Result<()>
     ensures told { OnOk result (Appends (E.contents faults.old) (E.contents faults.new) (line_of answer.now)) }
 {

@@ -34,7 +34,6 @@ impl<W: Write + Drop> Page<W> {
     }
 
     /// Ends the line that is begun, where there was memory to begin it.
-    #[tactic(auto, using(crate::proofs::Saying::line_waits, crate::proofs::Saying::line_written))]
     pub(crate) fn end_line(&mut self, begun: Result<(), AllocError>) -> Result<(), Failure>
         ensures added { OnOk result (Adds (W.contents self.old.device) (string_bytes self.old.waiting) (W.contents self.new.device) (string_bytes self.new.waiting)) }
         ensures cause { IfErr result IsCutOff }

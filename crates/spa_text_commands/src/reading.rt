@@ -51,7 +51,6 @@ pub(crate) fn read_all(alloc: Global, bytes: &[u8]) -> Result<Vec<u8>, Failure>
 }
 
 /// The refusal of a text that begins with this line.
-#[tactic(auto, using(crate::proofs::ReadTexts::refused_at))]
 fn failure_at(why: Unread, text: &[u8], first: usize) -> Failure
     requires { first + length text.now < 2 ^ 64 }
     ensures { IsNoPod text.now why → IsNoText text.now first result }
@@ -72,7 +71,6 @@ fn failure_at(why: Unread, text: &[u8], first: usize) -> Failure
 }
 
 /// Adds the pod of the value of which these bytes are a text.
-#[tactic(auto, using(crate::proofs::ReadTexts::not_utf8, crate::proofs::ReadTexts::no_text, crate::proofs::ReadTexts::no_encoding))]
 fn add_pod(
     alloc: Global,
     reader: &mut TextReader,

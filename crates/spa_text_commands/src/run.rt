@@ -97,7 +97,6 @@ fn do_work<R: Read, S: Sources, W: Write + Drop>(
     }
 }
 
-#[tactic(auto, using(crate::proofs::Saying::not_read, crate::proofs::Saying::cut_off, crate::proofs::Saying::shows_all, crate::proofs::Saying::shows_begin, crate::proofs::Saying::keeps_itself))]
 /// Shows the pods that the input begins with, refused ones too. What follows them is refused.
 fn show<R: Read, W: Write + Drop>(alloc: Global, input: &mut R, device: W) -> (Answer, W)
     ensures { OnAnswer result.0
@@ -127,7 +126,6 @@ fn show<R: Read, W: Write + Drop>(alloc: Global, input: &mut R, device: W) -> (A
     (Answer::Refused(why), page.device)
 }
 
-#[tactic(auto, using(crate::proofs::Saying::begins))]
 /// Lists the pods that the bytes begin with, and answers how many bytes follow them.
 fn list_all<W: Write + Drop>(
     alloc: Global,
@@ -206,7 +204,6 @@ fn diff<S: Sources, W: Write + Drop>(
 }
 
 /// The lines of text that differ of the pods that the files of these names consist of.
-#[tactic(auto, using(crate::proofs::Compared::unread, crate::proofs::Compared::refused, crate::proofs::Compared::compared))]
 fn compare<S: Sources>(
     alloc: Global,
     files: &S,

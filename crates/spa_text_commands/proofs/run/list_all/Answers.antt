@@ -1,5 +1,8 @@
-use Rattle.spa_text_commands.proofs.Saying.{ends, goes_on, shrinks}
+use Rattle.spa_text_commands.proofs.Saying.{begins, ends, goes_on, shrinks}
 use Rattle.spa_text_commands.proofs.run.list_all.Goals as goal
+
+pub loop-pod-init : goal.loop-pod-init
+loop-pod-init g c = begins _ _ _
 
 pub overflow_sub-bytes : goal.overflow_sub-bytes
 overflow_sub-bytes g c = c.loop-pod.invariant.fits

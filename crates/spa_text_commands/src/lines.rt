@@ -50,10 +50,12 @@ pub(crate) fn put_label(text: &mut String, depth: usize, label: Label) -> Result
             "Prop: key {} ({key}), flags {flags:08x}",
             path_or_unknown(keys, key)
         ),
-        Label::Control { offset, type_ } => write!(
+        Label::Control { offset, type_ } => put_pair(
             text,
-            "Control: offset {offset}, type {}",
-            path_or_unknown(Table::Controls, type_)
+            "Control: offset",
+            offset,
+            ", type ",
+            path_or_unknown(Table::Controls, type_),
         ),
     }
 }
@@ -95,6 +97,7 @@ pub(crate) fn put_value(
     }
 }
 
+/// Writes the size, the type and the id of an object, the two with their names.
 fn put_object(text: &mut String, size: usize, type_: SpaTypes, id: u32) -> Result<(), AllocError> {
     write!(
         text,
@@ -105,6 +108,7 @@ fn put_object(text: &mut String, size: usize, type_: SpaTypes, id: u32) -> Resul
     )
 }
 
+/// Writes the shape and the flags of a choice, and the sizes of its body and of each value.
 fn put_choice(
     text: &mut String,
     shape: u32,
@@ -147,10 +151,12 @@ fn put_scalar(text: &mut String, scalar: Scalar<'_>) -> Result<(), AllocError> {
     }
 }
 
+/// Writes an id, and its name.
 fn put_id(text: &mut String, number: u32, names: Table) -> Result<(), AllocError> {
     write!(text, "Id {number:<8} ({})", path_or_unknown(names, number))
 }
 
+/// Writes what a pointer points to, by its name, and the address.
 fn put_pointer(text: &mut String, type_: u32, address: u64) -> Result<(), AllocError> {
     write!(
         text,

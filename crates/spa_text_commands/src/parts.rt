@@ -114,62 +114,52 @@ impl<'a> Shown<'a> {
 
     /// The parts of a value that has others inside.
     fn members(&self) -> Option<Parts<'a>> {
+        if self.type_ == SpaTypes::Struct {
+            return Some(Parts::Struct(self.body));
+        }
+        let (first, second, rest) = split_words(self.body)?;
         match self.type_ {
-            SpaTypes::Struct => Some(Parts::Struct(self.body)),
-            SpaTypes::Object => {
-                let (type_, id, properties) = split_words(self.body)?;
-                Some(Parts::Object {
-                    type_: SpaTypes(type_),
-                    id,
-                    properties,
-                })
-            }
-            SpaTypes::Sequence => {
-                let (unit, _, controls) = split_words(self.body)?;
-                Some(Parts::Sequence { unit, controls })
-            }
-            SpaTypes::Array => {
-                let (size, type_, elements) = split_words(self.body)?;
-                Some(Parts::Array {
-                    size,
-                    type_: SpaTypes(type_),
-                    elements,
-                })
-            }
-            SpaTypes::Choice => self.choice(),
+            SpaTypes::Object => Some(Parts::Object {
+                type_: SpaTypes(first),
+                id: second,
+                properties: rest,
+            }),
+            SpaTypes::Sequence => Some(Parts::Sequence {
+                unit: first,
+                controls: rest,
+            }),
+            SpaTypes::Array => Some(Parts::Array {
+                size: first,
+                type_: SpaTypes(second),
+                elements: rest,
+            }),
+            SpaTypes::Choice => choice_of(first, second, rest),
             _ => None,
         }
     }
 
-    /// The parts of a choice.
-    fn choice(&self) -> Option<Parts<'a>> {
-        let (shape, flags, child) = split_words(self.body)?;
-        let (size, type_, values) = split_words(child)?;
-        Some(Parts::Choice {
-            shape,
-            flags,
-            size,
-            type_: SpaTypes(type_),
-            values,
-        })
-    }
-
     /// What a value without others inside says; None where its body has too few bytes, or its type isn't such a one.
     fn scalar(&self) -> Option<Scalar<'a>> {
-        let body = self.body;
         match self.type_ {
-            SpaTypes::Bool => Some(Scalar::Bool(word_of(body)? != 0)),
-            SpaTypes::Id => Some(Scalar::Id(word_of(body)?, self.ids)),
-            SpaTypes::Int => Some(Scalar::Int(i32::from_le_bytes(word_of(body)?.to_le_bytes()))),
-            SpaTypes::Float => Some(Scalar::Float(word_of(body)?)),
-            SpaTypes::Long => Some(Scalar::Long(i64::from_le_bytes(wide_of(body)?.to_le_bytes()))),
-            SpaTypes::Fd => Some(Scalar::Fd(i64::from_le_bytes(wide_of(body)?.to_le_bytes()))),
-            SpaTypes::Double => Some(Scalar::Double(wide_of(body)?)),
-            SpaTypes::String => Some(Scalar::Text(body)),
-            SpaTypes::Pointer => pointer_of(body),
-            _ => pair_of(self.type_, body),
+            SpaTypes::String => Some(Scalar::Text(self.body)),
+            SpaTypes::Pointer => pointer_of(self.body),
+            SpaTypes::Rectangle | SpaTypes::Fraction => pair_of(self.type_, self.body),
+            SpaTypes::Long | SpaTypes::Fd | SpaTypes::Double => wide_of(self.type_, self.body),
+            _ => word_of(self.type_, self.body, self.ids),
         }
     }
+}
+
+/// The parts of a choice of this shape and these flags, whose values and what is said of them follow.
+fn choice_of<'a>(shape: u32, flags: u32, child: &'a [u8]) -> Option<Parts<'a>> {
+    let (size, type_, values) = split_words(child)?;
+    Some(Parts::Choice {
+        shape,
+        flags,
+        size,
+        type_: SpaTypes(type_),
+        values,
+    })
 }
 
 /// A rectangle or a fraction.
@@ -193,20 +183,33 @@ fn pointer_of<'a>(body: &[u8]) -> Option<Scalar<'a>> {
     None
 }
 
-/// The word at the front.
-fn word_of(bytes: &[u8]) -> Option<u32> {
-    if bytes.len() < WORD_LEN {
+/// A truth, an id, an integer or a float, in the four bytes at the front.
+fn word_of<'a>(type_: SpaTypes, body: &[u8], ids: Table) -> Option<Scalar<'a>> {
+    if body.len() < WORD_LEN {
         return None;
     }
-    Some(u32_at(bytes, 0))
+    let word = u32_at(body, 0);
+    match type_ {
+        SpaTypes::Bool => Some(Scalar::Bool(word != 0)),
+        SpaTypes::Id => Some(Scalar::Id(word, ids)),
+        SpaTypes::Int => Some(Scalar::Int(i32::from_le_bytes(word.to_le_bytes()))),
+        SpaTypes::Float => Some(Scalar::Float(word)),
+        _ => None,
+    }
 }
 
-/// The number of eight bytes at the front.
-fn wide_of(bytes: &[u8]) -> Option<u64> {
-    if bytes.len() < HEADER_LEN {
+/// A long integer, a file or a double, in the eight bytes at the front.
+fn wide_of<'a>(type_: SpaTypes, body: &[u8]) -> Option<Scalar<'a>> {
+    if body.len() < HEADER_LEN {
         return None;
     }
-    Some(u64_at(bytes, 0))
+    let wide = u64_at(body, 0);
+    match type_ {
+        SpaTypes::Double => Some(Scalar::Double(wide)),
+        SpaTypes::Fd => Some(Scalar::Fd(i64::from_le_bytes(wide.to_le_bytes()))),
+        SpaTypes::Long => Some(Scalar::Long(i64::from_le_bytes(wide.to_le_bytes()))),
+        _ => None,
+    }
 }
 
 /// The two words at the front, and what follows them.

@@ -42,6 +42,15 @@ pub begins : (layout : Layout) (mark start old out : List ℕ) → out ≡ old �
 begins layout mark start old out e =
     record { first = []; values = no_trees; lines = []; whole = refl; members = refl; texts = refl; made = e ∙ sym (append-nil old) }
 
+-- a mark, a text and an end are one behind another
+pub line_added : (old mark text marked printed reserved ended : List ℕ) → marked ≡ old ++ mark → printed ≡ marked ++ text → reserved ≡ printed →
+    ended ≡ reserved ++ (10 ∷ []) → ended ≡ old ++ (mark ++ (text ++ 10 ∷ []))
+line_added old mark text marked printed reserved ended m p r e =
+    e
+    ∙ ap (λ l. l ++ (10 ∷ [])) (r ∙ p ∙ ap (λ l. l ++ text) m)
+    ∙ append_assoc (old ++ mark) text (10 ∷ [])
+    ∙ append_assoc old mark (text ++ 10 ∷ [])
+
 -- one line more
 pub texts_push : (layout : Layout) (mark : List ℕ) (vs : Trees) (v : Tree) (out text : List ℕ) → AreTexts layout mark vs out → IsTextIn layout v text →
     AreTexts layout mark (join_members vs (member v no_trees)) (out ++ (mark ++ (text ++ 10 ∷ [])))

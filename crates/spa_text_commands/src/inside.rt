@@ -108,16 +108,6 @@ impl<'a> Inside<'a> {
         })
     }
 
-    /// Rows of these bytes, which stand inside so many values.
-    pub(crate) fn rows(bytes: &'a [u8], place: usize, depth: usize) -> Inside<'a> {
-        Inside {
-            kind: Kind::Rows,
-            left: bytes,
-            place,
-            depth: depth.saturating_add(1),
-        }
-    }
-
     /// The next item.
     pub(crate) fn next(&mut self) -> Option<Item<'a>> {
         if self.left.is_empty() {

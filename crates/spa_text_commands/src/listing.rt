@@ -136,7 +136,8 @@ impl<'a> Listing<'a> {
         let begun = put_rest(&mut page.line, depth, bytes.len());
         page.end_line(begun)?;
         self.add_refusal(page, Some(SHORT), place, depth)?;
-        self.open(Some(Inside::rows(bytes, place, depth)))
+        let rows = Inside::of(Parts::Bytes(bytes), Table::Nothing, place, depth);
+        self.open(rows)
     }
 
     /// Adds the line of a value that begins at this byte, and opens it where it has others inside.

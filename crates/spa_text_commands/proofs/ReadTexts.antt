@@ -137,6 +137,10 @@ no_text line h = inr (inl h)
 pub no_encoding : (line : List ℕ) (v : Tree) → IsText v line → HasNul v ⊎ IsTooLarge v → HasNoPod line
 no_encoding line v t h = inr (inr (v, t, h))
 
+-- a value that is the same one, and its text
+pub text_of : (v w : Tree) (text line : List ℕ) → w ≡ v → text ≡ line → IsText v text → IsText w line
+text_of v w text line e t h = subst (IsText w) t (subst (λ u. IsText u text) (sym e) h)
+
 -- a refusal that memory isn't the cause of
 pub is_for : (line : List ℕ) (u : Unread) → HasNoPod line → IsFor u → IsNoPod line u
 is_for line unread.OutOfMemory h w = tt

@@ -27,7 +27,7 @@ enum Unread {
 }
 
 /// The pods of the values of which the bytes are texts.
-#[tactic(auto, using(crate::proofs::ReadTexts::begins, crate::proofs::ReadTexts::goes_on, crate::proofs::ReadTexts::ends, crate::proofs::Extents::shorter, crate::proofs::ReadTexts::counted, crate::proofs::ReadTexts::not_read))]
+#[tactic(auto, using(crate::proofs::ReadTexts::counted))]
 pub(crate) fn read_all(alloc: Global, bytes: &[u8]) -> Result<Vec<u8>, Failure>
     ensures read { IfOk result (λ pods. Reads bytes.now pods.items) }
     ensures refused { IfErr result (RefusesTexts bytes.now) }

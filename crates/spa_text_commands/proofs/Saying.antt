@@ -1,8 +1,7 @@
 -- What is said, line by line and pod by pod.
 use Rattle.std.specs.Io.KnownBytes.{Appends, Keeps}
-use Rattle.std.proofs.Common.{◌≡◌, ◌≤◌, ◌<◌, ℕ, ◌+◌, ◌-◌, List, [], ◌∷◌, ◌++◌, Option, Some, None, refl, sym, inl, inr, arith, take, length, ◌∙◌, ap, subst, length-drop, append_assoc, append-nil, true, false, true≢false}
-use Rattle.std.specs.Prelude.{◌⊎◌, codes, Result, Ok, Err, OnOk, OnErr}
-use Rattle.std.specs.Result.{is_ok}
+use Rattle.std.proofs.Common.{◌≡◌, ◌≤◌, ◌<◌, ℕ, ◌+◌, ◌-◌, List, [], ◌∷◌, ◌++◌, Option, Some, None, refl, sym, inl, inr, arith, take, length, ◌∙◌, ap, subst, length-drop, append_assoc, append-nil}
+use Rattle.std.specs.Prelude.{◌⊎◌, codes, Result, Ok, Err, OnOk}
 use Rattle.std.proofs.lemmas.List.{length-take-le, take_all}
 use Rattle.spa_format.specs.Words.{extent, word_at}
 use Rattle.spa_format.specs.Front.{HasFront, front_of, rest_of}
@@ -56,15 +55,6 @@ keeps_nothing (Some a) (Some b) xs k = k ∙ sym (append-nil a)
 -- all of it is a beginning of it
 pub all_begun : (a b : Option (List ℕ)) (xs : List ℕ) → Appends a b xs → (n : ℕ) × Appends a b (take n xs)
 all_begun a b xs h = (length xs, subst (Appends a b) (sym (take_all (length xs) xs (omega arith))) h)
-
--- what holds of a success, and what of a refusal
-pub of_success : {T E P : Type 0} (r : Result T E) → true ≡ is_ok r → OnOk r P → P
-of_success (Ok x) e p = p
-of_success (Err x) e p = absurd (true≢false e)
-
-pub of_refusal : {T E P : Type 0} (r : Result T E) → false ≡ is_ok r → OnErr r P → P
-of_refusal (Ok x) e p = absurd (true≢false (sym e))
-of_refusal (Err x) e p = p
 
 -- what is said of a path
 pub no_path : (path : List ℕ) → length path ≡ 0 → path_text path ≡ []

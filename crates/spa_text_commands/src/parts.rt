@@ -198,7 +198,7 @@ fn word_of<'a>(type_: SpaTypes, body: &[u8], ids: Table) -> Option<Scalar<'a>> {
     }
 }
 
-/// A long integer, a file or a double, in the eight bytes at the front.
+/// A long integer, a file's number or a double, in the eight bytes at the front.
 fn wide_of<'a>(type_: SpaTypes, body: &[u8]) -> Option<Scalar<'a>> {
     if body.len() < HEADER_LEN {
         return None;

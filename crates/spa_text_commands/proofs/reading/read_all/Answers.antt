@@ -1,6 +1,6 @@
 use Rattle.std.proofs.Common.{◌+◌, ap, arith, length, refl}
 use Rattle.spa_text_commands.proofs.Extents.{shorter}
-use Rattle.spa_text_commands.proofs.ReadTexts.{begins, ends, goes_on, not_read}
+use Rattle.spa_text_commands.proofs.ReadTexts.{begins, goes_on}
 use Rattle.spa_text_commands.proofs.reading.read_all.Goals as goal
 
 pub loop-left-init : goal.loop-left-init
@@ -18,12 +18,3 @@ loop-left-preserved c =
     c.in-Ok.ensures.added.0 c.loop-left.invariant
     (c.split_text.ensures (λ e. let l = ap length e in grind (arith, l, c.loop-left-test.true, c.is_empty.ensures)))
     c.in-Ok.ensures.added.1 c.in-Ok.ensures.added.2 c.position_behind-last.ensures.line refl
-
-pub returns-in-Err-clause-refused : goal.returns-in-Err-clause-refused
-returns-in-Err-clause-refused c =
-    not_read _ _ _ c.split_text.result.1.now _ _ _ c.loop-left.invariant
-    (c.split_text.ensures (λ e. let l = ap length e in grind (arith, l, c.loop-left-test.true, c.is_empty.ensures)))
-    (c.failure_at.ensures c.in-Err.ensures.refused)
-
-pub returns-clause-read : goal.returns-clause-read
-returns-clause-read c = ends _ _ _ _ c.loop-left.invariant (grind (arith, c.loop-left-test.false, c.is_empty.ensures))

@@ -4,7 +4,7 @@
 use crate::entry::Entry;
 
 #[rattlefmt::skip]
-pub(crate) const ENTRIES_OF_TYPES: [Entry; 43] = [
+pub(crate) const ENTRIES_OF_TYPES: &[Entry] = &[
     (1, "Spa:None", 4, 0),
     (2, "Spa:Bool", 4, 0),
     (3, "Spa:Id", 4, 0),
@@ -51,7 +51,7 @@ pub(crate) const ENTRIES_OF_TYPES: [Entry; 43] = [
 ];
 
 #[rattlefmt::skip]
-pub(crate) const ENTRIES_OF_CHOICES: [Entry; 5] = [
+pub(crate) const ENTRIES_OF_CHOICES: &[Entry] = &[
     (0, "Spa:Enum:Choice:None", 16, 0),
     (1, "Spa:Enum:Choice:Range", 16, 0),
     (2, "Spa:Enum:Choice:Step", 16, 0),
@@ -60,7 +60,7 @@ pub(crate) const ENTRIES_OF_CHOICES: [Entry; 5] = [
 ];
 
 #[rattlefmt::skip]
-pub(crate) const ENTRIES_OF_CONTROLS: [Entry; 4] = [
+pub(crate) const ENTRIES_OF_CONTROLS: &[Entry] = &[
     (0, "Spa:Enum:Control:Invalid", 17, 0),
     (1, "Spa:Enum:Control:Properties", 17, 0),
     (2, "Spa:Enum:Control:Midi", 17, 0),
@@ -68,12 +68,12 @@ pub(crate) const ENTRIES_OF_CONTROLS: [Entry; 4] = [
 ];
 
 #[rattlefmt::skip]
-pub(crate) const ENTRIES_OF_DEVICE_EVENT_ID: [Entry; 1] = [
+pub(crate) const ENTRIES_OF_DEVICE_EVENT_ID: &[Entry] = &[
     (0, "Spa:Enum:DeviceEventId:ObjectConfig", 23, 0),
 ];
 
 #[rattlefmt::skip]
-pub(crate) const ENTRIES_OF_NODE: [Entry; 4] = [
+pub(crate) const ENTRIES_OF_NODE: &[Entry] = &[
     (0, "Spa:Pod:Object:Event:Node:Error", 26, 0),
     (1, "Spa:Pod:Object:Event:Node:Buffering", 26, 0),
     (2, "Spa:Pod:Object:Event:Node:RequestRefresh", 26, 0),
@@ -81,7 +81,7 @@ pub(crate) const ENTRIES_OF_NODE: [Entry; 4] = [
 ];
 
 #[rattlefmt::skip]
-pub(crate) const ENTRIES_OF_COMMAND_NODE: [Entry; 11] = [
+pub(crate) const ENTRIES_OF_COMMAND_NODE: &[Entry] = &[
     (0, "Spa:Pod:Object:Command:Node:Suspend", 28, 0),
     (1, "Spa:Pod:Object:Command:Node:Pause", 28, 0),
     (2, "Spa:Pod:Object:Command:Node:Start", 28, 0),
@@ -96,7 +96,7 @@ pub(crate) const ENTRIES_OF_COMMAND_NODE: [Entry; 11] = [
 ];
 
 #[rattlefmt::skip]
-pub(crate) const ENTRIES_OF_PARAM_ID: [Entry; 17] = [
+pub(crate) const ENTRIES_OF_PARAM_ID: &[Entry] = &[
     (0, "Spa:Enum:ParamId:Invalid", 17, 0),
     (1, "Spa:Enum:ParamId:PropInfo", 17, 0),
     (2, "Spa:Enum:ParamId:Props", 17, 0),
@@ -117,7 +117,7 @@ pub(crate) const ENTRIES_OF_PARAM_ID: [Entry; 17] = [
 ];
 
 #[rattlefmt::skip]
-pub(crate) const ENTRIES_OF_BLUETOOTH_AUDIO_CODEC: [Entry; 20] = [
+pub(crate) const ENTRIES_OF_BLUETOOTH_AUDIO_CODEC: &[Entry] = &[
     (1, "Spa:Enum:BluetoothAudioCodec:sbc", 29, 0),
     (2, "Spa:Enum:BluetoothAudioCodec:sbc_xq", 29, 0),
     (3, "Spa:Enum:BluetoothAudioCodec:mpeg", 29, 0),
@@ -141,7 +141,7 @@ pub(crate) const ENTRIES_OF_BLUETOOTH_AUDIO_CODEC: [Entry; 20] = [
 ];
 
 #[rattlefmt::skip]
-pub(crate) const ENTRIES_OF_MEDIA_TYPE: [Entry; 7] = [
+pub(crate) const ENTRIES_OF_MEDIA_TYPE: &[Entry] = &[
     (0, "Spa:Enum:MediaType:unknown", 19, 0),
     (1, "Spa:Enum:MediaType:audio", 19, 0),
     (2, "Spa:Enum:MediaType:video", 19, 0),
@@ -152,7 +152,7 @@ pub(crate) const ENTRIES_OF_MEDIA_TYPE: [Entry; 7] = [
 ];
 
 #[rattlefmt::skip]
-pub(crate) const ENTRIES_OF_MEDIA_SUBTYPE: [Entry; 36] = [
+pub(crate) const ENTRIES_OF_MEDIA_SUBTYPE: &[Entry] = &[
     (0, "Spa:Enum:MediaSubtype:unknown", 22, 0),
     (1, "Spa:Enum:MediaSubtype:raw", 22, 0),
     (2, "Spa:Enum:MediaSubtype:dsp", 22, 0),
@@ -192,7 +192,7 @@ pub(crate) const ENTRIES_OF_MEDIA_SUBTYPE: [Entry; 36] = [
 ];
 
 #[rattlefmt::skip]
-pub(crate) const ENTRIES_OF_AUDIO_FORMAT: [Entry; 42] = [
+pub(crate) const ENTRIES_OF_AUDIO_FORMAT: &[Entry] = &[
     (0, "Spa:Enum:AudioFormat:UNKNOWN", 21, 0),
     (1, "Spa:Enum:AudioFormat:ENCODED", 21, 0),
     (257, "Spa:Enum:AudioFormat:S8", 21, 0),
@@ -238,13 +238,13 @@ pub(crate) const ENTRIES_OF_AUDIO_FORMAT: [Entry; 42] = [
 ];
 
 #[rattlefmt::skip]
-pub(crate) const ENTRIES_OF_AUDIO_FLAGS: [Entry; 2] = [
+pub(crate) const ENTRIES_OF_AUDIO_FLAGS: &[Entry] = &[
     (0, "Spa:Flags:AudioFlags:none", 21, 0),
     (1, "Spa:Flags:AudioFlags:unpositioned", 21, 0),
 ];
 
 #[rattlefmt::skip]
-pub(crate) const ENTRIES_OF_AUDIO_IEC958_CODEC: [Entry; 9] = [
+pub(crate) const ENTRIES_OF_AUDIO_IEC958_CODEC: &[Entry] = &[
     (0, "Spa:Enum:AudioIEC958Codec:UNKNOWN", 26, 0),
     (1, "Spa:Enum:AudioIEC958Codec:PCM", 26, 0),
     (2, "Spa:Enum:AudioIEC958Codec:DTS", 26, 0),
@@ -257,14 +257,14 @@ pub(crate) const ENTRIES_OF_AUDIO_IEC958_CODEC: [Entry; 9] = [
 ];
 
 #[rattlefmt::skip]
-pub(crate) const ENTRIES_OF_PARAM_BITORDER: [Entry; 3] = [
+pub(crate) const ENTRIES_OF_PARAM_BITORDER: &[Entry] = &[
     (0, "Spa:Enum:ParamBitorder:unknown", 23, 0),
     (1, "Spa:Enum:ParamBitorder:msb", 23, 0),
     (2, "Spa:Enum:ParamBitorder:lsb", 23, 0),
 ];
 
 #[rattlefmt::skip]
-pub(crate) const ENTRIES_OF_AUDIO_AACSTREAM_FORMAT: [Entry; 8] = [
+pub(crate) const ENTRIES_OF_AUDIO_AACSTREAM_FORMAT: &[Entry] = &[
     (0, "Spa:Enum:AudioAACStreamFormat:UNKNOWN", 30, 0),
     (1, "Spa:Enum:AudioAACStreamFormat:RAW", 30, 0),
     (2, "Spa:Enum:AudioAACStreamFormat:MP2ADTS", 30, 0),
@@ -276,7 +276,7 @@ pub(crate) const ENTRIES_OF_AUDIO_AACSTREAM_FORMAT: [Entry; 8] = [
 ];
 
 #[rattlefmt::skip]
-pub(crate) const ENTRIES_OF_AUDIO_WMAPROFILE: [Entry; 8] = [
+pub(crate) const ENTRIES_OF_AUDIO_WMAPROFILE: &[Entry] = &[
     (0, "Spa:Enum:AudioWMAProfile:UNKNOWN", 25, 0),
     (1, "Spa:Enum:AudioWMAProfile:WMA7", 25, 0),
     (2, "Spa:Enum:AudioWMAProfile:WMA8", 25, 0),
@@ -288,14 +288,14 @@ pub(crate) const ENTRIES_OF_AUDIO_WMAPROFILE: [Entry; 8] = [
 ];
 
 #[rattlefmt::skip]
-pub(crate) const ENTRIES_OF_AUDIO_AMRBAND_MODE: [Entry; 3] = [
+pub(crate) const ENTRIES_OF_AUDIO_AMRBAND_MODE: &[Entry] = &[
     (0, "Spa:Enum:AudioAMRBandMode:UNKNOWN", 26, 0),
     (1, "Spa:Enum:AudioAMRBandMode:NB", 26, 0),
     (2, "Spa:Enum:AudioAMRBandMode:WB", 26, 0),
 ];
 
 #[rattlefmt::skip]
-pub(crate) const ENTRIES_OF_VIDEO_FORMAT: [Entry; 87] = [
+pub(crate) const ENTRIES_OF_VIDEO_FORMAT: &[Entry] = &[
     (1, "Spa:Enum:VideoFormat:encoded", 21, 0),
     (2, "Spa:Enum:VideoFormat:I420", 21, 0),
     (3, "Spa:Enum:VideoFormat:YV12", 21, 0),
@@ -386,7 +386,7 @@ pub(crate) const ENTRIES_OF_VIDEO_FORMAT: [Entry; 87] = [
 ];
 
 #[rattlefmt::skip]
-pub(crate) const ENTRIES_OF_VIDEO_INTERLACE_MODE: [Entry; 4] = [
+pub(crate) const ENTRIES_OF_VIDEO_INTERLACE_MODE: &[Entry] = &[
     (0, "Spa:Enum:VideoInterlaceMode:progressive", 28, 0),
     (1, "Spa:Enum:VideoInterlaceMode:interleaved", 28, 0),
     (2, "Spa:Enum:VideoInterlaceMode:mixed", 28, 0),
@@ -394,7 +394,7 @@ pub(crate) const ENTRIES_OF_VIDEO_INTERLACE_MODE: [Entry; 4] = [
 ];
 
 #[rattlefmt::skip]
-pub(crate) const ENTRIES_OF_META: [Entry; 9] = [
+pub(crate) const ENTRIES_OF_META: &[Entry] = &[
     (0, "Spa:Pointer:Meta:Invalid", 17, 0),
     (1, "Spa:Pointer:Meta:Header", 17, 0),
     (2, "Spa:Pointer:Meta:Region:VideoCrop", 24, 0),
@@ -407,7 +407,7 @@ pub(crate) const ENTRIES_OF_META: [Entry; 9] = [
 ];
 
 #[rattlefmt::skip]
-pub(crate) const ENTRIES_OF_IO: [Entry; 10] = [
+pub(crate) const ENTRIES_OF_IO: &[Entry] = &[
     (0, "Spa:Enum:IO:Invalid", 12, 0),
     (1, "Spa:Enum:IO:Buffers", 12, 0),
     (2, "Spa:Enum:IO:Range", 12, 0),
@@ -421,20 +421,20 @@ pub(crate) const ENTRIES_OF_IO: [Entry; 10] = [
 ];
 
 #[rattlefmt::skip]
-pub(crate) const ENTRIES_OF_PARAM_AVAILABILITY: [Entry; 3] = [
+pub(crate) const ENTRIES_OF_PARAM_AVAILABILITY: &[Entry] = &[
     (0, "Spa:Enum:ParamAvailability:unknown", 27, 0),
     (1, "Spa:Enum:ParamAvailability:no", 27, 0),
     (2, "Spa:Enum:ParamAvailability:yes", 27, 0),
 ];
 
 #[rattlefmt::skip]
-pub(crate) const ENTRIES_OF_DIRECTION: [Entry; 2] = [
+pub(crate) const ENTRIES_OF_DIRECTION: &[Entry] = &[
     (0, "Spa:Enum:Direction:Input", 19, 0),
     (1, "Spa:Enum:Direction:Output", 19, 0),
 ];
 
 #[rattlefmt::skip]
-pub(crate) const ENTRIES_OF_PARAM_PORT_CONFIG_MODE: [Entry; 4] = [
+pub(crate) const ENTRIES_OF_PARAM_PORT_CONFIG_MODE: &[Entry] = &[
     (0, "Spa:Enum:ParamPortConfigMode:none", 29, 0),
     (1, "Spa:Enum:ParamPortConfigMode:passthrough", 29, 0),
     (2, "Spa:Enum:ParamPortConfigMode:convert", 29, 0),
@@ -442,7 +442,7 @@ pub(crate) const ENTRIES_OF_PARAM_PORT_CONFIG_MODE: [Entry; 4] = [
 ];
 
 #[rattlefmt::skip]
-pub(crate) const ENTRIES_OF_AUDIO_CHANNEL: [Entry; 102] = [
+pub(crate) const ENTRIES_OF_AUDIO_CHANNEL: &[Entry] = &[
     (0, "Spa:Enum:AudioChannel:UNK", 22, 0),
     (1, "Spa:Enum:AudioChannel:NA", 22, 0),
     (2, "Spa:Enum:AudioChannel:MONO", 22, 0),

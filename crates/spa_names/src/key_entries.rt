@@ -48,21 +48,21 @@ pub(crate) const EXPECTED: [Expected; 37] = [
 ];
 
 #[rattlefmt::skip]
-pub(crate) const ENTRIES_OF_DEVICE_KEYS: [Entry; 2] = [
+pub(crate) const ENTRIES_OF_DEVICE_KEYS: &[Entry] = &[
     (1, "Spa:Pod:Object:Event:Device:Object", 28, 22),
     (2, "Spa:Pod:Object:Event:Device:Props", 28, 35),
 ];
 
 #[rattlefmt::skip]
-pub(crate) const ENTRIES_OF_NODE_KEYS: [Entry; 0] = [
+pub(crate) const ENTRIES_OF_NODE_KEYS: &[Entry] = &[
 ];
 
 #[rattlefmt::skip]
-pub(crate) const ENTRIES_OF_COMMAND_NODE_KEYS: [Entry; 0] = [
+pub(crate) const ENTRIES_OF_COMMAND_NODE_KEYS: &[Entry] = &[
 ];
 
 #[rattlefmt::skip]
-pub(crate) const ENTRIES_OF_PROP_INFO_KEYS: [Entry; 7] = [
+pub(crate) const ENTRIES_OF_PROP_INFO_KEYS: &[Entry] = &[
     (1, "Spa:Pod:Object:Param:PropInfo:id", 30, 19),
     (2, "Spa:Pod:Object:Param:PropInfo:name", 30, 26),
     (3, "Spa:Pod:Object:Param:PropInfo:type", 30, 34),
@@ -73,7 +73,7 @@ pub(crate) const ENTRIES_OF_PROP_INFO_KEYS: [Entry; 7] = [
 ];
 
 #[rattlefmt::skip]
-pub(crate) const ENTRIES_OF_PROPS_KEYS: [Entry; 42] = [
+pub(crate) const ENTRIES_OF_PROPS_KEYS: &[Entry] = &[
     (1, "Spa:Pod:Object:Param:Props:unknown", 27, 1),
     (257, "Spa:Pod:Object:Param:Props:device", 27, 26),
     (258, "Spa:Pod:Object:Param:Props:deviceName", 27, 26),
@@ -119,7 +119,7 @@ pub(crate) const ENTRIES_OF_PROPS_KEYS: [Entry; 42] = [
 ];
 
 #[rattlefmt::skip]
-pub(crate) const ENTRIES_OF_FORMAT_KEYS: [Entry; 34] = [
+pub(crate) const ENTRIES_OF_FORMAT_KEYS: &[Entry] = &[
     (1, "Spa:Pod:Object:Param:Format:mediaType", 28, 13),
     (2, "Spa:Pod:Object:Param:Format:mediaSubtype", 28, 12),
     (65537, "Spa:Pod:Object:Param:Format:Audio:format", 34, 6),
@@ -157,7 +157,7 @@ pub(crate) const ENTRIES_OF_FORMAT_KEYS: [Entry; 34] = [
 ];
 
 #[rattlefmt::skip]
-pub(crate) const ENTRIES_OF_BUFFERS_KEYS: [Entry; 6] = [
+pub(crate) const ENTRIES_OF_BUFFERS_KEYS: &[Entry] = &[
     (1, "Spa:Pod:Object:Param:Buffers:buffers", 29, 22),
     (2, "Spa:Pod:Object:Param:Buffers:blocks", 29, 22),
     (3, "Spa:Pod:Object:Param:Buffers:BlockInfo:size", 39, 22),
@@ -167,19 +167,19 @@ pub(crate) const ENTRIES_OF_BUFFERS_KEYS: [Entry; 6] = [
 ];
 
 #[rattlefmt::skip]
-pub(crate) const ENTRIES_OF_PARAM_META_KEYS: [Entry; 2] = [
+pub(crate) const ENTRIES_OF_PARAM_META_KEYS: &[Entry] = &[
     (1, "Spa:Pod:Object:Param:Meta:type", 26, 14),
     (2, "Spa:Pod:Object:Param:Meta:size", 26, 22),
 ];
 
 #[rattlefmt::skip]
-pub(crate) const ENTRIES_OF_IOKEYS: [Entry; 2] = [
+pub(crate) const ENTRIES_OF_IOKEYS: &[Entry] = &[
     (1, "Spa:Pod:Object:Param:IO:id", 24, 11),
     (2, "Spa:Pod:Object:Param:IO:size", 24, 22),
 ];
 
 #[rattlefmt::skip]
-pub(crate) const ENTRIES_OF_PROFILE_KEYS: [Entry; 8] = [
+pub(crate) const ENTRIES_OF_PROFILE_KEYS: &[Entry] = &[
     (1, "Spa:Pod:Object:Param:Profile:index", 29, 22),
     (2, "Spa:Pod:Object:Param:Profile:name", 29, 26),
     (3, "Spa:Pod:Object:Param:Profile:description", 29, 26),
@@ -191,7 +191,7 @@ pub(crate) const ENTRIES_OF_PROFILE_KEYS: [Entry; 8] = [
 ];
 
 #[rattlefmt::skip]
-pub(crate) const ENTRIES_OF_PORT_CONFIG_KEYS: [Entry; 5] = [
+pub(crate) const ENTRIES_OF_PORT_CONFIG_KEYS: &[Entry] = &[
     (1, "Spa:Pod:Object:Param:PortConfig:direction", 32, 10),
     (2, "Spa:Pod:Object:Param:PortConfig:mode", 32, 18),
     (3, "Spa:Pod:Object:Param:PortConfig:monitor", 32, 2),
@@ -200,7 +200,7 @@ pub(crate) const ENTRIES_OF_PORT_CONFIG_KEYS: [Entry; 5] = [
 ];
 
 #[rattlefmt::skip]
-pub(crate) const ENTRIES_OF_ROUTE_KEYS: [Entry; 13] = [
+pub(crate) const ENTRIES_OF_ROUTE_KEYS: &[Entry] = &[
     (1, "Spa:Pod:Object:Param:Route:index", 27, 22),
     (2, "Spa:Pod:Object:Param:Route:direction", 27, 10),
     (3, "Spa:Pod:Object:Param:Route:device", 27, 22),
@@ -217,7 +217,7 @@ pub(crate) const ENTRIES_OF_ROUTE_KEYS: [Entry; 13] = [
 ];
 
 #[rattlefmt::skip]
-pub(crate) const ENTRIES_OF_PROFILER_KEYS: [Entry; 4] = [
+pub(crate) const ENTRIES_OF_PROFILER_KEYS: &[Entry] = &[
     (65537, "Spa:Pod:Object:Profiler:info", 24, 32),
     (65538, "Spa:Pod:Object:Profiler:clock", 24, 32),
     (65539, "Spa:Pod:Object:Profiler:driverBlock", 24, 32),
@@ -225,7 +225,7 @@ pub(crate) const ENTRIES_OF_PROFILER_KEYS: [Entry; 4] = [
 ];
 
 #[rattlefmt::skip]
-pub(crate) const ENTRIES_OF_LATENCY_KEYS: [Entry; 7] = [
+pub(crate) const ENTRIES_OF_LATENCY_KEYS: &[Entry] = &[
     (1, "Spa:Pod:Object:Param:Latency:direction", 29, 10),
     (2, "Spa:Pod:Object:Param:Latency:minQuantum", 29, 24),
     (3, "Spa:Pod:Object:Param:Latency:maxQuantum", 29, 24),
@@ -236,7 +236,7 @@ pub(crate) const ENTRIES_OF_LATENCY_KEYS: [Entry; 7] = [
 ];
 
 #[rattlefmt::skip]
-pub(crate) const ENTRIES_OF_PROCESS_LATENCY_KEYS: [Entry; 3] = [
+pub(crate) const ENTRIES_OF_PROCESS_LATENCY_KEYS: &[Entry] = &[
     (1, "Spa:Pod:Object:Param:ProcessLatency:quantum", 36, 24),
     (2, "Spa:Pod:Object:Param:ProcessLatency:rate", 36, 22),
     (3, "Spa:Pod:Object:Param:ProcessLatency:ns", 36, 23),

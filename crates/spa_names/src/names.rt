@@ -4,7 +4,7 @@
 use crate::entry::Naming;
 
 #[rattlefmt::skip]
-pub(crate) const NAMES_OF_TYPES: [Naming; 43] = [
+pub(crate) const NAMES_OF_TYPES: &[Naming] = &[
     ("Array", 13),
     ("Bitmap", 12),
     ("Bool", 2),
@@ -51,7 +51,7 @@ pub(crate) const NAMES_OF_TYPES: [Naming; 43] = [
 ];
 
 #[rattlefmt::skip]
-pub(crate) const NAMES_OF_CHOICES: [Naming; 5] = [
+pub(crate) const NAMES_OF_CHOICES: &[Naming] = &[
     ("Enum", 3),
     ("Flags", 4),
     ("None", 0),
@@ -60,7 +60,7 @@ pub(crate) const NAMES_OF_CHOICES: [Naming; 5] = [
 ];
 
 #[rattlefmt::skip]
-pub(crate) const NAMES_OF_CONTROLS: [Naming; 4] = [
+pub(crate) const NAMES_OF_CONTROLS: &[Naming] = &[
     ("Invalid", 0),
     ("Midi", 2),
     ("OSC", 3),
@@ -68,21 +68,21 @@ pub(crate) const NAMES_OF_CONTROLS: [Naming; 4] = [
 ];
 
 #[rattlefmt::skip]
-pub(crate) const NAMES_OF_DEVICE_KEYS: [Naming; 2] = [
+pub(crate) const NAMES_OF_DEVICE_KEYS: &[Naming] = &[
     ("Object", 1),
     ("Props", 2),
 ];
 
 #[rattlefmt::skip]
-pub(crate) const NAMES_OF_NODE_KEYS: [Naming; 0] = [
+pub(crate) const NAMES_OF_NODE_KEYS: &[Naming] = &[
 ];
 
 #[rattlefmt::skip]
-pub(crate) const NAMES_OF_COMMAND_NODE_KEYS: [Naming; 0] = [
+pub(crate) const NAMES_OF_COMMAND_NODE_KEYS: &[Naming] = &[
 ];
 
 #[rattlefmt::skip]
-pub(crate) const NAMES_OF_PROP_INFO_KEYS: [Naming; 7] = [
+pub(crate) const NAMES_OF_PROP_INFO_KEYS: &[Naming] = &[
     ("container", 5),
     ("description", 7),
     ("id", 1),
@@ -93,7 +93,7 @@ pub(crate) const NAMES_OF_PROP_INFO_KEYS: [Naming; 7] = [
 ];
 
 #[rattlefmt::skip]
-pub(crate) const NAMES_OF_PROPS_KEYS: [Naming; 42] = [
+pub(crate) const NAMES_OF_PROPS_KEYS: &[Naming] = &[
     ("bluetoothAudioCodec", 270),
     ("bluetoothOffloadActive", 271),
     ("brightness", 131073),
@@ -139,7 +139,7 @@ pub(crate) const NAMES_OF_PROPS_KEYS: [Naming; 42] = [
 ];
 
 #[rattlefmt::skip]
-pub(crate) const NAMES_OF_FORMAT_KEYS: [Naming; 34] = [
+pub(crate) const NAMES_OF_FORMAT_KEYS: &[Naming] = &[
     ("H264:streamFormat", 131090),
     ("Video:format", 131073),
     ("Video:profile", 131088),
@@ -177,7 +177,7 @@ pub(crate) const NAMES_OF_FORMAT_KEYS: [Naming; 34] = [
 ];
 
 #[rattlefmt::skip]
-pub(crate) const NAMES_OF_BUFFERS_KEYS: [Naming; 6] = [
+pub(crate) const NAMES_OF_BUFFERS_KEYS: &[Naming] = &[
     ("align", 5),
     ("blocks", 2),
     ("buffers", 1),
@@ -187,19 +187,19 @@ pub(crate) const NAMES_OF_BUFFERS_KEYS: [Naming; 6] = [
 ];
 
 #[rattlefmt::skip]
-pub(crate) const NAMES_OF_PARAM_META_KEYS: [Naming; 2] = [
+pub(crate) const NAMES_OF_PARAM_META_KEYS: &[Naming] = &[
     ("size", 2),
     ("type", 1),
 ];
 
 #[rattlefmt::skip]
-pub(crate) const NAMES_OF_IOKEYS: [Naming; 2] = [
+pub(crate) const NAMES_OF_IOKEYS: &[Naming] = &[
     ("id", 1),
     ("size", 2),
 ];
 
 #[rattlefmt::skip]
-pub(crate) const NAMES_OF_PROFILE_KEYS: [Naming; 8] = [
+pub(crate) const NAMES_OF_PROFILE_KEYS: &[Naming] = &[
     ("available", 5),
     ("classes", 7),
     ("description", 3),
@@ -211,7 +211,7 @@ pub(crate) const NAMES_OF_PROFILE_KEYS: [Naming; 8] = [
 ];
 
 #[rattlefmt::skip]
-pub(crate) const NAMES_OF_PORT_CONFIG_KEYS: [Naming; 5] = [
+pub(crate) const NAMES_OF_PORT_CONFIG_KEYS: &[Naming] = &[
     ("control", 4),
     ("direction", 1),
     ("format", 5),
@@ -220,7 +220,7 @@ pub(crate) const NAMES_OF_PORT_CONFIG_KEYS: [Naming; 5] = [
 ];
 
 #[rattlefmt::skip]
-pub(crate) const NAMES_OF_ROUTE_KEYS: [Naming; 13] = [
+pub(crate) const NAMES_OF_ROUTE_KEYS: &[Naming] = &[
     ("available", 7),
     ("description", 5),
     ("device", 3),
@@ -237,7 +237,7 @@ pub(crate) const NAMES_OF_ROUTE_KEYS: [Naming; 13] = [
 ];
 
 #[rattlefmt::skip]
-pub(crate) const NAMES_OF_PROFILER_KEYS: [Naming; 4] = [
+pub(crate) const NAMES_OF_PROFILER_KEYS: &[Naming] = &[
     ("clock", 65538),
     ("driverBlock", 65539),
     ("followerBlock", 131073),
@@ -245,7 +245,7 @@ pub(crate) const NAMES_OF_PROFILER_KEYS: [Naming; 4] = [
 ];
 
 #[rattlefmt::skip]
-pub(crate) const NAMES_OF_LATENCY_KEYS: [Naming; 7] = [
+pub(crate) const NAMES_OF_LATENCY_KEYS: &[Naming] = &[
     ("direction", 1),
     ("maxNs", 7),
     ("maxQuantum", 3),
@@ -256,19 +256,19 @@ pub(crate) const NAMES_OF_LATENCY_KEYS: [Naming; 7] = [
 ];
 
 #[rattlefmt::skip]
-pub(crate) const NAMES_OF_PROCESS_LATENCY_KEYS: [Naming; 3] = [
+pub(crate) const NAMES_OF_PROCESS_LATENCY_KEYS: &[Naming] = &[
     ("ns", 3),
     ("quantum", 1),
     ("rate", 2),
 ];
 
 #[rattlefmt::skip]
-pub(crate) const NAMES_OF_DEVICE_EVENT_ID: [Naming; 1] = [
+pub(crate) const NAMES_OF_DEVICE_EVENT_ID: &[Naming] = &[
     ("ObjectConfig", 0),
 ];
 
 #[rattlefmt::skip]
-pub(crate) const NAMES_OF_NODE: [Naming; 4] = [
+pub(crate) const NAMES_OF_NODE: &[Naming] = &[
     ("Buffering", 1),
     ("Error", 0),
     ("RequestProcess", 3),
@@ -276,7 +276,7 @@ pub(crate) const NAMES_OF_NODE: [Naming; 4] = [
 ];
 
 #[rattlefmt::skip]
-pub(crate) const NAMES_OF_COMMAND_NODE: [Naming; 11] = [
+pub(crate) const NAMES_OF_COMMAND_NODE: &[Naming] = &[
     ("Disable", 4),
     ("Drain", 6),
     ("Enable", 3),
@@ -291,7 +291,7 @@ pub(crate) const NAMES_OF_COMMAND_NODE: [Naming; 11] = [
 ];
 
 #[rattlefmt::skip]
-pub(crate) const NAMES_OF_PARAM_ID: [Naming; 17] = [
+pub(crate) const NAMES_OF_PARAM_ID: &[Naming] = &[
     ("Buffers", 5),
     ("Control", 14),
     ("EnumFormat", 3),
@@ -312,7 +312,7 @@ pub(crate) const NAMES_OF_PARAM_ID: [Naming; 17] = [
 ];
 
 #[rattlefmt::skip]
-pub(crate) const NAMES_OF_BLUETOOTH_AUDIO_CODEC: [Naming; 20] = [
+pub(crate) const NAMES_OF_BLUETOOTH_AUDIO_CODEC: &[Naming] = &[
     ("aac", 4),
     ("aptx", 5),
     ("aptx_hd", 6),
@@ -336,7 +336,7 @@ pub(crate) const NAMES_OF_BLUETOOTH_AUDIO_CODEC: [Naming; 20] = [
 ];
 
 #[rattlefmt::skip]
-pub(crate) const NAMES_OF_MEDIA_TYPE: [Naming; 7] = [
+pub(crate) const NAMES_OF_MEDIA_TYPE: &[Naming] = &[
     ("application", 6),
     ("audio", 1),
     ("binary", 4),
@@ -347,7 +347,7 @@ pub(crate) const NAMES_OF_MEDIA_TYPE: [Naming; 7] = [
 ];
 
 #[rattlefmt::skip]
-pub(crate) const NAMES_OF_MEDIA_SUBTYPE: [Naming; 36] = [
+pub(crate) const NAMES_OF_MEDIA_SUBTYPE: &[Naming] = &[
     ("aac", 65538),
     ("adpcm", 65543),
     ("alac", 65549),
@@ -387,7 +387,7 @@ pub(crate) const NAMES_OF_MEDIA_SUBTYPE: [Naming; 36] = [
 ];
 
 #[rattlefmt::skip]
-pub(crate) const NAMES_OF_AUDIO_FORMAT: [Naming; 70] = [
+pub(crate) const NAMES_OF_AUDIO_FORMAT: &[Naming] = &[
     ("ALAW", 288),
     ("ENCODED", 1),
     ("F32", 283),
@@ -461,13 +461,13 @@ pub(crate) const NAMES_OF_AUDIO_FORMAT: [Naming; 70] = [
 ];
 
 #[rattlefmt::skip]
-pub(crate) const NAMES_OF_AUDIO_FLAGS: [Naming; 2] = [
+pub(crate) const NAMES_OF_AUDIO_FLAGS: &[Naming] = &[
     ("none", 0),
     ("unpositioned", 1),
 ];
 
 #[rattlefmt::skip]
-pub(crate) const NAMES_OF_AUDIO_IEC958_CODEC: [Naming; 9] = [
+pub(crate) const NAMES_OF_AUDIO_IEC958_CODEC: &[Naming] = &[
     ("AC3", 3),
     ("DTS", 2),
     ("DTS-HD", 8),
@@ -480,14 +480,14 @@ pub(crate) const NAMES_OF_AUDIO_IEC958_CODEC: [Naming; 9] = [
 ];
 
 #[rattlefmt::skip]
-pub(crate) const NAMES_OF_PARAM_BITORDER: [Naming; 3] = [
+pub(crate) const NAMES_OF_PARAM_BITORDER: &[Naming] = &[
     ("lsb", 2),
     ("msb", 1),
     ("unknown", 0),
 ];
 
 #[rattlefmt::skip]
-pub(crate) const NAMES_OF_AUDIO_AACSTREAM_FORMAT: [Naming; 8] = [
+pub(crate) const NAMES_OF_AUDIO_AACSTREAM_FORMAT: &[Naming] = &[
     ("ADIF", 6),
     ("MP2ADTS", 2),
     ("MP4ADTS", 3),
@@ -499,7 +499,7 @@ pub(crate) const NAMES_OF_AUDIO_AACSTREAM_FORMAT: [Naming; 8] = [
 ];
 
 #[rattlefmt::skip]
-pub(crate) const NAMES_OF_AUDIO_WMAPROFILE: [Naming; 8] = [
+pub(crate) const NAMES_OF_AUDIO_WMAPROFILE: &[Naming] = &[
     ("UNKNOWN", 0),
     ("WMA10", 4),
     ("WMA10-Lossless", 7),
@@ -511,14 +511,14 @@ pub(crate) const NAMES_OF_AUDIO_WMAPROFILE: [Naming; 8] = [
 ];
 
 #[rattlefmt::skip]
-pub(crate) const NAMES_OF_AUDIO_AMRBAND_MODE: [Naming; 3] = [
+pub(crate) const NAMES_OF_AUDIO_AMRBAND_MODE: &[Naming] = &[
     ("NB", 1),
     ("UNKNOWN", 0),
     ("WB", 2),
 ];
 
 #[rattlefmt::skip]
-pub(crate) const NAMES_OF_VIDEO_FORMAT: [Naming; 87] = [
+pub(crate) const NAMES_OF_VIDEO_FORMAT: &[Naming] = &[
     ("A420", 34),
     ("A420_10BE", 54),
     ("A420_10LE", 55),
@@ -609,7 +609,7 @@ pub(crate) const NAMES_OF_VIDEO_FORMAT: [Naming; 87] = [
 ];
 
 #[rattlefmt::skip]
-pub(crate) const NAMES_OF_VIDEO_INTERLACE_MODE: [Naming; 4] = [
+pub(crate) const NAMES_OF_VIDEO_INTERLACE_MODE: &[Naming] = &[
     ("fields", 3),
     ("interleaved", 1),
     ("mixed", 2),
@@ -617,7 +617,7 @@ pub(crate) const NAMES_OF_VIDEO_INTERLACE_MODE: [Naming; 4] = [
 ];
 
 #[rattlefmt::skip]
-pub(crate) const NAMES_OF_META: [Naming; 9] = [
+pub(crate) const NAMES_OF_META: &[Naming] = &[
     ("Bitmap", 4),
     ("Busy", 7),
     ("Control", 6),
@@ -630,7 +630,7 @@ pub(crate) const NAMES_OF_META: [Naming; 9] = [
 ];
 
 #[rattlefmt::skip]
-pub(crate) const NAMES_OF_IO: [Naming; 10] = [
+pub(crate) const NAMES_OF_IO: &[Naming] = &[
     ("Buffers", 1),
     ("Clock", 3),
     ("Control", 5),
@@ -644,20 +644,20 @@ pub(crate) const NAMES_OF_IO: [Naming; 10] = [
 ];
 
 #[rattlefmt::skip]
-pub(crate) const NAMES_OF_PARAM_AVAILABILITY: [Naming; 3] = [
+pub(crate) const NAMES_OF_PARAM_AVAILABILITY: &[Naming] = &[
     ("no", 1),
     ("unknown", 0),
     ("yes", 2),
 ];
 
 #[rattlefmt::skip]
-pub(crate) const NAMES_OF_DIRECTION: [Naming; 2] = [
+pub(crate) const NAMES_OF_DIRECTION: &[Naming] = &[
     ("Input", 0),
     ("Output", 1),
 ];
 
 #[rattlefmt::skip]
-pub(crate) const NAMES_OF_PARAM_PORT_CONFIG_MODE: [Naming; 4] = [
+pub(crate) const NAMES_OF_PARAM_PORT_CONFIG_MODE: &[Naming] = &[
     ("convert", 2),
     ("dsp", 3),
     ("none", 0),
@@ -665,7 +665,7 @@ pub(crate) const NAMES_OF_PARAM_PORT_CONFIG_MODE: [Naming; 4] = [
 ];
 
 #[rattlefmt::skip]
-pub(crate) const NAMES_OF_AUDIO_CHANNEL: [Naming; 102] = [
+pub(crate) const NAMES_OF_AUDIO_CHANNEL: &[Naming] = &[
     ("AUX0", 4096),
     ("AUX1", 4097),
     ("AUX10", 4106),

@@ -124,20 +124,20 @@ def main():
             out += ["use crate::entry::Entry;"]
         for at in [it for it in kept if it in ours]:
             rows = entries_in(tables[at], lambda *of: expected.index(expected_of(*of) if ours == is_keys else NOTHING))
-            out += ["", "#[rattlefmt::skip]", f"pub(crate) const ENTRIES_OF_{constant_of(titles[at])}: [Entry; {len(rows)}] = ["]
+            out += ["", "#[rattlefmt::skip]", f"pub(crate) const ENTRIES_OF_{constant_of(titles[at])}: &[Entry] = &["]
             out += rows + ["];"]
         write(f"src/{module}.rt", out)
 
     out = [f"// Written {OF_C}", "//! The names of each table, in their order.", "", "use crate::entry::Naming;"]
     for at in kept:
         rows = sorted((name.encode(), number) for number, name, _, _, _ in named(tables[at]))
-        out += ["", "#[rattlefmt::skip]", f"pub(crate) const NAMES_OF_{constant_of(titles[at])}: [Naming; {len(rows)}] = ["]
+        out += ["", "#[rattlefmt::skip]", f"pub(crate) const NAMES_OF_{constant_of(titles[at])}: &[Naming] = &["]
         out += [f'    ("{name.decode()}", {number}),' for name, number in rows] + ["];"]
     write("src/names.rt", out)
 
     def arms(ours, rows):
         """The arms of a match that gives the rows of our tables."""
-        return [f"        Table::{titles[at]} => &{rows(at)}_OF_{constant_of(titles[at])}," for at in kept if at in ours]
+        return [f"        Table::{titles[at]} => {rows(at)}_OF_{constant_of(titles[at])}," for at in kept if at in ours]
 
     def entries(at):
         return ("key" if at in is_keys else "id") + "_entries::ENTRIES"
@@ -176,10 +176,10 @@ def main():
     out += [f"use Rattle.spa_names.specs.declared.id_entries.TheConstants.{{{constants_of(set(kept) - is_keys)}}}"]
     out += [f"use Rattle.spa_names.specs.declared.names.TheConstants.{{{', '.join('NAMES_OF_' + it for it in constants)}}}"]
     out += ["", "-- the entries of a table, by their numbers", "abbrev pub rows_of : Table → List Row"]
-    out += [f"rows_of {titles[at]} = map (λ e. (e.0, e.1.now, e.2, get_or EXPECTED e.3 NOTHING)) ENTRIES_OF_{constant_of(titles[at])}" for at in kept]
+    out += [f"rows_of {titles[at]} = map (λ e. (e.0, e.1.now, e.2, get_or EXPECTED e.3 NOTHING)) ENTRIES_OF_{constant_of(titles[at])}.now" for at in kept]
     out += ["rows_of Nothing = []"]
     out += ["", "-- the names of a table, in their order", "abbrev pub namings_of : Table → List Naming"]
-    out += [f"namings_of {titles[at]} = map (λ e. (e.0.now, e.1)) NAMES_OF_{constant_of(titles[at])}" for at in kept]
+    out += [f"namings_of {titles[at]} = map (λ e. (e.0.now, e.1)) NAMES_OF_{constant_of(titles[at])}.now" for at in kept]
     out += ["namings_of Nothing = []"]
     out += ["", "-- a table of types or ids, or without names: of no keys", "abbrev pub IsOfIds : Table → Type 0"]
     out += [f"IsOfIds {titles[at]} = ⊥" for at in kept if at in is_keys] + ["IsOfIds _ = ⊤"]

@@ -47,3 +47,43 @@ fn printed(alloc: Global, value: &Value) -> Result<Option<String>, AllocError> {
 fn assert_so(rt: &impl Abort, holds: bool, text: &str) {
     assert!(rt; holds, "another answer for {text}");
 }
+
+/// What a row says of its text.
+#[derive(Clone, Copy)]
+enum Says {
+    /// `{:?}` of the value that it is read as, which comes back.
+    Value,
+    /// What that is printed as on one line.
+    Line,
+    /// What it is printed as on lines of their own.
+    Lines,
+    /// Where the text is refused.
+    Place,
+}
+
+/// Whether what is said of the text holds.
+fn holds(alloc: Global, says: Says, text: &str, wanted: &str) -> Result<bool, AllocError> {
+    match says {
+        Says::Value => values::is_read_as_shown(alloc, text, wanted),
+        Says::Line => rows::is_printed_as(alloc, text, wanted),
+        Says::Lines => pretty::is_laid_out(alloc, text, wanted),
+        Says::Place => refused::is_refused_there(alloc, text, wanted),
+    }
+}
+
+/// What a row says of its text holds, or, where it says nothing, that the text comes back. A line feed is `⏎` there.
+fn assert_row(rt: &impl Abort, alloc: Global, says: Says, row: &str) -> Result<(), AllocError> {
+    let row = row.replace(alloc, "⏎", "\n")?;
+    let row = row.as_str();
+    let (text, wanted) = row.split_once(" => ").unwrap_or((row, row));
+    let holds = holds(alloc, says, text, wanted)?;
+    assert_so(rt, holds, row);
+    Ok(())
+}
+
+fn assert_rows(rt: &impl Abort, alloc: Global, says: Says, rows: &str) -> Result<(), AllocError> {
+    for row in rows.lines() {
+        assert_row(rt, alloc, says, row)?;
+    }
+    Ok(())
+}

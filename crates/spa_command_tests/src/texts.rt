@@ -189,27 +189,18 @@ fn texts_are_read(rt: HostRuntime) -> Result<(), SpellingError> {
     assert_rows(&rt, rt.alloc(), TEXTS)
 }
 
-/// Pods that are their own rewriting, a line each: an Int, a struct of a text with brackets and a struct, an object with flags.
-const PODS: &str = "4 4 5 0
-40 14 6 8 x225b5d7b 92 0 14 4 4 7 0
-32 15 99 3 5 3 4 3 9 0";
-
-/// Pods that are printed on lines of their own are read back.
-fn assert_read_back(rt: &impl Abort, alloc: Global, words: &str) -> Result<(), SpellingError> {
-    let printed = found_of(alloc, "print --pretty", words, AMPLE.0)?;
-    let source = whole(printed.written.as_slice());
-    let found = outcome_of(alloc, &["read"], source, &EMPTY, AMPLE);
-    let pods = bytes_spelled(alloc, words)?;
-    assert_found(rt, (&[words], &[]), &found, (pods.as_slice(), "", 0));
-    Ok(())
-}
+/// Pods that are their own rewriting, printed on lines of their own and read back: an Int, a struct of a text with brackets and a struct,
+/// an object with flags.
+const INDENTED: &str = r#"print --pretty | 4 4 5 0 | 0 | :5⏎
+read | :5⏎ | 0 | 4 4 5 0
+print --pretty | 40 14 6 8 x225b5d7b 92 0 14 4 4 7 0 | 0 | :[⏎  "\"[]{\\",⏎  [],⏎  7⏎]⏎
+read | :[⏎  "\"[]{\\",⏎  [],⏎  7⏎]⏎ | 0 | 40 14 6 8 x225b5d7b 92 0 14 4 4 7 0
+print --pretty | 32 15 99 3 5 3 4 3 9 0 | 0 | :{⏎  "type": 99,⏎  "id": 3,⏎  "props": {⏎    "5": {⏎      "flags": 3,⏎      "value": {⏎        "id": 9⏎      }⏎    }⏎  }⏎}⏎
+read | :{⏎  "type": 99,⏎  "id": 3,⏎  "props": {⏎    "5": {⏎      "flags": 3,⏎      "value": {⏎        "id": 9⏎      }⏎    }⏎  }⏎}⏎ | 0 | 32 15 99 3 5 3 4 3 9 0"#;
 
 #[test]
 fn indented_texts_are_read_back(rt: HostRuntime) -> Result<(), SpellingError> {
-    for words in PODS.lines() {
-        assert_read_back(&rt, rt.alloc(), words)?;
-    }
-    Ok(())
+    assert_rows(&rt, rt.alloc(), INDENTED)
 }
 
 /// Files compared. Padding says nothing, and any truth is true; an Id is no Int; a zero of the other sign is another value, and a NaN is

@@ -1,5 +1,5 @@
 //! Why texts are refused.
-use super::{assert_so, held};
+use super::{Says, assert_rows, assert_so, held};
 use spa_text::{Cause, TextError, read};
 use spa_value::discard;
 use std::alloc::{AllocError, Global};
@@ -55,14 +55,10 @@ fn assert_refused(rt: &impl Abort, alloc: Global, text: &str, wanted: Cause) {
     assert_so(rt, cause == Some(wanted), text);
 }
 
-/// Texts that are refused, and where: the line, the column and the path. A blank line stands between two.
-const PLACES: &str = r#"[1,
-2,x] => 2:3:[2]
-
+/// Texts that are refused, and where: the line, the column and the path.
+const PLACES: &str = r#"[1,⏎2,x] => 2:3:[2]
 x => 1:1:
-
 {"type":"Format","id":3,"props":{"rate":"fast","rate":2147483648}} => 1:65:.props.rate
-
 [[],[{"array":"Int","values":[1,true]}]] => 1:37:[1][0].values"#;
 
 /// Where a text is refused, if it is.
@@ -82,9 +78,12 @@ fn said_of(alloc: Global, error: &TextError) -> Result<String, AllocError> {
     Ok(said)
 }
 
-/// Whether a text is refused where its row says.
-fn is_refused_there(alloc: Global, row: &str) -> Result<bool, AllocError> {
-    let (text, wanted) = row.split_once(" => ").unwrap_or((row, ""));
+/// Whether the text is refused there.
+pub(super) fn is_refused_there(
+    alloc: Global,
+    text: &str,
+    wanted: &str,
+) -> Result<bool, AllocError> {
     match place_of(alloc, text)? {
         Some(place) => Ok(place.as_str() == wanted),
         None => Ok(false),
@@ -93,9 +92,5 @@ fn is_refused_there(alloc: Global, row: &str) -> Result<bool, AllocError> {
 
 #[test]
 fn refusals_have_their_places(rt: HostRuntime) -> Result<(), AllocError> {
-    for row in PLACES.split("\n\n") {
-        let holds = is_refused_there(rt.alloc(), row)?;
-        assert_so(&rt, holds, row);
-    }
-    Ok(())
+    assert_rows(&rt, rt.alloc(), Says::Place, PLACES)
 }

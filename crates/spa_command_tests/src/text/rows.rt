@@ -1,9 +1,8 @@
 //! Texts, and what they are printed as again.
-use super::{assert_so, printed, value_of};
+use super::{Says, assert_rows, assert_so, printed, value_of};
 use spa_text::print;
 use spa_value::Value;
 use std::alloc::{AllocError, Global};
-use std::process::Abort;
 
 /// What a text is printed as, once it is read; nothing where it is refused.
 fn printed_again(alloc: Global, text: &str) -> Result<Option<String>, AllocError> {
@@ -13,21 +12,12 @@ fn printed_again(alloc: Global, text: &str) -> Result<Option<String>, AllocError
     }
 }
 
-/// Whether a text is printed as its row says, or, where it says nothing, as it stands.
-fn is_printed_so(alloc: Global, row: &str) -> Result<bool, AllocError> {
-    let (text, wanted) = row.split_once(" => ").unwrap_or((row, row));
+/// Whether the text is printed so, once it is read.
+pub(super) fn is_printed_as(alloc: Global, text: &str, wanted: &str) -> Result<bool, AllocError> {
     match printed_again(alloc, text)? {
         Some(again) => Ok(again.as_str() == wanted),
         None => Ok(false),
     }
-}
-
-fn assert_rows(rt: &impl Abort, alloc: Global, rows: &str) -> Result<(), AllocError> {
-    for row in rows.lines() {
-        let holds = is_printed_so(alloc, row)?;
-        assert_so(rt, holds, row);
-    }
-    Ok(())
 }
 
 /// Texts as they are printed: each kind at its ends, names, flags, unknown types, repeated keys, control characters, the payloads
@@ -84,7 +74,7 @@ false
 
 #[test]
 fn canonical_texts_come_back(rt: HostRuntime) -> Result<(), AllocError> {
-    assert_rows(&rt, rt.alloc(), CANONICAL)
+    assert_rows(&rt, rt.alloc(), Says::Line, CANONICAL)
 }
 
 /// Texts in other forms, and what they are printed as. A line for each.
@@ -103,7 +93,7 @@ const LAX: &str = r#" [ 1 , 2 ]  => [1,2]
 
 #[test]
 fn other_forms_are_read(rt: HostRuntime) -> Result<(), AllocError> {
-    assert_rows(&rt, rt.alloc(), LAX)
+    assert_rows(&rt, rt.alloc(), Says::Line, LAX)
 }
 
 /// Two texts behind a line.

@@ -1,9 +1,8 @@
 //! Texts, and the values that they are read as, printed again.
-use super::{assert_so, is_read_as, printed, value_of};
+use super::{Says, assert_rows, is_read_as, printed, value_of};
 use spa_value::Value;
 use std::alloc::{AllocError, Global};
 use std::fmt::Write;
-use std::process::Abort;
 
 /// `{:?}` of the value.
 fn shown(alloc: Global, value: &Value) -> Result<String, AllocError> {
@@ -29,26 +28,16 @@ fn is_value(alloc: Global, value: &Value, wanted: &str) -> Result<bool, AllocErr
     comes_back(alloc, value)
 }
 
-/// Whether a text is read as the value of its row.
-fn is_read_so(alloc: Global, row: &str) -> Result<bool, AllocError> {
-    let (text, wanted) = row.split_once(" => ").unwrap_or((row, ""));
+/// Whether the text is read as the value of which this is `{:?}`, and that comes back.
+pub(super) fn is_read_as_shown(
+    alloc: Global,
+    text: &str,
+    wanted: &str,
+) -> Result<bool, AllocError> {
     match value_of(alloc, text)? {
         Some(value) => is_value(alloc, &*value, wanted),
         None => Ok(false),
     }
-}
-
-fn assert_row(rt: &impl Abort, alloc: Global, row: &str) -> Result<(), AllocError> {
-    let holds = is_read_so(alloc, row)?;
-    assert_so(rt, holds, row);
-    Ok(())
-}
-
-fn assert_rows(rt: &impl Abort, alloc: Global, rows: &str) -> Result<(), AllocError> {
-    for row in rows.lines() {
-        assert_row(rt, alloc, row)?;
-    }
-    Ok(())
 }
 
 /// Texts, and `{:?}` of their values. A line for each.
@@ -57,12 +46,11 @@ true => Bool(true)
 false => Bool(false)
 -0 => Int(0)
 -2147483648 => Int(-2147483648)
-2147483647 => Int(2147483647)"#;
+⏎2147483647⏎ => Int(2147483647)"#;
 
 #[test]
 fn numbers_are_read(rt: HostRuntime) -> Result<(), AllocError> {
-    assert_row(&rt, rt.alloc(), " 2147483647\n => Int(2147483647)")?;
-    assert_rows(&rt, rt.alloc(), NUMBERS)
+    assert_rows(&rt, rt.alloc(), Says::Value, NUMBERS)
 }
 
 /// Numbers under the names of their types.
@@ -77,7 +65,7 @@ const TAGGED: &str = r#"{"int":5} => Int(5)
 
 #[test]
 fn tagged_numbers_are_read(rt: HostRuntime) -> Result<(), AllocError> {
-    assert_rows(&rt, rt.alloc(), TAGGED)
+    assert_rows(&rt, rt.alloc(), Says::Value, TAGGED)
 }
 
 /// Floats by their digits and by their bits: the sign of zero, the least subnormal, the greatest, infinities, the payload of a NaN.
@@ -93,7 +81,7 @@ const FLOATS: &str = r#"{"float":5} => Float(Float32(1084227584))
 
 #[test]
 fn floats_are_read(rt: HostRuntime) -> Result<(), AllocError> {
-    assert_rows(&rt, rt.alloc(), FLOATS)
+    assert_rows(&rt, rt.alloc(), Says::Value, FLOATS)
 }
 
 /// Texts, which are escaped in more ways than one, and bytes.
@@ -105,7 +93,7 @@ const TEXTS: &str = r#""a\u0001\n\"\\\/\u00e4\ud83d\ude00" => String("a\u{1}\n\"
 
 #[test]
 fn texts_and_bytes_are_read(rt: HostRuntime) -> Result<(), AllocError> {
-    assert_rows(&rt, rt.alloc(), TEXTS)
+    assert_rows(&rt, rt.alloc(), Says::Value, TEXTS)
 }
 
 /// Elements, one of them under the name of its type, none, and a choice with flags.
@@ -115,7 +103,7 @@ const LISTS: &str = r#"{"array":"Int","values":[1,{"int":-1}]} => ValueArray(Int
 
 #[test]
 fn arrays_and_choices_are_read(rt: HostRuntime) -> Result<(), AllocError> {
-    assert_rows(&rt, rt.alloc(), LISTS)
+    assert_rows(&rt, rt.alloc(), Says::Value, LISTS)
 }
 
 /// Two members, of which the second is a struct.
@@ -123,7 +111,7 @@ const STRUCTS: &str = r#"[1,{"struct":[]}] => Struct([Int(1), Struct([])])"#;
 
 #[test]
 fn structs_are_read(rt: HostRuntime) -> Result<(), AllocError> {
-    assert_rows(&rt, rt.alloc(), STRUCTS)
+    assert_rows(&rt, rt.alloc(), Says::Value, STRUCTS)
 }
 
 /// An object with a repeated key, flags, and values by the names that its keys have.
@@ -132,5 +120,5 @@ const OBJECTS: &str =
 
 #[test]
 fn objects_are_read(rt: HostRuntime) -> Result<(), AllocError> {
-    assert_rows(&rt, rt.alloc(), OBJECTS)
+    assert_rows(&rt, rt.alloc(), Says::Value, OBJECTS)
 }

@@ -76,9 +76,9 @@ fn push<T: Copy>(values: &mut Vec<T>, value: T) -> Result<(), Cause>
     ensures ok { OnOk result (values.new.items ≡ values.old.items ++ value ∷ []) }
     ensures memory { IfErr result (λ e. e ≡ Cause.OutOfMemory) }
 {
-    if values.reserve(1).is_err() {
+    let Ok(()) = values.reserve(1) else {
         return Err(Cause::OutOfMemory);
-    }
+    };
     values.push_reserved(value);
     Ok(())
 }

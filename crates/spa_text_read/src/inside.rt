@@ -258,14 +258,14 @@ impl OpenObject {
         ensures refused { IfErr result (λ e. e ≢ Cause.OutOfMemory → grammar.close self.old.braced reader.old ≡ None) }
         ensures no_more { length reader.new ≤ length reader.old }
     {
-        if close(reader, self.braced).is_none() {
+        let Some(()) = close(reader, self.braced) else {
             discard(value);
             return Err(Cause::Token);
-        }
-        if self.properties.reserve(1).is_err() {
+        };
+        let Ok(()) = self.properties.reserve(1) else {
             discard(value);
             return Err(Cause::OutOfMemory);
-        }
+        };
         self.properties.push_reserved(Property {
             key: self.key,
             flags: self.flags,
@@ -309,9 +309,9 @@ fn property_at<'a>(reader: &mut Reader<'a>) -> Option<(u32, bool, Token<'a>)>
     let Some(flags) = word(reader) else {
         return None;
     };
-    if key(reader, "value").is_none() {
+    let Some(()) = key(reader, "value") else {
         return None;
-    }
+    };
     match head(reader) {
         Some(first) => Some((flags, true, first)),
         None => None,
@@ -324,10 +324,10 @@ fn put_member(members: &mut Vec<Value>, value: Value) -> Result<(), Cause>
     ensures ok { OnOk result (views members.new.items ≡ join_members (views members.old.items) (member (view value) no_trees)) }
     ensures memory { IfErr result (λ e. e ≡ Cause.OutOfMemory) }
 {
-    if members.reserve(1).is_err() {
+    let Ok(()) = members.reserve(1) else {
         discard(value);
         return Err(Cause::OutOfMemory);
-    }
+    };
     members.push_reserved(value);
     Ok(())
 }

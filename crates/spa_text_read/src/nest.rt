@@ -74,10 +74,10 @@ impl Nest {
         ensures outer { OnOk result (stack_of self.new.outer.items ≡ frame_of self.old.inner ∷ stack_of self.old.outer.items) }
         ensures memory { IfErr result (λ e. e ≡ Cause.OutOfMemory) }
     {
-        if self.outer.reserve(1).is_err() {
+        let Ok(()) = self.outer.reserve(1) else {
             begun.give_up();
             return Err(Cause::OutOfMemory);
-        }
+        };
         let last = mem::replace(&mut self.inner, begun);
         self.outer.push_reserved(last);
         Ok(())

@@ -82,9 +82,9 @@ fn open_tagged(
 {
     match tag {
         Tag::Struct => {
-            if begin_array(reader).is_none() {
+            let Some(()) = begin_array(reader) else {
                 return Err(Cause::Token);
-            }
+            };
             Ok(Opened::Begun(Inside::Struct {
                 tagged: true,
                 members: Vec::new(alloc),
@@ -219,9 +219,9 @@ fn two_words(reader: &mut Reader<'_>, name: &str) -> Option<(u32, u32)>
     let Some(first) = word(reader) else {
         return None;
     };
-    if key(reader, name).is_none() {
+    let Some(()) = key(reader, name) else {
         return None;
-    }
+    };
     match word(reader) {
         Some(second) => Some((first, second)),
         None => None,
@@ -236,9 +236,9 @@ fn pointer_at(reader: &mut Reader<'_>) -> Option<(u32, u64)>
     let Some(type_) = name_or_word(reader, Table::Types) else {
         return None;
     };
-    if key(reader, "address").is_none() {
+    let Some(()) = key(reader, "address") else {
         return None;
-    }
+    };
     let Some(text) = any_text(reader) else {
         return None;
     };
@@ -280,9 +280,12 @@ fn array_at(alloc: Global, reader: &mut Reader<'_>, expected: Expected) -> Resul
     let Some(values) = no_elements(alloc, type_) else {
         return Err(Cause::Type);
     };
-    if key(reader, "values").is_none() || begin_array(reader).is_none() {
+    let Some(()) = key(reader, "values") else {
         return Err(Cause::Token);
-    }
+    };
+    let Some(()) = begin_array(reader) else {
+        return Err(Cause::Token);
+    };
     Ok(Inside::Array {
         ids: expected.ids,
         values,
@@ -298,15 +301,18 @@ fn object_at(alloc: Global, reader: &mut Reader<'_>) -> Result<Inside, Cause>
     let Some(type_) = name_or_word(reader, Table::Types) else {
         return Err(Cause::Number);
     };
-    if key(reader, "id").is_none() {
+    let Some(()) = key(reader, "id") else {
         return Err(Cause::Token);
-    }
+    };
     let Some(id) = name_or_word(reader, ids_of(type_)) else {
         return Err(Cause::Number);
     };
-    if key(reader, "props").is_none() || begin_object(reader).is_none() {
+    let Some(()) = key(reader, "props") else {
         return Err(Cause::Token);
-    }
+    };
+    let Some(()) = begin_object(reader) else {
+        return Err(Cause::Token);
+    };
     Ok(Inside::Object(OpenObject {
         type_,
         id,
@@ -389,9 +395,12 @@ fn choice_at(alloc: Global, reader: &mut Reader<'_>, expected: Expected) -> Resu
     let Some(values) = no_elements(alloc, type_) else {
         return Err(Cause::Type);
     };
-    if third != "values" || begin_array(reader).is_none() {
+    if third != "values" {
         return Err(Cause::Token);
     }
+    let Some(()) = begin_array(reader) else {
+        return Err(Cause::Token);
+    };
     Ok(Inside::Choice {
         shape,
         flags,

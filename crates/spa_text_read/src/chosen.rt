@@ -25,7 +25,6 @@ pub(crate) fn choice_value(shape: Shape, flags: u32, values: ValueArray) -> Resu
 }
 
 /// The choice of these values; there is none over values of no size.
-#[tactic(auto, using(crate::proofs::ViewLaws::chosen_in))]
 fn any_choice(shape: Shape, flags: u32, values: ValueArray) -> Option<ChoiceValue>
     ensures { MatchOption result (grammar.choice_of (shape_of shape) flags (kind_in values) (items_in values) ≡ None) (λ c. grammar.choice_of (shape_of shape) flags (kind_in values) (items_in values) ≡ Some (choice_view c)) }
 {

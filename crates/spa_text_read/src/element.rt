@@ -51,7 +51,6 @@ pub(crate) fn element_of(value: &Value) -> Option<Element>
 }
 
 /// Puts an element behind the others, where it is of their type.
-#[tactic(auto, using(crate::proofs::ViewLaws::map_one))]
 pub(crate) fn put_element(values: &mut ValueArray, element: Element) -> Result<(), Cause>
     ensures put { OnOk result (option_map (λ x. items_in values.old ++ x ∷ []) (of_kind (kind_in values.old) (said_by element)) ≡ Some (items_in values.new)) }
     ensures kind { OnOk result (kind_in values.new ≡ kind_in values.old) }

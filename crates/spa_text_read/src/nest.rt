@@ -42,7 +42,6 @@ impl Nest {
     }
 
     /// Reads the value that begins with this token, or goes into it. Something is left to read.
-    #[tactic(auto, using(crate::proofs::Nesting::leaf_put, crate::proofs::Nesting::leaf_not_put, crate::proofs::Nesting::begun_pushed, crate::proofs::Nesting::not_begun))]
     fn begin_value(
         &mut self,
         alloc: Global,

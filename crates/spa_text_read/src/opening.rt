@@ -28,7 +28,7 @@ use spa_value::{PropertyFlags, Value, ValueArray, discard};
 use std::alloc::Global;
 
 /// Reads what begins with this token: a whole value, or a value with others in it up to these.
-#[tactic(auto, using(crate::proofs::ViewLaws::number_leaf, crate::proofs::ViewLaws::number_tree), unfolding(crate::specs::Grammar::opens))]
+#[tactic(auto, unfolding(crate::specs::Grammar::opens))]
 pub(crate) fn open(
     alloc: Global,
     reader: &mut Reader<'_>,
@@ -110,7 +110,6 @@ fn open_tagged(
 }
 
 /// Reads a value without members, up to the brace behind it.
-#[tactic(auto, using(crate::proofs::ViewLaws::number_leaf, crate::proofs::ViewLaws::number_tree))]
 fn leaf_at(
     alloc: Global,
     reader: &mut Reader<'_>,

@@ -23,46 +23,6 @@ use Rattle.spa_text_read.specs.Options.{◌>>=◌}
 use Rattle.spa_text_read.specs.Steps.{element_of, fixed_part, of_kind}
 use Rattle.spa_text_read.specs.Seen.{IsNumber, items_in, kind_in, leaf_of, number_in}
 
-pub number_leaf : (v : Value) → IsNumber v → leaf_of (view v) ≡ a_number (number_in v)
-number_leaf v h = ap leaf_of h
-
-pub number_tree : (v : Value) → IsNumber v → tree (leaf_of (view v)) ≡ view v
-number_tree v h = ap (λ w. tree (leaf_of w)) h ∙ sym h
-
--- a choice and an array are of no fixed size
-array_is_none : (a : ValueArray) → fixed_part (array_view a) ≡ None
-array_is_none (A.None xs) = refl
-array_is_none (A.Bool xs) = refl
-array_is_none (A.Id xs) = refl
-array_is_none (A.Int xs) = refl
-array_is_none (A.Long xs) = refl
-array_is_none (A.Float xs) = refl
-array_is_none (A.Double xs) = refl
-array_is_none (A.Rectangle xs) = refl
-array_is_none (A.Fraction xs) = refl
-array_is_none (A.Fd xs) = refl
-
-pub array_part : (a : ValueArray) → fixed_part (array_view a) ≡ None
-array_part a = array_is_none a
-
-chosen : {T : Type 0} (k : Kind) (f : T → Fixed) (n : ℕ) (c : ChoiceEnum T) → fixed_part (choice_enum_tree k f n c) ≡ None
-chosen k f n (E.None x) = refl
-chosen k f n (E.Range x a b) = refl
-chosen k f n (E.Step x a b s) = refl
-chosen k f n (E.Enum x xs) = refl
-chosen k f n (E.Flags x xs) = refl
-
-pub choice_part : (c : ChoiceValue) → fixed_part (choice_view c) ≡ None
-choice_part (C.Bool c) = chosen _ _ _ c.1
-choice_part (C.Id c) = chosen _ _ _ c.1
-choice_part (C.Int c) = chosen _ _ _ c.1
-choice_part (C.Long c) = chosen _ _ _ c.1
-choice_part (C.Float c) = chosen _ _ _ c.1
-choice_part (C.Double c) = chosen _ _ _ c.1
-choice_part (C.Rectangle c) = chosen _ _ _ c.1
-choice_part (C.Fraction c) = chosen _ _ _ c.1
-choice_part (C.Fd c) = chosen _ _ _ c.1
-
 pub object_part : (o : Object) → fixed_part (object_view o) ≡ None
 object_part o = ap fixed_part (view-fields o)
 
@@ -103,10 +63,3 @@ not_of_kind k v x e d = ap (λ o. o >>= of_kind k) (sym e) ∙ d
 
 pub not_said : (k : Kind) (v : Tree) → None ≡ fixed_part v → element_of k v ≡ None
 not_said k v e = ap (λ o. o >>= of_kind k) (sym e)
-
--- the choice of an array's values
-pub chosen_in : (s : Shape) (f : ℕ) (v w : ValueArray) (o : Option Tree) → v ≡ w → kind_eq (kind_in w) none_kind ≡ false →
-    grammar.chosen s f (kind_in w) (items_in w) ≡ o → choice_of s f (kind_in v) (items_in v) ≡ o
-chosen_in s f v w o e k d =
-    ap (λ a. choice_of s f (kind_in a) (items_in a)) e
-    ∙ ap (λ b. if b then None else grammar.chosen s f (kind_in w) (items_in w)) k ∙ d

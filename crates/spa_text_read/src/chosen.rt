@@ -83,7 +83,6 @@ fn chosen<T: CanonicalFixedSizedPod>(shape: Shape, values: Vec<T>) -> Option<Cho
 }
 
 /// A choice of one value.
-#[tactic(auto, using(crate::proofs::Choosing::one_chosen, crate::proofs::Choosing::not_one))]
 fn one<T: CanonicalFixedSizedPod>(values: &[T]) -> Option<ChoiceEnum<T>>
     ensures { MatchOption result ((n : ℕ) → grammar.chosen none_choice n T.kind (map T.fixed values.now) ≡ None) (λ c. (n : ℕ) → grammar.chosen none_choice n T.kind (map T.fixed values.now) ≡ Some (choice_enum_tree T.kind T.fixed n c)) }
 {
@@ -94,7 +93,6 @@ fn one<T: CanonicalFixedSizedPod>(values: &[T]) -> Option<ChoiceEnum<T>>
 }
 
 /// A default with its minimum and maximum.
-#[tactic(auto, using(crate::proofs::Choosing::three_chosen, crate::proofs::Choosing::not_three))]
 fn three<T: CanonicalFixedSizedPod>(values: &[T]) -> Option<ChoiceEnum<T>>
     ensures { MatchOption result ((n : ℕ) → grammar.chosen range_choice n T.kind (map T.fixed values.now) ≡ None) (λ c. (n : ℕ) → grammar.chosen range_choice n T.kind (map T.fixed values.now) ≡ Some (choice_enum_tree T.kind T.fixed n c)) }
 {
@@ -109,7 +107,6 @@ fn three<T: CanonicalFixedSizedPod>(values: &[T]) -> Option<ChoiceEnum<T>>
 }
 
 /// A default with its minimum, maximum and step.
-#[tactic(auto, using(crate::proofs::Choosing::four_chosen, crate::proofs::Choosing::not_four))]
 fn four<T: CanonicalFixedSizedPod>(values: &[T]) -> Option<ChoiceEnum<T>>
     ensures { MatchOption result ((n : ℕ) → grammar.chosen step_choice n T.kind (map T.fixed values.now) ≡ None) (λ c. (n : ℕ) → grammar.chosen step_choice n T.kind (map T.fixed values.now) ≡ Some (choice_enum_tree T.kind T.fixed n c)) }
 {

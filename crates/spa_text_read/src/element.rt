@@ -24,7 +24,7 @@ pub(crate) enum Element {
 }
 
 /// What a value of fixed size says.
-#[tactic(auto, using(crate::proofs::ViewLaws::array_part, crate::proofs::ViewLaws::choice_part, crate::proofs::ViewLaws::object_part))]
+#[tactic(auto, using(crate::proofs::ViewLaws::object_part))]
 pub(crate) fn element_of(value: &Value) -> Option<Element>
     ensures { option_map said_by result ≡ fixed_part (view value.now) }
 {

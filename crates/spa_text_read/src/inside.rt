@@ -250,7 +250,6 @@ impl OpenObject {
     }
 
     /// Puts the value of the property whose key and flags are read behind the others.
-    #[tactic(auto, using(crate::proofs::ViewLaws::property_views_one))]
     fn put(&mut self, value: Value, reader: &mut Reader<'_>) -> Result<(), Cause>
         ensures closed { OnOk result (grammar.close self.old.braced reader.old ≡ Some reader.new) }
         ensures put { OnOk result (property_views self.new.properties.items ≡ join_properties (property_views self.old.properties.items) (property self.old.key self.old.flags.0 (view value) no_properties)) }
@@ -319,7 +318,6 @@ fn property_at<'a>(reader: &mut Reader<'a>) -> Option<(u32, bool, Token<'a>)>
 }
 
 /// Puts a member behind the others.
-#[tactic(auto, using(crate::proofs::ViewLaws::views_one))]
 fn put_member(members: &mut Vec<Value>, value: Value) -> Result<(), Cause>
     ensures ok { OnOk result (views members.new.items ≡ join_members (views members.old.items) (member (view value) no_trees)) }
     ensures memory { IfErr result (λ e. e ≡ Cause.OutOfMemory) }
@@ -333,7 +331,6 @@ fn put_member(members: &mut Vec<Value>, value: Value) -> Result<(), Cause>
 }
 
 /// Puts a value of fixed size behind the others, where it is of their type.
-#[tactic(auto, using(crate::proofs::ViewLaws::put_said, crate::proofs::ViewLaws::not_of_kind, crate::proofs::ViewLaws::not_said))]
 fn put_value(values: &mut ValueArray, value: Value) -> Result<(), Cause>
     ensures put { OnOk result (option_map (λ x. items_in values.old ++ x ∷ []) (steps.element_of (kind_in values.old) (view value)) ≡ Some (items_in values.new)) }
     ensures kind { OnOk result (kind_in values.new ≡ kind_in values.old) }

@@ -67,7 +67,6 @@ impl Nest {
     }
 
     /// Goes into the one that is begun.
-    #[tactic(auto, using(crate::proofs::Nesting::stack_one))]
     fn push(&mut self, begun: Inside) -> Result<(), Cause>
         ensures inner { OnOk result (self.new.inner ≡ begun) }
         ensures outer { OnOk result (stack_of self.new.outer.items ≡ frame_of self.old.inner ∷ stack_of self.old.outer.items) }

@@ -48,12 +48,9 @@ pub(crate) fn signed_wide(text: &str) -> Option<i64>
 fn behind_0x(text: &[u8]) -> Option<&[u8]>
     ensures { option_map (λ digits. digits.now) result ≡ spec.behind_0x text.now }
 {
-    let (zero, rest) = text.split_first()?;
-    let (letter, digits) = rest.split_first()?;
-    if *zero == b'0' && *letter == b'x' {
-        Some(digits)
-    } else {
-        None
+    match text {
+        [b'0', b'x', digits @ ..] => Some(digits),
+        _ => None,
     }
 }
 
@@ -62,7 +59,9 @@ fn behind_0x(text: &[u8]) -> Option<&[u8]>
 pub(crate) fn word_bits(text: &str) -> Option<u32>
     ensures { result ≡ spec.word_bits text.now }
 {
-    let digits = behind_0x(text.as_bytes())?;
+    let Some(digits) = behind_0x(text.as_bytes()) else {
+        return None;
+    };
     match <[u8; 4] as FromHex>::from_hex(digits) {
         Ok(bytes) => Some(u32::from_be_bytes(bytes)),
         Err(_) => None,
@@ -74,7 +73,9 @@ pub(crate) fn word_bits(text: &str) -> Option<u32>
 pub(crate) fn wide_bits(text: &str) -> Option<u64>
     ensures { result ≡ spec.wide_bits text.now }
 {
-    let digits = behind_0x(text.as_bytes())?;
+    let Some(digits) = behind_0x(text.as_bytes()) else {
+        return None;
+    };
     match <[u8; 8] as FromHex>::from_hex(digits) {
         Ok(bytes) => Some(u64::from_be_bytes(bytes)),
         Err(_) => None,

@@ -4,13 +4,11 @@ use Rattle.std.specs.Prelude.{IfErr, IfOk, Ok, Err, Option, Some, None, map, rev
 use Rattle.std.proofs.lemmas.List.{reverse-append}
 use Rattle.json.specs.Token.{Token}
 use Rattle.spa_format.specs.Tree.{Tree}
-use Rattle.spa_value.specs.declared.value.Value.{Value}
-use Rattle.spa_value.specs.View.{view}
 use Rattle.spa_names.specs.declared.entry.Expected.{Expected}
 use Rattle.spa_text_read.specs.Tokens.{head}
-use Rattle.spa_text_read.specs.Grammar.{Opened, leaf, begun, opens, nothing, tree, ReadsAs}
+use Rattle.spa_text_read.specs.Grammar.{Opened, begun, opens, nothing, ReadsAs}
 use Rattle.spa_text_read.specs.Steps.{Frame, Next, refused, done, goes, Follows, Runs, ComesTo, started, ended, wants, next, value_of, put, give, give_ended, after_put, after_opening, after_next, step}
-use Rattle.spa_text_read.specs.Seen.{KeepsAtEnd, frame_of, leaf_of, next_of, opening_of, IsFresh}
+use Rattle.spa_text_read.specs.Seen.{KeepsAtEnd, frame_of, next_of, opening_of, IsFresh}
 use Rattle.spa_text_read.specs.declared.inside.Next as Inner
 use Rattle.spa_text_read.specs.declared.inside.Next.TheVariants as inner
 use Rattle.spa_text_read.specs.Begun.{Begins, EndsWithin, Steps, stack_of}
@@ -84,26 +82,6 @@ ended_kept n old new e k = subst (λ m. KeepsAtEnd m old new) e k
 
 -- ---- Steps of the nest, by what its parts answer
 
-pub leaf_put : (g to : Frame) (k : List Frame) (c : Expected) (h : Token) (v : Value) (us ws xs : List Token) →
-    opens c h us ≡ Some (leaf (leaf_of (view v)), ws) → tree (leaf_of (view v)) ≡ view v → put g (view v) ws ≡ Some (to, xs) →
-    after_opening (g ∷ k) (opens c h us) ≡ goes to k xs
-leaf_put g to k c h v us ws xs d l p = ap (after_opening (g ∷ k)) d ∙ ap (λ w. give w (g ∷ k) ws) l ∙ ap (after_put k) p
-
-pub leaf_not_put : (g : Frame) (k : List Frame) (c : Expected) (h : Token) (v : Value) (us ws : List Token) →
-    opens c h us ≡ Some (leaf (leaf_of (view v)), ws) → tree (leaf_of (view v)) ≡ view v → put g (view v) ws ≡ None →
-    after_opening (g ∷ k) (opens c h us) ≡ refused
-leaf_not_put g k c h v us ws d l p = ap (after_opening (g ∷ k)) d ∙ ap (λ w. give w (g ∷ k) ws) l ∙ ap (after_put k) p
-
-pub begun_pushed : (g : Frame) (k l : List Frame) (c : Expected) (h : Token) (i j : Inside) (us ws : List Token) →
-    opens c h us ≡ Some (begun (opening_of i), ws) → IsFresh i → j ≡ i → l ≡ g ∷ k →
-    after_opening (g ∷ k) (opens c h us) ≡ goes (frame_of j) l ws
-begun_pushed g k l c h i j us ws d f e m =
-    ap (after_opening (g ∷ k)) d ∙ ap (λ x. goes x (g ∷ k) ws) (sym f) ∙ ap (λ x. goes (frame_of x) (g ∷ k) ws) (sym e)
-    ∙ ap (λ x. goes (frame_of j) x ws) (sym m)
-
-pub not_begun : (k : List Frame) (c : Expected) (h : Token) (us : List Token) → opens c h us ≡ None → after_opening k (opens c h us) ≡ refused
-not_begun k c h us d = ap (after_opening k) d
-
 -- the end of what is now the innermost is that of what was
 at_the_end : (old mid : Nest) (ts us : List Token) → next (frame_of old.inner) ts ≡ Some (ended, us) → mid.inner ≡ old.inner →
     stack_of mid.outer.items ≡ stack_of old.outer.items →
@@ -152,21 +130,9 @@ to_begin_refused (Err e) old mid c h ts us n o x = λ m. at_the_value old mid c 
 
 -- ---- The whole
 
--- the first token of a value is missing, or what it opens
-pub not_started : (ts : List Token) → head ts ≡ None → ComesTo nothing ts None
-not_started ts e = subst (λ o. Follows (started nothing o) None) (sym e) refl
-
 started_at : (ts us : List Token) (h : Token) (o : Option (Opened × List Token)) (r : Option (Tree × List Token)) → head ts ≡ Some (h, us) →
     opens nothing h us ≡ o → Follows (after_opening [] o) r → ComesTo nothing ts r
 started_at ts us h o r e d s = subst (λ x. Follows (started nothing x) r) (sym e) (subst (λ x. Follows (after_opening [] x) r) (sym d) s)
-
-pub not_opened : (ts us : List Token) (h : Token) → head ts ≡ Some (h, us) → opens nothing h us ≡ None → ComesTo nothing ts None
-not_opened ts us h e d = started_at ts us h None None e d refl
-
-pub opened_leaf : (ts us ws : List Token) (h : Token) (v : Value) → head ts ≡ Some (h, us) →
-    opens nothing h us ≡ Some (leaf (leaf_of (view v)), ws) → tree (leaf_of (view v)) ≡ view v → ComesTo nothing ts (Some (view v, ws))
-opened_leaf ts us ws h v e d l =
-    started_at ts us h (Some (leaf (leaf_of (view v)), ws)) (Some (view v, ws)) e d (ap (λ w. Some (w, ws)) (sym l))
 
 -- what comes of these steps comes of the whole
 pub Leads : List Token → Frame → List Frame → List Token → Type 0

@@ -1,27 +1,17 @@
 -- Values of fixed size as leaves.
-use Rattle.std.proofs.Common.{◌≡◌, ℕ, List, [], ◌∷◌, ◌++◌, Option, false, refl, ap, sym, ◌∙◌}
-use Rattle.std.specs.Prelude.{Some, None, if◌then◌else◌, map, option_map}
-use Rattle.spa_format.specs.Kind.{Kind, Fixed, none_kind}
-use Rattle.spa_value.specs.Equality.{kind_eq}
-use Rattle.spa_format.specs.Tree.{Shape, Tree, array, member, no_trees, property, no_properties, join_members, join_properties}
-use Rattle.spa_fixed.specs.Choices.{choice_enum_tree}
-use Rattle.spa_utils.specs.declared.choice.ChoiceEnum.{ChoiceEnum}
-use Rattle.spa_utils.specs.declared.choice.ChoiceEnum.TheVariants as E
+use Rattle.std.proofs.Common.{◌≡◌, List, [], ◌∷◌, ◌++◌, refl, ap}
+use Rattle.std.specs.Prelude.{None, map}
+use Rattle.spa_format.specs.Tree.{array, member, no_trees, property, no_properties, join_members, join_properties}
 use Rattle.spa_value.specs.declared.array.ValueArray.{ValueArray}
 use Rattle.spa_value.specs.declared.array.ValueArray.TheVariants as A
-use Rattle.spa_value.specs.declared.choice_value.ChoiceValue.{ChoiceValue}
-use Rattle.spa_value.specs.declared.choice_value.ChoiceValue.TheVariants as C
 use Rattle.spa_value.specs.declared.object.Object.{Object}
 use Rattle.spa_value.specs.declared.object.Property.{Property}
 use Rattle.spa_value.proofs.ViewLaws.{view-fields}
 use Rattle.spa_value.specs.declared.value.Value.{Value}
-use Rattle.spa_value.specs.View.{array_view, choice_view, object_view, view}
+use Rattle.spa_value.specs.View.{array_view, object_view, view}
 use Rattle.spa_value.specs.Views.{property_views, views}
-use Rattle.spa_text_read.specs.Grammar as grammar
-use Rattle.spa_text_read.specs.Grammar.{Leaf, a_number, choice_of, tree}
-use Rattle.spa_text_read.specs.Options.{◌>>=◌}
-use Rattle.spa_text_read.specs.Steps.{element_of, fixed_part, of_kind}
-use Rattle.spa_text_read.specs.Seen.{IsNumber, items_in, kind_in, leaf_of, number_in}
+use Rattle.spa_text_read.specs.Steps.{fixed_part}
+use Rattle.spa_text_read.specs.Seen.{items_in, kind_in}
 
 pub object_part : (o : Object) → fixed_part (object_view o) ≡ None
 object_part o = ap fixed_part (view-fields o)
@@ -52,14 +42,3 @@ array_whole (A.Double xs) = refl
 array_whole (A.Rectangle xs) = refl
 array_whole (A.Fraction xs) = refl
 array_whole (A.Fd xs) = refl
-
--- a value that is put behind the others, by what it says
-pub put_said : (k : Kind) (xs ys : List Fixed) (v : Tree) (x : Fixed) → Some x ≡ fixed_part v →
-    option_map (λ y. xs ++ y ∷ []) (of_kind k x) ≡ Some ys → option_map (λ y. xs ++ y ∷ []) (element_of k v) ≡ Some ys
-put_said k xs ys v x e d = ap (λ o. option_map (λ y. xs ++ y ∷ []) (o >>= of_kind k)) (sym e) ∙ d
-
-pub not_of_kind : (k : Kind) (v : Tree) (x : Fixed) → Some x ≡ fixed_part v → of_kind k x ≡ None → element_of k v ≡ None
-not_of_kind k v x e d = ap (λ o. o >>= of_kind k) (sym e) ∙ d
-
-pub not_said : (k : Kind) (v : Tree) → None ≡ fixed_part v → element_of k v ≡ None
-not_said k v e = ap (λ o. o >>= of_kind k) (sym e)

@@ -102,7 +102,7 @@ fn error_at(cause: Cause, text: &str, offset: usize, path: String) -> TextError
 }
 
 /// Reads a value and the end of the text.
-#[tactic(auto, using(crate::proofs::Nesting::reads_none, crate::proofs::Nesting::reads_more, crate::proofs::Soundness::reads_as))]
+#[tactic(auto, using(crate::proofs::Soundness::reads_as))]
 fn read_whole(alloc: Global, reader: &mut Reader<'_>, path: &mut String) -> Result<Value, Cause>
     ensures value { IfOk result (λ v. ReadsAs nothing (view v) reader.old []) }
     ensures refused { IfErr result (λ e. e ≢ Cause.OutOfMemory → (v : Tree) → ¬ (ReadsAs nothing v reader.old [])) }
@@ -120,7 +120,6 @@ fn read_whole(alloc: Global, reader: &mut Reader<'_>, path: &mut String) -> Resu
 }
 
 /// Reads a value: also one that is nested deep, since what is begun is kept in a list.
-#[tactic(auto, using(crate::proofs::Nesting::not_started, crate::proofs::Nesting::not_opened, crate::proofs::Nesting::opened_leaf, crate::proofs::Nesting::opened_begun, crate::proofs::Nesting::leads_on, crate::proofs::Nesting::leads_refused, crate::proofs::Nesting::leads_to, crate::proofs::Nesting::leads_nowhere))]
 fn read_value(alloc: Global, reader: &mut Reader<'_>, path: &mut String) -> Result<Value, Cause>
     ensures value { IfOk result (λ v. ComesTo nothing reader.old (Some (view v, reader.new))) }
     ensures refused { IfErr result (λ e. e ≢ Cause.OutOfMemory → ComesTo nothing reader.old None) }

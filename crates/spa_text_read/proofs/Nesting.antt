@@ -7,7 +7,7 @@ use Rattle.spa_format.specs.Tree.{Tree}
 use Rattle.spa_names.specs.declared.entry.Expected.{Expected}
 use Rattle.spa_text_read.specs.Tokens.{head}
 use Rattle.spa_text_read.specs.Grammar.{Opened, begun, opens, nothing, ReadsAs}
-use Rattle.spa_text_read.specs.Steps.{Frame, Next, refused, done, goes, Follows, Runs, ComesTo, started, ended, wants, next, value_of, put, give, give_ended, after_put, after_opening, after_next, step}
+use Rattle.spa_text_read.specs.Steps.{Frame, Next, refused, done, goes, Follows, Runs, ComesTo, started, ended, wants, next, value_of, put, give_ended, after_put, after_opening, after_next, step}
 use Rattle.spa_text_read.specs.Seen.{KeepsAtEnd, frame_of, next_of, opening_of, IsFresh}
 use Rattle.spa_text_read.specs.declared.inside.Next as Inner
 use Rattle.spa_text_read.specs.declared.inside.Next.TheVariants as inner

@@ -57,7 +57,9 @@ enum Says {
     Line,
     /// What it is printed as on lines of their own.
     Lines,
-    /// Where the text is refused.
+    /// Why the text is refused.
+    Cause,
+    /// Where it is refused.
     Place,
 }
 
@@ -67,6 +69,7 @@ fn holds(alloc: Global, says: Says, text: &str, wanted: &str) -> Result<bool, Al
         Says::Value => values::is_read_as_shown(alloc, text, wanted),
         Says::Line => rows::is_printed_as(alloc, text, wanted),
         Says::Lines => pretty::is_laid_out(alloc, text, wanted),
+        Says::Cause => refused::is_refused_for(alloc, text, wanted),
         Says::Place => refused::is_refused_there(alloc, text, wanted),
     }
 }

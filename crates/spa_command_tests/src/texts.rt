@@ -62,19 +62,10 @@ fn bytes_of(alloc: Global, part: &str) -> Result<Vec<u8>, SpellingError> {
     }
 }
 
-/// The words of a part of a row.
-fn words_of(alloc: Global, part: &str) -> Result<Vec<&str>, AllocError> {
-    let mut words = Vec::new(alloc);
-    for word in part.split_whitespace() {
-        words.push(word)?;
-    }
-    Ok(words)
-}
-
 /// What a run answers with these words and this room for what it writes, over an input, and files of the same bytes and of those
 /// behind `&`.
 fn found_of(alloc: Global, words: &str, given: &str, room: usize) -> Result<Found, SpellingError> {
-    let words = words_of(alloc, words)?;
+    let words: Vec<&str> = words.split_whitespace().collect(alloc)?;
     let (ours, theirs) = given.split_once(" & ").unwrap_or((given, ""));
     let ours = bytes_of(alloc, ours)?;
     let theirs = bytes_of(alloc, theirs)?;

@@ -8,13 +8,8 @@ const LEVELS: usize = 100_000;
 
 /// So many structs, one within another.
 fn nested_text(alloc: Global) -> Result<String, AllocError> {
-    let mut text = String::new(alloc);
-    for _ in 0..LEVELS {
-        text.push_str("[")?;
-    }
-    for _ in 0..LEVELS {
-        text.push_str("]")?;
-    }
+    let mut text = "[".repeat(alloc, LEVELS)?;
+    text.push_str("]".repeat(alloc, LEVELS)?.as_str())?;
     Ok(text)
 }
 

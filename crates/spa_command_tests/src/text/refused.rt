@@ -1,58 +1,61 @@
 //! Why texts are refused.
-use super::{Says, assert_rows, assert_so, held};
+use super::{Says, assert_row, assert_rows, held};
 use spa_text::{Cause, TextError, read};
 use spa_value::discard;
 use std::alloc::{AllocError, Global};
 use std::fmt::Write;
-use std::process::Abort;
 
-/// Texts, a line each, with a token that can't stand where it does.
-const TOKENS: &str = "[\n[1,]\n[1 2]\nnul\n\"a\u{1}b\"\n{}\n{\"other\":1}";
+/// Texts that are refused, and why: a token that can't stand where it does, more than a value, a number that doesn't fit or a name of none, a
+/// value of another type than is wanted there or of a type that isn't told, and a choice with too few values.
+const CAUSES: &str = r#" => Token
+[ => Token
+[1,] => Token
+[1 2] => Token
+nul => Token
+{} => Token
+{"other":1} => Token
+1 2 => End
+[]] => End
+2147483648 => Number
+1.0 => Number
+1e2 => Number
+{"id":4294967296} => Number
+{"id":-1} => Number
+{"long":9223372036854775808} => Number
+{"float":1e39} => Number
+{"float":"0x7fc0000"} => Number
+{"bytes":"0"} => Number
+{"type":"No such type","id":3,"props":{}} => Number
+{"type":"Format","id":3,"props":{"no such key":1}} => Number
+{"array":"String","values":[]} => Type
+{"array":"Int","values":["a"]} => Type
+{"choice":"Range","values":[1,2,3]} => Type
+{"choice":"Range","of":"Int","values":[1,2]} => Count"#;
 
-/// Texts with more than a value.
-const ENDS: &str = "1 2\n[]]";
-
-/// Texts with a number that doesn't fit, or a name of none.
-const NUMBERS: &str = r#"2147483648
-1.0
-1e2
-{"id":4294967296}
-{"id":-1}
-{"long":9223372036854775808}
-{"float":1e39}
-{"float":"0x7fc0000"}
-{"bytes":"0"}
-{"type":"No such type","id":3,"props":{}}
-{"type":"Format","id":3,"props":{"no such key":1}}"#;
-
-/// Texts with a value of another type than is wanted there, or of a type that isn't told.
-const TYPES: &str = r#"{"array":"String","values":[]}
-{"array":"Int","values":["a"]}
-{"choice":"Range","values":[1,2,3]}"#;
-
-/// A choice with too few values.
-const COUNT: &str = r#"{"choice":"Range","of":"Int","values":[1,2]}"#;
-
-#[test]
-fn refusals_have_their_causes(rt: HostRuntime) {
-    let alloc = rt.alloc();
-    assert_refused(&rt, alloc, "", Cause::Token);
-    assert_refused(&rt, alloc, COUNT, Cause::Count);
-    assert_each_refused(&rt, alloc, TOKENS, Cause::Token);
-    assert_each_refused(&rt, alloc, ENDS, Cause::End);
-    assert_each_refused(&rt, alloc, NUMBERS, Cause::Number);
-    assert_each_refused(&rt, alloc, TYPES, Cause::Type);
-}
-
-fn assert_each_refused(rt: &impl Abort, alloc: Global, texts: &str, wanted: Cause) {
-    for text in texts.lines() {
-        assert_refused(rt, alloc, text, wanted);
+/// Whether the text is refused for the cause of this name.
+pub(super) fn is_refused_for(alloc: Global, text: &str, wanted: &str) -> Result<bool, AllocError> {
+    match held(alloc, text) {
+        Ok(_) => Ok(false),
+        Err(Cause::OutOfMemory) => Err(AllocError),
+        Err(cause) => Ok(name_of(cause) == wanted),
     }
 }
 
-fn assert_refused(rt: &impl Abort, alloc: Global, text: &str, wanted: Cause) {
-    let cause = held(alloc, text).err();
-    assert_so(rt, cause == Some(wanted), text);
+fn name_of(cause: Cause) -> &'static str {
+    match cause {
+        Cause::OutOfMemory => "OutOfMemory",
+        Cause::Token => "Token",
+        Cause::Number => "Number",
+        Cause::Type => "Type",
+        Cause::Count => "Count",
+        Cause::End => "End",
+    }
+}
+
+#[test]
+fn refusals_have_their_causes(rt: HostRuntime) -> Result<(), AllocError> {
+    assert_row(&rt, rt.alloc(), Says::Cause, "\"a\u{1}b\" => Token")?;
+    assert_rows(&rt, rt.alloc(), Says::Cause, CAUSES)
 }
 
 /// Texts that are refused, and where: the line, the column and the path.

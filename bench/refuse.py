@@ -38,7 +38,7 @@ OTHERS = {
 # How a test passes, and how one ends by an error that says that memory is wanting: 12 is the number of NOMEM.
 PASSED = (0, b"\ntest result: ok\n")
 WANTS_MEMORY = re.compile(
-    rb"error: (AllocError|AllocFailed \{ \.\. \}|\"?OutOfMemory\"?|\"out of memory\"|Errno\(12\))\n"
+    rb"[Ee]rror: (AllocError|AllocFailed \{ \.\. \}|\"?OutOfMemory\"?|\"out of memory\"|Errno\(12\))\n"
     rb"the test failed: its result gives status 1\n"
 )
 

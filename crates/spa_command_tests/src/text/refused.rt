@@ -71,6 +71,7 @@ fn place_of(alloc: Global, text: &str) -> Result<Option<String>, AllocError> {
             discard(value);
             Ok(None)
         }
+        Err(error) if error.cause == Cause::OutOfMemory => Err(AllocError),
         Err(error) => Ok(Some(said_of(alloc, &error)?)),
     }
 }

@@ -24,7 +24,7 @@ pub mod utils {
 
     /// Result codes, which say an error, a value, or that the answer comes later.
     pub mod result {
-        pub use spa_utils::result::{AsyncSeq, Error, SpaResult, SpaSuccess};
+        pub use spa_result::{AsyncSeq, Error, SpaResult, SpaSuccess};
     }
 }
 

@@ -9,7 +9,7 @@ ghost use Rattle.spa_fixed.specs.Faults.{IsSameError};
 use spa_dict::{CIter, Flags, ParseValueError};
 use spa_fixed::{DeserializeError, Fault, FaultKind};
 use spa_sink::GenError;
-use spa_utils::result::{AsyncSeq, Error, SpaResult, SpaSuccess};
+use spa_result::{AsyncSeq, Error, SpaResult, SpaSuccess};
 use spa_utils::{
     Choice, ChoiceEnum, ChoiceFlags, Direction, Errno, Fd, Float32, Float64, Fraction, Frame, Id,
     Rectangle, SpaTypes,

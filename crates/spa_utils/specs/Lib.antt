@@ -1,5 +1,3 @@
-pub mod Answers
 pub mod Copies
 pub mod Equality
-pub mod ResultCode
 pub mod Reversal

@@ -1,6 +1,6 @@
 //! Sequence numbers of calls that are done later.
 ghost use Rattle.std.specs.Prelude.{◌≡◌, pos, IsTrue};
-ghost use Rattle.spa_utils.specs.ResultCode.{async_code, is_asynchronous, low_bits};
+ghost use Rattle.spa_result.specs.ResultCode.{async_code, is_asynchronous, low_bits};
 
 use std::fmt;
 

@@ -1,10 +1,10 @@
 //! Result codes, and what they mean.
 ghost use Rattle.std.specs.Prelude.{◌≡◌, ◌⊎◌, ◌<ℤ◌, pos, IsTrue};
-ghost use Rattle.spa_utils.specs.ResultCode.{async_code, is_asynchronous, meaning_of};
+ghost use Rattle.spa_result.specs.ResultCode.{async_code, is_asynchronous, meaning_of};
 
 use super::async_seq::{AsyncSeq, SEQ_BITS};
 use super::error::Error;
-use crate::Errno;
+use spa_utils::Errno;
 
 /// The code that a call returned.
 #[derive(Debug, PartialEq, Eq, Drop)]
@@ -20,7 +20,7 @@ pub enum SpaSuccess {
 }
 
 impl SpaResult {
-    ghost use Rattle.spa_utils.specs.Answers.{IsAnswer, IsAsyncAnswer, IsSyncAnswer};
+    ghost use Rattle.spa_result.specs.Answers.{IsAnswer, IsAsyncAnswer, IsSyncAnswer};
 
     /// The result of that code.
     pub fn from_c(code: i32) -> SpaResult

@@ -1,7 +1,7 @@
 //! The error that a code below 0 stands for.
 ghost use Rattle.std.specs.Prelude.{◌≡◌};
 
-use crate::Errno;
+use spa_utils::Errno;
 
 /// A call failed. It prints the error's number.
 #[derive(Debug, PartialEq, Eq, Drop, thiserror::Error)]

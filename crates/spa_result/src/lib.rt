@@ -1,4 +1,5 @@
 //! Result codes: numbers that say whether a call failed, is done, or will be done later.
+#![tactic(auto)]
 
 mod async_seq;
 mod code;

@@ -1,10 +1,10 @@
 -- What the calls on a result answer: docs/FORMAT.md, "Result codes".
 use Rattle.std.specs.Prelude.{◌≡◌, ℕ, ℤ, Result, Ok, IsErrAnd}
-use Rattle.spa_utils.specs.ResultCode.{Meaning, failed, done, later}
-use Rattle.spa_utils.specs.declared.result.async_seq.AsyncSeq.{AsyncSeq}
-use Rattle.spa_utils.specs.declared.result.code.SpaSuccess.{SpaSuccess}
-use Rattle.spa_utils.specs.declared.result.code.SpaSuccess.TheVariants.{Sync, Async}
-use Rattle.spa_utils.specs.declared.result.error.Error.{Error}
+use Rattle.spa_result.specs.ResultCode.{Meaning, failed, done, later}
+use Rattle.spa_result.specs.declared.async_seq.AsyncSeq.{AsyncSeq}
+use Rattle.spa_result.specs.declared.code.SpaSuccess.{SpaSuccess}
+use Rattle.spa_result.specs.declared.code.SpaSuccess.TheVariants.{Sync, Async}
+use Rattle.spa_result.specs.declared.error.Error.{Error}
 
 -- the error of that number
 abbrev pub IsFailure : {T : Type 0} → ℕ → Result T Error → Type 0

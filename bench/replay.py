@@ -1,0 +1,74 @@
+#!/usr/bin/env python3
+"""replay.py TABLE [N]: what each of the last N commits (90) that touched crates would cost with today's crates, in processor minutes.
+
+TABLE is what `.ci/seconds` prints or writes after a run from nothing. A commit pays for the proof and the tests of each crate whose
+files in src/, specs/ or proofs/ it changed, and of each crate above one of these, as crates.txt has them today. Files of crates of
+tests that were since cut up count for the crates that have their tests now (MOVED); those of other crates that are gone count for none.
+The last line is the mean."""
+
+import collections
+import pathlib
+import re
+import subprocess
+import sys
+
+ROOT = pathlib.Path(__file__).resolve().parent.parent
+
+# Where the tests of crates that were cut up are now: the beginning of a path, and the crates.
+MOVED = {}
+
+
+def crates():
+    """What each crate stands on, by crates.txt."""
+    found = {}
+    for line in (ROOT / "crates.txt").read_text(encoding="utf-8").split("\n"):
+        head, colon, names = line.partition("#")[0].partition(":")
+        if colon:
+            found[head.split()[0]] = names.split()
+    return found
+
+
+def costs(table):
+    """The seconds of each crate's proof and of its tests."""
+    rows = re.findall(r"^(\w+) +(\d+) +(\d+) +\d+ +\d+$", pathlib.Path(table).read_text(encoding="utf-8"), re.M)
+    return {name: (int(proof), int(tests)) for name, proof, tests in rows if name != "all"}
+
+
+def changed_in(commit, named):
+    """Today's crates whose files the commit changed."""
+    words = ["git", "show", "--name-only", "--no-renames", "--format=", commit]
+    found = set()
+    for path in subprocess.run(words, cwd=ROOT, stdout=subprocess.PIPE, check=True, text=True).stdout.split("\n"):
+        part = re.match(r"crates/(\w+)/(?:src|specs|proofs|stdin|stdout)\b", path)
+        if part:
+            moved = [to for begin, to in MOVED.items() if path.startswith(begin)]
+            found |= {*moved[0]} if moved else {part[1]} & {*named}
+    return found
+
+
+def main():
+    stands_on, cost = crates(), costs(sys.argv[1])
+    wanted = int(sys.argv[2]) if len(sys.argv) > 2 else 90
+    log = subprocess.run(["git", "log", "--format=%h", "--", "crates"], cwd=ROOT, stdout=subprocess.PIPE, check=True, text=True)
+    seen, sums, proved_again = 0, [0.0, 0.0], collections.Counter()
+    for commit in log.stdout.split():
+        touched = changed_in(commit, stands_on)
+        if not touched or seen == wanted:
+            continue
+        seen += 1
+        # crates.txt may name a crate before those that it stands on.
+        size = 0
+        while size < len(touched):
+            size = len(touched)
+            touched |= {it for it, below in stands_on.items() if touched & {*below}}
+        proved_again.update(touched)
+        for at in (0, 1):
+            sums[at] += sum(cost.get(it, (0, 0))[at] for it in touched)
+    for name, count in sorted(proved_again.items(), key=lambda it: -it[1] * sum(cost.get(it[0], (0, 0)))):
+        print(f"{name:<24}{count:>4} times, {sum(cost.get(name, (0, 0))):>5} s each")
+    proofs, tests = (it / 60 / max(seen, 1) for it in sums)
+    print(f"{seen} commits: {proofs:.1f} minutes of proofs and {tests:.1f} of tests a commit, {proofs + tests:.1f} in all")
+
+
+if __name__ == "__main__":
+    main()

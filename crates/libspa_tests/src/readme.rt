@@ -66,7 +66,7 @@ mod rewrite {
     /// All pods rewritten, or the byte at which the refused one begins.
     pub fn all_rewritten(alloc: Global, pods: &[u8]) -> Result<Vec<u8>, usize> {
         let mut out = Vec::new(alloc);
-        match rewrite_all(alloc, pods, &mut out) {
+        match rewrite_all(pods, &mut out) {
             Ok(()) => Ok(out),
             Err((left, _)) => Err(pods.len() - left.len()),
         }

@@ -47,13 +47,12 @@ pub fn rewrite(alloc: Global, input: &[u8]) -> Result<(&[u8], Vec<u8>), Deserial
     }
 }
 
-/// Appends the rewritings of all pods that the input consists of.
+/// Appends the rewritings of all pods that the input consists of. Memory is asked for by the allocator of `out`.
 ///
 /// Unless memory runs out, this succeeds exactly where the input is pods one after another without remainder, or is
 /// empty. A refusal gives what is left of the input from the refused pod on, with the refusal of that pod, and `out`
 /// holds what it held before the call.
 pub fn rewrite_all<'a>(
-    alloc: Global,
     input: &'a [u8],
     out: &mut Vec<u8>,
 ) -> Result<(), (&'a [u8], DeserializeError<&'a [u8]>)>
@@ -71,6 +70,7 @@ pub fn rewrite_all<'a>(
     ensures short_first { IfErr result (λ refusal. ¬ (HasFront refusal.0.now) → IsShortAt refusal.0.now refusal.1) }
     ensures memory { IfErr result (λ refusal. OnMemory (HasFront refusal.0.now) refusal.1) }
 {
+    let alloc = *out.allocator();
     let mut bytes = mem::replace(out, Vec::new(alloc));
     // No rewriting is longer than its pod. Where so much memory isn't there at once, each growth asks for its own.
     let _ = bytes.reserve(input.len());

@@ -45,7 +45,7 @@ pub extern "C" fn spav_rewrite(
         return put_front(input, out, written);
     }
     let mut rewritten = Vec::new(alloc);
-    match rewrite_all(alloc, input, &mut rewritten) {
+    match rewrite_all(input, &mut rewritten) {
         Ok(()) => put_front(rewritten.as_slice(), out, written),
         Err((_left, DeserializeError::OutOfMemory)) => NO_MEMORY,
         Err((left, _)) => {

@@ -54,14 +54,14 @@ fn compare_written(rt: &impl Abort, alloc: Global, bytes: &[u8]) -> Result<(), F
 
 fn compare_list(rt: &impl Abort, alloc: Global, bytes: &[u8]) -> Result<(), Fail> {
     let mut out = Vec::new(alloc);
-    let is_rewritten = rewrites(alloc, bytes, &mut out);
+    let is_rewritten = rewrites(bytes, &mut out);
     assert_holds(rt, is_rewritten, "the list is rewritten");
     assert_bytes(rt, out.as_slice(), bytes, "the list");
     Ok(())
 }
 
-fn rewrites(alloc: Global, bytes: &[u8], out: &mut Vec<u8>) -> bool {
-    rewrite_all(alloc, bytes, out).is_ok()
+fn rewrites(bytes: &[u8], out: &mut Vec<u8>) -> bool {
+    rewrite_all(bytes, out).is_ok()
 }
 
 #[test]

@@ -23,8 +23,8 @@ fn answer_of(answer: Result<(), (&[u8], DeserializeError<&[u8]>)>) -> Result<Rew
 }
 
 /// Appends the rewriting of a list of pods.
-fn rewrite_list(alloc: Global, input: &[u8], out: &mut Vec<u8>) -> Result<Rewritten, Fail> {
-    answer_of(rewrite_all(alloc, input, out))
+fn rewrite_list(input: &[u8], out: &mut Vec<u8>) -> Result<Rewritten, Fail> {
+    answer_of(rewrite_all(input, out))
 }
 
 /// Whether a list of pods can be rewritten.
@@ -94,7 +94,7 @@ fn compare_list_at(
     row: &[&str; 3],
 ) -> Result<(), Fail> {
     let mut out = bytes_spelled(alloc, "x0102")?;
-    let rewritten = rewrite_list(alloc, input, &mut out)?;
+    let rewritten = rewrite_list(input, &mut out)?;
     compare_calls(rt, alloc, input, rewritten, row[0])?;
     let (_, encodings) = out.split_at(2.min(out.len()));
     compare_in_place(rt, alloc, input, encodings, rewritten, row[0])?;

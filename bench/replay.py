@@ -1,10 +1,12 @@
 #!/usr/bin/env python3
-"""replay.py TABLE [N]: what each of the last N commits (90) that touched crates would cost with today's crates, in processor minutes.
+"""replay.py TABLE [N [REV]]: what each of the last N commits (90) up to REV (HEAD) that touched crates would cost with today's crates,
+in processor minutes.
+replay.py TABLE CRATE ..: what a change of these crates costs, each alone.
 
-TABLE is what `.ci/seconds` prints or writes after a run from nothing. A commit pays for the proof and the tests of each crate whose
-files in src/, specs/ or proofs/ it changed, and of each crate above one of these, as crates.txt has them today. Files of crates of
-tests that were since cut up count for the crates that have their tests now (MOVED); those of other crates that are gone count for none.
-The last line is the mean."""
+TABLE is what `.ci/seconds` prints or writes after a run from nothing. A change pays for the proof and the tests of each crate whose
+files in src/, specs/ or proofs/, or whose rows, it changed, and of each crate above one of these, as crates.txt has them today. Files of
+crates of tests that were since cut up count for the crates that have their tests now (MOVED); those of other crates that are gone count
+for none. The last line of a replay is the mean."""
 
 import collections
 import pathlib
@@ -46,27 +48,38 @@ def changed_in(commit, named):
     return found
 
 
+def above(touched, stands_on):
+    """These crates, and those that stand on one of them."""
+    size = 0
+    while size < len(touched):
+        size = len(touched)
+        touched |= {it for it, below in stands_on.items() if touched & {*below}}
+    return touched
+
+
 def main():
     stands_on, cost = crates(), costs(sys.argv[1])
+    sum_of = lambda names, at: sum(cost.get(it, (0, 0))[at] for it in names) / 60
+    for name in [it for it in sys.argv[2:] if it in stands_on]:
+        touched = above({name}, stands_on)
+        print(f"{name:<24}{len(touched):>4} crates, {sum_of(touched, 0):>5.1f} minutes of proofs, {sum_of(touched, 1):>5.1f} of tests")
+    if sys.argv[2:] and not sys.argv[2].isdigit():
+        return
     wanted = int(sys.argv[2]) if len(sys.argv) > 2 else 90
-    log = subprocess.run(["git", "log", "--format=%h", "--", "crates"], cwd=ROOT, stdout=subprocess.PIPE, check=True, text=True)
+    log = subprocess.run(["git", "log", "--format=%h", *sys.argv[3:], "--", "crates"], cwd=ROOT, stdout=subprocess.PIPE, check=True, text=True)
     seen, sums, proved_again = 0, [0.0, 0.0], collections.Counter()
     for commit in log.stdout.split():
         touched = changed_in(commit, stands_on)
         if not touched or seen == wanted:
             continue
         seen += 1
-        # crates.txt may name a crate before those that it stands on.
-        size = 0
-        while size < len(touched):
-            size = len(touched)
-            touched |= {it for it, below in stands_on.items() if touched & {*below}}
+        touched = above(touched, stands_on)
         proved_again.update(touched)
         for at in (0, 1):
-            sums[at] += sum(cost.get(it, (0, 0))[at] for it in touched)
+            sums[at] += sum_of(touched, at)
     for name, count in sorted(proved_again.items(), key=lambda it: -it[1] * sum(cost.get(it[0], (0, 0)))):
         print(f"{name:<24}{count:>4} times, {sum(cost.get(name, (0, 0))):>5} s each")
-    proofs, tests = (it / 60 / max(seen, 1) for it in sums)
+    proofs, tests = (it / max(seen, 1) for it in sums)
     print(f"{seen} commits: {proofs:.1f} minutes of proofs and {tests:.1f} of tests a commit, {proofs + tests:.1f} in all")
 
 

@@ -4,12 +4,12 @@
 #![tactic(auto)]
 
 use spa_filter::settle;
-use spa_filter_pods::{FilterError, Side, filter_pods};
+use spa_filter_pods::{FilterError, filter_pods};
 use spa_fixed::Refusal;
 use spa_read::read_value;
 use spa_sink::GenError;
 use spa_spelling::{SpellingError, bytes_spelled};
-use spa_value::{Object, Value};
+use spa_value::Value;
 use spa_write::write_value;
 use std::alloc::{AllocError, Global};
 use std::io;
@@ -100,18 +100,32 @@ fn spelled(alloc: Global, words: &str) -> Result<Vec<u8>, FilterError> {
 /// What two inputs are filtered to, with each choice at its default.
 fn settled(alloc: Global, ours: &str, theirs: &str) -> Result<Vec<u8>, FilterError> {
     let met = filtered(alloc, ours, theirs)?;
-    let object = object_in(alloc, met.as_slice())?;
-    encoding(alloc, Value::Object(settle(alloc, &object)?))
+    let value = value_in(alloc, met.as_slice())?;
+    encoding(alloc, settled_value(alloc, &value)?)
 }
 
-/// The object of a pod.
-fn object_in(alloc: Global, pod: &[u8]) -> Result<Object, FilterError> {
+/// The value of an answer, which is a pod: where none is read there, it is `TooLarge`, which no row expects.
+fn value_in(alloc: Global, pod: &[u8]) -> Result<Value, FilterError> {
     let mut opened = 0;
     match read_value(alloc, pod, &mut opened) {
-        Ok((_rest, Value::Object(object))) => Ok(object),
-        Ok(_) => Err(FilterError::NotObject(Side::First)),
-        Err(refused) if refused.why == Refusal::OutOfMemory => Err(FilterError::OutOfMemory),
-        Err(_) => Err(FilterError::Unread(Side::First)),
+        Ok((_rest, value)) => Ok(value),
+        Err(refused) => Err(refusal_of(refused.why)),
+    }
+}
+
+/// The refusal of a front that isn't read for this reason.
+fn refusal_of(why: Refusal) -> FilterError {
+    match why {
+        Refusal::OutOfMemory => FilterError::OutOfMemory,
+        _ => FilterError::TooLarge,
+    }
+}
+
+/// The value with each choice at its default, where it is an object.
+fn settled_value(alloc: Global, value: &Value) -> Result<Value, FilterError> {
+    match value {
+        Value::Object(object) => Ok(Value::Object(settle(alloc, object)?)),
+        _ => Err(FilterError::TooLarge),
     }
 }
 

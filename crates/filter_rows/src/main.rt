@@ -84,12 +84,31 @@ fn spelled(alloc: Global, words: &str) -> Result<Vec<u8>, FilterError> {
 /// The object whose pod these words are.
 fn object_spelled(alloc: Global, words: &str, side: Side) -> Result<Object, FilterError> {
     let bytes = spelled(alloc, words)?;
+    object_of(value_in(alloc, bytes.as_slice(), side)?, side)
+}
+
+/// The value at the front of a pod.
+fn value_in(alloc: Global, pod: &[u8], side: Side) -> Result<Value, FilterError> {
     let mut opened = 0;
-    match read_value(alloc, bytes.as_slice(), &mut opened) {
-        Ok((_rest, Value::Object(object))) => Ok(object),
-        Ok(_) => Err(FilterError::NotObject(side)),
-        Err(refused) if refused.why == Refusal::OutOfMemory => Err(FilterError::OutOfMemory),
-        Err(_) => Err(FilterError::Unread(side)),
+    match read_value(alloc, pod, &mut opened) {
+        Ok((_rest, value)) => Ok(value),
+        Err(refused) => Err(refusal_of(refused.why, side)),
+    }
+}
+
+/// The refusal of a side whose front isn't read for this reason.
+fn refusal_of(why: Refusal, side: Side) -> FilterError {
+    match why {
+        Refusal::OutOfMemory => FilterError::OutOfMemory,
+        _ => FilterError::Unread(side),
+    }
+}
+
+/// The object that a value is.
+fn object_of(value: Value, side: Side) -> Result<Object, FilterError> {
+    match value {
+        Value::Object(object) => Ok(object),
+        _ => Err(FilterError::NotObject(side)),
     }
 }
 

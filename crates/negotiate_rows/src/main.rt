@@ -85,12 +85,31 @@ fn spelled(alloc: Global, words: &str) -> Result<Vec<u8>, NegotiateError> {
 /// The object whose pod these words are.
 fn object_spelled(alloc: Global, words: &str, side: Side) -> Result<Object, NegotiateError> {
     let bytes = spelled(alloc, words)?;
+    object_of(value_in(alloc, bytes.as_slice(), side)?, side)
+}
+
+/// The value at the front of a pod.
+fn value_in(alloc: Global, pod: &[u8], side: Side) -> Result<Value, NegotiateError> {
     let mut opened = 0;
-    match read_value(alloc, bytes.as_slice(), &mut opened) {
-        Ok((_rest, Value::Object(object))) => Ok(object),
-        Ok(_) => Err(NegotiateError::NotObject(side)),
-        Err(refused) if refused.why == Refusal::OutOfMemory => Err(NegotiateError::OutOfMemory),
-        Err(_) => Err(NegotiateError::Unread(side)),
+    match read_value(alloc, pod, &mut opened) {
+        Ok((_rest, value)) => Ok(value),
+        Err(refused) => Err(refusal_of(refused.why, side)),
+    }
+}
+
+/// The refusal of a side whose front isn't read for this reason.
+fn refusal_of(why: Refusal, side: Side) -> NegotiateError {
+    match why {
+        Refusal::OutOfMemory => NegotiateError::OutOfMemory,
+        _ => NegotiateError::Unread(side),
+    }
+}
+
+/// The object that a value is.
+fn object_of(value: Value, side: Side) -> Result<Object, NegotiateError> {
+    match value {
+        Value::Object(object) => Ok(object),
+        _ => Err(NegotiateError::NotObject(side)),
     }
 }
 

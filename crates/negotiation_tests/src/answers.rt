@@ -14,8 +14,15 @@ fn read(alloc: Global, pod: &[u8]) -> Result<Held, NegotiateError> {
     let mut opened = 0;
     match read_value(alloc, pod, &mut opened) {
         Ok((_rest, value)) => Ok(Held::from(value)),
-        Err(refused) if refused.why == Refusal::OutOfMemory => Err(NegotiateError::OutOfMemory),
-        Err(_) => Err(NegotiateError::Unread(Side::First)),
+        Err(refused) => Err(refusal_of(refused.why)),
+    }
+}
+
+/// The refusal of a front that isn't read for this reason.
+fn refusal_of(why: Refusal) -> NegotiateError {
+    match why {
+        Refusal::OutOfMemory => NegotiateError::OutOfMemory,
+        _ => NegotiateError::Unread(Side::First),
     }
 }
 

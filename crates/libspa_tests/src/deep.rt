@@ -1,6 +1,5 @@
-//! Values that stand deep in one another: negotiated, read and written by types, printed, rewritten, built and parsed.
+//! Values that stand deep in one another: read and written by types, printed, rewritten, built and parsed.
 mod bytes;
 mod calls;
-mod negotiation;
 mod rewriting;
 mod typed;

@@ -1,5 +1,5 @@
-//! Tests of what README.md shows, of the builder and the parser call by call, of negotiation, of writing, and of values that stand deep in
-//! one another, over the paths that a user of the library writes. There is nothing here but tests.
+//! Tests of what README.md shows, of the builder and the parser call by call, of writing, and of values that stand deep in one another,
+//! over the paths that a user of the library writes. There is nothing here but tests.
 #![tactic(auto)]
 
 #[cfg(test)]
@@ -8,8 +8,6 @@ mod builder;
 mod bytes;
 #[cfg(test)]
 mod deep;
-#[cfg(test)]
-mod negotiation;
 #[cfg(test)]
 mod parser;
 #[cfg(test)]

@@ -1,9 +1,0 @@
-//! Two objects meet: values, keys, refusals, and pods from bytes to bytes.
-mod answers;
-mod keys;
-mod many;
-mod objects;
-mod pods;
-mod refusals;
-mod shared;
-mod values;

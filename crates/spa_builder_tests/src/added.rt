@@ -7,8 +7,8 @@ use spa_value::{Held, Value};
 use spa_view::Pod;
 use std::alloc::{AllocError, Global};
 
-/// The words of a pod; whether an array takes what it says, as a struct does; and the words of what is built where it is added to a
-/// struct and to an array in that; by the rules of the format.
+/// The words of a pod; whether an array takes what it says, as a struct does; and the words of what is built where it is added
+/// to a struct and to an array in that; by the rules of the format.
 pub(crate) const PODS: &[(&[u32], bool, &[u32])] = &[
     (
         &[4, 4, 3, 0],

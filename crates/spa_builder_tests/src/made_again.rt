@@ -1,5 +1,6 @@
-//! Calls that want memory, made again. `rt try --test --fail-alloc N` refuses the Nth request: the call that makes it answers NOMEM and
-//! changes nothing, made again it is answered as it is with memory, and the same is built. So each test here passes whatever N is.
+//! Calls that want memory, made again. `rt try --test --fail-alloc N` refuses the Nth request: the call that makes it answers
+//! NOMEM and changes nothing, made again it is answered as it is with memory, and the same is built. So each test here passes
+//! whatever N is.
 use crate::added::{PODS, VALUES};
 use crate::bytes::{assert_holds, assert_holds_at, spell};
 use crate::rows::{ACCEPTED, Answer, EVERY_ADD, INVAL, ROWS, Row, call_of, every_add};

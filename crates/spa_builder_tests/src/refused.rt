@@ -1,5 +1,5 @@
-//! A list of calls of which one wants memory: `rt try --test --fail-alloc N` refuses the Nth request. What the accepted ones build is there
-//! then, or the vector is as it was.
+//! A list of calls of which one wants memory: `rt try --test --fail-alloc N` refuses the Nth request. What the accepted ones
+//! build is there then, or the vector is as it was.
 use crate::bytes::{assert_holds, behind};
 use spa_builder::BuildCall::{AddInt, AddLong, AddString};
 use spa_builder::{BuildCall, replay};

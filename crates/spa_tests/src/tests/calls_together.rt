@@ -96,13 +96,22 @@ fn looks_and_fixates(rt: HostRuntime) -> Result<(), Fail> {
     Ok(())
 }
 
+/// Pairs of a dictionary.
+const PAIRS: &[(&[u8], &[u8])] = &[(b"audio.channels", b"2")];
+
+/// The number of channels that they have.
+fn channels() -> Option<u32> {
+    DictRef::new(PAIRS, DictFlags::empty())
+        .parse::<u32>("audio.channels")?
+        .ok()
+}
+
+fn is_done(code: i32, number: i32) -> bool {
+    matches!(SpaResult::from_c(code).into_result(), Ok(SpaSuccess::Sync(it)) if it == number)
+}
+
 #[test]
-fn looks_up_and_tells(rt: HostRuntime) -> Result<(), Fail> {
-    let items: [(&[u8], &[u8]); 1] = [(b"audio.channels", b"2")];
-    let dict = DictRef::new(&items, DictFlags::empty());
-    let channels = dict.parse::<u32>("audio.channels");
-    assert!(rt; matches!(channels, Some(Ok(2))));
-    let done = SpaResult::from_c(7).into_result();
-    assert!(rt; matches!(done, Ok(SpaSuccess::Sync(7))));
-    Ok(())
+fn looks_up_and_tells(rt: HostRuntime) {
+    assert_holds(&rt, channels() == Some(2), "two channels");
+    assert_holds(&rt, is_done(7, 7), "done");
 }

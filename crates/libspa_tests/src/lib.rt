@@ -1,5 +1,5 @@
-//! Tests of what README.md and docs/CALLING.md show, of negotiation, and of values that stand deep in one another, over the paths that a
-//! user of the library writes. There is nothing here but tests.
+//! Tests of what README.md and docs/CALLING.md show, of negotiation, and of values that stand deep in one another, over the
+//! paths that a user of the library writes. There is nothing here but tests.
 #![tactic(auto)]
 
 #[cfg(test)]

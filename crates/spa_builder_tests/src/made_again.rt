@@ -110,10 +110,10 @@ fn each_call_of_a_list(rt: HostRuntime) {
 }
 
 /// Three Ints, for which memory is asked again where it is refused.
-fn three_ints(alloc: Global) -> Result<ValueArray, AllocError> {
+fn three_ints(alloc: Global) -> Result<Vec<i32>, AllocError> {
     match [10, 15, 19].to_vec(alloc) {
-        Ok(ints) => Ok(ValueArray::Int(ints)),
-        Err(_) => Ok(ValueArray::Int([10, 15, 19].to_vec(alloc)?)),
+        Ok(ints) => Ok(ints),
+        Err(_) => [10, 15, 19].to_vec(alloc),
     }
 }
 
@@ -130,7 +130,7 @@ fn builds_every_add(alloc: Global, array: &ValueArray) -> bool {
 
 #[test]
 fn every_add_of_a_list(rt: HostRuntime) -> Result<(), AllocError> {
-    let array = three_ints(rt.alloc())?;
+    let array = ValueArray::Int(three_ints(rt.alloc())?);
     assert_holds(&rt, builds_every_add(rt.alloc(), &array), "every add");
     Ok(())
 }
@@ -255,9 +255,17 @@ fn values_alone(rt: HostRuntime) -> Result<(), AllocError> {
     Ok(())
 }
 
+/// Five units, for which memory is asked again where it is refused.
+fn five_units(alloc: Global) -> Result<Vec<()>, AllocError> {
+    match Vec::from_slice(alloc, &[(); 5]) {
+        Ok(units) => Ok(units),
+        Err(_) => Vec::from_slice(alloc, &[(); 5]),
+    }
+}
+
 /// Whether a builder of five units has an array of none.
 fn builds_units(alloc: Global) -> Result<bool, AllocError> {
-    let units = ValueArray::None(Vec::from_slice(alloc, &[(); 5])?);
+    let units = ValueArray::None(five_units(alloc)?);
     let value = Held::from(Value::ValueArray(units));
     Ok(builds_alone(alloc, &*value, &[8, 13, 0, 1]))
 }

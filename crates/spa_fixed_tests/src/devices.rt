@@ -91,8 +91,8 @@ fn assert_interrupted(rt: &impl Abort, interrupted_at: u32, end: usize) {
     assert_found(rt, &found, Err(GenError::Io), 1, taken);
 }
 
-/// Writes at which a device is interrupted, and how many bytes it has taken before: two words go in two pieces of at most five bytes,
-/// and the Int in four.
+/// Writes at which a device is interrupted, and how many bytes it has taken before: two words go in two pieces of at most five
+/// bytes, and the Int in four.
 const PIECES: &[(u32, usize)] = &[(1, 0), (2, 5), (3, 8), (4, 13), (5, 18), (6, 23)];
 
 #[test]

@@ -1,5 +1,5 @@
-//! Tests of the types of fixed size, of the bodies of arrays and choices over them, and of what bytes are written to. There is nothing
-//! here but tests.
+//! Tests of the types of fixed size, of the bodies of arrays and choices over them, and of what bytes are written to. There is
+//! nothing here but tests.
 #![tactic(auto)]
 
 #[cfg(test)]

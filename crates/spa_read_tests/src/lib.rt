@@ -1,5 +1,5 @@
-//! Tests of readers of any value: what is read, what is refused and why, how many headers are opened, and values that stand deep in one
-//! another. There is nothing here but tests.
+//! Tests of readers of any value: what is read, what is refused and why, how many headers are opened, and values that stand
+//! deep in one another. There is nothing here but tests.
 #![tactic(auto)]
 
 #[cfg(test)]

@@ -88,8 +88,8 @@ fn a_vector_takes_all_of_it(rt: HostRuntime) -> Result<(), Fail> {
     Ok(())
 }
 
-/// How many bytes a device takes at a time, at which of its writes it fails, and how many it has taken then. Five bytes a write: the
-/// header in two pieces, the Int in four. Then whole appends, one for each of the two.
+/// How many bytes a device takes at a time, at which of its writes it fails, and how many it has taken then. Five bytes a
+/// write: the header in two pieces, the Int in four. Then whole appends, one for each of the two.
 const FAILING: &[(usize, u32, u64)] = &[
     (5, 1, 0),
     (5, 2, 5),

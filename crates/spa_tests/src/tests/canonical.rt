@@ -1,8 +1,9 @@
 //! Pods that are their own rewriting, and how deep pods nest.
 use crate::bytes::{assert_holds, assert_holds_at};
 use crate::tables::{lines_of, lines_of_built};
-use libspa::pod::deserialize::DeserializeError;
-use libspa::pod::{is_canonical, nests_within, rewrite};
+use spa_fixed::DeserializeError;
+use spa_rewrite::{is_canonical, rewrite};
+use spa_scan::nests_within;
 use spa_spelling::bytes_spelled;
 use std::alloc::{AllocError, Global};
 use std::process::Abort;

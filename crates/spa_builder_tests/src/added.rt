@@ -110,7 +110,8 @@ fn refuses_no_value(alloc: Global) -> Result<bool, AllocError> {
 fn refuses_nul(alloc: Global) -> Result<bool, AllocError> {
     let text = String::from_str(alloc, "a\0b")?;
     let value = Held::from(Value::Struct(vec![in alloc; Value::Int(3), Value::String(text)]?));
-    match Builder::new(Vec::new(alloc)).add_value(&*value) {
+    let mut builder = Builder::new(Vec::new(alloc));
+    match builder.add_value(&*value) {
         Ok(()) => Ok(false),
         Err(Errno::NOMEM) => Err(AllocError),
         Err(refusal) => Ok(refusal == Errno::INVAL),

@@ -11,7 +11,9 @@ use std::process::Abort;
 fn calls_of(alloc: Global, row: Row) -> Result<Vec<BuildCall<'static>>, AllocError> {
     let mut calls = Vec::new(alloc);
     for (call, _) in row.calls {
-        calls.push(call_of(*call))?;
+        if calls.push(call_of(*call)).is_err() {
+            return Err(AllocError);
+        }
     }
     Ok(calls)
 }
@@ -56,14 +58,23 @@ fn calls_are_answered(rt: HostRuntime) -> Result<(), AllocError> {
     Ok(())
 }
 
-/// Whether every add is accepted, and these words are built.
+/// Whether all are accepted, up to the first call that wants memory.
+fn are_accepted(found: &[Answer]) -> Result<bool, AllocError> {
+    for answer in found {
+        match answer {
+            Ok(()) => {}
+            Err(Errno::NOMEM) => return Err(AllocError),
+            Err(_) => return Ok(false),
+        }
+    }
+    Ok(true)
+}
+
+/// Whether every add is accepted, and its words are built.
 fn are_all_added(alloc: Global) -> Result<bool, AllocError> {
     let array = ValueArray::Int([10, 15, 19].to_vec(alloc)?);
     let (answers, held) = replayed(alloc, &every_add(&array))?;
-    if answers.contains(&Err(Errno::NOMEM)) {
-        return Err(AllocError);
-    }
-    Ok(answers.iter().all(|answer| answer.is_ok()) && spell(held.as_slice(), EVERY_ADD))
+    Ok(are_accepted(answers.as_slice())? && spell(held.as_slice(), EVERY_ADD))
 }
 
 #[test]

@@ -72,12 +72,14 @@ fn make(builder: &mut Builder, call: Call<'_>) -> Answer {
 /// Makes a call, and once more where it wants memory. The answer is PROTO where bytes or begun pods are others then.
 fn make_again(builder: &mut Builder, call: Call<'_>) -> Answer {
     let (had, begun) = (builder.as_bytes().len(), builder.open_frames());
-    match make(builder, call) {
-        Err(Errno::NOMEM) if builder.as_bytes().len() != had => Err(Errno::PROTO),
-        Err(Errno::NOMEM) if builder.open_frames() != begun => Err(Errno::PROTO),
-        Err(Errno::NOMEM) => make(builder, call),
-        answer => answer,
+    let answer = make(builder, call);
+    if answer != Err(Errno::NOMEM) {
+        return answer;
     }
+    if builder.as_bytes().len() != had || builder.open_frames() != begun {
+        return Err(Errno::PROTO);
+    }
+    make(builder, call)
 }
 
 /// Whether the calls of the row are answered as it says, and build its words.
@@ -183,8 +185,9 @@ fn read(alloc: Global, bytes: &[u8]) -> Result<Held, DeserializeError<&[u8]>> {
 /// The value of these bytes, for which memory is asked again where it is refused.
 fn read_again(alloc: Global, bytes: &[u8]) -> Result<Held, DeserializeError<&[u8]>> {
     match read(alloc, bytes) {
+        Ok(value) => Ok(value),
         Err(DeserializeError::OutOfMemory) => read(alloc, bytes),
-        answer => answer,
+        Err(error) => Err(error),
     }
 }
 

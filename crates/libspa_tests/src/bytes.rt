@@ -1,6 +1,6 @@
 //! What the tests assert of bytes and numbers: each assertion is proved here, once.
-use spa_spelling::{bytes_of, bytes_spelled};
-use std::alloc::{AllocError, Global};
+use spa_spelling::bytes_spelled;
+use std::alloc::Global;
 use std::process::Abort;
 use std::test::Fail;
 
@@ -24,14 +24,4 @@ pub(crate) fn assert_number(rt: &impl Abort, found: usize, wanted: usize, at: &s
 /// Something holds. The text says what.
 pub(crate) fn assert_holds(rt: &impl Abort, holds: bool, what: &str) {
     assert!(rt; holds, "{what}");
-}
-
-/// Whether the bytes are these words.
-pub(crate) fn are_words(alloc: Global, found: &[u8], words: &[u32]) -> Result<bool, AllocError> {
-    Ok(found == bytes_of(alloc, words)?.as_slice())
-}
-
-/// Something holds of the row with this name and these words.
-pub(crate) fn assert_holds_at(rt: &impl Abort, holds: bool, name: &str, words: &[u32]) {
-    assert!(rt; holds, "{name} at {words:?}");
 }

@@ -1,16 +1,12 @@
-//! Tests of what README.md shows, of the builder and the parser call by call, of writing, and of values that stand deep in one another,
-//! over the paths that a user of the library writes. There is nothing here but tests.
+//! Tests of what README.md and docs/CALLING.md show, and of values that stand deep in one another, over the paths that a user of the
+//! library writes. There is nothing here but tests.
 #![tactic(auto)]
 
 #[cfg(test)]
-mod builder;
-#[cfg(test)]
 mod bytes;
+#[cfg(test)]
+mod calling;
 #[cfg(test)]
 mod deep;
 #[cfg(test)]
-mod parser;
-#[cfg(test)]
 mod readme;
-#[cfg(test)]
-mod writing;

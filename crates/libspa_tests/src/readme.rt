@@ -11,6 +11,7 @@ use crate::readme::write::{encoded_int, encoded_pair};
 use libspa::utils::Id;
 use spa_spelling::bytes_spelled;
 use std::alloc::{AllocError, Global};
+use std::process::Abort;
 use std::test::Fail;
 
 mod read {
@@ -195,17 +196,19 @@ fn writes(rt: HostRuntime) -> Result<(), Fail> {
     Ok(())
 }
 
+/// Two pods, and whether they say the same value.
+const ALIKE: &[(&str, &str, bool)] = &[
+    ("4 2 1 0", "4 2 7 9", true),
+    ("4 2 1 0", "4 2 0 0", false),
+    (REWRITTEN, FIXATED, true),
+    (FIXATED, BUFFERS, false),
+];
+
 #[test]
 fn rewrites(rt: HostRuntime) -> Result<(), Fail> {
-    let rows = [
-        ("4 2 1 0", "4 2 7 9", true),
-        ("4 2 1 0", "4 2 0 0", false),
-        (REWRITTEN, FIXATED, true),
-        (FIXATED, BUFFERS, false),
-    ];
-    for (one, other, wanted) in rows {
+    for (one, other, wanted) in ALIKE {
         let are_same = are_same(rt.alloc(), one, other)?;
-        assert_holds(&rt, are_same == wanted, other);
+        assert_holds(&rt, are_same == *wanted, other);
     }
     Ok(())
 }
@@ -239,12 +242,19 @@ fn refused_place(alloc: Global, pods: &[u8]) -> usize {
     }
 }
 
+/// Keys, and the Ints under them in examples/buffers.pod.
+const UNDER: &[(u32, Option<i32>)] = &[(1, None), (2, Some(1)), (4, Some(4)), (5, None)];
+
+fn assert_under(rt: &impl Abort, found: Option<i32>, wanted: Option<i32>, key: u32) {
+    assert_eq!(rt; found, wanted, "under {key}");
+}
+
 #[test]
 fn looks(rt: HostRuntime) -> Result<(), Fail> {
     let bytes = bytes_spelled(rt.alloc(), BUFFERS)?;
-    for (key, wanted) in [(1, None), (2, Some(1)), (4, Some(4)), (5, None)] {
-        let found = int_under(Id(key), bytes.as_slice());
-        assert_eq!(rt; found, wanted, "under {key}");
+    for (key, wanted) in UNDER {
+        let found = int_under(Id(*key), bytes.as_slice());
+        assert_under(&rt, found, *wanted, *key);
     }
     Ok(())
 }
@@ -256,17 +266,23 @@ fn fixates(rt: HostRuntime) -> Result<(), Fail> {
     assert_spelt(&rt, rt.alloc(), bytes.as_slice(), FIXATED)
 }
 
+/// Pairs of a dictionary.
+const PAIRS: &[(&[u8], &[u8])] = &[(b"media.class", b"Audio/Sink"), (b"audio.channels", b"2")];
+
 #[test]
 fn looks_up(rt: HostRuntime) {
-    let pairs: [(&[u8], &[u8]); 2] = [(b"media.class", b"Audio/Sink"), (b"audio.channels", b"2")];
-    assert_eq!(rt; channels(&pairs), Some(2));
-    assert_eq!(rt; channels(&[]), None);
+    let found = channels(PAIRS);
+    assert_holds(&rt, found == Some(2), "two channels");
+    let found = channels(&[]);
+    assert_holds(&rt, found.is_none(), "no channels");
 }
+
+/// Result codes, and what they say.
+const CODES: &[(i32, &str)] = &[(7, "done"), (1073741824, "done later"), (-22, "failed")];
 
 #[test]
 fn tells(rt: HostRuntime) {
-    let rows = [(7, "done"), (1073741824, "done later"), (-22, "failed")];
-    for (code, wanted) in rows {
-        assert_eq!(rt; told(code), wanted, "at {code}");
+    for (code, wanted) in CODES {
+        assert_holds(&rt, told(*code) == *wanted, wanted);
     }
 }

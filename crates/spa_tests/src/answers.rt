@@ -1,10 +1,14 @@
 //! The library's answers, as plain as the tests compare them: a test calls these, and needs no clause of the library's.
 use crate::bytes::{assert_bytes, assert_spelt, assert_text};
 use crate::said::say_value;
-use libspa::pod::deserialize::{DeserializeError, PodDeserializer};
-use libspa::pod::serialize::{GenError, PodSerializer};
-use libspa::pod::{Pod, PodObject, Value, rewrite, rewrite_in_parts};
-use libspa::utils::Errno;
+use spa_fixed::DeserializeError;
+use spa_rewrite::{rewrite, rewrite_in_parts};
+use spa_sink::GenError;
+use spa_typed_read::PodDeserializer;
+use spa_typed_write::PodSerializer;
+use spa_utils::Errno;
+use spa_value::Value;
+use spa_view::{Pod, PodObject};
 use std::alloc::{AllocError, Global};
 use std::process::Abort;
 use std::test::Fail;

@@ -1,9 +1,7 @@
 //! What values say, as text, so that each of their fields is compared with a tree that another program printed.
 use bitflags::Flags;
-use libspa::pod::{ChoiceValue, Object, Value, ValueArray};
-use libspa::utils::{
-    Choice, ChoiceEnum, ChoiceFlags, Fd, Float32, Float64, Fraction, Id, Rectangle,
-};
+use spa_utils::{Choice, ChoiceEnum, ChoiceFlags, Fd, Float32, Float64, Fraction, Id, Rectangle};
+use spa_value::{ChoiceValue, Object, Value, ValueArray};
 use std::alloc::AllocError;
 
 /// A value of fixed size, as JSON: a number, `true`, `false`, `null`, or a list of two numbers. A float is its bits.

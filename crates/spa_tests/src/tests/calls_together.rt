@@ -2,12 +2,14 @@
 use crate::answers::{after_of, assert_own_rewriting, value_of, write};
 use crate::bytes::{assert_bytes, assert_holds};
 use bitflags::Flags;
-use libspa::pod::serialize::GenError;
-use libspa::pod::{Pod, PodObject, Value, rewrite_all};
-use libspa::utils::Id;
-use libspa::utils::dict::{DictRef, Flags as DictFlags};
-use libspa::utils::result::{SpaResult, SpaSuccess};
+use spa_dict::{DictRef, Flags as DictFlags};
+use spa_rewrite::rewrite_all;
+use spa_sink::GenError;
 use spa_spelling::bytes_spelled;
+use spa_utils::Id;
+use spa_result::{SpaResult, SpaSuccess};
+use spa_value::Value;
+use spa_view::{Pod, PodObject};
 use std::alloc::{AllocError, Global};
 use std::process::Abort;
 use std::test::Fail;
@@ -96,13 +98,22 @@ fn looks_and_fixates(rt: HostRuntime) -> Result<(), Fail> {
     Ok(())
 }
 
+/// Pairs of a dictionary.
+const PAIRS: &[(&[u8], &[u8])] = &[(b"audio.channels", b"2")];
+
+/// The number of channels that they have.
+fn channels() -> Option<u32> {
+    DictRef::new(PAIRS, DictFlags::empty())
+        .parse::<u32>("audio.channels")?
+        .ok()
+}
+
+fn is_done(code: i32, number: i32) -> bool {
+    matches!(SpaResult::from_c(code).into_result(), Ok(SpaSuccess::Sync(it)) if it == number)
+}
+
 #[test]
-fn looks_up_and_tells(rt: HostRuntime) -> Result<(), Fail> {
-    let items: [(&[u8], &[u8]); 1] = [(b"audio.channels", b"2")];
-    let dict = DictRef::new(&items, DictFlags::empty());
-    let channels = dict.parse::<u32>("audio.channels");
-    assert!(rt; matches!(channels, Some(Ok(2))));
-    let done = SpaResult::from_c(7).into_result();
-    assert!(rt; matches!(done, Ok(SpaSuccess::Sync(7))));
-    Ok(())
+fn looks_up_and_tells(rt: HostRuntime) {
+    assert_holds(&rt, channels() == Some(2), "two channels");
+    assert_holds(&rt, is_done(7, 7), "done");
 }

@@ -1,8 +1,9 @@
 //! Pods that are their own rewriting, and how deep pods nest.
 use crate::bytes::{assert_holds, assert_holds_at};
 use crate::tables::{lines_of, lines_of_built};
-use libspa::pod::deserialize::DeserializeError;
-use libspa::pod::{is_canonical, nests_within, rewrite};
+use spa_fixed::DeserializeError;
+use spa_rewrite::{is_canonical, rewrite};
+use spa_scan::nests_within;
 use spa_spelling::bytes_spelled;
 use std::alloc::{AllocError, Global};
 use std::process::Abort;
@@ -10,7 +11,7 @@ use std::test::Fail;
 
 /// Pods of which a byte is replaced: a struct of a Bool and a text, an object with a range, an array of Bools, a None choice,
 /// a pointer.
-const REPLACED: [&str; 5] = [
+const REPLACED: &[&str] = &[
     "32 14 4 2 1 0 3 8 x61620000 0 99 99 99 99",
     "44 15 262147 3 65539 0 28 19 1 0 4 4 x05000000 x01000000 x09000000 0",
     "16 13 4 2 1 0 5 99",
@@ -88,13 +89,16 @@ fn compare_alike(rt: &impl Abort, alloc: Global, input: &[u8]) -> Result<(), Fai
     Ok(())
 }
 
+/// What each byte is replaced by in turn.
+const OTHERS: &[u8] = &[0, 1, 2, 7, 19, 255];
+
 /// Compares the answers where one byte of a pod is another one.
 fn compare_replaced(rt: &impl Abort, alloc: Global, words: &str) -> Result<(), Fail> {
     let mut input = bytes_spelled(alloc, words)?;
     for at in 0..input.len() {
         let byte = input[at];
-        for other in [0, 1, 2, 7, 19, 255] {
-            input[at] = other;
+        for other in OTHERS {
+            input[at] = *other;
             compare_alike(rt, alloc, input.as_slice())?;
         }
         input[at] = byte;
@@ -149,12 +153,13 @@ fn compare_depth(rt: &impl Abort, input: &[u8], levels: u32, at: &str) {
     }
 }
 
+/// What is nested, structs or objects, and the number of the Bool in the innermost.
+const DEEP_PODS: &[(u32, u32)] = &[(14, 0), (14, 1), (14, 7), (15, 0), (15, 1), (15, 7)];
+
 #[test]
 fn looks_into_any_depth(rt: HostRuntime) -> Result<(), Fail> {
-    for type_ in [14, 15] {
-        for truth in [0, 1, 7] {
-            compare_deep(&rt, rt.alloc(), type_, truth)?;
-        }
+    for (type_, truth) in DEEP_PODS {
+        compare_deep(&rt, rt.alloc(), *type_, *truth)?;
     }
     Ok(())
 }

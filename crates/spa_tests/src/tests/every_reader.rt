@@ -1,8 +1,9 @@
 //! Readers other than the untyped one, on pods that are cut or changed.
-use libspa::pod::deserialize::{DeserializeError, PodDeserialize, PodDeserializer};
-use libspa::pod::parser::Parser;
-use libspa::pod::{Bitmap, Pod, Value};
-use libspa::utils::{Choice, Fd, Float32, Float64, Fraction, Id, Rectangle};
+use spa_parser::Parser;
+use spa_typed_read::{PodDeserialize, PodDeserializer};
+use spa_utils::{Choice, Fd, Float32, Float64, Fraction, Id, Rectangle};
+use spa_value::{Bitmap, Value};
+use spa_view::Pod;
 use std::alloc::Global;
 
 /// Whether reading this type finds the front short.

@@ -14,7 +14,7 @@ use std::process::Abort;
 use std::test::Fail;
 
 /// What each byte is replaced by in turn.
-const REPLACEMENTS: [u8; 6] = [0, 1, 7, 127, 128, 255];
+const REPLACEMENTS: &[u8] = &[0, 1, 7, 127, 128, 255];
 
 /// Compares the library's reading of an input with that of the second reader.
 fn compare(rt: &impl Abort, alloc: Global, input: &[u8]) -> Result<(), Fail> {
@@ -113,7 +113,7 @@ fn cut_everywhere(rt: &impl Abort, alloc: Global, input: &[u8]) -> Result<(), Fa
 fn change_everywhere(rt: &impl Abort, alloc: Global, input: &mut [u8]) -> Result<(), Fail> {
     for byte in REPLACEMENTS {
         for place in 0..input.len() {
-            change_one(rt, alloc, input, place, byte)?;
+            change_one(rt, alloc, input, place, *byte)?;
         }
     }
     Ok(())

@@ -6,9 +6,9 @@ use crate::answers::{
 use crate::bytes::{assert_holds_at, assert_number, assert_number_at, assert_text};
 use crate::tables::c_bytes::C_BYTES;
 use crate::tables::{lines_of, lines_of_built, lines_of_read_rows};
-use libspa::pod::Value;
-use libspa::pod::deserialize::PodDeserializer;
 use spa_spelling::bytes_spelled;
+use spa_typed_read::PodDeserializer;
+use spa_value::Value;
 use std::alloc::{AllocError, Global};
 use std::process::Abort;
 use std::test::Fail;

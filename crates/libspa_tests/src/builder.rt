@@ -1,9 +1,0 @@
-//! The builder, and the macros beside it.
-mod calls;
-mod finished;
-mod forms;
-mod objects;
-mod pods;
-mod refused;
-mod rows;
-mod shown;

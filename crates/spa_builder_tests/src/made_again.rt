@@ -1,0 +1,291 @@
+//! Calls that want memory, made again. `rt try --test --fail-alloc N` refuses the Nth request: the call that makes it answers
+//! NOMEM and changes nothing, made again it is answered as it is with memory, and the same is built. So each test here passes
+//! whatever N is.
+use crate::added::{PODS, VALUES};
+use crate::bytes::{assert_holds, assert_holds_at, spell};
+use crate::rows::{ACCEPTED, Answer, EVERY_ADD, INVAL, ROWS, Row, call_of, every_add};
+use bitflags::Flags;
+use spa_builder::BuildCall::{Pop, PushArray, PushStruct};
+use spa_builder::{BuildCall, Builder};
+use spa_fixed::DeserializeError;
+use spa_spelling::bytes_of;
+use spa_typed_read::PodDeserializer;
+use spa_utils::{Choice, ChoiceEnum, ChoiceFlags, Errno, Frame};
+use spa_value::{ChoiceValue, Held, Value, ValueArray};
+use spa_view::Pod;
+use std::alloc::{AllocError, Global};
+use std::process::Abort;
+
+/// A call: one that lists have, or one that adds a value, a pod or an array of Ints whole.
+#[derive(Clone, Copy)]
+enum Call<'a> {
+    Listed(BuildCall<'a>),
+    Value(&'a Value),
+    Pod(Pod<'a>),
+    Ints(&'a [i32]),
+}
+
+/// Begins, closes or gives up a pod, or adds a key.
+fn begin_or_end(builder: &mut Builder, call: BuildCall<'_>) -> Answer {
+    match call {
+        BuildCall::AddProp(key, flags) => builder.add_prop(key, flags),
+        BuildCall::PushArray => builder.push_array().map(|_frame| ()),
+        BuildCall::PushChoice(shape, flags) => builder.push_choice(shape, flags).map(|_frame| ()),
+        BuildCall::PushStruct => builder.push_struct().map(|_frame| ()),
+        BuildCall::PushObject(type_, id) => builder.push_object(type_, id).map(|_frame| ()),
+        BuildCall::Pop(frame) => builder.pop(frame),
+        BuildCall::Abandon(frame) => builder.abandon(frame),
+        _ => Err(Errno::PROTO),
+    }
+}
+
+/// Makes a call of a list.
+fn make_listed(builder: &mut Builder, call: BuildCall<'_>) -> Answer {
+    match call {
+        BuildCall::AddNone => builder.add_none(),
+        BuildCall::AddBool(value) => builder.add_bool(value),
+        BuildCall::AddId(value) => builder.add_id(value),
+        BuildCall::AddInt(value) => builder.add_int(value),
+        BuildCall::AddLong(value) => builder.add_long(value),
+        BuildCall::AddFloat(value) => builder.add_float(value),
+        BuildCall::AddDouble(value) => builder.add_double(value),
+        BuildCall::AddString(text) => builder.add_string(text),
+        BuildCall::AddBytes(bytes) => builder.add_bytes(bytes),
+        BuildCall::AddPointer(type_, address) => builder.add_pointer(type_, address),
+        BuildCall::AddFd(value) => builder.add_fd(value),
+        BuildCall::AddRectangle(value) => builder.add_rectangle(value),
+        BuildCall::AddFraction(value) => builder.add_fraction(value),
+        BuildCall::AddArray(values) => builder.add_array(values),
+        other => begin_or_end(builder, other),
+    }
+}
+
+fn make(builder: &mut Builder, call: Call<'_>) -> Answer {
+    match call {
+        Call::Listed(listed) => make_listed(builder, listed),
+        Call::Value(value) => builder.add_value(value),
+        Call::Pod(pod) => builder.add_pod(pod),
+        Call::Ints(ints) => builder.add_array_of(ints),
+    }
+}
+
+/// Makes a call, and once more where it wants memory. The answer is PROTO where bytes or begun pods are others then.
+fn make_again(builder: &mut Builder, call: Call<'_>) -> Answer {
+    let (had, begun) = (builder.as_bytes().len(), builder.open_frames());
+    let answer = make(builder, call);
+    if answer != Err(Errno::NOMEM) {
+        return answer;
+    }
+    if builder.as_bytes().len() != had || builder.open_frames() != begun {
+        return Err(Errno::PROTO);
+    }
+    make(builder, call)
+}
+
+/// Whether the calls of the row are answered as it says, and build its words.
+fn builds_row(alloc: Global, row: Row) -> bool {
+    let mut builder = Builder::new(Vec::new(alloc));
+    for (call, wanted) in row.calls {
+        if make_again(&mut builder, Call::Listed(call_of(*call))) != *wanted {
+            return false;
+        }
+    }
+    spell(builder.as_bytes(), row.words)
+}
+
+/// Whether these calls are answered so, and build these words.
+fn builds(alloc: Global, calls: &[(Call<'_>, Answer)], words: &[u32]) -> bool {
+    let mut builder = Builder::new(Vec::new(alloc));
+    for (call, wanted) in calls {
+        if make_again(&mut builder, *call) != *wanted {
+            return false;
+        }
+    }
+    spell(builder.as_bytes(), words)
+}
+
+#[test]
+fn each_call_of_a_list(rt: HostRuntime) {
+    for row in ROWS {
+        assert_holds(&rt, builds_row(rt.alloc(), *row), row.case);
+    }
+}
+
+/// Three Ints, for which memory is asked again where it is refused.
+fn three_ints(alloc: Global) -> Result<Vec<i32>, AllocError> {
+    match [10, 15, 19].to_vec(alloc) {
+        Ok(ints) => Ok(ints),
+        Err(_) => [10, 15, 19].to_vec(alloc),
+    }
+}
+
+/// Whether every add is accepted, and its words are built.
+fn builds_every_add(alloc: Global, array: &ValueArray) -> bool {
+    let mut builder = Builder::new(Vec::new(alloc));
+    for call in &every_add(array) {
+        if make_again(&mut builder, Call::Listed(*call)) != ACCEPTED {
+            return false;
+        }
+    }
+    spell(builder.as_bytes(), EVERY_ADD)
+}
+
+#[test]
+fn every_add_of_a_list(rt: HostRuntime) -> Result<(), AllocError> {
+    let array = ValueArray::Int(three_ints(rt.alloc())?);
+    assert_holds(&rt, builds_every_add(rt.alloc(), &array), "every add");
+    Ok(())
+}
+
+/// Whether an array of Ints goes into a struct at once, and these words are built.
+fn builds_ints(alloc: Global, ints: &[i32], words: &[u32]) -> bool {
+    let calls = [
+        (Call::Listed(PushStruct), ACCEPTED),
+        (Call::Ints(ints), ACCEPTED),
+        (Call::Listed(Pop(Frame(1))), ACCEPTED),
+    ];
+    builds(alloc, &calls, words)
+}
+
+#[test]
+fn elements_at_once(rt: HostRuntime) {
+    let words = &[32, 14, 20, 13, 4, 4, 10, 15, 19, 0];
+    let is_built = builds_ints(rt.alloc(), &[10, 15, 19], words);
+    assert_holds_at(&rt, is_built, "an array", words);
+}
+
+/// Whether a struct takes what is added, an array in that does or doesn't, and these words are built.
+fn goes_into_both(alloc: Global, added: Call<'_>, taken: bool, words: &[u32]) -> bool {
+    let answer = if taken { ACCEPTED } else { INVAL };
+    let calls = [
+        (Call::Listed(PushStruct), ACCEPTED),
+        (added, ACCEPTED),
+        (Call::Listed(PushArray), ACCEPTED),
+        (added, answer),
+        (Call::Listed(Pop(Frame(2))), ACCEPTED),
+        (Call::Listed(Pop(Frame(1))), ACCEPTED),
+    ];
+    builds(alloc, &calls, words)
+}
+
+/// The bytes of these words, for which memory is asked again where it is refused.
+fn bytes_again(alloc: Global, words: &[u32]) -> Result<Vec<u8>, AllocError> {
+    match bytes_of(alloc, words) {
+        Ok(bytes) => Ok(bytes),
+        Err(_) => bytes_of(alloc, words),
+    }
+}
+
+/// The value of these bytes.
+fn read(alloc: Global, bytes: &[u8]) -> Result<Held, DeserializeError<&[u8]>> {
+    let (_, value) = PodDeserializer::deserialize_any_from(alloc, bytes)?;
+    Ok(Held::from(value))
+}
+
+/// The value of these bytes, for which memory is asked again where it is refused.
+fn read_again(alloc: Global, bytes: &[u8]) -> Result<Held, DeserializeError<&[u8]>> {
+    match read(alloc, bytes) {
+        Ok(value) => Ok(value),
+        Err(DeserializeError::OutOfMemory) => read(alloc, bytes),
+        Err(error) => Err(error),
+    }
+}
+
+/// Whether the value of these bytes goes into a struct and an array.
+fn value_goes_into_both(alloc: Global, bytes: &[u8], taken: bool, words: &[u32]) -> bool {
+    match read_again(alloc, bytes) {
+        Ok(value) => goes_into_both(alloc, Call::Value(&*value), taken, words),
+        Err(_) => false,
+    }
+}
+
+/// Whether the pod of these bytes does.
+fn pod_goes_into_both(alloc: Global, bytes: &[u8], taken: bool, words: &[u32]) -> bool {
+    match Pod::from_bytes(bytes) {
+        Some(pod) => goes_into_both(alloc, Call::Pod(pod), taken, words),
+        None => false,
+    }
+}
+
+/// A row: the pod is added, and then what it says.
+fn assert_added(
+    rt: &impl Abort,
+    alloc: Global,
+    row: (&[u32], bool, &[u32]),
+) -> Result<(), AllocError> {
+    let (pod, taken, words) = row;
+    let bytes = bytes_again(alloc, pod)?;
+    let is_added = pod_goes_into_both(alloc, bytes.as_slice(), taken, words);
+    assert_holds_at(rt, is_added, "the pod", pod);
+    let is_added = value_goes_into_both(alloc, bytes.as_slice(), taken, words);
+    assert_holds_at(rt, is_added, "its value", pod);
+    Ok(())
+}
+
+#[test]
+fn pods_and_what_they_say(rt: HostRuntime) -> Result<(), AllocError> {
+    for row in PODS {
+        assert_added(&rt, rt.alloc(), *row)?;
+    }
+    Ok(())
+}
+
+/// Whether a builder of the value alone has these words.
+fn builds_alone(alloc: Global, value: &Value, words: &[u32]) -> bool {
+    builds(alloc, &[(Call::Value(value), ACCEPTED)], words)
+}
+
+/// Whether a builder of the value of these bytes does.
+fn value_builds_alone(alloc: Global, bytes: &[u8], words: &[u32]) -> bool {
+    match read_again(alloc, bytes) {
+        Ok(value) => builds_alone(alloc, &*value, words),
+        Err(_) => false,
+    }
+}
+
+fn assert_alone(rt: &impl Abort, alloc: Global, words: &[u32]) -> Result<(), AllocError> {
+    let bytes = bytes_again(alloc, words)?;
+    let is_built = value_builds_alone(alloc, bytes.as_slice(), words);
+    assert_holds_at(rt, is_built, "a value", words);
+    Ok(())
+}
+
+#[test]
+fn values_alone(rt: HostRuntime) -> Result<(), AllocError> {
+    for words in VALUES {
+        assert_alone(&rt, rt.alloc(), words)?;
+    }
+    Ok(())
+}
+
+/// Five units, for which memory is asked again where it is refused.
+fn five_units(alloc: Global) -> Result<Vec<()>, AllocError> {
+    match Vec::from_slice(alloc, &[(); 5]) {
+        Ok(units) => Ok(units),
+        Err(_) => Vec::from_slice(alloc, &[(); 5]),
+    }
+}
+
+/// Whether a builder of five units has an array of none.
+fn builds_units(alloc: Global) -> Result<bool, AllocError> {
+    let units = ValueArray::None(five_units(alloc)?);
+    let value = Held::from(Value::ValueArray(units));
+    Ok(builds_alone(alloc, &*value, &[8, 13, 0, 1]))
+}
+
+/// Whether a builder of a choice of one value keeps its flags.
+fn builds_flags(alloc: Global) -> bool {
+    let flags = ChoiceFlags::from_bits_retain(5);
+    let choice = ChoiceValue::Int(Choice(flags, ChoiceEnum::None(7)));
+    let value = Held::from(Value::Choice(choice));
+    builds_alone(alloc, &*value, &[20, 19, 0, 5, 4, 4, 7, 0])
+}
+
+#[test]
+fn values_as_none_is_read(rt: HostRuntime) -> Result<(), AllocError> {
+    let units = builds_units(rt.alloc())?;
+    assert_holds(&rt, units, "five units, which no array is read as");
+    let flags = builds_flags(rt.alloc());
+    assert_holds(&rt, flags, "flags of one value, which none is read with");
+    Ok(())
+}

@@ -1,0 +1,13 @@
+//! Tests of the parser, call by call, by its macro, and where memory is wanting. There is nothing here but tests.
+#![tactic(auto)]
+
+#[cfg(test)]
+mod calls;
+#[cfg(test)]
+mod compare;
+#[cfg(test)]
+mod forms;
+#[cfg(test)]
+mod keyed;
+#[cfg(test)]
+mod refused;

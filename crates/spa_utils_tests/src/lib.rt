@@ -1,0 +1,13 @@
+//! Tests of small types, dictionaries and result codes. There is nothing here but tests.
+#![tactic(auto)]
+
+#[cfg(test)]
+mod compare;
+#[cfg(test)]
+mod dictionaries;
+#[cfg(test)]
+mod equality;
+#[cfg(test)]
+mod plain_types;
+#[cfg(test)]
+mod results;

@@ -1,0 +1,13 @@
+//! Tests of views, of fixation, and of what lies inside an input, told pod by pod. There is nothing here but tests.
+#![tactic(auto)]
+
+#[cfg(test)]
+mod compare;
+#[cfg(test)]
+mod depth;
+#[cfg(test)]
+mod equality;
+#[cfg(test)]
+mod events;
+#[cfg(test)]
+mod viewing;

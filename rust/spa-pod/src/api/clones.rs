@@ -1,0 +1,54 @@
+//! `Clone` and `Default` of the types whose copies may be refused for want of memory: `clone` panics then, as Rust's own does end
+//! the process; the proved calls `try_clone` answer an error.
+use crate::parts::spa_utils::{Choice, ChoiceEnum};
+use crate::parts::spa_value::{ChoiceValue, Object, Property, Value, ValueArray};
+use crate::shims::memory::TryClone;
+
+/// The copy, where there is memory.
+fn copy_of<T: TryClone>(value: &T) -> T {
+    match value.try_clone() {
+        Ok(copy) => copy,
+        Err(_) => panic!("out of memory"),
+    }
+}
+
+macro_rules! clone_by_try {
+    ($($name:ty),*) => { $(
+        /// By a loop, however deep the value is nested.
+        ///
+        /// # Panics
+        /// Where memory is refused.
+        impl Clone for $name {
+            fn clone(&self) -> $name {
+                copy_of(self)
+            }
+        }
+    )* };
+}
+
+clone_by_try!(Value, ValueArray, ChoiceValue, Object, Property);
+
+impl<T: Copy> Clone for Choice<T> {
+    fn clone(&self) -> Choice<T> {
+        copy_of(self)
+    }
+}
+
+impl<T: Copy> Clone for ChoiceEnum<T> {
+    fn clone(&self) -> ChoiceEnum<T> {
+        copy_of(self)
+    }
+}
+
+/// The value without content.
+impl Default for Value {
+    fn default() -> Value {
+        Value::None
+    }
+}
+
+impl TryClone for crate::parts::spa_dict::CIter<'_> {
+    fn try_clone(&self) -> Result<Self, crate::shims::memory::AllocError> {
+        Ok(self.clone())
+    }
+}

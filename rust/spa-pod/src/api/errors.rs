@@ -1,0 +1,103 @@
+//! The errors as Rust's: each is `core::error::Error`, and prints in words.
+#[cfg(feature = "std")]
+use crate::parts::spa_device::ReadError;
+use crate::parts::spa_filter::FilterError;
+use crate::parts::spa_fixed::{DeserializeError, Fault, FaultKind};
+use crate::parts::spa_negotiate::NegotiateError;
+use crate::parts::spa_sink::GenError;
+use crate::parts::spa_utils::{Errno, result};
+use core::error::Error;
+use core::fmt::{Debug, Display, Formatter, Result};
+
+impl Display for FaultKind {
+    fn fmt(&self, f: &mut Formatter<'_>) -> Result {
+        f.write_str(match self {
+            FaultKind::Short => "fewer bytes are left than a pod or a property takes",
+            FaultKind::Tag => "a pod of another type than the one asked for",
+            FaultKind::Text => "a string's body is no text with one NUL behind it",
+        })
+    }
+}
+
+impl<I> Display for Fault<I> {
+    fn fmt(&self, f: &mut Formatter<'_>) -> Result {
+        Display::fmt(&self.kind, f)
+    }
+}
+
+impl<I: Debug> Error for Fault<I> {}
+
+impl<I> Display for DeserializeError<I> {
+    fn fmt(&self, f: &mut Formatter<'_>) -> Result {
+        match self {
+            DeserializeError::Nom(fault) => Display::fmt(fault, f),
+            DeserializeError::UnsupportedType => f.write_str("the visitor doesn't take this"),
+            DeserializeError::InvalidType => f.write_str("a type number that isn't read"),
+            DeserializeError::PropertyMissing => f.write_str("the object has no further property"),
+            DeserializeError::PropertyWrongKey(key) => {
+                write!(f, "the next property has the key {key}, and not the one asked for")
+            }
+            DeserializeError::InvalidChoiceType => f.write_str("a choice of no known kind"),
+            DeserializeError::MissingChoiceValues => f.write_str("a choice with too few values"),
+            DeserializeError::WrongSize => f.write_str("a body of another size than its type has"),
+            DeserializeError::UnreadMembers => f.write_str("members were left unread"),
+            DeserializeError::NoElementLeft => f.write_str("the array has no further element"),
+            DeserializeError::FailedReader => f.write_str("the reader was refused before"),
+            DeserializeError::OutOfMemory => f.write_str("out of memory"),
+        }
+    }
+}
+
+impl<I: Debug> Error for DeserializeError<I> {}
+
+impl Error for GenError {}
+
+impl Error for Errno {}
+
+impl Display for result::Error {
+    fn fmt(&self, f: &mut Formatter<'_>) -> Result {
+        Display::fmt(&self.errno(), f)
+    }
+}
+
+impl Error for result::Error {}
+
+macro_rules! meeting_errors {
+    ($($name:ident: { $($variant:pat => $words:literal),* $(,)? })*) => { $(
+        impl Display for $name {
+            fn fmt(&self, f: &mut Formatter<'_>) -> Result {
+                use $name::{Disjoint, NotObject, OutOfMemory, TooLarge, TypeMismatch, Unread, Unsupported};
+                match self {
+                    TypeMismatch => f.write_str("the types of the objects differ"),
+                    Unsupported(key) => write!(f, "no common value is sought under the key {key}"),
+                    Disjoint(key) => write!(f, "the two admit no common value under the key {key}"),
+                    Unread(side) => write!(f, "no pod is at the front of the bytes: {side:?}"),
+                    NotObject(side) => write!(f, "the pod is not an object's: {side:?}"),
+                    TooLarge => f.write_str("the answer is too large to be written"),
+                    OutOfMemory => f.write_str("out of memory"),
+                    $($variant => write!(f, $words)),*
+                }
+            }
+        }
+
+        impl Error for $name {}
+    )* };
+}
+
+meeting_errors! {
+    NegotiateError: {}
+    FilterError: { FilterError::Missing(key) => "one object lacks the key {key}, which is mandatory in the other" }
+}
+
+#[cfg(feature = "std")]
+impl Display for ReadError {
+    fn fmt(&self, f: &mut Formatter<'_>) -> Result {
+        f.write_str(match self {
+            ReadError::OutOfMemory => "out of memory",
+            ReadError::Failed => "the reader failed",
+        })
+    }
+}
+
+#[cfg(feature = "std")]
+impl Error for ReadError {}

@@ -1,0 +1,28 @@
+#![no_std]
+#![forbid(unsafe_code)]
+
+extern crate alloc;
+#[cfg(any(feature = "std", test))]
+extern crate std;
+
+#[cfg(not(target_pointer_width = "64"))]
+compile_error!("spa-pod counts bytes in a usize of 64 bits");
+
+mod shims;
+#[allow(unused_imports, unused_variables, dead_code, non_upper_case_globals)]
+mod parts;
+mod api;
+#[cfg(test)]
+pub(crate) use shims::memory::tests::try_format;
+#[cfg(test)]
+#[allow(unused_imports, unused_variables, dead_code)]
+mod tests;
+
+pub use parts::libspa::{constants, pod, utils};
+
+#[doc(hidden)]
+pub mod macros {
+    pub use crate::parts::{spa_builder, spa_parser, spa_value};
+    pub use crate::shims::memory::VecRoom;
+    pub use alloc::vec::Vec;
+}

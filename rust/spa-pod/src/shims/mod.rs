@@ -1,0 +1,18 @@
+//! What the generated modules call in place of what the proofs' standard library has and Rust's hasn't.
+//!
+//! This is written by hand. It is trusted where those calls were proved.
+pub mod array;
+pub mod flags;
+pub mod memory;
+pub mod sorted;
+#[cfg(test)]
+pub mod test;
+
+/// What each generated module has in scope.
+pub mod prelude {
+    #[cfg(test)]
+    pub use super::memory::tests::{Repeat, SplitOff, StringRoom};
+    pub use super::memory::{SliceToVec, Text, ToVec, TryClone, VecRoom};
+    pub use alloc::string::String;
+    pub use alloc::vec::Vec;
+}

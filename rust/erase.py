@@ -209,7 +209,7 @@ def name_imports(text, name, macros, of_std):
         if base.startswith('std::') and not base.startswith('std::io') or base == 'std':
             base = 'core' + base[3:]
         lines = ['%s#[cfg(feature = "std")]\n' % lead] if public and root in of_std else []
-        if kept == parts and braces:
+        if kept == parts and braces and len(kept) > 1:
             lines.append('%s%suse %s::{%s};\n' % (lead, public, base, braces.group(2)))
         elif len(kept) == 1:
             lines.append('%s%suse %s::%s;\n' % (lead, public, base, kept[0]))

@@ -9,7 +9,9 @@ extern crate std;
 compile_error!("spa-pod counts bytes in a usize of 64 bits");
 
 mod api;
+// The text follows its proofs. What lints say of style goes unheeded; those of correctness stand.
 #[allow(unused_imports, unused_variables, dead_code, non_upper_case_globals)]
+#[allow(clippy::style, clippy::complexity, clippy::perf)]
 mod parts;
 mod shims;
 #[cfg(all(test, feature = "std"))]

@@ -1,0 +1,370 @@
+#!/usr/bin/env python3
+"""Makes the Rust crate spa-pod of the proved crates: drops contracts and ghost items, erases the allocator, and names std's
+fallible calls as the crate's own module `memory` names them. docs/RUST.md lists the rules with their reasons.
+
+usage: erase.py CRATES OUT     (CRATES: the folder of the proved crates; OUT: the Rust crate's folder)"""
+import os
+import re
+import shutil
+import sys
+
+import rattle
+from crates import ROWS_SUFFIX, WHOLE, parts_and_tests
+from patches import PATCHES, WORDS
+
+# What takes memory: an allocator, or the runtime that hands one out, as an argument, a parameter, a field or a part of a `use`.
+MEMORY = r'(?:\*\s*|&\s*)*(?:rt|_?alloc|\$alloc|Global|[\w.]+\.alloc(?:\(\))?|[\w.]+\.allocator\(\))'
+TYPED = r'(?:%s\s*:\s*(?:Global|&?HostRuntime|&impl Abort|%s)|%s)' % (MEMORY, MEMORY, MEMORY)
+
+# Methods of std that may be refused memory, as the module `memory` names them.
+FALLIBLE = {
+    'push': 'try_push', 'push_reserved': 'push', 'reserve': 'make_room', 'insert': 'try_insert', 'resize': 'try_resize',
+    'extend_from_slice': 'try_extend_from_slice', 'push_str': 'try_push_str', 'split_off': 'try_split_off',
+    'repeat': 'try_repeat', 'clone': 'try_clone',
+}
+NAMED = {'with_capacity': 'with_room', 'from_slice': 'try_from_slice', 'from_str': 'try_from_str', 'from_array': 'try_from_array'}
+
+ATTRIBUTES = ('tactic', 'cycle', 'derive_where', 'rattlefmt')
+# What std's names are in a crate without std.
+HOMES = [('std::alloc', 'crate::shims::memory'), ('std::collections', 'crate::shims::sorted'), ('std::test', 'crate::shims::test'),
+         ('bitflags', 'crate::shims::flags'), ('arrayvec', 'crate::shims::array')]
+
+
+def trim(out):
+    return re.sub(r'\s+\Z', '', out)
+
+
+def drop_contracts(text):
+    """Without clauses, ghost items, proofs' attributes, and the comments that belong to them; of text whose comments are hidden."""
+    out, at = '', 0
+    for_clause = re.compile(r'\b(?:requires|ensures)\b\s*\*?\s*(?:\w+\s*)?(?=\{)')
+    ghost = re.compile(r'(?:\bpub\s+)?\bghost\s+')
+    attribute = re.compile(r'#!?\[(?:%s)\b' % '|'.join(ATTRIBUTES))
+    start = re.compile('|'.join('(?:%s)' % p.pattern for p in (for_clause, ghost, attribute)))
+
+    def without_words(out, kinds):
+        """Without the comments of these kinds at the end."""
+        while True:
+            cut = re.sub('\x01[%s]\\d+\x02\\Z' % kinds, '', trim(out))
+            if cut == trim(out):
+                return cut
+            out = cut
+
+    while True:
+        found = start.search(text, at)
+        if not found:
+            return out + text[at:]
+        out += text[at:found.start()]
+        at = found.end()
+        if found.group(0).startswith('#'):
+            at = rattle.group_end(text, text.index('[', found.start()))
+            at += len(re.match(r'\s*', text[at:]).group(0))
+        elif re.search(r'ghost\s+\Z', found.group(0)):
+            depth_end = at
+            while text[depth_end] not in ';,':
+                if text[depth_end] in '([{':
+                    depth_end = rattle.group_end(text, depth_end)
+                elif text[depth_end] in ')]}':
+                    depth_end -= 1
+                    break
+                else:
+                    depth_end += 1
+            at = depth_end + 1
+            out = without_words(out, 'dc')
+        else:
+            at = rattle.group_end(text, at)
+            out = without_words(out, 'c')
+            body = re.match(r'\s*(?=\{)', text[at:])
+            if body:
+                at += body.end()
+                out += ' '
+
+
+def drop_item(text, head):
+    """Without the items that begin so and end with their braces, their comments and attributes included."""
+    pattern = re.compile(r'(?:^[ \t]*(?:\x01d\d+\x02|#\[[^\]]*\])\n)*^[ \t]*' + head, re.M)
+    while True:
+        found = pattern.search(text)
+        if not found:
+            return text
+        end = rattle.group_end(text, text.index('{', found.end() - 1))
+        text = text[:found.start()].rstrip(' ') + text[end:].lstrip('\n')
+
+
+def drop_memory(text):
+    """Without the allocator."""
+    text = drop_item(text, r'pub (?:const )?fn allocator\(&self\) -> Global \{')
+    text = drop_item(text, r'(?:pub(?:\(crate\))? )?fn allocator\(&self\) -> Global \{')
+    # A sink says whether it has memory of its own.
+    text = text.replace('fn own_allocator(&self) -> Option<Global>', 'fn has_own_memory(&self) -> bool')
+    text = re.sub(r'(fn has_own_memory\(&self\) -> bool \{\s*)None\b', r'\1false', text)
+    text = re.sub(r'(fn has_own_memory\(&self\) -> bool \{\s*)Some\(%s\)' % MEMORY, r'\1true', text)
+    text = re.sub(r'let Some\(alloc\) = (\w+)\.own_allocator\(\)', r'\1.has_own_memory()', text)
+    # Statements, fields, prefixes of macros.
+    text = re.sub(r'^[ \t]*let _?alloc = %s;\n+' % MEMORY, '', text, flags=re.M)
+    text = re.sub(r'^(?:[ \t]*\x01d\d+\x02\n)*[ \t]*(?:pub(?:\(crate\))? )?alloc: (?:Global|%s),\n' % MEMORY, '', text, flags=re.M)
+    text = re.sub(r'\bvec!\[\s*in\s+\$alloc;\s*', '$crate::try_vec![', text)
+    text = re.sub(r'\b(vec|format)!([\[(])\s*in\s+%s;\s*' % MEMORY, r'crate::try_\1!\2', text)
+    text = re.sub(r'([(\[]\s*)in\s+(?:\$alloc:expr|%s);\s*' % MEMORY, r'\1', text)
+    text = re.sub(r'\b(assert\w*!\(\s*)%s;\s*' % MEMORY, r'\1', text)
+    # A program of rows is a test.
+    text = re.sub(r'\b(print(?:ln)?)!\(\s*rt;\s*', r'crate::shims::test::\1!(', text)
+    text = re.sub(r'\brt\.(stdin|stdout)\(\)', r'crate::shims::test::\1()', text)
+    text = re.sub(r'^fn main\(rt: HostRuntime\)', 'pub fn main()', text, flags=re.M)
+    # Items of lists: the first, one behind another, the only one.
+    before = None
+    while before != text:
+        before = text
+        text = re.sub(r'([(\[{|]\s*)%s\s*,[ \t]*\n?(?:(?<=\n)\s*)?' % TYPED, r'\1', text)
+        text = re.sub(r',\s*%s(?=\s*(?:,|,?\s*[)\]}|]))' % TYPED, '', text)
+        text = re.sub(r'\{ alloc \}', '{}', text)
+        text = re.sub(r'(?<!Some)(?<!Ok)\(\s*%s\s*\)' % TYPED, '()', text)
+    return text
+
+
+def drop_bounds(text):
+    """Without `Drop` in derives and bounds, where Rust has it by itself."""
+    text = re.sub(r',\s*Drop\b(?=[^\]\n]*\)\])', '', text)
+    text = re.sub(r'#\[derive\(Drop,\s*', '#[derive(', text)
+    text = re.sub(r'^[ \t]*#\[derive\(Drop\)\]\n', '', text, flags=re.M)
+    text = re.sub(r'\s*\+ Drop\b', '', text)
+    text = re.sub(r': Drop \+ ', ': ', text)
+    return re.sub(r'\b(\w+): Drop\b(?=\s*[,>;{])', r'\1', text)
+
+
+def take_apart(text):
+    """`drop(self)` and `let T { .. } = self` of a type with a drop, as Rust has them."""
+    for name in re.findall(r'\bimpl Drop for (\w+) \{', text):
+        pattern = re.compile(r'^([ \t]*)let %s \{([^}]*)\} = self;\n' % name, re.M)
+
+        def taken(found):
+            fields = [f.split(':')[0].strip() for f in found.group(2).split(',') if f.strip() and not f.strip().endswith('_')]
+            return ''.join('%slet %s = core::mem::take(&mut self.%s);\n' % (found.group(1), f, f) for f in fields)
+
+        out, at = '', 0
+        for found in pattern.finditer(text):
+            head = text[at:found.start()]
+            place = head.rindex('(self')
+            out += head[:place] + '(mut self' + head[place + len('(self'):] + taken(found)
+            at = found.end()
+        text = out + text[at:]
+    return text.replace('fn drop(mut self)', 'fn drop(&mut self)')
+
+
+def name_calls(text):
+    """Calls that may be refused memory, by the names of the module `memory`."""
+    text = re.sub(r'\.(%s)\(' % '|'.join(FALLIBLE), lambda m: '.%s(' % FALLIBLE[m.group(1)], text)
+    text = re.sub(r'\bfn (push|reserve)(?=(?:<[^>]*>)?\(\s*&mut self\b)', lambda m: 'fn ' + FALLIBLE[m.group(1)], text)
+    text = re.sub(r'\b(Vec|String)::(%s)\b' % '|'.join(NAMED), lambda m: '%s::%s' % (m.group(1), NAMED[m.group(2)]), text)
+    text = re.sub(r'\.append\((?=&mut\b)', '.try_append(', text)
+    text = re.sub(r'\bVec::reserve\b', 'VecRoom::make_room', text)
+    text = re.sub(r'\b(\w+)::reserve\b', r'\1::make_room', text)
+    text = re.sub(r'\.(?:collect|to_vec)\(\)', '.try_to_vec()', text)
+    # Copies that may be refused.
+    text = re.sub(r'\bClone for (?=\w)', 'TryClone for ', text)
+    text = re.sub(r'fn clone\(&self\)', 'fn try_clone(&self)', text)
+    return re.sub(r'(: (?:[\w ]+\+ )*)Clone\b(?=\s*[,>+{])', r'\1TryClone', text)
+
+
+def name_paths(text, name, home, parts, tests):
+    """Paths as they are in one crate."""
+    text = re.sub(r'\$crate::(\w+)!', '$\x03::\\1!', text)
+    text = re.sub(r'\$crate::(?=\w)', '$\x03::macros::%s::' % name, text)
+    text = re.sub(r'\bcrate::try_', '\x03::try_', text)
+    text = text.replace('crate::shims', '\x03::shims').replace('core::mem', '\x04::mem')
+    text = re.sub(r'\bcrate::', '%s::%s::' % (home, name), text)
+    for names, place in ((parts, '\x03::parts'), (tests, '\x03::tests')):
+        for other in names:
+            text = re.sub(r'(?<![\w:.$])%s(?=::|;)(?!:[^:])' % other, '%s::%s' % (place, other), text)
+    return text.replace('\x03', 'crate').replace('\x04', 'core')
+
+
+def names_of(braces):
+    """The parts of what stands between the braces of a `use`."""
+    parts, depth, part = [], 0, ''
+    for c in braces:
+        depth += (c == '{') - (c == '}')
+        if c == ',' and depth == 0:
+            parts.append(part.strip())
+            part = ''
+        else:
+            part += c
+    return [p for p in parts + [part.strip()] if p]
+
+
+def name_imports(text, name, macros, of_std):
+    """`use` items: without what is erased, and from where things stand in Rust."""
+    def one(found):
+        lead, public, path = found.group(1), found.group(2) or '', found.group(3)
+        braces = re.fullmatch(r'([\w:]+?)::\{(.*)\}', path, re.S)
+        if braces:
+            base, parts = braces.group(1), names_of(braces.group(2))
+        elif '::' in path:
+            base, part = path.rsplit('::', 1)
+            parts = [part]
+        else:
+            return found.group(0)
+        kept = [p for p in parts if p not in ('Global', 'Abort', 'Model')]
+        root = base.split('::')[0]
+        ours = [p for p in kept if p in macros.get(name if root == 'crate' else root, ())]
+        hidden = [p for p in parts if public and name == WHOLE and p.split(' ')[0].endswith('laws')]
+        kept = [p for p in kept if p not in ours and p not in hidden]
+        for old, new in HOMES:
+            if base == old or base.startswith(old + '::'):
+                base = new + base[len(old):]
+        if base.startswith('std::') and not base.startswith('std::io') or base == 'std':
+            base = 'core' + base[3:]
+        of_files = [p for p in kept if base == 'core' and p.split('::')[0] == 'io']
+        kept = [p for p in kept if p not in of_files]
+        lines = ['%s#[cfg(feature = "std")]\n' % lead] if public and root in of_std else []
+        for part in of_files:
+            lines.append('%s%suse std::%s;\n' % (lead, public, part))
+        if kept == parts and braces and len(kept) > 1:
+            lines.append('%s%suse %s::{%s};\n' % (lead, public, base, braces.group(2)))
+        elif len(kept) == 1:
+            lines.append('%s%suse %s::%s;\n' % (lead, public, base, kept[0]))
+        elif kept:
+            lines.append('%s%suse %s::{%s};\n' % (lead, public, base, ', '.join(kept)))
+        for law in hidden:
+            lines.append('%spub(crate) use %s::%s;\n' % (lead, base, law))
+        if ours:
+            lines.append('%s%suse \x03::%s;\n' % (lead, public, ours[0] if len(ours) == 1 else '{%s}' % ', '.join(ours)))
+        return ''.join(lines)
+
+    return re.sub(r'^([ \t]*)(pub(?:\(\w+\))? )?use ([^;]*);\n', one, text, flags=re.M)
+
+
+# A call from outside can break these `requires`: the function of a file, and what is asserted in its place.
+ASSERTED = {
+    ('async_seq', 'from_raw'): 'assert!(code.cast_unsigned() >> SEQ_BITS == 1, "the code is not asynchronous");',
+    ('code', 'into_sync_result'): 'assert!(!self.is_async(), "the code is asynchronous");',
+    ('code', 'into_async_result'): 'assert!(self.0 < 0 || self.is_async(), "the code is neither an error nor asynchronous");',
+}
+
+
+def assert_required(text, file):
+    """With the assertions in place of `requires` that a call from outside can break."""
+    for (where, name), assertion in ASSERTED.items():
+        if where == os.path.basename(file):
+            text, count = re.subn(r'^( *)(pub fn %s\([^{]*\{\n)' % name, lambda m: '%s%s%s    %s\n' % (m.group(1), m.group(2), m.group(1), assertion),
+                                  text, flags=re.M)
+            if count != 1:
+                raise ValueError('%s: %d functions %s' % (file, count, name))
+    return text
+
+
+def erase(source, name, home, macros, parts, tests, of_std=()):
+    """The Rust text of a Rattle file of the crate of this name. `home` is the module where such crates stand, `macros` says which
+    macros each crate exports; `parts` and `tests` are the names of the crates in these two modules."""
+    text, kept = rattle.hide(source)
+    text = drop_contracts(text)
+    text = drop_item(text, r'impl(?:<[^{]*>)? Model for [^{]*\{')
+    text = re.sub(r'\bfinal fn\b', 'fn', text)
+    text = drop_memory(text)
+    text = re.sub(r'^([ \t]*)(#\[test\]\s*)fn (\w+)\(\) -> Result<\(\), Fail> \{\n',
+                  r'\1\2fn \3() {\n\1    crate::shims::test::run(\3_answers())\n\1}\n\n\1fn \3_answers() -> Result<(), Fail> {\n', text, flags=re.M)
+    text = drop_bounds(text)
+    text = take_apart(text)
+    text = name_calls(text)
+    # Printing.
+    text = re.sub(r'fn fmt<\w+: fmt::Write>\(', 'fn fmt(', text)
+    text = re.sub(r"<('\w+), W: fmt::Write>", r'<\1>', text)
+    text = re.sub(r'<W: fmt::Write>', '', text)
+    text = re.sub(r'fmt::Formatter<\w+>', "fmt::Formatter<'_>", text)
+    # Errors: `shims::errors` has what thiserror's derive writes.
+    text = re.sub(r', thiserror::Error\b', '', text)
+    text = re.sub(r'^[ \t]*#\[error\([^\]]*\)\]\n', '', text, flags=re.M)
+    text = re.sub(r'\bprove(_eq)?!\(', r'debug_assert\1!(', text)
+    text = name_imports(text, name, macros, of_std)
+    text = re.sub(r'(?<![\w:$])(bitflags|arrayvec)::', lambda m: '%s::' % dict(HOMES)[m.group(1)], text)
+    text = re.sub(r'(?<![\w:$])std::(?!io\b|thread\b|env\b)', 'core::', text)
+    text = name_paths(text, name, 'crate::' + home, parts, tests)
+    # What a crate without std, and with fallible growth, has in scope.
+    if name != WHOLE:
+        prelude = 'use crate::shims::prelude::*;'
+        inner = re.match('(?:\x01[ic]\\d+\x02\n|#!\\[[^\\]]*\\]\n|\\s*\n)*', text).group(0)
+        text = inner + prelude + '\n' + text[len(inner):]
+        text = re.sub(r'^([ \t]*)((?:pub(?:\(crate\))? )?mod \w+ \{)\n', r'\1\2\n\1    %s\n' % prelude, text, flags=re.M)
+    text = re.sub(r'[ \t]+$', '', text, flags=re.M)
+    text = re.sub(r'\n{3,}', '\n\n', text)
+    text = re.sub(r'\{\n\n', '{\n', text)
+    text = re.sub(r'\n\n([ \t]*\})', r'\n\1', text)
+    return rattle.show(text, kept)
+
+
+def sources(folder):
+    """The files of a crate, in order: the path in src/ without its ending, and the text."""
+    found = []
+    for root, _, files in os.walk(folder):
+        for file in files:
+            if file.endswith('.rt'):
+                path = os.path.join(root, file)
+                with open(path, encoding='utf-8') as f:
+                    found.append((os.path.relpath(path, folder)[:-3], f.read()))
+    return sorted(found)
+
+
+def exported_macros(crates, parts):
+    """The names of the macros that each crate exports."""
+    found = {}
+    for name in parts:
+        for _, text in sources(os.path.join(crates, name, 'src')):
+            found.setdefault(name, set()).update(re.findall(r'#\[macro_export\]\s*macro_rules! (\w+)', text))
+    found[WHOLE] = set().union(*found.values())
+    return found
+
+
+def patched(path, text):
+    """The text with its patches, each of which stands for one place."""
+    for reason, old, new in PATCHES.get(path, []) + [('words', old, new) for old, new in WORDS.get(path, [])]:
+        if text.count(old) != 1:
+            raise ValueError('%s: the patch "%s" fits %d places' % (path, reason, text.count(old)))
+        text = text.replace(old, new)
+    return text
+
+
+# The test of a program of rows.
+ROWS = '''
+#[test]
+fn NAME_are_answered() {
+    crate::shims::test::answer_rows(include_str!("NAME/stdin"), include_str!("NAME/stdout"), NAME::main);
+}
+'''
+
+
+def generate(crates):
+    """All generated files: path in src/ and text."""
+    parts, tests = parts_and_tests(crates)
+    macros = exported_macros(crates, parts)
+    made = {}
+    of_std = [name for name in parts if any('std::io' in text for _, text in sources(os.path.join(crates, name, 'src')))]
+    for home, names in (('parts', parts), ('tests', tests)):
+        for name in names:
+            for path, text in sources(os.path.join(crates, name, 'src')):
+                file = '%s/%s/%s.rs' % (home, name, 'mod' if path in ('lib', 'main') else path)
+                made[file] = patched(file, assert_required(erase(text, name, home, macros, parts, tests, of_std), path))
+            if name.endswith(ROWS_SUFFIX):
+                for stream in ('stdin', 'stdout'):
+                    with open(os.path.join(crates, name, stream), encoding='utf-8') as f:
+                        made['%s/%s/%s' % (home, name, stream)] = f.read()
+        items = ''.join('%spub mod %s;\n' % ('#[cfg(feature = "std")]\n' if name in of_std else '', name) for name in sorted(names))
+        items += ''.join(ROWS.replace('NAME', name) for name in sorted(names) if name.endswith(ROWS_SUFFIX))
+        made[home + '/mod.rs'] = '//! Made by rust/erase.py of the proved crates, a module each.\n' + items
+    return made
+
+
+def main():
+    crates, out = sys.argv[1:3]
+    made = generate(crates)
+    for home in ('parts', 'tests'):
+        shutil.rmtree(os.path.join(out, 'src', home), ignore_errors=True)
+    for file, text in made.items():
+        path = os.path.join(out, 'src', file)
+        os.makedirs(os.path.dirname(path), exist_ok=True)
+        with open(path, 'w', encoding='utf-8') as f:
+            f.write(text)
+    print('%d files, %d lines' % (len(made), sum(t.count('\n') for t in made.values())))
+
+
+if __name__ == '__main__':
+    main()

@@ -1,0 +1,55 @@
+//! `Clone` and `Default` of the types whose copies may be refused for want of memory: `clone` panics then, as Rust's own does end
+//! the process; the proved calls `try_clone` answer an error.
+use crate::pod::{ChoiceValue, Object, Property, Value, ValueArray};
+use crate::shims::memory::{AllocError, TryClone};
+use crate::utils::dict::CIter;
+use crate::utils::{Choice, ChoiceEnum};
+
+/// The copy, where there is memory.
+fn copy_of<T: TryClone>(value: &T) -> T {
+    match value.try_clone() {
+        Ok(copy) => copy,
+        Err(_) => panic!("out of memory"),
+    }
+}
+
+macro_rules! clone_by_try {
+    ($($name:ty),*) => { $(
+        /// By a loop, however deep the value is nested.
+        ///
+        /// # Panics
+        /// Where memory is refused.
+        impl Clone for $name {
+            fn clone(&self) -> $name {
+                copy_of(self)
+            }
+        }
+    )* };
+}
+
+clone_by_try!(Value, ValueArray, ChoiceValue, Object, Property);
+
+impl<T: Copy> Clone for Choice<T> {
+    fn clone(&self) -> Choice<T> {
+        copy_of(self)
+    }
+}
+
+impl<T: Copy> Clone for ChoiceEnum<T> {
+    fn clone(&self) -> ChoiceEnum<T> {
+        copy_of(self)
+    }
+}
+
+/// The value without content.
+impl Default for Value {
+    fn default() -> Value {
+        Value::None
+    }
+}
+
+impl TryClone for CIter<'_> {
+    fn try_clone(&self) -> Result<Self, AllocError> {
+        Ok(self.clone())
+    }
+}

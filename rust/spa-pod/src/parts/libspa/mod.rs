@@ -1,0 +1,83 @@
+//! SPA's value format, verified: pods, their values, readers, writers and views, and the small types around them.
+//!
+//! This crate holds no function of its own. It gives the parts, each of which is a crate, under the paths of libspa.
+/// Numbers that other parts of PipeWire speak of.
+pub mod constants {
+    pub use crate::parts::spa_utils::constants::ID_INVALID;
+}
+
+/// Small types: ids, numbers, choices, type numbers, directions and errors.
+pub mod utils {
+    pub use crate::parts::spa_utils::{
+        Choice, ChoiceEnum, ChoiceFlags, Direction, Errno, Fd, Float32, Float64, Fraction, Id,
+        Rectangle, SpaTypes,
+    };
+
+    /// Dictionaries: lists of pairs of byte strings.
+    pub mod dict {
+        pub use crate::parts::spa_dict::{
+            CIter, DictRef, Flags, Iter, Keys, ParsableValue, ParseValueError, Values,
+        };
+    }
+
+    /// Result codes, which say an error, a value, or that the answer comes later.
+    pub mod result {
+        pub use crate::parts::spa_result::{AsyncSeq, Error, SpaResult, SpaSuccess};
+    }
+}
+
+/// Pods: values and their rewriting, and borrowed views.
+pub mod pod {
+    pub use crate::parts::spa_fixed::{CanonicalFixedSizedPod, ChoiceElement, FixedSizedPod};
+    pub(crate) use crate::parts::spa_format::laws;
+    pub(crate) use crate::parts::spa_format::view_laws;
+    pub use crate::parts::spa_in_place::rewrite_in_place;
+    pub use crate::parts::spa_print::Printed;
+    pub use crate::parts::spa_rewrite::{accept_all, is_canonical, rewrite, rewrite_all, rewrite_in_parts};
+    pub use crate::parts::spa_scan::nests_within;
+    pub use crate::parts::spa_utils::Frame;
+    pub use crate::parts::spa_value::{Bitmap, ChoiceValue, Held, Object, Property, PropertyFlags, Value, ValueArray, discard, same};
+    pub(crate) use crate::parts::spa_value::laws as value_laws;
+    pub use crate::{object, property};
+    pub use crate::parts::spa_view::{Pod, PodObject, PodObjectIter, PodProp, PodPropFlags, PodStruct, PodStructIter};
+    pub(crate) use crate::parts::spa_view::laws as getter_laws;
+
+    /// Building pods call by call.
+    pub mod builder {
+        pub use crate::parts::spa_builder::{BuildCall, Builder, replay};
+        pub(crate) use crate::parts::spa_builder::laws;
+        pub use crate::builder_add;
+    }
+
+    /// Writing values.
+    pub mod serialize {
+        #[cfg(feature = "std")]
+        pub use crate::parts::spa_device::IoSink;
+        pub use crate::parts::spa_sink::{GenError, PodOutput, PodSink};
+        pub use crate::parts::spa_typed_write::{ArrayPodSerializer, ExactSerialize, Maybe, ObjectPodSerializer, PodSerialize, PodSerializer, SerializeAs, SerializeMembers, SerializeProperties, SerializeSuccess, StructPodSerializer, write_object, write_struct};
+        pub(crate) use crate::parts::spa_typed_write::laws;
+        pub use crate::parts::spa_write::{write_sized, write_value};
+    }
+
+    /// Reading values.
+    pub mod deserialize {
+        pub use crate::parts::spa_fixed::{DeserializeError, Fault, FaultKind};
+        pub use crate::parts::spa_typed_read::{ArrayPodDeserializer, DeserializeAs, DeserializeMembers, DeserializeProperties, DeserializeSuccess, ExactDeserialize, Never, ObjectOf, ObjectPodDeserializer, Optional, PodDeserialize, PodDeserializer, Required, StructOf, StructPodDeserializer, Visit, Visitor};
+        pub(crate) use crate::parts::spa_typed_read::laws;
+        pub use crate::parts::spa_visitors::{
+            BitmapVisitor, BoolVisitor, BytesVisitor, ChoiceBoolVisitor, ChoiceDoubleVisitor,
+            ChoiceFdVisitor, ChoiceFloatVisitor, ChoiceFractionVisitor, ChoiceIdVisitor,
+            ChoiceIntVisitor, ChoiceLongVisitor, ChoiceRectangleVisitor, DoubleVisitor, FdVisitor,
+            FloatVisitor, FractionVisitor, Handed, HandedVisitor, IdVisitor, IntVisitor,
+            LongVisitor, NoneVisitor, PointerVisitor, RectangleVisitor, StringVisitor,
+            ValueVisitor, VecVisitor,
+        };
+    }
+
+    /// Taking pods one by one.
+    pub mod parser {
+        pub use crate::parts::spa_parser::Parser;
+        pub(crate) use crate::parts::spa_parser::laws;
+        pub use crate::parser_get;
+    }
+}

@@ -1,0 +1,218 @@
+//! The calls of a builder, over its bytes and its frames.
+
+use crate::shims::prelude::*;
+use crate::parts::spa_builder::begun::{BegunPod, Stage, What};
+use crate::parts::spa_builder::bytes::{put_fixed_pod, put_padding, put_pod};
+use crate::parts::spa_builder::elements::{is_finished, is_first, takes_element, takes_elements, with_element};
+use crate::parts::spa_builder::frames::{Frames, admit, fill, takes_key, takes_trees};
+use crate::parts::spa_bytes::{HEADER_LEN, two_words};
+use crate::parts::spa_fixed::{CanonicalFixedSizedPod, put_array};
+use crate::parts::spa_room::Written;
+use crate::parts::spa_utils::{Errno, Frame};
+use crate::parts::spa_value::ValueArray;
+
+/// Adds a pod whose body is at hand in two parts, where a tree of any type may stand.
+#[inline(always)]
+pub(crate) fn add_body(
+    bytes: &mut Written,
+    frames: &mut Frames,
+    type_: u32,
+    front: &[u8],
+    back: &[u8],
+) -> Result<(), Errno> {
+    let innermost = frames.innermost();
+    let size = front.len().saturating_add(back.len());
+    admit(bytes.len(), frames, size)?;
+    put_pod(bytes, type_, front, back)?;
+    fill(frames, innermost);
+    Ok(())
+}
+
+/// Adds a value whose encoding is at hand, with a body of this size, where a tree of any type may stand.
+#[inline(always)]
+pub(crate) fn add_encoding(
+    bytes: &mut Written,
+    frames: &mut Frames,
+    size: usize,
+    encoding: &[u8],
+) -> Result<(), Errno> {
+    let innermost = frames.innermost();
+    admit(bytes.len(), frames, size)?;
+    bytes.append(encoding)?;
+    fill(frames, innermost);
+    Ok(())
+}
+
+/// The size of the body of an array with so many elements; where it is past 32 bits, some such size.
+fn array_size<T: CanonicalFixedSizedPod>(count: usize) -> usize {
+    count.saturating_mul(T::SIZE).saturating_add(HEADER_LEN)
+}
+
+/// Adds an array of these values, where a tree of any type may stand. Where memory is wanting, the part that was written
+/// is taken back.
+pub(crate) fn add_values<T: CanonicalFixedSizedPod>(
+    bytes: &mut Written,
+    frames: &mut Frames,
+    values: &[T],
+) -> Result<(), Errno> {
+    let innermost = frames.innermost();
+    let had = bytes.len();
+    admit(had, frames, array_size::<T>(values.len()))?;
+    match put_array(bytes, values) {
+        Ok(()) => {
+            fill(frames, innermost);
+            Ok(())
+        }
+        Err(_) => {
+            bytes.truncate(had);
+            Err(Errno::NOMEM)
+        }
+    }
+}
+
+/// Adds an array, where a tree of any type may stand.
+pub(crate) fn add_elements(
+    bytes: &mut Written,
+    frames: &mut Frames,
+    values: &ValueArray,
+) -> Result<(), Errno> {
+    match values {
+        ValueArray::None(xs) => add_values(bytes, frames, xs.as_slice()),
+        ValueArray::Bool(xs) => add_values(bytes, frames, xs.as_slice()),
+        ValueArray::Id(xs) => add_values(bytes, frames, xs.as_slice()),
+        ValueArray::Int(xs) => add_values(bytes, frames, xs.as_slice()),
+        ValueArray::Long(xs) => add_values(bytes, frames, xs.as_slice()),
+        ValueArray::Float(xs) => add_values(bytes, frames, xs.as_slice()),
+        ValueArray::Double(xs) => add_values(bytes, frames, xs.as_slice()),
+        ValueArray::Rectangle(xs) => add_values(bytes, frames, xs.as_slice()),
+        ValueArray::Fraction(xs) => add_values(bytes, frames, xs.as_slice()),
+        ValueArray::Fd(xs) => add_values(bytes, frames, xs.as_slice()),
+    }
+}
+
+/// Adds a value of fixed size: to an array or a choice as an element, and elsewhere as a pod.
+#[inline(always)]
+pub(crate) fn add_fixed<T: CanonicalFixedSizedPod>(
+    bytes: &mut Written,
+    frames: &mut Frames,
+    value: &T,
+) -> Result<(), Errno> {
+    let innermost = frames.innermost();
+    if takes_elements(innermost) {
+        return add_element(bytes, frames, T::TYPE, &value.padded_body()[..T::SIZE]);
+    }
+    admit(bytes.len(), frames, T::SIZE)?;
+    put_fixed_pod(bytes, value)?;
+    fill(frames, innermost);
+    Ok(())
+}
+
+/// Adds an element to the innermost array or choice.
+#[inline(never)]
+fn add_element(
+    bytes: &mut Written,
+    frames: &mut Frames,
+    type_: u32,
+    body: &[u8],
+) -> Result<(), Errno> {
+    let Some(open) = frames.innermost() else {
+        return Err(Errno::INVAL);
+    };
+    if !takes_element(open.what, type_) {
+        return Err(Errno::INVAL);
+    }
+    if !frames.has_room(bytes.len(), body.len()) {
+        return Err(Errno::NOSPC);
+    }
+    let had = bytes.len();
+    bytes.append(body)?;
+    set_child(
+        bytes,
+        is_first(open.what),
+        had - HEADER_LEN,
+        body.len() as u32,
+        type_,
+    );
+    frames.set_innermost(with_element(open.what, type_));
+    Ok(())
+}
+
+/// Writes the child header there, where the first element came.
+fn set_child(bytes: &mut Written, first: bool, at: usize, size: u32, type_: u32) {
+    if first {
+        bytes.patch_two(at, size, type_);
+    }
+}
+
+/// Adds the key and the flags of a property, whose value is to come.
+#[inline(always)]
+pub(crate) fn add_key(
+    bytes: &mut Written,
+    frames: &mut Frames,
+    key: u32,
+    flags: u32,
+) -> Result<(), Errno> {
+    if !takes_key(frames.innermost()) {
+        return Err(Errno::INVAL);
+    }
+    if !frames.has_room(bytes.len(), HEADER_LEN) {
+        return Err(Errno::NOSPC);
+    }
+    bytes.append_array(two_words(key, flags))?;
+    frames.set_stage(Stage::Property);
+    Ok(())
+}
+
+/// Begins a tree with these bytes, which are its header, with the size 0, and what follows it.
+#[inline(always)]
+pub(crate) fn begin_tree<const N: usize>(
+    bytes: &mut Written,
+    frames: &mut Frames,
+    what: What,
+    head: [u8; N],
+) -> Result<Frame, Errno> {
+    if !takes_trees(frames.innermost()) {
+        return Err(Errno::INVAL);
+    }
+    let start = bytes.place();
+    if !frames.has_room(start, head.len()) {
+        return Err(Errno::NOSPC);
+    }
+    frames.try_push(BegunPod { start, what }, bytes, head)?;
+    Ok(Frame(frames.len()))
+}
+
+/// Closes the innermost tree.
+#[inline(always)]
+pub(crate) fn close(bytes: &mut Written, frames: &mut Frames, frame: usize) -> Result<(), Errno> {
+    let Some(open) = frames.innermost() else {
+        return Err(Errno::INVAL);
+    };
+    if frame != frames.len() {
+        return Err(Errno::INVAL);
+    }
+    if !is_finished(open.what) {
+        return Err(Errno::INVAL);
+    }
+    let size = bytes.len() - (open.start + HEADER_LEN);
+    put_padding(bytes, size)?;
+    bytes.patch(open.start, size as u32);
+    frames.pop();
+    let outer = frames.innermost();
+    fill(frames, outer);
+    Ok(())
+}
+
+/// Gives up the innermost tree, with the bytes that there are of it.
+#[inline(always)]
+pub(crate) fn leave(bytes: &mut Written, frames: &mut Frames, frame: usize) -> Result<(), Errno> {
+    let Some(open) = frames.innermost() else {
+        return Err(Errno::INVAL);
+    };
+    if frames.len() != frame {
+        return Err(Errno::INVAL);
+    }
+    bytes.truncate(open.start);
+    frames.pop();
+    Ok(())
+}

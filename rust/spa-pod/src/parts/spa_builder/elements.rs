@@ -1,0 +1,83 @@
+//! Elements of arrays and choices: which may come next.
+
+use crate::shims::prelude::*;
+use crate::parts::spa_builder::begun::{BegunPod, Elements, Stage, What};
+use crate::parts::spa_fixed::{NONE_SHAPE, RANGE_SHAPE, STEP_SHAPE};
+use crate::parts::spa_utils::SpaTypes;
+
+/// The least counts of values of a range and of a step; one is the least for the others.
+const RANGE_COUNT: u32 = 3;
+
+const STEP_COUNT: u32 = 4;
+
+/// Whether elements of a fixed size stand there.
+#[inline(always)]
+pub(crate) fn takes_elements(innermost: Option<BegunPod>) -> bool {
+    match innermost {
+        None => false,
+        Some(open) => matches!(open.what.stage, Stage::Array | Stage::Choice),
+    }
+}
+
+/// Whether the first element is to come.
+pub(crate) fn is_first(what: What) -> bool {
+    matches!(what.stage, Stage::Array | Stage::Choice) && what.elements.first.is_none()
+}
+
+/// Whether a choice of this shape with so many values takes one more.
+fn has_place(shape: u32, count: u32) -> bool {
+    match shape {
+        NONE_SHAPE => count < 1,
+        RANGE_SHAPE => count < RANGE_COUNT,
+        STEP_SHAPE => count < STEP_COUNT,
+        _ => true,
+    }
+}
+
+/// Whether an element of this type may come next.
+pub(crate) fn takes_element(what: What, type_: u32) -> bool {
+    let Elements {
+        shape,
+        first,
+        count,
+    } = what.elements;
+    match (what.stage, first) {
+        (Stage::Array, None) => true,
+        (Stage::Array, Some(first)) => first == type_,
+        (Stage::Choice, None) => type_ != SpaTypes::None.0,
+        (Stage::Choice, Some(first)) => first == type_ && has_place(shape, count),
+        _ => false,
+    }
+}
+
+/// What the frame says with one element more.
+pub(crate) fn with_element(what: What, type_: u32) -> What {
+    let Elements { shape, count, .. } = what.elements;
+    let more = match what.stage {
+        Stage::Array => 0,
+        Stage::Choice if count < STEP_COUNT => count + 1,
+        Stage::Choice => STEP_COUNT,
+        _ => return what,
+    };
+    What {
+        stage: what.stage,
+        elements: Elements {
+            shape,
+            first: Some(type_),
+            count: more,
+        },
+    }
+}
+
+/// Whether a tree of which this is known is a value when it is closed.
+#[inline(always)]
+pub(crate) fn is_finished(what: What) -> bool {
+    let Elements { shape, count, .. } = what.elements;
+    match (what.stage, shape) {
+        (Stage::Nothing | Stage::Property, _) => false,
+        (Stage::Choice, RANGE_SHAPE) => count >= RANGE_COUNT,
+        (Stage::Choice, STEP_SHAPE) => count >= STEP_COUNT,
+        (Stage::Choice, _) => count >= 1,
+        _ => true,
+    }
+}

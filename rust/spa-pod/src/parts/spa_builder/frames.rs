@@ -1,0 +1,224 @@
+//! The list of frames: what may come next, and what a frame says once it came.
+
+use crate::shims::prelude::*;
+use crate::parts::spa_builder::begun::{BegunPod, NO_ELEMENTS, Stage, What};
+use crate::parts::spa_bytes::HEADER_LEN;
+use crate::parts::spa_room::Written;
+use crate::parts::spa_utils::Errno;
+use core::mem;
+
+/// The numbers that a size word can't hold begin here.
+pub(crate) const SIZE_LIMIT: usize = 1 << 32;
+
+/// No frame.
+const NO_FRAME: BegunPod = BegunPod {
+    start: 0,
+    what: What {
+        stage: Stage::Nothing,
+        elements: NO_ELEMENTS,
+    },
+};
+
+/// The most bytes of padding.
+const PADDING_MAX: usize = HEADER_LEN - 1;
+
+/// The numbers of bytes of a pod with its header that its size word can't hold begin here. Where a pod is open inside it,
+/// there may be padding to come.
+#[inline(always)]
+fn most_bytes(alone: bool) -> usize {
+    if alone {
+        SIZE_LIMIT + HEADER_LEN
+    } else {
+        SIZE_LIMIT + HEADER_LEN - PADDING_MAX
+    }
+}
+
+/// Whether it is no pod.
+#[inline(always)]
+fn is_nothing(what: What) -> bool {
+    matches!(what.stage, Stage::Nothing)
+}
+
+/// The list, with room for one frame more where there is the memory. It is handed over whole, and not lent, so that a
+/// builder whose calls are inlined can lie in registers.
+#[cold]
+#[inline(never)]
+fn roomier(mut outer: Vec<BegunPod>) -> Vec<BegunPod> {
+    let _ = outer.make_room(1);
+    outer
+}
+
+/// Makes room for one frame more.
+#[inline(always)]
+fn make_room(outer: &mut Vec<BegunPod>) -> Result<(), Errno> {
+    if outer.len() < outer.capacity() {
+        return Ok(());
+    }
+    *outer = roomier(mem::replace(outer, Vec::new()));
+    if outer.len() < outer.capacity() {
+        return Ok(());
+    }
+    Err(Errno::NOMEM)
+}
+
+/// The list with this frame behind it, for which there is room. It is handed over whole, as above.
+#[inline(never)]
+fn longer(mut outer: Vec<BegunPod>, frame: BegunPod) -> Vec<BegunPod> {
+    if outer.try_push(frame).is_err() {
+        unreachable!();
+    }
+    outer
+}
+
+/// Puts a frame behind the others, for which there is room.
+#[inline(always)]
+fn put(outer: &mut Vec<BegunPod>, frame: BegunPod) {
+    *outer = longer(mem::replace(outer, Vec::new()), frame);
+}
+
+/// The frames of the pods that are begun.
+pub(crate) struct Frames {
+    outer: Vec<BegunPod>,
+    innermost: BegunPod,
+    first: usize,
+    end: usize,
+}
+
+impl Frames {
+    /// None.
+    pub(crate) fn new() -> Frames {
+        Frames {
+            outer: Vec::new(),
+            innermost: NO_FRAME,
+            first: 0,
+            end: most_bytes(true),
+        }
+    }
+
+    /// How many there are.
+    #[inline(always)]
+    pub(crate) fn len(&self) -> usize {
+        if is_nothing(self.innermost.what) {
+            return 0;
+        }
+        self.outer.len() + 1
+    }
+
+    /// The innermost.
+    #[inline(always)]
+    pub(crate) fn innermost(&self) -> Option<BegunPod> {
+        if is_nothing(self.innermost.what) {
+            return None;
+        }
+        Some(self.innermost)
+    }
+
+    /// Whether so many bytes more leave every size word within 32 bits: the outermost is the greatest.
+    #[inline(always)]
+    pub(crate) fn has_room(&self, len: usize, more: usize) -> bool {
+        if is_nothing(self.innermost.what) {
+            return true;
+        }
+        len + more < self.end
+    }
+
+    /// Sets what the innermost says.
+    #[inline(always)]
+    pub(crate) fn set_innermost(&mut self, what: What) {
+        self.innermost.what = what;
+    }
+
+    /// Sets the stage of the innermost.
+    #[inline(always)]
+    pub(crate) fn set_stage(&mut self, stage: Stage) {
+        self.innermost.what.stage = stage;
+    }
+
+    /// Begins a frame in the innermost, and appends the bytes with which its pod begins. The frame has its memory first: a
+    /// refused call changes nothing.
+    #[inline(always)]
+    pub(crate) fn try_push<const N: usize>(
+        &mut self,
+        frame: BegunPod,
+        bytes: &mut Written,
+        head: [u8; N],
+    ) -> Result<(), Errno> {
+        if is_nothing(self.innermost.what) {
+            bytes.append_array(head)?;
+            self.first = frame.start;
+            self.end = frame.start + most_bytes(true);
+            self.innermost = frame;
+            return Ok(());
+        }
+        make_room(&mut self.outer)?;
+        bytes.append_array(head)?;
+        put(&mut self.outer, self.innermost);
+        self.innermost = frame;
+        self.end = self.first + most_bytes(false);
+        Ok(())
+    }
+
+    /// Drops the innermost.
+    #[inline(always)]
+    pub(crate) fn pop(&mut self) {
+        let Some(frame) = self.outer.pop() else {
+            self.innermost = NO_FRAME;
+            self.first = NO_FRAME.start;
+            self.end = most_bytes(true);
+            return;
+        };
+        self.innermost = frame;
+        self.end = self.first + most_bytes(self.outer.is_empty());
+    }
+}
+
+/// Whether a tree of any type may begin there.
+#[inline(always)]
+pub(crate) fn takes_trees(innermost: Option<BegunPod>) -> bool {
+    match innermost {
+        None => true,
+        Some(open) => matches!(open.what.stage, Stage::Struct | Stage::Property),
+    }
+}
+
+/// Whether a key waits there for its value.
+#[inline(always)]
+fn waits(innermost: Option<BegunPod>) -> bool {
+    match innermost {
+        None => false,
+        Some(open) => matches!(open.what.stage, Stage::Property),
+    }
+}
+
+/// Whether an object stands there in which no key waits.
+#[inline(always)]
+pub(crate) fn takes_key(innermost: Option<BegunPod>) -> bool {
+    match innermost {
+        None => false,
+        Some(open) => matches!(open.what.stage, Stage::Object),
+    }
+}
+
+/// Whether a value that isn't an element, with a body of this size, may come next: INVAL where none may, NOSPC where a
+/// size word would be past 32 bits.
+#[inline(always)]
+pub(crate) fn admit(len: usize, frames: &Frames, size: usize) -> Result<(), Errno> {
+    if !takes_trees(frames.innermost()) {
+        return Err(Errno::INVAL);
+    }
+    if size >= SIZE_LIMIT {
+        return Err(Errno::NOSPC);
+    }
+    if !frames.has_room(len, HEADER_LEN + (size + PADDING_MAX) / 8 * 8) {
+        return Err(Errno::NOSPC);
+    }
+    Ok(())
+}
+
+/// A value came into the innermost tree, whose frame was read before: a key that waited has it.
+#[inline(always)]
+pub(crate) fn fill(frames: &mut Frames, innermost: Option<BegunPod>) {
+    if waits(innermost) {
+        frames.set_stage(Stage::Object);
+    }
+}

@@ -1,0 +1,38 @@
+//! The front of an input: the pod that its first size word names, where it is there.
+
+use crate::shims::prelude::*;
+use crate::parts::spa_bytes::words::{HEADER_LEN, SECOND_WORD, u32_at};
+
+/// The pod at the front of an input, opened.
+#[derive(Clone, Copy)]
+pub struct Front<'de> {
+    /// The type number.
+    pub type_: u32,
+    /// The bytes behind the header, as many as the size word says, without the padding.
+    pub body: &'de [u8],
+    /// What follows the pod and its padding.
+    pub rest: &'de [u8],
+}
+
+/// How many bytes a pod takes whose body has this many: its header, the body, and the padding.
+#[inline(always)]
+pub fn extent_of(size: u32) -> usize {
+    HEADER_LEN + (size as usize).div_ceil(HEADER_LEN) * HEADER_LEN
+}
+
+/// Opens the pod that the first size word names, where all of it is there.
+pub fn open(input: &[u8]) -> Option<Front<'_>> {
+    if input.len() < HEADER_LEN {
+        return None;
+    }
+    let size = u32_at(input, 0);
+    let extent = extent_of(size);
+    if input.len() < extent {
+        return None;
+    }
+    Some(Front {
+        type_: u32_at(input, SECOND_WORD),
+        body: &input[HEADER_LEN..HEADER_LEN + size as usize],
+        rest: &input[extent..],
+    })
+}

@@ -1,0 +1,23 @@
+//! An input, read whole.
+
+use crate::shims::prelude::*;
+use std::io::{ErrorKind, Read};
+
+/// Why an input wasn't read whole.
+#[derive(Clone, Copy, Debug)]
+pub enum ReadError {
+    /// A growth was refused.
+    OutOfMemory,
+    /// The reader failed.
+    Failed,
+}
+
+/// All bytes that the reader gives.
+pub fn read_whole<R: Read>(input: &mut R) -> Result<Vec<u8>, ReadError> {
+    let mut bytes = Vec::new();
+    match input.read_to_end(&mut bytes) {
+        Ok(_) => Ok(bytes),
+        Err(error) if error.kind() == ErrorKind::OutOfMemory => Err(ReadError::OutOfMemory),
+        Err(_) => Err(ReadError::Failed),
+    }
+}

@@ -1,0 +1,93 @@
+//! Pods one after another that are still to come: those of the input, or those inside a struct or an object.
+
+use crate::shims::prelude::*;
+use crate::parts::spa_events::event::{Event, NO_PARENT};
+use crate::parts::spa_bytes::{HEADER_LEN, SECOND_WORD, extent_of, u32_at};
+use crate::parts::spa_utils::SpaTypes;
+
+/// Pods one after another that are still to come.
+#[derive(Clone, Copy)]
+pub(crate) struct Level {
+    /// The byte of the input at which they begin, and the one at which they end.
+    pub(crate) at: usize,
+    pub(crate) end: usize,
+    /// How many bytes stand before each: a property's key and flags, or none.
+    pub(crate) before: usize,
+    /// How many structs and objects they stand in.
+    pub(crate) depth: usize,
+    /// Where the innermost of these is told of, or `NO_PARENT`.
+    pub(crate) parent: usize,
+}
+
+/// What is told of the first of them, where it is there.
+pub(crate) fn next_event(input: &[u8], level: Level) -> Option<Event> {
+    let left = &input[level.at..level.end];
+    if left.len() < level.before + HEADER_LEN {
+        return None;
+    }
+    let size = u32_at(left, level.before);
+    if left.len() < level.before + extent_of(size) {
+        return None;
+    }
+    Some(Event {
+        type_: u32_at(left, level.before + SECOND_WORD),
+        size,
+        depth: level.depth,
+        at: level.at + level.before,
+        parent: level.parent,
+    })
+}
+
+/// The pods inside one that is told of at this place of the list: the members of a struct, the properties of an object, or none.
+fn inside(event: Event, index: usize) -> Level {
+    let first = event.at + HEADER_LEN;
+    let (before, size) = match SpaTypes(event.type_) {
+        SpaTypes::Struct => (0, event.size as usize),
+        SpaTypes::Object if event.size as usize >= HEADER_LEN => (HEADER_LEN, event.size as usize),
+        _ => (0, 0),
+    };
+    Level {
+        at: first + before,
+        end: first + size,
+        before,
+        depth: event.depth + 1,
+        parent: index,
+    }
+}
+
+/// Whether pods lie inside: it is a struct, or an object whose size has room for its type and id.
+fn holds_pods(event: Event) -> bool {
+    match SpaTypes(event.type_) {
+        SpaTypes::Struct => true,
+        SpaTypes::Object => event.size as usize >= HEADER_LEN,
+        _ => false,
+    }
+}
+
+/// The pods to go on with once the first of these is told of at this place of the list: those inside it, or else those that follow it.
+pub(crate) fn following(level: Level, event: Event, index: usize) -> Level {
+    if holds_pods(event) {
+        return inside(event, index);
+    }
+    Level {
+        at: event.at + extent_of(event.size),
+        ..level
+    }
+}
+
+/// The pods that follow the one that is told of at this place of the list.
+pub(crate) fn outside(len: usize, events: &[Event], parent: usize) -> Level {
+    let event = events[parent];
+    let at = event.at + extent_of(event.size);
+    if event.parent == NO_PARENT {
+        return Level {
+            at,
+            end: len,
+            before: 0,
+            depth: 0,
+            parent: NO_PARENT,
+        };
+    }
+    let around = inside(events[event.parent], event.parent);
+    Level { at, ..around }
+}

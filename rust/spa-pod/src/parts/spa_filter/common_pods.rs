@@ -1,0 +1,144 @@
+//! What two values filter to, from pod to pod.
+
+use crate::shims::prelude::*;
+use crate::parts::spa_filter::choices::{VALUES_AT, choice_over, put_read};
+use crate::parts::spa_filter::enums::{is_short_enum, put_shared};
+use crate::parts::spa_filter::error::FilterError;
+use crate::parts::spa_filter::refused::Refused;
+use crate::parts::spa_filter::support::are_supported;
+use crate::parts::spa_filter::types::{BOOL, DOUBLE, FD, FLOAT, FRACTION, ID, INT, LONG, RECTANGLE};
+use crate::parts::spa_filter::values::is_shape_supported;
+use crate::parts::spa_bytes::{HEADER_LEN, SECOND_WORD, open, u32_at};
+use crate::parts::spa_offers::{Element, admits, offer_of};
+use crate::parts::spa_utils::{Fd, Float32, Float64, Fraction, Id, Rectangle, SpaTypes};
+
+/// The length in bytes of a body of one word.
+const ONE_WORD: usize = 4;
+
+/// The length in bytes of a body of two words.
+const TWO_WORDS: usize = 8;
+
+/// Appends the pod of a value that admits exactly what the values of two pods admit, which are written as their values are, and stand
+/// under this key.
+///
+/// The refusals: `Unsupported` where no common value is sought for one of the two or for both side by side, before `Disjoint` where
+/// no value is admitted by both; `TooLarge` where that value can't be written. Bytes may have been appended, then.
+pub fn put_common(
+    key: u32,
+    out: &mut Vec<u8>,
+    a: &[u8],
+    b: &[u8],
+) -> Result<(), FilterError> {
+    match put_met(out, a, b) {
+        Ok(()) => Ok(()),
+        Err(Refused::Apart) => Err(refusal(key, a, b)),
+        Err(Refused::TooLarge) => Err(FilterError::TooLarge),
+        Err(Refused::OutOfMemory) => Err(FilterError::OutOfMemory),
+    }
+}
+
+/// Why two values don't meet that stand apart.
+#[inline(never)]
+fn refusal(key: u32, a: &[u8], b: &[u8]) -> FilterError {
+    if are_supported(a, b) {
+        FilterError::Disjoint(key)
+    } else {
+        FilterError::Unsupported(key)
+    }
+}
+
+/// Appends the pod of a value that admits exactly what the values of two pods admit.
+fn put_met(out: &mut Vec<u8>, a: &[u8], b: &[u8]) -> Result<(), Refused> {
+    let Some(ours) = open(a) else {
+        return Err(Refused::Apart);
+    };
+    let Some(theirs) = open(b) else {
+        return Err(Refused::Apart);
+    };
+    if ours.type_ != SpaTypes::Choice.0 {
+        if theirs.type_ != SpaTypes::Choice.0 {
+            if a != b {
+                return Err(Refused::Apart);
+            }
+            return put_pod(out, a);
+        }
+        is_offered(ours.type_, ours.body, theirs.body)?;
+        return put_pod(out, a);
+    }
+    if theirs.type_ != SpaTypes::Choice.0 {
+        is_offered(theirs.type_, theirs.body, ours.body)?;
+        return put_pod(out, b);
+    }
+    put_choices(out, ours.body, theirs.body)
+}
+
+/// Appends a pod.
+fn put_pod(out: &mut Vec<u8>, pod: &[u8]) -> Result<(), Refused> {
+    if out.try_extend_from_slice(pod).is_ok() {
+        Ok(())
+    } else {
+        Err(Refused::OutOfMemory)
+    }
+}
+
+/// Whether the value of a body of this type, which is plain, is one that the choice of the other body admits.
+fn is_offered(type_: u32, body: &[u8], choice: &[u8]) -> Result<(), Refused> {
+    match type_ {
+        BOOL => is_offered_over::<bool>(body, choice),
+        ID => is_offered_over::<Id>(body, choice),
+        INT => is_offered_over::<i32>(body, choice),
+        LONG => is_offered_over::<i64>(body, choice),
+        FLOAT => is_offered_over::<Float32>(body, choice),
+        DOUBLE => is_offered_over::<Float64>(body, choice),
+        RECTANGLE => is_offered_over::<Rectangle>(body, choice),
+        FRACTION => is_offered_over::<Fraction>(body, choice),
+        FD => is_offered_over::<Fd>(body, choice),
+        _ => Err(Refused::Apart),
+    }
+}
+
+/// The same of a body of one type.
+fn is_offered_over<T: Element>(body: &[u8], choice: &[u8]) -> Result<(), Refused> {
+    if body.len() != T::SIZE {
+        return Err(Refused::Apart);
+    }
+    let choice = choice_over::<T>(choice)?;
+    if !is_shape_supported(&choice) {
+        return Err(Refused::Apart);
+    }
+    if !admits(&offer_of(&choice.1), &T::of_body(body)) {
+        return Err(Refused::Apart);
+    }
+    Ok(())
+}
+
+/// Appends the pod of a value to which the choices of two bodies filter.
+fn put_choices(out: &mut Vec<u8>, a: &[u8], b: &[u8]) -> Result<(), Refused> {
+    if a.len() < VALUES_AT {
+        return Err(Refused::Apart);
+    }
+    match u32_at(a, HEADER_LEN + SECOND_WORD) {
+        BOOL => put_over::<bool, ONE_WORD>(out, a, b),
+        ID => put_over::<Id, ONE_WORD>(out, a, b),
+        INT => put_over::<i32, ONE_WORD>(out, a, b),
+        LONG => put_over::<i64, TWO_WORDS>(out, a, b),
+        FLOAT => put_over::<Float32, ONE_WORD>(out, a, b),
+        DOUBLE => put_over::<Float64, TWO_WORDS>(out, a, b),
+        RECTANGLE => put_over::<Rectangle, TWO_WORDS>(out, a, b),
+        FRACTION => put_over::<Fraction, TWO_WORDS>(out, a, b),
+        FD => put_over::<Fd, TWO_WORDS>(out, a, b),
+        _ => Err(Refused::Apart),
+    }
+}
+
+/// The same of choices the first of which is over one type, whose values have so many bytes each.
+fn put_over<T: Element, const N: usize>(
+    out: &mut Vec<u8>,
+    a: &[u8],
+    b: &[u8],
+) -> Result<(), Refused> {
+    if is_short_enum(a) && is_short_enum(b) {
+        return put_shared::<T, N>(out, a, b);
+    }
+    put_read::<T>(out, a, b)
+}

@@ -1,0 +1,115 @@
+//! Two Enums, looked at where they lie.
+
+use crate::shims::prelude::*;
+use crate::parts::spa_filter::choices::{put_choice_of, put_read};
+use crate::parts::spa_filter::refused::Refused;
+use crate::shims::flags::Flags;
+use crate::parts::spa_bytes::{HEADER_LEN, SECOND_WORD, u32_at};
+use crate::parts::spa_fixed::{ENUM_SHAPE, open_array};
+use crate::parts::spa_offers::{Element, is_among, is_same};
+use crate::parts::spa_utils::{Choice, ChoiceEnum, ChoiceFlags};
+use crate::shims::memory::AllocError;
+
+/// How long the body of an Enum is, at most, whose values are looked for one by one: 17 values of two words each.
+const SHORT_LEN: usize = 152;
+
+/// Whether the body of a choice is a short one of an Enum.
+pub(crate) fn is_short_enum(body: &[u8]) -> bool {
+    body.len() >= HEADER_LEN && body.len() <= SHORT_LEN && u32_at(body, 0) == ENUM_SHAPE
+}
+
+/// The default of an Enum and the bodies of its values, the default's first, of so many bytes each.
+fn enum_view<T: Element, const N: usize>(body: &[u8]) -> Option<(T, &[[u8; N]])> {
+    if body.len() < 2 * HEADER_LEN || u32_at(body, HEADER_LEN + SECOND_WORD) != T::TYPE {
+        return None;
+    }
+    if u32_at(body, 0) != ENUM_SHAPE {
+        return None;
+    }
+    let (_, array) = body.split_at(HEADER_LEN);
+    let elements = open_array::<T>(array)?;
+    let (values, _) = elements.as_chunks::<N>();
+    let first = values.first()?;
+    Some((T::of_body(first), values))
+}
+
+/// Whether an element is one of these values.
+fn is_one<T: Element, const N: usize>(x: &T, values: &[[u8; N]]) -> bool {
+    for value in values {
+        if is_same(x, &T::of_body(value)) {
+            return true;
+        }
+    }
+    false
+}
+
+/// Those of an Enum's values that another Enum admits, each once, in order.
+fn shared<T: Element, const N: usize>(
+    ours: &[[u8; N]],
+    theirs: &[[u8; N]],
+) -> Result<Vec<T>, AllocError> {
+    let mut values = Vec::with_room(ours.len())?;
+    for value in ours {
+        keep_shared(&mut values, &T::of_body(value), theirs)?;
+    }
+    Ok(values)
+}
+
+/// Keeps an element that an Enum admits, where it isn't kept yet.
+fn keep_shared<T: Element, const N: usize>(
+    values: &mut Vec<T>,
+    value: &T,
+    theirs: &[[u8; N]],
+) -> Result<(), AllocError> {
+    if !is_one(value, theirs) {
+        return Ok(());
+    }
+    if is_among(value, values.as_slice()) {
+        return Ok(());
+    }
+    values.try_push(*value)?;
+    Ok(())
+}
+
+/// The first of these that both Enums admit: the default of the one, that of the other, and an element that both admit.
+fn shared_default<T: Element, const N: usize>(
+    first: &T,
+    ours: &[[u8; N]],
+    second: &T,
+    theirs: &[[u8; N]],
+    other: &T,
+) -> T {
+    if is_one(first, theirs) {
+        return *first;
+    }
+    if is_one(second, ours) {
+        return *second;
+    }
+    *other
+}
+
+/// Appends the pod of an Enum of the values that the Enums of two bodies share, the first of which is over this type.
+pub(crate) fn put_shared<T: Element, const N: usize>(
+    out: &mut Vec<u8>,
+    a: &[u8],
+    b: &[u8],
+) -> Result<(), Refused> {
+    let Some(ours) = enum_view::<T, N>(a) else {
+        return put_read::<T>(out, a, b);
+    };
+    let Some(theirs) = enum_view::<T, N>(b) else {
+        return put_read::<T>(out, a, b);
+    };
+    let Ok(values) = shared::<T, N>(ours.1, theirs.1) else {
+        return Err(Refused::OutOfMemory);
+    };
+    let Some(other) = values.first() else {
+        return Err(Refused::Apart);
+    };
+    let default = shared_default(&ours.0, ours.1, &theirs.0, theirs.1, other);
+    let values = ChoiceEnum::Enum {
+        default,
+        alternatives: values,
+    };
+    put_choice_of::<T>(out, &Choice(ChoiceFlags::empty(), values))
+}

@@ -1,0 +1,82 @@
+//! Whether a common value is sought for two values, where their pods lie.
+
+use crate::shims::prelude::*;
+use crate::parts::spa_filter::choices::VALUES_AT;
+use crate::parts::spa_filter::values::are_both;
+use crate::parts::spa_bytes::{HEADER_LEN, SECOND_WORD, open, u32_at};
+use crate::parts::spa_fixed::{FLAGS_SHAPE, RANGE_SHAPE, STEP_SHAPE};
+use crate::parts::spa_utils::SpaTypes;
+
+/// What is asked of a value before it is met.
+#[derive(Clone, Copy)]
+struct Support {
+    /// Whether a common value is sought for it.
+    is_supported: bool,
+    /// Whether it is Flags.
+    is_flags: bool,
+    /// Whether it is a Range or a Step.
+    is_bounded: bool,
+}
+
+/// Whether a common value is sought for the values of two pods.
+pub(crate) fn are_supported(a: &[u8], b: &[u8]) -> bool {
+    let ours = support_of(a);
+    let theirs = support_of(b);
+    if !are_both(ours.is_supported, theirs.is_supported) {
+        return false;
+    }
+    if are_both(ours.is_flags, theirs.is_bounded) {
+        return false;
+    }
+    if are_both(ours.is_bounded, theirs.is_flags) {
+        return false;
+    }
+    true
+}
+
+/// What is asked of the value of a pod.
+fn support_of(pod: &[u8]) -> Support {
+    let plain = Support {
+        is_supported: true,
+        is_flags: false,
+        is_bounded: false,
+    };
+    let Some(front) = open(pod) else {
+        return plain;
+    };
+    if front.type_ != SpaTypes::Choice.0 || front.body.len() < VALUES_AT {
+        return plain;
+    }
+    let type_ = u32_at(front.body, HEADER_LEN + SECOND_WORD);
+    support_over(u32_at(front.body, 0), type_)
+}
+
+/// What is asked of a choice of this shape over values of this type.
+fn support_over(shape: u32, type_: u32) -> Support {
+    let is_supported = match shape {
+        RANGE_SHAPE => has_order(type_),
+        STEP_SHAPE => has_steps(type_),
+        FLAGS_SHAPE => may_be_flags(type_),
+        _ => true,
+    };
+    Support {
+        is_supported,
+        is_flags: shape == FLAGS_SHAPE,
+        is_bounded: shape == RANGE_SHAPE || shape == STEP_SHAPE,
+    }
+}
+
+/// Whether values of this type have an order.
+fn has_order(type_: u32) -> bool {
+    type_ != SpaTypes::None.0 && type_ != SpaTypes::Bool.0 && type_ != SpaTypes::Fd.0
+}
+
+/// Whether values of this type have multiples.
+fn has_steps(type_: u32) -> bool {
+    type_ == SpaTypes::Int.0 || type_ == SpaTypes::Long.0 || type_ == SpaTypes::Rectangle.0
+}
+
+/// Whether values of this type may be flags.
+fn may_be_flags(type_: u32) -> bool {
+    type_ == SpaTypes::Id.0 || type_ == SpaTypes::Int.0 || type_ == SpaTypes::Long.0
+}

@@ -1,0 +1,85 @@
+//! What two objects filter to, as it is written property by property.
+
+use crate::shims::prelude::*;
+use crate::parts::spa_filter_pods::common_pods::put_met;
+use crate::parts::spa_filter::FilterError;
+use crate::parts::spa_fronts::{ObjectView, PropertyView, finish, put_header, put_key, put_pod};
+
+/// Where the properties of an object begin in its pod: behind its header, its type and its id.
+const PROPERTIES_AT: usize = 16;
+
+/// The flag of a property that the other side must have, too.
+const MANDATORY: u32 = 8;
+
+/// An answer, as far as it is written.
+pub(crate) struct Answer {
+    /// The header, whose size isn't there yet, and properties.
+    pub(crate) bytes: Vec<u8>,
+    /// Whether a value was left out that can't be written.
+    pub(crate) is_large: bool,
+}
+
+/// An answer without properties, with the type and the id of this object, and room for properties of the same length.
+pub(crate) fn begun(object: &ObjectView<'_>) -> Result<Answer, FilterError> {
+    let Ok(mut bytes) = Vec::with_room(PROPERTIES_AT + object.properties.len()) else {
+        return Err(FilterError::OutOfMemory);
+    };
+    if !put_header(&mut bytes, object.type_, object.id) {
+        return Err(FilterError::OutOfMemory);
+    }
+    Ok(Answer {
+        bytes,
+        is_large: false,
+    })
+}
+
+/// Puts a property that one side alone has.
+pub(crate) fn put_alone(out: &mut Answer, first: &PropertyView<'_>) -> Result<(), FilterError> {
+    if first.flags & MANDATORY == MANDATORY {
+        return Err(FilterError::Missing(first.key));
+    }
+    if !put_key(&mut out.bytes, first.key, first.flags) {
+        return Err(FilterError::OutOfMemory);
+    }
+    if !put_pod(&mut out.bytes, first.pod) {
+        return Err(FilterError::OutOfMemory);
+    }
+    Ok(())
+}
+
+/// Puts what two properties filter to, under the key of the first.
+pub(crate) fn put_both(
+    out: &mut Answer,
+    first: &PropertyView<'_>,
+    other: &PropertyView<'_>,
+) -> Result<(), FilterError> {
+    let flags = first.flags & other.flags;
+    if !put_key(&mut out.bytes, first.key, flags) {
+        return Err(FilterError::OutOfMemory);
+    }
+    match put_met(first.key, &mut out.bytes, first.pod, other.pod) {
+        Ok(()) => Ok(()),
+        Err(error) => match error {
+            FilterError::TooLarge => {
+                out.is_large = true;
+                Ok(())
+            }
+            _ => Err(error),
+        },
+    }
+}
+
+/// The bytes of an answer that has all its properties.
+pub(crate) fn ended(out: Answer) -> Result<Vec<u8>, FilterError> {
+    let Answer {
+        mut bytes,
+        is_large,
+    } = out;
+    if is_large {
+        return Err(FilterError::TooLarge);
+    }
+    if !finish(&mut bytes) {
+        return Err(FilterError::TooLarge);
+    }
+    Ok(bytes)
+}

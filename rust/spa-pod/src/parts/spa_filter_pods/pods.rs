@@ -1,0 +1,36 @@
+//! The objects of two pods are filtered.
+
+use crate::shims::prelude::*;
+use crate::parts::spa_filter_pods::views::filter_objects;
+use crate::parts::spa_filter::{FilterError, Side};
+use crate::parts::spa_format::laws::pods_have_one_value;
+use crate::parts::spa_fronts::{NoObject, ObjectPod, object_in, object_pod};
+
+/// The encoding of the object to which the objects at the fronts of two inputs are filtered, by the rules of `filter`. What
+/// follows the two fronts doesn't count.
+///
+/// The answer is one whole pod, which may still hold choices.
+///
+/// The refusals: `Unread` and `NotObject`, of the first side before the second; then those of `filter`; then `TooLarge`.
+pub fn filter_pods(a: &[u8], b: &[u8]) -> Result<Vec<u8>, FilterError> {
+    pods_have_one_value();
+    let first = object_at(a, Side::First)?;
+    let second = object_at(b, Side::Second)?;
+    let Some(ours) = object_in(first.bytes()) else {
+        unreachable!()
+    };
+    let Some(theirs) = object_in(second.bytes()) else {
+        unreachable!()
+    };
+    filter_objects(&ours, &theirs)
+}
+
+/// The pod of the object at the front of a side's bytes.
+fn object_at(bytes: &[u8], side: Side) -> Result<ObjectPod<'_>, FilterError> {
+    match object_pod(bytes) {
+        Ok(pod) => Ok(pod),
+        Err(NoObject::Unread) => Err(FilterError::Unread(side)),
+        Err(NoObject::Other) => Err(FilterError::NotObject(side)),
+        Err(NoObject::OutOfMemory) => Err(FilterError::OutOfMemory),
+    }
+}

@@ -1,0 +1,81 @@
+//! Elements on their way to a sink.
+
+use crate::shims::prelude::*;
+use crate::parts::spa_fixed::fixed::CanonicalFixedSizedPod;
+use crate::parts::spa_sink::{GenError, PodSink, put_padding};
+
+/// How many elements are handed to a sink at once, at most.
+const BLOCK_COUNT: usize = 32;
+
+/// The length in bytes of so many elements, at most.
+const BLOCK_LEN: usize = 256;
+
+/// How many elements a short list has, at most.
+const SHORT_COUNT: usize = 4;
+
+/// The length in bytes of so many elements, at most.
+const SHORT_LEN: usize = 32;
+
+/// Puts the bodies of some values one after another at the front of a block.
+#[inline(always)]
+fn fill<T: CanonicalFixedSizedPod>(block: &mut [u8], values: &[T]) {
+    let mut at = 0;
+    for value in values {
+        block[at..at + T::SIZE].copy_from_slice(&value.padded_body()[..T::SIZE]);
+        at += T::SIZE;
+    }
+}
+
+/// Appends the bodies of a short list one after another.
+fn put_few<T: CanonicalFixedSizedPod, S: PodSink>(
+    sink: &mut S,
+    values: &[T],
+) -> Result<(), GenError> {
+    if values.is_empty() {
+        return Ok(());
+    }
+    let mut block = [0; SHORT_LEN];
+    fill(&mut block, values);
+    sink.append(&block[..values.len() * T::SIZE])
+}
+
+/// Appends the bodies one after another, in blocks.
+pub(crate) fn put_elements<T: CanonicalFixedSizedPod, S: PodSink>(
+    sink: &mut S,
+    values: &[T],
+) -> Result<(), GenError> {
+    if T::SIZE == 0 {
+        return Ok(());
+    }
+    if values.len() <= SHORT_COUNT {
+        return put_few(sink, values);
+    }
+    let mut block = [0; BLOCK_LEN];
+    let mut left = values;
+    while !left.is_empty() {
+        let (first, rest) = left.split_at(left.len().min(BLOCK_COUNT));
+        fill(&mut block, first);
+        sink.append(&block[..first.len() * T::SIZE])?;
+        left = rest;
+    }
+    Ok(())
+}
+
+/// The length of a body that has so many elements behind this many bytes, where it fits a size word.
+pub(crate) fn body_len<T: CanonicalFixedSizedPod>(before: usize, count: usize) -> Option<u32> {
+    let elements = count.checked_mul(T::SIZE)?;
+    let size = elements.checked_add(before)?;
+    u32::try_from(size).ok()
+}
+
+/// Appends a header, the bodies of the values, and then zeros up to a multiple of 8 behind a body of this size.
+pub(crate) fn put_parts<T: CanonicalFixedSizedPod, S: PodSink>(
+    sink: &mut S,
+    header: &[u8],
+    values: &[T],
+    size: u32,
+) -> Result<(), GenError> {
+    sink.append(header)?;
+    put_elements(sink, values)?;
+    put_padding(sink, size as usize)
+}

@@ -1,0 +1,120 @@
+//! Why a pod could not be read.
+
+use crate::shims::prelude::*;
+use crate::shims::memory::{AllocError, AllocFailed};
+
+/// What is wrong with the bytes at a place.
+#[derive(Clone, Copy, PartialEq, Eq, Debug)]
+pub enum FaultKind {
+    /// Fewer bytes are left than a header takes, than its size word says, or than a property's key and flags take.
+    Short,
+    /// A typed read finds another type number.
+    Tag,
+    /// A string's body is empty, doesn't end in NUL, holds another NUL, or isn't UTF-8 before the last one.
+    Text,
+}
+
+/// A fault of the bytes, and what was left of the input where it stands: from the refused pod on, or from the property's
+/// key that is short.
+#[derive(PartialEq, Debug)]
+pub struct Fault<I> {
+    pub input: I,
+    pub kind: FaultKind,
+}
+
+/// Why a pod could not be read.
+#[derive(PartialEq, Debug)]
+pub enum DeserializeError<I> {
+    /// At a place there are too few bytes, a pod of another type than the one asked for, or a string's body that is no text
+    /// with one NUL behind it.
+    Nom(Fault<I>),
+    /// A visitor doesn't take what it is handed.
+    UnsupportedType,
+    /// The type number of a pod, of an array's elements or of a choice's values is none that is read.
+    InvalidType,
+    /// An object has no further property.
+    PropertyMissing,
+    /// The next property has this key, and not the one asked for.
+    PropertyWrongKey(u32),
+    /// A choice's shape word is above 4.
+    InvalidChoiceType,
+    /// A choice has fewer values than its shape needs.
+    MissingChoiceValues,
+    /// A body, or a child size, isn't as long as the bodies of its type, or bytes are left behind whole elements.
+    WrongSize,
+    /// A struct, object or array reader ended before its last member was read.
+    UnreadMembers,
+    /// An array has no further element.
+    NoElementLeft,
+    /// The reader was refused before.
+    FailedReader,
+    /// A growth was refused.
+    OutOfMemory,
+}
+
+impl<I> DeserializeError<I> {
+    /// The variant's name; for `Nom` the name of the fault's kind.
+    pub fn kind(&self) -> &'static str {
+        match self {
+            DeserializeError::Nom(fault) => match fault.kind {
+                FaultKind::Short => "Short",
+                FaultKind::Tag => "Tag",
+                FaultKind::Text => "Text",
+            },
+            DeserializeError::UnsupportedType => "UnsupportedType",
+            DeserializeError::InvalidType => "InvalidType",
+            DeserializeError::PropertyMissing => "PropertyMissing",
+            DeserializeError::PropertyWrongKey(_) => "PropertyWrongKey",
+            DeserializeError::InvalidChoiceType => "InvalidChoiceType",
+            DeserializeError::MissingChoiceValues => "MissingChoiceValues",
+            DeserializeError::WrongSize => "WrongSize",
+            DeserializeError::UnreadMembers => "UnreadMembers",
+            DeserializeError::NoElementLeft => "NoElementLeft",
+            DeserializeError::FailedReader => "FailedReader",
+            DeserializeError::OutOfMemory => "OutOfMemory",
+        }
+    }
+}
+
+impl<I> From<Fault<I>> for DeserializeError<I> {
+    fn from(fault: Fault<I>) -> DeserializeError<I> {
+        DeserializeError::Nom(fault)
+    }
+}
+
+impl<I> From<AllocError> for DeserializeError<I> {
+    fn from(_error: AllocError) -> DeserializeError<I> {
+        DeserializeError::OutOfMemory
+    }
+}
+
+/// Why an untyped read refuses, without a place: what the readers of bodies answer to the readers of pods.
+#[derive(Clone, Copy, PartialEq, Eq, Debug)]
+pub enum Refusal {
+    /// Fewer bytes are left than a header takes, than its size word says, or than a property's key and flags take.
+    Short,
+    /// A string's body is no text with one NUL behind it.
+    Text,
+    /// The type number is none that is read there.
+    InvalidType,
+    /// A choice's shape word is above 4.
+    InvalidChoiceType,
+    /// A choice has fewer values than its shape needs.
+    MissingChoiceValues,
+    /// A body, or a child size, isn't as long as the bodies of its type, or bytes are left behind whole elements.
+    WrongSize,
+    /// A growth was refused.
+    OutOfMemory,
+}
+
+impl From<AllocError> for Refusal {
+    fn from(_error: AllocError) -> Refusal {
+        Refusal::OutOfMemory
+    }
+}
+
+impl<T> From<AllocFailed<T>> for Refusal {
+    fn from(_error: AllocFailed<T>) -> Refusal {
+        Refusal::OutOfMemory
+    }
+}

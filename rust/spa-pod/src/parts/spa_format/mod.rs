@@ -1,0 +1,4 @@
+//! The pod format: its definitions, which stand in `specs/`, and their laws.
+use crate::shims::prelude::*;
+pub mod laws;
+pub mod view_laws;

@@ -1,0 +1,96 @@
+//! The pods of objects at the fronts of inputs, as they are written.
+
+use crate::shims::prelude::*;
+use crate::parts::spa_fronts::object_view::ObjectView;
+use crate::parts::spa_bytes::{Front, HEADER_LEN, SECOND_WORD, open, u32_at};
+use crate::parts::spa_fixed::DeserializeError;
+use crate::parts::spa_rewrite::{rewrite, surplus_of_all};
+use crate::parts::spa_scan::canonical_front;
+use crate::parts::spa_utils::SpaTypes;
+
+/// The pod of an object at the front of an input, as it is written.
+pub enum ObjectPod<'a> {
+    /// The front is its own rewriting, and lies here.
+    Lying(&'a [u8]),
+    /// It isn't, or nests too deep to be looked into: this is its rewriting.
+    Rewritten(Vec<u8>),
+}
+
+impl ObjectPod<'_> {
+    /// The bytes of the pod.
+    pub fn bytes(&self) -> &[u8] {
+        match self {
+            ObjectPod::Lying(pod) => pod,
+            ObjectPod::Rewritten(bytes) => bytes.as_slice(),
+        }
+    }
+}
+
+/// Why no object is at the front of an input.
+#[derive(Clone, Copy)]
+pub enum NoObject {
+    /// The front isn't there, or is a pod of no value.
+    Unread,
+    /// It is a pod of another value.
+    Other,
+    /// A growth was refused.
+    OutOfMemory,
+}
+
+/// The pod of the object at the front of the input, as it is written. Memory is asked for only where the front isn't its own rewriting,
+/// or structs and objects stand more than 1000 deep in one another.
+pub fn object_pod(input: &[u8]) -> Result<ObjectPod<'_>, NoObject> {
+    let Some(front) = open(input) else {
+        return Err(NoObject::Unread);
+    };
+    if front.type_ != SpaTypes::Object.0 {
+        return Err(no_object(input, &front));
+    }
+    if let Some(rest) = canonical_front(input) {
+        let (pod, _) = input.split_at(input.len() - rest.len());
+        return Ok(ObjectPod::Lying(pod));
+    }
+    let bytes = rewritten(input)?;
+    Ok(ObjectPod::Rewritten(bytes))
+}
+
+/// The rewriting of a front of a type whose values take memory.
+fn rewritten(input: &[u8]) -> Result<Vec<u8>, NoObject> {
+    match rewrite(input) {
+        Ok((_rest, bytes)) => Ok(bytes),
+        Err(DeserializeError::OutOfMemory) => Err(NoObject::OutOfMemory),
+        Err(_) => Err(NoObject::Unread),
+    }
+}
+
+/// What a front of another type than an object's is. Memory is asked for only where structs stand more than 1000 deep in one another.
+#[inline(never)]
+fn no_object(input: &[u8], front: &Front<'_>) -> NoObject {
+    let (pod, _) = input.split_at(input.len() - front.rest.len());
+    if let Some(_surplus) = surplus_of_all(pod) {
+        return NoObject::Other;
+    }
+    if front.type_ != SpaTypes::Struct.0 {
+        return NoObject::Unread;
+    }
+    let Err(why) = rewritten(input) else {
+        return NoObject::Other;
+    };
+    why
+}
+
+/// The object of a pod.
+pub fn object_in(pod: &[u8]) -> Option<ObjectView<'_>> {
+    let Some(front) = open(pod) else {
+        return None;
+    };
+    if front.body.len() < HEADER_LEN {
+        return None;
+    }
+    let (_, properties) = front.body.split_at(HEADER_LEN);
+    Some(ObjectView {
+        type_: u32_at(front.body, 0),
+        id: u32_at(front.body, SECOND_WORD),
+        properties,
+    })
+}

@@ -1,0 +1,84 @@
+//! Rewriting where the input lies.
+
+use crate::shims::prelude::*;
+use crate::parts::spa_in_place::place::place_all;
+use crate::parts::spa_fixed::{DeserializeError, Fault};
+use crate::parts::spa_rewrite::{patch_all, rewrite_in_parts, steady_stretch, surplus_of_all};
+use crate::parts::spa_scan::canonical_stretch;
+
+/// Puts the rewritings of all pods that the bytes are at their front, and answers how many bytes these take: never more than the
+/// pods took. The bytes behind them stay as they were.
+///
+/// The call is refused exactly as `rewrite_all`, and then no byte is changed. A refusal gives how many bytes stand before the refused
+/// pod, and what is wrong with that one, without the place inside it: `accept_all` tells that too.
+///
+/// A look tells first which pods get shorter; then those are moved, and the others are patched where they lie. That takes no memory where structs
+/// and objects stand at most `LEVELS` deep in one another, not counting those that end where the one around them does. Where they stand deeper
+/// in a pod that gets shorter, or behind one, memory is asked for as `rewrite_in_parts` does.
+pub fn rewrite_in_place(
+    bytes: &mut [u8],
+) -> Result<usize, (usize, DeserializeError<()>)> {
+    let len = bytes.len();
+    let (first, rest) = canonical_stretch(bytes);
+    let (steady, others) = steady_stretch(rest);
+    let from = first.len();
+    let to = from + steady.len();
+    if let Some(surplus) = surplus_of_all(others) {
+        patch_all(&mut bytes[from..to]);
+        place_rest(surplus, &mut bytes[to..]);
+        return Ok(len - surplus);
+    }
+    let (start, written) = match rewrite_in_parts(others) {
+        Ok((kept, written)) => (to + kept.len(), written),
+        Err((left, error)) => return Err((len - left.len(), without_place(error))),
+    };
+    patch_all(&mut bytes[from..to]);
+    let end = start + written.len();
+    bytes[start..end].copy_from_slice(written.as_slice());
+    Ok(end)
+}
+
+/// Makes pods that are so many bytes shorter then their rewritings, at their front.
+#[inline(always)]
+fn place_rest(surplus: usize, pods: &mut [u8]) {
+    place_all(surplus, pods);
+}
+
+/// Puts the rewritings of all pods that the input is into an output of the same length, and answers true, where each of them is found to
+/// be as long as its pod and the output is as long as the input: else it writes nothing and answers false. It takes no memory.
+///
+/// None is found as long whose structs and objects stand more than `LEVELS` deep in one another, but where the last of each stand there.
+pub fn rewrite_across(input: &[u8], out: &mut [u8]) -> bool {
+    if out.len() != input.len() {
+        return false;
+    }
+    let (first, rest) = canonical_stretch(input);
+    let (_, others) = steady_stretch(rest);
+    if !others.is_empty() {
+        return false;
+    }
+    out.copy_from_slice(input);
+    patch_all(&mut out[first.len()..]);
+    true
+}
+
+/// The same refusal, without a place.
+fn without_place(error: DeserializeError<&[u8]>) -> DeserializeError<()> {
+    match error {
+        DeserializeError::Nom(fault) => DeserializeError::Nom(Fault {
+            input: (),
+            kind: fault.kind,
+        }),
+        DeserializeError::UnsupportedType => DeserializeError::UnsupportedType,
+        DeserializeError::InvalidType => DeserializeError::InvalidType,
+        DeserializeError::PropertyMissing => DeserializeError::PropertyMissing,
+        DeserializeError::PropertyWrongKey(key) => DeserializeError::PropertyWrongKey(key),
+        DeserializeError::InvalidChoiceType => DeserializeError::InvalidChoiceType,
+        DeserializeError::MissingChoiceValues => DeserializeError::MissingChoiceValues,
+        DeserializeError::WrongSize => DeserializeError::WrongSize,
+        DeserializeError::UnreadMembers => DeserializeError::UnreadMembers,
+        DeserializeError::NoElementLeft => DeserializeError::NoElementLeft,
+        DeserializeError::FailedReader => DeserializeError::FailedReader,
+        DeserializeError::OutOfMemory => DeserializeError::OutOfMemory,
+    }
+}

@@ -1,0 +1,31 @@
+//! Values of the types of fixed size, arrays and choices of them, written.
+
+use crate::shims::prelude::*;
+use crate::parts::spa_fixed::{CanonicalFixedSizedPod, ChoiceElement, put_array, put_choice, put_fixed};
+use crate::parts::spa_sink::{GenError, PodSink};
+use crate::parts::spa_utils::Choice;
+
+/// Appends the pod of a value of fixed size.
+#[inline(always)]
+pub fn put_number<T: CanonicalFixedSizedPod, S: PodSink>(
+    sink: &mut S,
+    value: &T,
+) -> Result<(), GenError> {
+    put_fixed(sink, value)
+}
+
+/// Appends the pod of elements of one type of fixed size.
+pub fn put_elements<T: CanonicalFixedSizedPod, S: PodSink>(
+    sink: &mut S,
+    values: &[T],
+) -> Result<(), GenError> {
+    put_array(sink, values)
+}
+
+/// Appends the pod of a choice over one type of fixed size.
+pub fn put_alternatives<T: ChoiceElement, S: PodSink>(
+    sink: &mut S,
+    choice: &Choice<T>,
+) -> Result<(), GenError> {
+    put_choice(sink, choice)
+}

@@ -1,0 +1,84 @@
+//! Names looked up by numbers, and numbers by names.
+
+use crate::shims::prelude::*;
+use crate::parts::spa_names::contents::{entries_of, namings_of};
+use crate::parts::spa_names::entry::{Entry, Expected};
+use crate::parts::spa_names::key_entries::EXPECTED;
+use crate::parts::spa_names::table::{OBJECTS, Table};
+use crate::parts::spa_utils::SpaTypes;
+
+/// The name of a number.
+pub fn name_of(table: Table, number: u32) -> Option<&'static str> {
+    match entry_of(table, number) {
+        Some(entry) => Some(&entry.1[entry.2..]),
+        None => None,
+    }
+}
+
+/// PipeWire's own name for a number, of which its name is an end.
+pub fn path_of(table: Table, number: u32) -> Option<&'static str> {
+    match entry_of(table, number) {
+        Some(entry) => Some(entry.1),
+        None => None,
+    }
+}
+
+/// What is expected under a key, by the table of its object's keys.
+pub fn expected_under(keys: Table, key: u32) -> Expected {
+    match entry_of(keys, key) {
+        Some(entry) => expected_at(entry.3),
+        None => Expected::NOTHING,
+    }
+}
+
+/// What stands there in `EXPECTED`.
+fn expected_at(place: usize) -> Expected {
+    let expected: &'static [Expected] = &EXPECTED;
+    match expected.get(place) {
+        Some(found) => *found,
+        None => Expected::NOTHING,
+    }
+}
+
+/// The number of a name.
+pub fn number_of(table: Table, name: &str) -> Option<u32> {
+    let namings = namings_of(table);
+    match namings.binary_search_by(|naming| naming.0.cmp(&name)) {
+        Ok(at) => Some(namings[at].1),
+        Err(_) => None,
+    }
+}
+
+/// The table of the keys of objects of this type.
+pub fn keys_of(type_: SpaTypes) -> Table {
+    match object_of(type_) {
+        Some((_, keys, _)) => keys,
+        None => Table::Nothing,
+    }
+}
+
+/// The table of the ids of objects of this type.
+pub fn ids_of(type_: SpaTypes) -> Table {
+    match object_of(type_) {
+        Some((_, _, ids)) => ids,
+        None => Table::Nothing,
+    }
+}
+
+/// The tables of a type of objects.
+fn object_of(type_: SpaTypes) -> Option<(u32, Table, Table)> {
+    let objects: &'static [(u32, Table, Table)] = &OBJECTS;
+    match objects.binary_search_by_key(&type_.0, |object| object.0) {
+        Ok(at) => Some(objects[at]),
+        Err(_) => None,
+    }
+}
+
+/// What a table says of a number.
+fn entry_of(table: Table, number: u32) -> Option<Entry> {
+    let entries = entries_of(table);
+    match entries.binary_search_by_key(&number, |entry| entry.0) {
+        Ok(at) => Some(entries[at]),
+        Err(_) => None,
+    }
+}

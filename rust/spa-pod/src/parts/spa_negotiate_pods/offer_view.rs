@@ -1,0 +1,305 @@
+//! What a value offers, where its pod lies.
+
+use crate::shims::prelude::*;
+use crate::parts::spa_bytes::{HEADER_LEN, open, u32_at, u64_at};
+use crate::parts::spa_fixed::{ENUM_SHAPE, NONE_SHAPE, RANGE_SHAPE};
+use crate::parts::spa_leaf::{CHOICE_HEADER_LEN, VALUE_TYPE_AT};
+use crate::parts::spa_utils::SpaTypes;
+use crate::shims::memory::AllocError;
+
+/// The length in bytes of a body of one word.
+const ONE_WORD: usize = 4;
+
+/// The length in bytes of a body of two words.
+const TWO_WORDS: usize = 8;
+
+/// Which values an offer admits.
+#[derive(Clone, Copy)]
+pub(crate) enum Rule {
+    /// The default alone.
+    Only,
+    /// The default and the further values.
+    Among,
+    /// From the first of the further values to the second.
+    Between,
+    /// None: no common value is sought.
+    Unsupported,
+}
+
+/// How long the values of an Enum are, in bytes, that are looked for one by one beside those of another: 16 values of two words.
+const SHORT_LEN: usize = 128;
+
+/// What a value offers, where its pod lies: a choice, or a plain value as the choice that admits it alone.
+#[derive(Clone, Copy)]
+pub(crate) struct OfferView<'a> {
+    /// Which values are admitted.
+    pub(crate) rule: Rule,
+    /// The type of the values.
+    pub(crate) type_: u32,
+    /// The length of a value in bytes.
+    pub(crate) size: usize,
+    /// The default, and behind it the further values.
+    pub(crate) values: &'a [u8],
+}
+
+/// What the value of a pod offers, where that is a choice or of a type over which there are choices.
+pub(crate) fn offer_view(pod: &[u8]) -> Option<OfferView<'_>> {
+    let front = open(pod)?;
+    let body = front.body;
+    if front.type_ == SpaTypes::Choice.0 {
+        return choice_view(body);
+    }
+    if !is_element_type(front.type_) {
+        return None;
+    }
+    Some(OfferView {
+        rule: Rule::Only,
+        type_: front.type_,
+        size: body.len(),
+        values: body,
+    })
+}
+
+/// The same of the body of a choice.
+fn choice_view(body: &[u8]) -> Option<OfferView<'_>> {
+    if body.len() < CHOICE_HEADER_LEN {
+        return None;
+    }
+    let type_ = u32_at(body, VALUE_TYPE_AT);
+    if !is_element_type(type_) {
+        return None;
+    }
+    let size = u32_at(body, HEADER_LEN) as usize;
+    let (_, values) = body.split_at(CHOICE_HEADER_LEN);
+    Some(OfferView {
+        rule: rule_by(u32_at(body, 0), type_),
+        type_,
+        size,
+        values,
+    })
+}
+
+/// Whether there are choices over values of this type.
+fn is_element_type(type_: u32) -> bool {
+    match SpaTypes(type_) {
+        SpaTypes::Bool => true,
+        SpaTypes::Id => true,
+        SpaTypes::Int => true,
+        SpaTypes::Long => true,
+        SpaTypes::Float => true,
+        SpaTypes::Double => true,
+        SpaTypes::Rectangle => true,
+        SpaTypes::Fraction => true,
+        SpaTypes::Fd => true,
+        _ => false,
+    }
+}
+
+/// The rule of a choice of this shape over values of this type.
+fn rule_by(shape: u32, type_: u32) -> Rule {
+    match shape {
+        NONE_SHAPE => Rule::Only,
+        ENUM_SHAPE => Rule::Among,
+        RANGE_SHAPE => match SpaTypes(type_) {
+            SpaTypes::Id => Rule::Between,
+            SpaTypes::Int => Rule::Between,
+            SpaTypes::Long => Rule::Between,
+            _ => Rule::Unsupported,
+        },
+        _ => Rule::Unsupported,
+    }
+}
+
+/// Whether two values of this length are the same bytes. Others than the first ones don't count.
+#[inline(always)]
+fn is_same(size: usize, value: &[u8], other: &[u8]) -> bool {
+    match size {
+        ONE_WORD => u32_at(value, 0) == u32_at(other, 0),
+        TWO_WORDS => u64_at(value, 0) == u64_at(other, 0),
+        _ => false,
+    }
+}
+
+/// Whether the first is no greater than the second, of a type that has an order.
+fn is_at_most(type_: u32, value: &[u8], other: &[u8]) -> bool {
+    match SpaTypes(type_) {
+        SpaTypes::Id => {
+            if value.len() < ONE_WORD || other.len() < ONE_WORD {
+                return false;
+            }
+            if u32_at(value, 0) > u32_at(other, 0) {
+                return false;
+            }
+            true
+        }
+        SpaTypes::Int => {
+            if value.len() < ONE_WORD || other.len() < ONE_WORD {
+                return false;
+            }
+            if u32_at(value, 0).cast_signed() > u32_at(other, 0).cast_signed() {
+                return false;
+            }
+            true
+        }
+        SpaTypes::Long => {
+            if value.len() < TWO_WORDS || other.len() < TWO_WORDS {
+                return false;
+            }
+            if u64_at(value, 0).cast_signed() > u64_at(other, 0).cast_signed() {
+                return false;
+            }
+            true
+        }
+        _ => false,
+    }
+}
+
+/// Whether the value is among these.
+fn is_among(size: usize, values: &[u8], value: &[u8]) -> bool {
+    let mut left = values;
+    while left.len() >= size {
+        if is_same(size, left, value) {
+            return true;
+        }
+        let (_, rest) = left.split_at(size);
+        left = rest;
+    }
+    false
+}
+
+/// Whether the offer admits a value of its type.
+fn admits(offer: &OfferView<'_>, value: &[u8]) -> bool {
+    let size = offer.size;
+    match offer.rule {
+        Rule::Only => is_same(size, offer.values, value),
+        Rule::Among => is_among(size, offer.values, value),
+        Rule::Between => {
+            let (_, low) = offer.values.split_at(size);
+            if low.len() < size {
+                return false;
+            }
+            let (_, high) = low.split_at(size);
+            if high.len() < size {
+                return false;
+            }
+            is_at_most(offer.type_, low, value) && is_at_most(offer.type_, value, high)
+        }
+        Rule::Unsupported => false,
+    }
+}
+
+/// Whether both offers admit a value of their type.
+fn both_admit(a: &OfferView<'_>, b: &OfferView<'_>, value: &[u8]) -> bool {
+    admits(a, value) && admits(b, value)
+}
+
+/// The first of these that both offers admit. The first offer is asked before the second.
+fn first_of<'v>(a: &OfferView<'_>, b: &OfferView<'_>, values: &'v [u8]) -> Option<&'v [u8]> {
+    let mut left = values;
+    while left.len() >= a.size {
+        if both_admit(a, b, left) {
+            return Some(left);
+        }
+        let (_, rest) = left.split_at(a.size);
+        left = rest;
+    }
+    None
+}
+
+/// The first of a's values that b has, too, where these are looked for by halves.
+fn first_by_halves<'v>(a: &OfferView<'v>, b: &OfferView<'_>) -> Option<&'v [u8]> {
+    let Ok(order) = order_of(b.size, b.values) else {
+        return None;
+    };
+    let mut left = a.values;
+    while left.len() >= a.size {
+        if order
+            .as_slice()
+            .binary_search(&number_of(a.size, left))
+            .is_ok()
+            && both_admit(a, b, left)
+        {
+            return Some(left);
+        }
+        let (_, rest) = left.split_at(a.size);
+        left = rest;
+    }
+    None
+}
+
+/// Values as numbers, in ascending order.
+fn order_of(size: usize, values: &[u8]) -> Result<Vec<u64>, AllocError> {
+    let mut order = Vec::new();
+    let mut left = values;
+    while left.len() >= size {
+        order.try_push(number_of(size, left))?;
+        let (_, rest) = left.split_at(size);
+        left = rest;
+    }
+    order.sort_unstable();
+    Ok(order)
+}
+
+/// A value as a number.
+fn number_of(size: usize, value: &[u8]) -> u64 {
+    match size {
+        ONE_WORD => u64::from(u32_at(value, 0)),
+        TWO_WORDS => u64_at(value, 0),
+        _ => 0,
+    }
+}
+
+/// Whether two offers are Enums, one of them with many values.
+fn are_long_enums(a: &OfferView<'_>, b: &OfferView<'_>) -> bool {
+    match (a.rule, b.rule) {
+        (Rule::Among, Rule::Among) => a.values.len() > SHORT_LEN || b.values.len() > SHORT_LEN,
+        _ => false,
+    }
+}
+
+/// The first of these that both offers admit: a's default, b's default, a's alternatives, b's alternatives, a's minimum, b's
+/// minimum. The bytes behind it don't count. `None` says nothing.
+pub(crate) fn first_common<'v>(
+    a: &OfferView<'v>,
+    b: &OfferView<'v>,
+) -> Option<&'v [u8]> {
+    if a.type_ != b.type_ || a.size != b.size || a.size == 0 {
+        return None;
+    }
+    if a.values.len() < a.size || b.values.len() < b.size {
+        return None;
+    }
+    if both_admit(a, b, a.values) {
+        return Some(a.values);
+    }
+    if both_admit(a, b, b.values) {
+        return Some(b.values);
+    }
+    if are_long_enums(a, b) {
+        let value = first_by_halves(a, b)?;
+        return Some(value);
+    }
+    if let Rule::Among = a.rule {
+        if let Some(value) = first_of(b, a, a.values) {
+            return Some(value);
+        }
+    }
+    if let Rule::Among = b.rule {
+        if let Some(value) = first_of(a, b, b.values) {
+            return Some(value);
+        }
+    }
+    if let Rule::Between = a.rule {
+        let (_, low) = a.values.split_at(a.size);
+        if low.len() >= a.size && both_admit(a, b, low) {
+            return Some(low);
+        }
+    }
+    if let Rule::Between = b.rule {
+        let (_, low) = b.values.split_at(b.size);
+        if low.len() >= b.size && both_admit(a, b, low) {
+            return Some(low);
+        }
+    }
+    None
+}

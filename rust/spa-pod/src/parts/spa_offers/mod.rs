@@ -1,0 +1,13 @@
+//! What a value offers of the elements of one type, and what two offers meet in.
+use crate::shims::prelude::*;
+mod element;
+mod elements;
+mod kept;
+mod meeting;
+mod numbers;
+mod offer;
+
+pub use element::Element;
+pub use meeting::{meet, meet_only};
+pub use numbers::Numbers;
+pub use offer::{Offer, admits, default_of, is_among, is_same, offer_of};

@@ -1,0 +1,186 @@
+//! What is read of the body of a struct or of an object, up to the next struct or object in it.
+
+use crate::shims::prelude::*;
+use crate::parts::spa_read::front::open_counted;
+use crate::parts::spa_read::leaves::read_leaf_into;
+use crate::parts::spa_read::refused::Refused;
+use crate::shims::flags::Flags;
+use crate::parts::spa_bytes::{Front, HEADER_LEN, SECOND_WORD, extent_of, u32_at};
+use crate::parts::spa_fixed::Refusal;
+use crate::parts::spa_utils::SpaTypes;
+use crate::parts::spa_value::{Object, Property, PropertyFlags, Takes, Value};
+use crate::shims::memory::AllocError;
+
+/// What is read of a body so far.
+pub(crate) enum Inside {
+    Struct(Vec<Value>),
+    Object(OpenObject),
+}
+
+/// What is read of an object so far.
+pub(crate) struct OpenObject {
+    pub(crate) type_: u32,
+    pub(crate) id: u32,
+    pub(crate) properties: Vec<Property>,
+    /// The key of the property whose value is read next.
+    pub(crate) key: u32,
+    /// The flags of that property.
+    pub(crate) flags: PropertyFlags,
+}
+
+/// A body that is read pod by pod.
+pub(crate) trait Grows: Takes {
+    /// Goes on to the next pod in a struct or, behind its key and flags, in an object, where these are whole.
+    fn reach<'a>(&mut self, left: &'a [u8]) -> Option<&'a [u8]>;
+
+    /// Makes room for one more, and where there is none, for those behind it too.
+    fn make_room(&mut self, behind: &[u8]) -> Result<(), AllocError>;
+}
+
+/// The members of a struct.
+impl Grows for Vec<Value> {
+    #[inline(always)]
+    fn reach<'a>(&mut self, left: &'a [u8]) -> Option<&'a [u8]> {
+        Some(left)
+    }
+
+    #[inline(always)]
+    fn make_room(&mut self, behind: &[u8]) -> Result<(), AllocError> {
+        if self.len() < self.capacity() {
+            return Ok(());
+        }
+        VecRoom::make_room(self, pods_from(behind, 0))
+    }
+}
+
+impl Takes for OpenObject {
+    #[inline(always)]
+    fn put(&mut self, value: Value) {
+        let property = Property {
+            key: self.key,
+            flags: self.flags,
+            value,
+        };
+        self.properties.push(property);
+    }
+}
+
+impl Grows for OpenObject {
+    #[inline(always)]
+    fn reach<'a>(&mut self, left: &'a [u8]) -> Option<&'a [u8]> {
+        if left.len() < HEADER_LEN {
+            return None;
+        }
+        self.key = u32_at(left, 0);
+        self.flags = PropertyFlags::from_bits_retain(u32_at(left, SECOND_WORD));
+        let (_, behind) = left.split_at(HEADER_LEN);
+        Some(behind)
+    }
+
+    #[inline(always)]
+    fn make_room(&mut self, behind: &[u8]) -> Result<(), AllocError> {
+        if self.properties.len() < self.properties.capacity() {
+            return Ok(());
+        }
+        self.properties.make_room(pods_from(behind, HEADER_LEN))
+    }
+}
+
+/// How many pods room is made for: one, and the whole ones that follow it, each behind so many bytes.
+#[inline(never)]
+fn pods_from(behind: &[u8], between: usize) -> usize {
+    let mut left = behind;
+    let mut count = 1;
+    while left.len() >= between + HEADER_LEN {
+        let whole = between + extent_of(u32_at(left, between));
+        if left.len() < whole {
+            break;
+        }
+        let (_, more) = left.split_at(whole);
+        left = more;
+        count += 1;
+    }
+    count
+}
+
+/// Reads pods up to the end of a body, where it answers nothing, or up to a struct or an object, which it answers opened and
+/// where it then stands.
+#[inline(always)]
+pub(crate) fn read_leaves<'de, G: Grows>(
+    left: &mut &'de [u8],
+    opened: &mut u64,
+    to: &mut G,
+) -> Result<Option<Front<'de>>, Refused<'de>> {
+    while !left.is_empty() {
+        let Some(place) = to.reach(*left) else {
+            return Err(Refused {
+                place: *left,
+                why: Refusal::Short,
+            });
+        };
+        let Some(front) = open_counted(place, opened) else {
+            return Err(Refused {
+                place,
+                why: Refusal::Short,
+            });
+        };
+        if front.type_ == SpaTypes::Struct.0 || front.type_ == SpaTypes::Object.0 {
+            *left = place;
+            return Ok(Some(front));
+        }
+        if to.make_room(front.rest).is_err() {
+            return Err(Refused::lacking_memory());
+        }
+        if let Err(why) = read_leaf_into(front.type_, front.body, to) {
+            return Err(Refused { place, why });
+        }
+        *left = front.rest;
+    }
+    Ok(None)
+}
+
+impl Inside {
+    /// Reads on as the members of a struct or as the properties of an object.
+    #[inline(always)]
+    pub(crate) fn read_on<'de>(
+        &mut self,
+        left: &mut &'de [u8],
+        opened: &mut u64,
+    ) -> Result<Option<Front<'de>>, Refused<'de>> {
+        match self {
+            Inside::Struct(members) => read_leaves(left, opened, members),
+            Inside::Object(object) => read_leaves(left, opened, object),
+        }
+    }
+
+    /// Makes room for one more, and where there is none, for those behind it too.
+    #[inline(always)]
+    pub(crate) fn make_room(&mut self, behind: &[u8]) -> Result<(), AllocError> {
+        match self {
+            Inside::Struct(members) => Grows::make_room(members, behind),
+            Inside::Object(object) => Grows::make_room(object, behind),
+        }
+    }
+
+    /// Puts the next member, or the value of the next property, behind the others.
+    #[inline(always)]
+    pub(crate) fn put(&mut self, value: Value) {
+        match self {
+            Inside::Struct(members) => members.put(value),
+            Inside::Object(object) => object.put(value),
+        }
+    }
+
+    /// The value that is read.
+    #[inline(always)]
+    pub(crate) fn into_value(self) -> Value {
+        match self {
+            Inside::Struct(members) => Value::Struct(members),
+            Inside::Object(object) => Value::Object(Object {
+                type_: object.type_,
+                id: object.id,
+                properties: object.properties,
+            }),
+        }
+    }
+}

@@ -1,0 +1,15 @@
+//! The reader of any value: from the pod at the front of an input to a `Value`, by a loop over what is begun.
+use crate::shims::prelude::*;
+mod arrays;
+mod choices;
+mod front;
+mod inside;
+mod leaves;
+mod nest;
+mod refused;
+mod value;
+
+pub use choices::read_any_choice;
+pub use leaves::read_leaf;
+pub use refused::Refused;
+pub use value::read_value;

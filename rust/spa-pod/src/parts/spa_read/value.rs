@@ -1,0 +1,57 @@
+//! Any value, read from the front of an input: the structs and objects in it by one loop over those that are begun.
+
+use crate::shims::prelude::*;
+use crate::parts::spa_read::front::open_counted;
+use crate::parts::spa_read::leaves::read_leaf;
+use crate::parts::spa_read::nest::{Nest, begin_reading};
+use crate::parts::spa_read::refused::Refused;
+use crate::parts::spa_bytes::Front;
+use crate::parts::spa_fixed::Refusal;
+use crate::parts::spa_utils::SpaTypes;
+use crate::parts::spa_value::Value;
+
+/// What follows the pod at the front of the input, and its value. The number grows by that of the pod headers opened.
+///
+/// Unless memory runs out, this succeeds exactly where the front that the first size word names is there and is a pod. A refusal
+/// names a fault that stands, and where; or it is `OutOfMemory`, where the front is there and its type takes memory.
+pub fn read_value<'de>(
+    input: &'de [u8],
+    opened: &mut u64,
+) -> Result<(&'de [u8], Value), Refused<'de>> {
+    let Some(front) = open_counted(input, opened) else {
+        return Err(Refused {
+            place: input,
+            why: Refusal::Short,
+        });
+    };
+    if front.type_ == SpaTypes::Struct.0 || front.type_ == SpaTypes::Object.0 {
+        return read_nested(input, front, opened);
+    }
+    match read_leaf(front.type_, front.body) {
+        Ok(value) => Ok((front.rest, value)),
+        Err(why) => Err(Refused { place: input, why }),
+    }
+}
+
+/// The same where a struct or an object is at the front, and is opened.
+fn read_nested<'de>(
+    input: &'de [u8],
+    front: Front<'de>,
+    opened: &mut u64,
+) -> Result<(&'de [u8], Value), Refused<'de>> {
+    let (outermost, mut left) = match begin_reading(front) {
+        Ok(begun) => begun,
+        Err(why) => return Err(Refused { place: input, why }),
+    };
+    let mut nest = Nest::new(outermost);
+    loop {
+        match nest.step(&mut left, opened) {
+            Ok(true) => {}
+            Ok(false) => return Ok((left, nest.into_value())),
+            Err(refused) => {
+                nest.give_up();
+                return Err(refused);
+            }
+        }
+    }
+}

@@ -1,0 +1,15 @@
+//! The error that a code below 0 stands for.
+
+use crate::shims::prelude::*;
+use crate::parts::spa_utils::Errno;
+
+/// A call failed. It prints the error's number.
+#[derive(Debug, PartialEq, Eq)]
+pub struct Error(pub(crate) Errno);
+
+impl Error {
+    /// The error's number.
+    pub fn errno(&self) -> Errno {
+        self.0
+    }
+}

@@ -1,0 +1,18 @@
+//! Rewriting: the encoding of what a pod says, and the encodings of all pods that an input consists of.
+use crate::shims::prelude::*;
+mod canonical;
+mod elements;
+mod patch;
+mod pod;
+mod rewriting;
+mod steady;
+mod surplus;
+mod tail;
+
+pub use canonical::is_canonical;
+pub use patch::{
+    SECOND_HEADER, begins_word, patch_all, patch_leaf, patch_values, place_behind, taken_len,
+};
+pub use rewriting::{accept_all, rewrite, rewrite_all, rewrite_in_parts};
+pub use steady::{behind_key, steady_stretch};
+pub use surplus::{surplus_of_all, surplus_of_each};

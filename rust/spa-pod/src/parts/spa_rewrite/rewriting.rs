@@ -1,0 +1,165 @@
+//! The rewriting of a pod is the encoding of its value.
+
+use crate::shims::prelude::*;
+use crate::parts::spa_rewrite::pod::rewrite_pod;
+use crate::parts::spa_rewrite::steady::steady_stretch;
+use crate::parts::spa_rewrite::surplus::surplus_of_all;
+use crate::parts::spa_rewrite::tail::Tail;
+use crate::parts::spa_fixed::{DeserializeError, Refusal};
+use crate::parts::spa_leaf::error_at;
+use crate::parts::spa_scan::canonical_stretch;
+use crate::parts::spa_sink::PodSink;
+use core::mem;
+
+/// The encoding of the value that the front of the input says, and what follows that front.
+///
+/// Unless memory runs out, this succeeds exactly where the front that the first size word names is there and is a pod.
+/// The refusals are those of `PodDeserializer::deserialize_any_from`, but that a refusal for lack of memory can also be
+/// answered for a pod of fixed size, whose encoding takes memory. A size is never a cause: what was read can be
+/// written.
+pub fn rewrite(input: &[u8]) -> Result<(&[u8], Vec<u8>), DeserializeError<&[u8]>> {
+    let mut left = input;
+    let mut tail = Tail::behind(Vec::new());
+    match rewrite_pod(&mut Vec::new(), &mut left, &mut tail) {
+        Ok(()) => Ok((left, tail.into_whole())),
+        Err(why) => Err(error_at(left, why)),
+    }
+}
+
+/// Appends the rewritings of all pods that the input consists of. Memory is asked for by the allocator of `out`.
+///
+/// Unless memory runs out, this succeeds exactly where the input is pods one after another without remainder, or is
+/// empty. A refusal gives what is left of the input from the refused pod on, with the refusal of that pod, and `out`
+/// holds what it held before the call.
+pub fn rewrite_all<'a>(
+    input: &'a [u8],
+    out: &mut Vec<u8>,
+) -> Result<(), (&'a [u8], DeserializeError<&'a [u8]>)> {
+    let mut bytes = mem::replace(out, Vec::new());
+    // No rewriting is longer than its pod. Where so much memory isn't there at once, each growth asks for its own.
+    let _ = bytes.make_room(input.len());
+    let mut tail = Tail::behind(bytes);
+    match rewrite_pods(input, &mut tail) {
+        Ok(()) => {
+            *out = tail.into_whole();
+            Ok(())
+        }
+        Err(refusal) => {
+            *out = tail.into_start();
+            Err(refusal)
+        }
+    }
+}
+
+/// The rewritings of all pods that the input consists of, in two parts: the first bytes of the input, as far as they are their
+/// own rewriting, and the rewritings of the pods behind them.
+///
+/// One after the other they are what `rewrite_all` appends, and the call is refused exactly as that one. It asks for memory
+/// for the second part alone: a program that writes the first one from the input itself needs no room for it.
+pub fn rewrite_in_parts(
+    input: &[u8],
+) -> Result<(&[u8], Vec<u8>), (&[u8], DeserializeError<&[u8]>)> {
+    let (first, rest) = canonical_stretch(input);
+    let mut tail = Tail::behind(Vec::new());
+    match rewrite_others(rest, &mut tail) {
+        Ok(()) => Ok((first, tail.into_whole())),
+        Err(refusal) => Err(refusal),
+    }
+}
+
+/// Tells whether `rewrite_all` would accept the input, and else refuses it as that call does.
+///
+/// It makes no rewriting of the whole: it takes memory only where structs and objects stand more than `LEVELS` deep in one another, not
+/// counting those that end where the one around them does, and then for one pod at a time.
+pub fn accept_all(input: &[u8]) -> Result<(), (&[u8], DeserializeError<&[u8]>)> {
+    let (_, rest) = canonical_stretch(input);
+    let (_, others) = steady_stretch(rest);
+    if let Some(_) = surplus_of_all(others) {
+        return Ok(());
+    }
+    match accept_each(others) {
+        Ok(()) => Ok(()),
+        Err(refusal) => Err(refusal),
+    }
+}
+
+/// The same of any pods, by a rewriting of each that gets shorter or nests deeper.
+fn accept_each(input: &[u8]) -> Result<(), (&[u8], DeserializeError<&[u8]>)> {
+    let mut left = input;
+    let mut outer = Vec::new();
+    let mut tail = Tail::behind(Vec::new());
+    loop {
+        let (_, behind) = canonical_stretch(left);
+        let (_, others) = steady_stretch(behind);
+        if others.is_empty() {
+            return Ok(());
+        }
+        let mut place = others;
+        if let Err(why) = rewrite_pod(&mut outer, &mut place, &mut tail) {
+            return Err((others, error_at(place, why)));
+        }
+        tail.clear();
+        left = place;
+    }
+}
+
+/// Appends the rewritings of all pods that the input consists of, behind the bytes that stay.
+fn rewrite_pods<'a>(
+    input: &'a [u8],
+    tail: &mut Tail,
+) -> Result<(), (&'a [u8], DeserializeError<&'a [u8]>)> {
+    let Some(rest) = put_stretch(input, tail) else {
+        return Err((input, error_at(input, Refusal::OutOfMemory)));
+    };
+    rewrite_others(rest, tail)
+}
+
+/// The same, of pods the first of which isn't its own rewriting: it isn't looked at for that again.
+fn rewrite_others<'a>(
+    input: &'a [u8],
+    tail: &mut Tail,
+) -> Result<(), (&'a [u8], DeserializeError<&'a [u8]>)> {
+    let mut left = input;
+    let mut outer = Vec::new();
+    loop {
+        let Some(others) = put_steady(left, tail) else {
+            return Err((left, error_at(left, Refusal::OutOfMemory)));
+        };
+        if others.is_empty() {
+            return Ok(());
+        }
+        let mut behind = others;
+        if let Err(why) = rewrite_pod(&mut outer, &mut behind, tail) {
+            return Err((others, error_at(behind, why)));
+        }
+        let Some(rest) = put_stretch(behind, tail) else {
+            return Err((behind, error_at(behind, Refusal::OutOfMemory)));
+        };
+        left = rest;
+    }
+}
+
+/// Appends the rewritings of the first pods, as many as are found to be as long as their pods, and gives what follows these. `None` says
+/// that memory ran out.
+fn put_steady<'a>(left: &'a [u8], tail: &mut Tail) -> Option<&'a [u8]> {
+    let (steady, rest) = steady_stretch(left);
+    if steady.is_empty() {
+        return Some(left);
+    }
+    match tail.append_patched(steady) {
+        Some(()) => Some(rest),
+        None => None,
+    }
+}
+
+/// Appends the first pods, as many as are their own rewritings, and gives what follows them. `None` says that memory ran out.
+fn put_stretch<'a>(left: &'a [u8], tail: &mut Tail) -> Option<&'a [u8]> {
+    let (stretch, rest) = canonical_stretch(left);
+    if stretch.is_empty() {
+        return Some(left);
+    }
+    match tail.append(stretch) {
+        Ok(()) => Some(rest),
+        Err(_) => None,
+    }
+}

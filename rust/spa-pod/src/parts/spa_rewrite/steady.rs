@@ -1,0 +1,220 @@
+//! Pods whose rewritings are as long as they are: a look that writes nothing and takes no memory.
+
+use crate::shims::prelude::*;
+use crate::parts::spa_rewrite::elements::{elements_of, values_of};
+use crate::parts::spa_bytes::{HEADER_LEN, POINTER_LEN, SECOND_WORD, SHORT_POINTER_LEN, open, u32_at};
+use crate::parts::spa_scan::{LEVELS, fixed_len, is_text};
+use crate::parts::spa_utils::SpaTypes;
+
+/// The length in bytes of a body of one word.
+const ONE_WORD: u32 = 4;
+
+/// The length in bytes of a body of two words, the longest of fixed size.
+const TWO_WORDS: u32 = 8;
+
+/// The length in bytes of a whole pod whose body is one or two words.
+const SHORT_POD: usize = 16;
+
+/// The length in bytes of the four words before the values of a choice.
+pub(crate) const CHOICE_HEADER: usize = 16;
+
+/// What stands in the body of a struct or of an object.
+#[derive(Clone, Copy)]
+pub(crate) struct Inside<'a> {
+    /// Whether a key and flags stand before each pod: whether it is an object.
+    pub(crate) keyed: bool,
+    /// The pods, one after another.
+    pub(crate) pods: &'a [u8],
+}
+
+/// The first pods whose rewritings are as long as they are, as many as are found, and what follows them. A pod in which structs and
+/// objects stand more than `LEVELS` deep in one another, those at the end of the one around them aside, isn't looked into.
+pub fn steady_stretch(input: &[u8]) -> (&[u8], &[u8]) {
+    let mut left = input;
+    while let Some(rest) = steady_front(left) {
+        left = rest;
+    }
+    input.split_at(input.len() - left.len())
+}
+
+/// What follows the pod at the front, where its rewriting is found to be as long as it is.
+fn steady_front(input: &[u8]) -> Option<&[u8]> {
+    let Some(front) = open(input) else {
+        return None;
+    };
+    let steady = match inside_of(front.type_, front.body) {
+        Some(inside) => are_steady_inside(inside.keyed, inside.pods, LEVELS),
+        None => is_steady_leaf(front.type_, front.body),
+    };
+    if steady { Some(front.rest) } else { None }
+}
+
+/// Whether the bytes are pods one after another whose rewritings are as long as they are, with key and flags before each where
+/// `keyed` is set.
+fn are_steady(keyed: bool, body: &[u8], levels: u32) -> bool {
+    are_steady_inside(keyed, body, levels)
+}
+
+/// The same in place: what stands in the first pods of an input needs no call.
+#[inline(always)]
+fn are_steady_inside(keyed: bool, body: &[u8], levels: u32) -> bool {
+    let mut properties = keyed;
+    let mut left = body;
+    while !left.is_empty() {
+        let Some(here) = behind_key(properties, left) else {
+            return false;
+        };
+        if let Some(rest) = short_front(here) {
+            left = behind_short(properties, rest);
+        } else {
+            let Some(front) = open(here) else {
+                return false;
+            };
+            if let Some(inside) = inside_of(front.type_, front.body) {
+                if front.rest.is_empty() {
+                    properties = inside.keyed;
+                    left = inside.pods;
+                } else {
+                    if levels == 0 || !are_steady(inside.keyed, inside.pods, levels - 1) {
+                        return false;
+                    }
+                    left = front.rest;
+                }
+            } else {
+                if !is_steady_leaf(front.type_, front.body) {
+                    return false;
+                }
+                left = front.rest;
+            }
+        }
+    }
+    true
+}
+
+/// What is left of properties without the first key and flags, where these are there, and of pods all.
+#[inline(always)]
+pub fn behind_key(keyed: bool, left: &[u8]) -> Option<&[u8]> {
+    if !keyed {
+        return Some(left);
+    }
+    if left.len() < HEADER_LEN {
+        return None;
+    }
+    let (_, here) = left.split_at(HEADER_LEN);
+    Some(here)
+}
+
+/// What follows the pod at the front, where its body is one or two words and of a kind of fixed size.
+#[inline(always)]
+pub(crate) fn short_front(input: &[u8]) -> Option<&[u8]> {
+    if input.len() < SHORT_POD {
+        return None;
+    }
+    if !is_short(u32_at(input, 0), u32_at(input, SECOND_WORD)) {
+        return None;
+    }
+    let (_, rest) = input.split_at(SHORT_POD);
+    Some(rest)
+}
+
+/// Whether the bodies of this type are one or two words, and have this size.
+#[inline(always)]
+fn is_short(size: u32, type_: u32) -> bool {
+    if size == ONE_WORD {
+        return fixed_len(type_) == ONE_WORD;
+    }
+    size == TWO_WORDS && fixed_len(type_) == TWO_WORDS
+}
+
+/// What follows the first pods whose bodies are one or two words and of a kind of fixed size, with key and flags before each where
+/// `keyed` is set.
+#[inline(always)]
+fn behind_short(keyed: bool, pods: &[u8]) -> &[u8] {
+    if keyed {
+        return behind_short_properties(pods);
+    }
+    let mut left = pods;
+    while let Some(rest) = short_front(left) {
+        left = rest;
+    }
+    left
+}
+
+/// The same of properties.
+#[inline(always)]
+fn behind_short_properties(pods: &[u8]) -> &[u8] {
+    let mut left = pods;
+    while let Some(rest) = short_property(left) {
+        left = rest;
+    }
+    left
+}
+
+/// What follows the property at the front, where the body of its value is one or two words and of a kind of fixed size.
+#[inline(always)]
+fn short_property(input: &[u8]) -> Option<&[u8]> {
+    if input.len() < HEADER_LEN {
+        return None;
+    }
+    let (_, here) = input.split_at(HEADER_LEN);
+    match short_front(here) {
+        Some(rest) => Some(rest),
+        None => None,
+    }
+}
+
+/// What stands in the body of a struct or of an object; None for other types, and where an object's type and id aren't there.
+#[inline(always)]
+pub(crate) fn inside_of(type_: u32, body: &[u8]) -> Option<Inside<'_>> {
+    if type_ == SpaTypes::Struct.0 {
+        return Some(Inside {
+            keyed: false,
+            pods: body,
+        });
+    }
+    if type_ != SpaTypes::Object.0 || body.len() < HEADER_LEN {
+        return None;
+    }
+    let (_, pods) = body.split_at(HEADER_LEN);
+    Some(Inside { keyed: true, pods })
+}
+
+/// Whether a body of this type is that of a value without members whose encoding is as long as the pod.
+#[inline(always)]
+pub(crate) fn is_steady_leaf(type_: u32, body: &[u8]) -> bool {
+    match SpaTypes(type_) {
+        SpaTypes::Choice => is_steady_choice(body),
+        SpaTypes::String => is_text(body),
+        SpaTypes::Array => is_steady_array(body),
+        SpaTypes::Bytes => true,
+        SpaTypes::Bitmap => true,
+        SpaTypes::Pointer => body.len() == POINTER_LEN || body.len() == SHORT_POINTER_LEN,
+        _ => is_steady_fixed(type_, body),
+    }
+}
+
+/// The same of the kinds of fixed size.
+fn is_steady_fixed(type_: u32, body: &[u8]) -> bool {
+    let len = fixed_len(type_);
+    len <= TWO_WORDS && body.len() == len as usize
+}
+
+/// The same of arrays.
+fn is_steady_array(body: &[u8]) -> bool {
+    match elements_of(body) {
+        Some(_) => true,
+        None => false,
+    }
+}
+
+/// The same of choices: what they hold beyond the values that they take is within the padding.
+#[inline(always)]
+fn is_steady_choice(body: &[u8]) -> bool {
+    match values_of(body) {
+        Some(kept) => {
+            let size = CHOICE_HEADER + kept.len();
+            (size + 7) / HEADER_LEN == (body.len() + 7) / HEADER_LEN
+        }
+        None => false,
+    }
+}

@@ -1,0 +1,124 @@
+//! Pods at the front of an input: those of fixed size, and any with zeros as padding.
+
+use crate::shims::prelude::*;
+use crate::parts::spa_bytes::{Front, HEADER_LEN, SECOND_WORD, open, u32_at, u64_at};
+use crate::parts::spa_utils::SpaTypes;
+
+/// The length in bytes of a body of one word.
+pub(crate) const ONE_WORD: u32 = 4;
+
+/// The length in bytes of a body of two words.
+pub(crate) const TWO_WORDS: u32 = 8;
+
+/// A length that no body of a kind of fixed size has.
+const NO_LENGTH: u32 = 255;
+
+/// The length in bytes of a whole pod whose body is one or two words.
+const SHORT_POD: usize = 16;
+
+/// Where the first word of a body stands in its pod.
+const FIRST_OF_BODY: usize = 8;
+
+/// Where the second word of a body stands in its pod, or the padding behind a body of one word.
+const SECOND_OF_BODY: usize = 12;
+
+/// Opens the pod at the front, where all of it is there and its padding is zeros.
+#[inline(always)]
+pub(crate) fn padded_front(input: &[u8]) -> Option<Front<'_>> {
+    let Some(front) = open(input) else {
+        return None;
+    };
+    let (_, behind) = input.split_at(HEADER_LEN);
+    if has_zeros(behind, front.body.len()) {
+        Some(front)
+    } else {
+        None
+    }
+}
+
+/// The bytes behind a body of this size are zeros, up to a multiple of 8.
+#[inline(always)]
+fn has_zeros(behind: &[u8], size: usize) -> bool {
+    let over = size % HEADER_LEN;
+    if over == 0 {
+        return true;
+    }
+    let last = u64_at(behind, size - over);
+    last >> (8 * over as u32) == 0
+}
+
+/// What follows the pod at the front, where that is its own rewriting and of a kind of fixed size, None aside.
+#[inline(always)]
+pub(crate) fn fixed_front(input: &[u8]) -> Option<&[u8]> {
+    if input.len() < SHORT_POD {
+        return None;
+    }
+    if !is_short_pod(input) {
+        return None;
+    }
+    let (_, rest) = input.split_at(SHORT_POD);
+    Some(rest)
+}
+
+/// The same behind a key and flags.
+#[inline(always)]
+pub(crate) fn fixed_property(input: &[u8]) -> Option<&[u8]> {
+    if input.len() < HEADER_LEN + SHORT_POD {
+        return None;
+    }
+    let (_, behind) = input.split_at(HEADER_LEN);
+    if !is_short_pod(behind) {
+        return None;
+    }
+    let (_, rest) = behind.split_at(SHORT_POD);
+    Some(rest)
+}
+
+/// Whether the pod at the front is its own rewriting and of a kind of fixed size, None aside.
+#[inline(always)]
+fn is_short_pod(input: &[u8]) -> bool {
+    let type_ = u32_at(input, SECOND_WORD);
+    let size = u32_at(input, 0);
+    if size != ONE_WORD {
+        if size > TWO_WORDS {
+            return false;
+        }
+        return fixed_len(type_) == TWO_WORDS && size == TWO_WORDS;
+    }
+    if u32_at(input, SECOND_OF_BODY) != 0 {
+        return false;
+    }
+    if is_word_type(type_) {
+        return true;
+    }
+    type_ == SpaTypes::Bool.0 && u32_at(input, FIRST_OF_BODY) <= 1
+}
+
+/// Whether this is the type of a kind whose bodies are any word.
+#[inline(always)]
+pub(crate) fn is_word_type(type_: u32) -> bool {
+    match SpaTypes(type_) {
+        SpaTypes::Id => true,
+        SpaTypes::Int => true,
+        SpaTypes::Float => true,
+        _ => false,
+    }
+}
+
+/// How long the bodies of this type are, in bytes, where it is a kind of fixed size, and else a number past all of these.
+#[inline(always)]
+pub fn fixed_len(type_: u32) -> u32 {
+    match SpaTypes(type_) {
+        SpaTypes::None => 0,
+        SpaTypes::Bool => ONE_WORD,
+        SpaTypes::Id => ONE_WORD,
+        SpaTypes::Int => ONE_WORD,
+        SpaTypes::Long => TWO_WORDS,
+        SpaTypes::Float => ONE_WORD,
+        SpaTypes::Double => TWO_WORDS,
+        SpaTypes::Rectangle => TWO_WORDS,
+        SpaTypes::Fraction => TWO_WORDS,
+        SpaTypes::Fd => TWO_WORDS,
+        _ => NO_LENGTH,
+    }
+}

@@ -1,0 +1,14 @@
+//! Pods that are their own rewriting: found by one look at their bytes, so that they can be copied at once.
+use crate::shims::prelude::*;
+mod array;
+mod front;
+mod nesting;
+mod scan;
+mod text;
+
+pub use front::fixed_len;
+pub use nesting::nests_within;
+pub use scan::{
+    LEVELS, canonical_front, canonical_stretch, leaf_front, leaf_members, leaf_properties,
+};
+pub use text::is_text;

@@ -1,0 +1,36 @@
+//! Why a value could not be written.
+
+use crate::shims::prelude::*;
+use crate::shims::memory::AllocError;
+use core::fmt;
+
+/// Why a value could not be written. It prints the variant's name.
+#[derive(Clone, Copy, PartialEq, Eq, Debug)]
+pub enum GenError {
+    /// The bytes don't fit into an output of fixed size.
+    Full = 1,
+    /// A size word would be 4294967296 or more.
+    TooLarge,
+    /// A text holds NUL.
+    NulInText,
+    /// An array's writer was given more or fewer elements than it was opened for.
+    WrongCount,
+    /// The writer was refused before, or a count of an `IoSink` would overflow.
+    Failed,
+    /// A device answered an error, or took no byte.
+    Io,
+    /// A growth was refused.
+    OutOfMemory,
+}
+
+impl fmt::Display for GenError {
+    fn fmt(&self, f: &mut fmt::Formatter<'_>) -> fmt::Result {
+        write!(f, "{self:?}")
+    }
+}
+
+impl From<AllocError> for GenError {
+    fn from(_error: AllocError) -> GenError {
+        GenError::OutOfMemory
+    }
+}

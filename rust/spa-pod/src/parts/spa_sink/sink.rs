@@ -1,0 +1,82 @@
+//! What bytes are written to.
+
+use crate::shims::prelude::*;
+use crate::parts::spa_sink::gen_error::GenError;
+use crate::shims::array::ArrayVec;
+
+/// Takes bytes at its end.
+///
+/// What it took is a relation between the sink before and after, so that a device whose bytes nobody knows is a sink too.
+pub trait PodSink {
+    /// Appends the bytes. A refusal leaves a beginning of them appended.
+    fn append(&mut self, bytes: &[u8]) -> Result<(), GenError>;
+
+    /// Whether it takes memory as it grows. A writer may put together in memory what it appends then:
+    /// so the sink may always refuse for want of memory, and be left as it was. A sink that takes none keeps the default.
+    fn has_own_memory(&self) -> bool {
+        false
+    }
+
+    /// How many bytes more it takes at the most, where it knows that. A writer may answer `Full` for more than these before it
+    /// appends a byte. A sink that doesn't know keeps the default.
+    fn room(&self) -> Option<usize> {
+        None
+    }
+}
+
+/// A sink whose bytes are known, and can be changed after they were written.
+pub trait PodOutput: PodSink {
+    /// How many bytes it holds.
+    fn len(&self) -> usize;
+
+    /// Writes these four bytes over those from this place on.
+    fn overwrite(&mut self, at: usize, bytes: [u8; 4]);
+}
+
+impl PodSink for Vec<u8> {
+    fn append(&mut self, bytes: &[u8]) -> Result<(), GenError> {
+        match self.try_extend_from_slice(bytes) {
+            Ok(()) => Ok(()),
+            Err(_) => Err(GenError::OutOfMemory),
+        }
+    }
+
+    #[inline(always)]
+    fn has_own_memory(&self) -> bool {
+        true
+    }
+}
+
+impl PodOutput for Vec<u8> {
+    fn len(&self) -> usize {
+        Vec::len(self)
+    }
+
+    fn overwrite(&mut self, at: usize, bytes: [u8; 4]) {
+        self[at..at + bytes.len()].copy_from_slice(&bytes);
+    }
+}
+
+impl<const N: usize> PodSink for ArrayVec<u8, N> {
+    fn append(&mut self, bytes: &[u8]) -> Result<(), GenError> {
+        match self.try_extend_from_slice(bytes) {
+            Ok(()) => Ok(()),
+            Err(_) => Err(GenError::Full),
+        }
+    }
+
+    #[inline(always)]
+    fn room(&self) -> Option<usize> {
+        Some(self.remaining_capacity())
+    }
+}
+
+impl<const N: usize> PodOutput for ArrayVec<u8, N> {
+    fn len(&self) -> usize {
+        self.len()
+    }
+
+    fn overwrite(&mut self, at: usize, bytes: [u8; 4]) {
+        self[at..at + 4].copy_from_slice(&bytes);
+    }
+}

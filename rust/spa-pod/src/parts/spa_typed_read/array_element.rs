@@ -1,0 +1,28 @@
+//! What arrays are read over.
+use crate::shims::prelude::*;
+use crate::parts::spa_fixed::CanonicalFixedSizedPod;
+use crate::parts::spa_utils::{Fd, Float32, Float64, Fraction, Id, Rectangle};
+
+/// One of the ten types of fixed size, of which a `Vec` is read as an array. `u8` is none of them: a `Vec` of it is read as
+/// bytes. `CanonicalFixedSizedPod`, a trait of another crate, can't say that.
+pub trait ArrayElement: CanonicalFixedSizedPod {}
+
+impl ArrayElement for () {}
+
+impl ArrayElement for bool {}
+
+impl ArrayElement for Id {}
+
+impl ArrayElement for i32 {}
+
+impl ArrayElement for i64 {}
+
+impl ArrayElement for Float32 {}
+
+impl ArrayElement for Float64 {}
+
+impl ArrayElement for Rectangle {}
+
+impl ArrayElement for Fraction {}
+
+impl ArrayElement for Fd {}

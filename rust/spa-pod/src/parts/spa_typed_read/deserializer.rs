@@ -1,0 +1,113 @@
+//! What reads one pod from the front of an input.
+
+use crate::shims::prelude::*;
+use crate::parts::spa_fixed::DeserializeError;
+use crate::parts::spa_leaf::error_at;
+use crate::parts::spa_read::read_value;
+use crate::parts::spa_value::Value;
+
+/// A type that is read from a pod.
+pub trait PodDeserialize<'de>: Sized {
+    /// Reads the pod at the front of the deserializer's input.
+    fn deserialize(
+        deserializer: PodDeserializer<'de>,
+    ) -> Result<(Self, DeserializeSuccess<'de>), DeserializeError<&'de [u8]>>;
+}
+
+/// Any value, whose tree is the pod's one value. A refusal says what that of `deserialize_any_from` says.
+impl<'de> PodDeserialize<'de> for Value {
+    fn deserialize(
+        deserializer: PodDeserializer<'de>,
+    ) -> Result<(Value, DeserializeSuccess<'de>), DeserializeError<&'de [u8]>> {
+        deserializer.deserialize_any()
+    }
+}
+
+/// Reads one pod from the front of an input. In contracts it is the bytes that are left.
+pub struct PodDeserializer<'de> {
+    pub(crate) input: &'de [u8],
+}
+
+/// A pod was read. In contracts it is the bytes that follow it.
+pub struct DeserializeSuccess<'de>(PodDeserializer<'de>);
+
+impl<'de> DeserializeSuccess<'de> {
+    /// A pod was read, and this follows it.
+    pub(crate) fn before(rest: &'de [u8]) -> DeserializeSuccess<'de> {
+        DeserializeSuccess(PodDeserializer { input: rest })
+    }
+
+    /// What follows the pod.
+    pub(crate) fn rest(self) -> &'de [u8] {
+        self.0.input
+    }
+}
+
+impl<'de> PodDeserializer<'de> {
+    /// Reads the pod at the front of the input as a value of this type, and answers what follows it.
+    pub fn deserialize_from<P: PodDeserialize<'de>>(
+        input: &'de [u8],
+    ) -> Result<(&'de [u8], P), DeserializeError<&'de [u8]>> {
+        let (value, success) = P::deserialize(PodDeserializer { input })?;
+        Ok((success.0.input, value))
+    }
+
+    /// Reads the pod at the front of the input, whatever it is, and answers what follows it.
+    ///
+    /// Unless memory runs out, this succeeds exactly where the front that the first size word names is there and is a
+    /// pod. Refusals: `Nom` with `Short` or `Text`, `InvalidType`, `InvalidChoiceType`, `MissingChoiceValues`,
+    /// `WrongSize`, each where that fault stands in the input, and `OutOfMemory`.
+    pub fn deserialize_any_from(
+        input: &'de [u8],
+    ) -> Result<(&'de [u8], Value), DeserializeError<&'de [u8]>> {
+        let mut opened = 0;
+        match read_value(input, &mut opened) {
+            Ok(read) => Ok(read),
+            Err(refused) => Err(error_at(refused.place, refused.why)),
+        }
+    }
+
+    /// Reads as `deserialize_any_from` does, and counts the pod headers that are opened on the way.
+    ///
+    /// A pod header is opened where 8 bytes are read as a pod's size and type: that of the pod at the front, and at any depth
+    /// those of a struct's members and of the values of an object's properties. Child headers of arrays and choices aren't
+    /// counted, nor are an object's type and id, or a property's key and flags.
+    ///
+    /// Where the pod is read, the number is that of the pods in it. Where it is refused for another cause than lack of memory,
+    /// the number is that of the pods read up to the refused one, of those around it, and one more for itself where 8 bytes of
+    /// it are there. An input of fewer than 8 bytes has 0; any other has 1 at least, and at most one for each 8 bytes.
+    ///
+    /// The refusals are those of `deserialize_any_from`, each of the first pod that can't be read:
+    ///
+    /// - `Nom` with `Short`: fewer bytes are there than a header, than its size word says with the padding, or than a
+    ///   property's key and flags. The place is what is left from the pod on, or from the key on.
+    /// - `Nom` with `Text`: a string's body is empty, doesn't end in NUL, holds another NUL, or isn't UTF-8 before the last one.
+    ///   The place is what is left from the pod on.
+    /// - `InvalidType`: the type number of a pod, of an array's elements or of a choice's values is none that is read.
+    /// - `InvalidChoiceType`: a choice's shape word is above 4.
+    /// - `MissingChoiceValues`: a choice has fewer values than its shape needs.
+    /// - `WrongSize`: a body isn't as long as its type's bodies are, or isn't made of whole elements.
+    /// - `OutOfMemory`: a growth was refused.
+    pub fn deserialize_any_counted(
+        input: &'de [u8],
+    ) -> (Result<(&'de [u8], Value), DeserializeError<&'de [u8]>>, u64) {
+        let mut opened = 0;
+        match read_value(input, &mut opened) {
+            Ok(read) => (Ok(read), opened),
+            Err(refused) => (Err(error_at(refused.place, refused.why)), opened),
+        }
+    }
+
+    /// Reads the pod at the front of what is left, whatever it is. Refusals are those of `deserialize_any_from`.
+    pub fn deserialize_any(
+        self,
+    ) -> Result<(Value, DeserializeSuccess<'de>), DeserializeError<&'de [u8]>> {
+        let (rest, value) = PodDeserializer::deserialize_any_from(self.input)?;
+        Ok((value, self.after(rest)))
+    }
+
+    /// A pod was read, and this follows it.
+    pub(crate) fn after(self, rest: &'de [u8]) -> DeserializeSuccess<'de> {
+        DeserializeSuccess::before(rest)
+    }
+}

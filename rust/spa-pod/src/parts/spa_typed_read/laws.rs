@@ -1,0 +1,14 @@
+//! Laws of values of fixed size, and of arrays that are read element by element. Each function does nothing: its contract is the law.
+
+use crate::shims::prelude::*;
+use crate::parts::spa_fixed::{CanonicalFixedSizedPod, FixedSizedPod};
+
+/// What is taken of an array, up to where no element is left, is made of its elements, of all of them in their order.
+pub fn elements_are_the_arrays<E: FixedSizedPod>() {}
+
+/// What is taken of the array that a list is written as is that list, where the definitions of its type give each value back. Of
+/// units, which have no bytes, nothing is taken.
+pub fn lists_come_back<E: FixedSizedPod>() {}
+
+/// A value is read back as itself from a pod of the value that stands for it, where the definitions of its type give it back.
+pub fn values_come_back<E: FixedSizedPod>() {}

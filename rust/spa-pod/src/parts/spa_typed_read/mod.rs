@@ -1,0 +1,25 @@
+//! Typed reads: from the pod at the front of an input to a type of one's own, member by member or by a visitor.
+use crate::shims::prelude::*;
+mod array_element;
+mod builtin;
+mod content;
+mod deserializer;
+mod exact;
+mod items;
+pub mod laws;
+mod members;
+mod object_content;
+mod pods;
+mod properties;
+mod typed;
+mod visitor;
+
+pub use array_element::ArrayElement;
+pub use content::{DeserializeAs, DeserializeMembers, StructOf};
+pub use deserializer::{DeserializeSuccess, PodDeserialize, PodDeserializer};
+pub use exact::ExactDeserialize;
+pub use items::ArrayPodDeserializer;
+pub use members::StructPodDeserializer;
+pub use object_content::{DeserializeProperties, ObjectOf, Optional, Required};
+pub use properties::ObjectPodDeserializer;
+pub use visitor::{Never, Visit, Visitor};

@@ -1,0 +1,109 @@
+//! Objects whose properties are found by their keys, in any order.
+
+use crate::shims::prelude::*;
+use crate::parts::spa_typed_read::deserializer::{DeserializeSuccess, PodDeserialize, PodDeserializer};
+use crate::parts::spa_typed_read::exact::ExactDeserialize;
+use crate::parts::spa_typed_read::properties::ObjectPodDeserializer;
+use crate::parts::spa_fixed::DeserializeError;
+
+/// A property that has to be there, with the value of the first one under its key.
+pub struct Required<const KEY: u32, P>(pub P);
+
+/// A property that may be there, with the value of the first one under its key.
+pub struct Optional<const KEY: u32, P>(pub Option<P>);
+
+/// The properties of an object, one and those after it, up to `()`. They stand in the object in any order, and others among
+/// them.
+pub trait DeserializeProperties<'de>: Sized {
+    /// Finds them among the properties that are left.
+    ///
+    /// Refusals: `PropertyMissing` where one that has to be there isn't, else those of `find_property`.
+    fn find_properties(
+        reader: &ObjectPodDeserializer<'de>,
+    ) -> Result<Self, DeserializeError<&'de [u8]>>;
+}
+
+impl<'de> DeserializeProperties<'de> for () {
+    fn find_properties(
+        _reader: &ObjectPodDeserializer<'de>,
+    ) -> Result<(), DeserializeError<&'de [u8]>> {
+        Ok(())
+    }
+}
+
+impl<
+    'de,
+    const KEY: u32,
+    A: ExactDeserialize<'de>,
+    R: DeserializeProperties<'de>,
+> DeserializeProperties<'de> for (Required<KEY, A>, R) {
+    fn find_properties(
+        reader: &ObjectPodDeserializer<'de>,
+    ) -> Result<(Required<KEY, A>, R), DeserializeError<&'de [u8]>> {
+        let first = match reader.find_property::<A>(KEY) {
+            Ok(Some(first)) => first,
+            Ok(None) => return Err(DeserializeError::PropertyMissing),
+            Err(e) => return Err(e),
+        };
+        match R::find_properties(reader) {
+            Ok(others) => Ok((Required(first), others)),
+            Err(e) => Err(e),
+        }
+    }
+}
+
+impl<
+    'de,
+    const KEY: u32,
+    A: ExactDeserialize<'de>,
+    R: DeserializeProperties<'de>,
+> DeserializeProperties<'de> for (Optional<KEY, A>, R) {
+    fn find_properties(
+        reader: &ObjectPodDeserializer<'de>,
+    ) -> Result<(Optional<KEY, A>, R), DeserializeError<&'de [u8]>> {
+        let first = match reader.find_property::<A>(KEY) {
+            Ok(first) => first,
+            Err(e) => return Err(e),
+        };
+        match R::find_properties(reader) {
+            Ok(others) => Ok((Optional(first), others)),
+            Err(e) => Err(e),
+        }
+    }
+}
+
+/// An object of this type and id, with these properties.
+pub struct ObjectOf<const TYPE: u32, const ID: u32, P>(pub P);
+
+/// An object of this type and id, with these properties in any order, and others among them. Refusals: `Nom` with `Short` or
+/// `Tag` where the front isn't there or is no object; `WrongSize` where it lacks its type or id, `UnsupportedType` where one of
+/// them is another; else those of `DeserializeProperties` and of `skip_properties`.
+impl<'de, const TYPE: u32, const ID: u32, P: DeserializeProperties<'de>> PodDeserialize<'de>
+    for ObjectOf<TYPE, ID, P> {
+    fn deserialize(
+        deserializer: PodDeserializer<'de>,
+    ) -> Result<(ObjectOf<TYPE, ID, P>, DeserializeSuccess<'de>), DeserializeError<&'de [u8]>> {
+        let mut reader = match ObjectPodDeserializer::open(deserializer) {
+            Ok(reader) => reader,
+            Err(e) => return Err(e),
+        };
+        if reader.type_() != TYPE || reader.id() != ID {
+            return Err(DeserializeError::UnsupportedType);
+        }
+        let properties = match P::find_properties(&reader) {
+            Ok(properties) => properties,
+            Err(e) => return Err(e),
+        };
+        if let Err(e) = reader.skip_properties() {
+            return Err(e);
+        }
+        match reader.end() {
+            Ok(success) => Ok((ObjectOf(properties), success)),
+            Err(e) => Err(e),
+        }
+    }
+}
+
+impl<'de, const TYPE: u32, const ID: u32, P: DeserializeProperties<'de>> ExactDeserialize<'de>
+    for ObjectOf<TYPE, ID, P> {
+}

@@ -1,0 +1,169 @@
+//! The properties of an object, read one by one.
+
+use crate::shims::prelude::*;
+use crate::parts::spa_typed_read::deserializer::{DeserializeSuccess, PodDeserialize, PodDeserializer};
+use crate::parts::spa_typed_read::typed::open_as;
+use crate::shims::flags::Flags;
+use crate::parts::spa_bytes::{HEADER_LEN, SECOND_WORD, open, u32_at};
+use crate::parts::spa_fixed::{DeserializeError, Fault, FaultKind};
+use crate::parts::spa_utils::SpaTypes;
+use crate::parts::spa_value::{PropertyFlags, Value, discard};
+
+/// The input is short, at this place.
+fn short_at(place: &[u8]) -> DeserializeError<&[u8]> {
+    DeserializeError::Nom(Fault {
+        input: place,
+        kind: FaultKind::Short,
+    })
+}
+
+/// Reads an object's properties one by one. Once a property was refused, every call answers `FailedReader`.
+///
+/// In contracts it is the object's type and id, what is left of its body, what follows the object, and whether it has
+/// failed.
+pub struct ObjectPodDeserializer<'de> {
+    type_: u32,
+    id: u32,
+    left: &'de [u8],
+    after: &'de [u8],
+    failed: bool,
+}
+
+impl<'de> ObjectPodDeserializer<'de> {
+    /// The reader of the object at the front of the input.
+    pub(crate) fn open(
+        deserializer: PodDeserializer<'de>,
+    ) -> Result<ObjectPodDeserializer<'de>, DeserializeError<&'de [u8]>> {
+        let front = open_as(deserializer.input, SpaTypes::Object.0)?;
+        if front.body.len() < HEADER_LEN {
+            return Err(DeserializeError::WrongSize);
+        }
+        let (_, left) = front.body.split_at(HEADER_LEN);
+        Ok(ObjectPodDeserializer {
+            type_: u32_at(front.body, 0),
+            id: u32_at(front.body, SECOND_WORD),
+            left,
+            after: front.rest,
+            failed: false,
+        })
+    }
+
+    /// The object's type.
+    pub fn type_(&self) -> u32 {
+        self.type_
+    }
+
+    /// The object's id.
+    pub fn id(&self) -> u32 {
+        self.id
+    }
+
+    /// Reads the next property's value as one of this type, with its key and flags; at the end there is none.
+    ///
+    /// A refusal is `Nom` with `Short`, at the key, where fewer bytes are left than a key and flags; that of the type, of what
+    /// is left of the object's body behind key and flags; or `FailedReader` where a property was refused before. After it the
+    /// reader has failed.
+    pub fn deserialize_property<P: PodDeserialize<'de>>(
+        &mut self,
+    ) -> Result<Option<(P, u32, PropertyFlags)>, DeserializeError<&'de [u8]>> {
+        if self.failed {
+            return Err(DeserializeError::FailedReader);
+        }
+        if self.left.is_empty() {
+            return Ok(None);
+        }
+        self.failed = true;
+        if self.left.len() < HEADER_LEN {
+            return Err(short_at(self.left));
+        }
+        let (_, input) = self.left.split_at(HEADER_LEN);
+        let key = u32_at(self.left, 0);
+        let flags = PropertyFlags::from_bits_retain(u32_at(self.left, SECOND_WORD));
+        let (value, success) = P::deserialize(PodDeserializer {
+            input,
+        })?;
+        self.left = success.rest();
+        self.failed = false;
+        Ok(Some((value, key, flags)))
+    }
+
+    /// Reads the next property, which has to have this key, and answers its value and its flags.
+    ///
+    /// Refusals: `PropertyMissing` at the end, and `PropertyWrongKey` with the next property's key where that is another one;
+    /// the reader then stands behind that property. These two don't make the reader fail. Any other one is that of
+    /// `deserialize_property`.
+    pub fn deserialize_property_key<P: PodDeserialize<'de>>(
+        &mut self,
+        key: u32,
+    ) -> Result<(P, PropertyFlags), DeserializeError<&'de [u8]>> {
+        match self.deserialize_property::<P>() {
+            Ok(Some((value, found, flags))) => {
+                if found != key {
+                    return Err(DeserializeError::PropertyWrongKey(found));
+                }
+                Ok((value, flags))
+            }
+            Ok(None) => Err(DeserializeError::PropertyMissing),
+            Err(e) => Err(e),
+        }
+    }
+
+    /// Looks for the first property under this key among those that are left, and reads its value as one of this type; where none
+    /// is under the key there is none. The reader stays where it is, so that properties are found in any order. It looks at 16
+    /// bytes of each property before that one, and at nothing behind it.
+    ///
+    /// Refusals: `FailedReader` where a property was refused before; `Nom` with `Short` where a property isn't there as its size
+    /// says; else that of the type.
+    pub fn find_property<P: PodDeserialize<'de>>(
+        &self,
+        key: u32,
+    ) -> Result<Option<P>, DeserializeError<&'de [u8]>> {
+        if self.failed {
+            return Err(DeserializeError::FailedReader);
+        }
+        let mut left = self.left;
+        while !left.is_empty() {
+            if left.len() < HEADER_LEN {
+                return Err(short_at(left));
+            }
+            let (_, behind) = left.split_at(HEADER_LEN);
+            if u32_at(left, 0) == key {
+                return match P::deserialize(PodDeserializer {
+                    input: behind,
+                }) {
+                    Ok((value, _)) => Ok(Some(value)),
+                    Err(e) => Err(e),
+                };
+            }
+            let Some(front) = open(behind) else {
+                return Err(short_at(behind));
+            };
+            left = front.rest;
+        }
+        Ok(None)
+    }
+
+    /// Reads all properties that are left, whatever they are, and lets them go. Refusals are those of `deserialize_property`
+    /// into a `Value`.
+    pub fn skip_properties(&mut self) -> Result<(), DeserializeError<&'de [u8]>> {
+        loop {
+            match self.deserialize_property::<Value>() {
+                Ok(Some((value, _, _))) => discard(value),
+                Ok(None) => return Ok(()),
+                Err(e) => return Err(e),
+            }
+        }
+    }
+
+    /// Ends the object, all of whose properties have to be read. Refusals: `FailedReader` where a property was refused, else
+    /// `UnreadMembers` where one is left.
+    pub fn end(self) -> Result<DeserializeSuccess<'de>, DeserializeError<&'de [u8]>> {
+        if self.failed {
+            return Err(DeserializeError::FailedReader);
+        }
+        if !self.left.is_empty() {
+            return Err(DeserializeError::UnreadMembers);
+        }
+        Ok(DeserializeSuccess::before(self.after))
+    }
+}

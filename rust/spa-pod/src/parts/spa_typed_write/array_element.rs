@@ -1,0 +1,50 @@
+//! The ten types of fixed size, written as themselves, and lists of them, written as arrays.
+
+use crate::shims::prelude::*;
+use crate::parts::spa_typed_write::exact::{SerializeAs, write_elements, write_number};
+use crate::parts::spa_fixed::CanonicalFixedSizedPod;
+use crate::parts::spa_sink::{GenError, PodOutput};
+use crate::parts::spa_utils::{Fd, Float32, Float64, Fraction, Id, Rectangle};
+
+/// One of the ten types of fixed size, of which a list is written as an array. `u8` is none of them: a list of it is written
+/// as bytes. `CanonicalFixedSizedPod`, a trait of another crate, can't say that.
+pub trait ArrayElement: CanonicalFixedSizedPod {}
+
+impl ArrayElement for () {}
+
+impl ArrayElement for bool {}
+
+impl ArrayElement for Id {}
+
+impl ArrayElement for i32 {}
+
+impl ArrayElement for i64 {}
+
+impl ArrayElement for Float32 {}
+
+impl ArrayElement for Float64 {}
+
+impl ArrayElement for Rectangle {}
+
+impl ArrayElement for Fraction {}
+
+impl ArrayElement for Fd {}
+
+impl<T: ArrayElement> SerializeAs for T {
+    #[inline(always)]
+    fn write_as<O: PodOutput>(&self, out: &mut O) -> Result<(), GenError> {
+        write_number(out, self)
+    }
+}
+
+impl<T: ArrayElement> SerializeAs for &[T] {
+    fn write_as<O: PodOutput>(&self, out: &mut O) -> Result<(), GenError> {
+        write_elements(out, self)
+    }
+}
+
+impl<T: ArrayElement> SerializeAs for Vec<T> {
+    fn write_as<O: PodOutput>(&self, out: &mut O) -> Result<(), GenError> {
+        write_elements(out, self.as_slice())
+    }
+}

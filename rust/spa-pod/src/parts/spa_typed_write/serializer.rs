@@ -1,0 +1,36 @@
+//! Types that are written as pods, and the writer of one pod.
+
+use crate::shims::prelude::*;
+use crate::parts::spa_format::laws::encodings_read_back;
+use crate::parts::spa_sink::{GenError, PodOutput};
+
+/// A type that is written as a pod.
+pub trait PodSerialize {
+    /// Appends the value's encoding to the serializer's output. It is refused for one of the value's own causes, or
+    /// where the output may refuse as many bytes as the encoding has.
+    fn serialize<O: PodOutput>(
+        &self,
+        serializer: PodSerializer<O>,
+    ) -> Result<SerializeSuccess<O>, GenError>;
+}
+
+/// Writes one pod to the end of an output.
+pub struct PodSerializer<O: PodOutput> {
+    pub(crate) out: O,
+}
+
+/// A pod was written.
+pub struct SerializeSuccess<O: PodOutput> {
+    pub(crate) out: O,
+    pub(crate) len: u64,
+}
+
+impl<O: PodOutput> PodSerializer<O> {
+    /// Writes a value to the end of an output. The answer is the output and the length of the value's encoding. A
+    /// refusal hands back no output.
+    pub fn serialize<P: PodSerialize>(out: O, pod: &P) -> Result<(O, u64), GenError> {
+        encodings_read_back();
+        let SerializeSuccess { out, len } = pod.serialize(PodSerializer { out })?;
+        Ok((out, len))
+    }
+}

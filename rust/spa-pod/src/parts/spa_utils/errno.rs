@@ -1,0 +1,41 @@
+//! Error numbers of the operating system.
+
+use crate::shims::prelude::*;
+use core::fmt;
+
+/// An error number. It prints as the number alone.
+#[derive(Clone, Copy, Debug, PartialEq, Eq)]
+pub struct Errno(u32);
+
+impl Errno {
+    /// There is no memory left: `ENOMEM`.
+    pub const NOMEM: Errno = Errno(12);
+
+    /// An argument has no meaning here: `EINVAL`.
+    pub const INVAL: Errno = Errno(22);
+
+    /// There is no room left: `ENOSPC`.
+    pub const NOSPC: Errno = Errno(28);
+
+    /// Nothing is left to read: `EPIPE`.
+    pub const PIPE: Errno = Errno(32);
+
+    /// What is there isn't what was asked for: `EPROTO`.
+    pub const PROTO: Errno = Errno(71);
+
+    /// The error of that number.
+    pub fn from_raw(number: u32) -> Errno {
+        Errno(number)
+    }
+
+    /// The number.
+    pub fn raw_os_error(&self) -> u32 {
+        self.0
+    }
+}
+
+impl fmt::Display for Errno {
+    fn fmt(&self, f: &mut fmt::Formatter<'_>) -> fmt::Result {
+        write!(f, "{}", self.0)
+    }
+}

@@ -1,0 +1,11 @@
+//! Rectangles.
+
+use crate::shims::prelude::*;
+/// A size in two directions, as of a picture in pixels.
+#[derive(Clone, Copy, Debug, PartialEq, Eq)]
+pub struct Rectangle {
+    /// How wide it is.
+    pub width: u32,
+    /// How high it is.
+    pub height: u32,
+}

@@ -1,0 +1,148 @@
+//! Two values compared up to the structs and objects in them.
+
+use crate::shims::prelude::*;
+use crate::parts::spa_value::object::{Object, Property};
+use crate::parts::spa_value::value::Value;
+
+/// What is left to compare of two structs or of two objects.
+#[derive(Clone, Copy)]
+pub(crate) enum Pair<'a> {
+    Members(&'a [Value], &'a [Value]),
+    Properties(&'a [Property], &'a [Property]),
+}
+
+/// How two values compare.
+#[derive(Clone, Copy)]
+pub(crate) enum Verdict<'a> {
+    /// They are equal, or they aren't.
+    Settled(bool),
+    /// They are equal where all that is in them is.
+    Inside(Pair<'a>),
+}
+
+/// How two structs or two objects compare, as far as they are gone through.
+#[derive(Clone, Copy)]
+pub(crate) enum Step<'a> {
+    /// They are equal, or they aren't.
+    Ended(bool),
+    /// They are equal where two others in them are, and what is left behind those.
+    Inside(Pair<'a>, Pair<'a>),
+}
+
+/// The answer where the value has this variant, and false elsewhere. (Of a guard, as `matches!` has it, the proof would
+/// not learn that the value is of another variant.)
+macro_rules! where_of {
+    ($value:expr, $variant:pat => $answer:expr) => {
+        match $value {
+            $variant => Verdict::Settled($answer),
+            _ => Verdict::Settled(false),
+        }
+    };
+}
+
+/// Compares two values. Of two structs, or of two objects of one type and one id, what is in them isn't looked at.
+#[inline(always)]
+pub(crate) fn compare<'a>(value: &'a Value, other: &'a Value) -> Verdict<'a> {
+    match value {
+        Value::None => where_of!(other, Value::None => true),
+        Value::Bool(x) => where_of!(other, Value::Bool(y) => x == y),
+        Value::Id(x) => where_of!(other, Value::Id(y) => x == y),
+        Value::Int(x) => where_of!(other, Value::Int(y) => x == y),
+        Value::Long(x) => where_of!(other, Value::Long(y) => x == y),
+        Value::Float(x) => where_of!(other, Value::Float(y) => x == y),
+        Value::Double(x) => where_of!(other, Value::Double(y) => x == y),
+        Value::String(s) => where_of!(other, Value::String(t) => s == t),
+        Value::Bytes(s) => where_of!(other, Value::Bytes(t) => s == t),
+        Value::Bitmap(s) => where_of!(other, Value::Bitmap(t) => s == t),
+        Value::Rectangle(x) => where_of!(other, Value::Rectangle(y) => x == y),
+        Value::Fraction(x) => where_of!(other, Value::Fraction(y) => x == y),
+        Value::Fd(x) => where_of!(other, Value::Fd(y) => x == y),
+        Value::ValueArray(a) => where_of!(other, Value::ValueArray(b) => a == b),
+        Value::Struct(ms) => match other {
+            Value::Struct(ns) => Verdict::Inside(Pair::Members(ms.as_slice(), ns.as_slice())),
+            _ => Verdict::Settled(false),
+        },
+        Value::Object(o) => match other {
+            Value::Object(p) => compare_objects(o, p),
+            _ => Verdict::Settled(false),
+        },
+        Value::Choice(c) => where_of!(other, Value::Choice(d) => c == d),
+        Value::Pointer(t, a) => where_of!(other, Value::Pointer(u, b) => t == u && a == b),
+    }
+}
+
+/// The same of two objects.
+#[inline(always)]
+pub(crate) fn compare_objects<'a>(object: &'a Object, other: &'a Object) -> Verdict<'a> {
+    if object.type_ != other.type_ || object.id != other.id {
+        return Verdict::Settled(false);
+    }
+    Verdict::Inside(Pair::Properties(object.properties.as_slice(), other.properties.as_slice()))
+}
+
+impl<'a> Pair<'a> {
+    /// Compares on, to the next two structs or objects, to a difference or to the end.
+    #[inline(always)]
+    pub(crate) fn step(self) -> Step<'a> {
+        match self {
+            Pair::Members(members, others) => members_step(members, others),
+            Pair::Properties(properties, others) => properties_step(properties, others),
+        }
+    }
+
+    /// Is nothing left?
+    #[inline(always)]
+    pub(crate) fn is_done(self) -> bool {
+        match self {
+            Pair::Members(members, others) => members.is_empty() && others.is_empty(),
+            Pair::Properties(properties, others) => properties.is_empty() && others.is_empty(),
+        }
+    }
+}
+
+/// Compares members on.
+#[inline(always)]
+fn members_step<'a>(members: &'a [Value], others: &'a [Value]) -> Step<'a> {
+    let mut left = members;
+    let mut others_left = others;
+    while let Some((member, behind)) = left.split_first() {
+        let Some((other, others_behind)) = others_left.split_first() else {
+            return Step::Ended(false);
+        };
+        match compare(member, other) {
+            Verdict::Settled(true) => {}
+            Verdict::Settled(false) => return Step::Ended(false),
+            Verdict::Inside(inner) => {
+                return Step::Inside(inner, Pair::Members(behind, others_behind));
+            }
+        }
+        left = behind;
+        others_left = others_behind;
+    }
+    Step::Ended(others_left.is_empty())
+}
+
+/// Compares properties on.
+#[inline(always)]
+fn properties_step<'a>(properties: &'a [Property], others: &'a [Property]) -> Step<'a> {
+    let mut left = properties;
+    let mut others_left = others;
+    while let Some((property, behind)) = left.split_first() {
+        let Some((other, others_behind)) = others_left.split_first() else {
+            return Step::Ended(false);
+        };
+        if property.key != other.key || property.flags != other.flags {
+            return Step::Ended(false);
+        }
+        match compare(&property.value, &other.value) {
+            Verdict::Settled(true) => {}
+            Verdict::Settled(false) => return Step::Ended(false),
+            Verdict::Inside(inner) => {
+                return Step::Inside(inner, Pair::Properties(behind, others_behind));
+            }
+        }
+        left = behind;
+        others_left = others_behind;
+    }
+    Step::Ended(others_left.is_empty())
+}

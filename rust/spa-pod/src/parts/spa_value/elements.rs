@@ -1,0 +1,41 @@
+//! Lists of elements compared in blocks.
+
+use crate::shims::prelude::*;
+/// How many elements are compared before the first look at how they compare: so many become vectors, with one branch for all.
+const BLOCK_COUNT: usize = 128;
+
+/// Whether two lists are equal element by element, as `==` tells.
+#[inline(always)]
+pub(crate) fn same_elements<T: PartialEq>(elements: &Vec<T>, others: &Vec<T>) -> bool {
+    same_slices(elements.as_slice(), others.as_slice())
+}
+
+/// The same of slices.
+#[inline(always)]
+fn same_slices<T: PartialEq>(elements: &[T], others: &[T]) -> bool {
+    if elements.len() != others.len() {
+        return false;
+    }
+    let mut left = elements;
+    let mut others_left = others;
+    while left.len() >= BLOCK_COUNT {
+        let (block, behind) = left.split_at(BLOCK_COUNT);
+        let (other, others_behind) = others_left.split_at(BLOCK_COUNT);
+        if !same_block(block, other) {
+            return false;
+        }
+        left = behind;
+        others_left = others_behind;
+    }
+    left == others_left
+}
+
+/// Whether two blocks are equal element by element.
+#[inline(always)]
+fn same_block<T: PartialEq>(block: &[T], other: &[T]) -> bool {
+    let mut is_same = true;
+    for place in 0..BLOCK_COUNT {
+        is_same &= block[place] == other[place];
+    }
+    is_same
+}

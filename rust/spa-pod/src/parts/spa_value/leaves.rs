@@ -1,0 +1,70 @@
+//! Copies of values that hold no others, each put where it is kept as soon as it is made.
+
+use crate::shims::prelude::*;
+use crate::parts::spa_value::array::ValueArray;
+use crate::parts::spa_value::choice_copies::put_choice;
+use crate::parts::spa_value::copies::copy_elements;
+use crate::parts::spa_value::nested_copies::Nested;
+use crate::parts::spa_value::taking::Takes;
+use crate::parts::spa_value::value::Value;
+use crate::shims::memory::AllocError;
+
+/// Puts the copy of a value that holds no others where there is room for it. A struct or an object is answered, and isn't
+/// copied.
+#[inline(always)]
+pub(crate) fn copy_leaf<'a, T: Takes>(
+    value: &'a Value,
+    to: &mut T,
+) -> Result<Option<Nested<'a>>, AllocError> {
+    match value {
+        Value::None => to.put(Value::None),
+        Value::Bool(x) => to.put(Value::Bool(*x)),
+        Value::Id(x) => to.put(Value::Id(*x)),
+        Value::Int(x) => to.put(Value::Int(*x)),
+        Value::Long(x) => to.put(Value::Long(*x)),
+        Value::Float(x) => to.put(Value::Float(*x)),
+        Value::Double(x) => to.put(Value::Double(*x)),
+        Value::String(text) => put_text(text, to)?,
+        Value::Bytes(bytes) => put_bytes(bytes, to)?,
+        Value::Bitmap(bytes) => put_bitmap(bytes, to)?,
+        Value::Rectangle(x) => to.put(Value::Rectangle(*x)),
+        Value::Fraction(x) => to.put(Value::Fraction(*x)),
+        Value::Fd(x) => to.put(Value::Fd(*x)),
+        Value::ValueArray(array) => put_array(array, to)?,
+        Value::Struct(members) => return Ok(Some(Nested::Struct(members))),
+        Value::Object(object) => return Ok(Some(Nested::Object(object))),
+        Value::Choice(choice) => put_choice(choice, to)?,
+        Value::Pointer(type_, address) => to.put(Value::Pointer(*type_, *address)),
+    }
+    Ok(None)
+}
+
+// What is put by these isn't small: they stand apart so that nothing is set aside for it where a number is copied.
+
+/// Puts the copy of a text.
+#[inline(never)]
+fn put_text<T: Takes>(text: &String, to: &mut T) -> Result<(), AllocError> {
+    to.put(Value::String(text.try_clone()?));
+    Ok(())
+}
+
+/// Puts the copy of bytes.
+#[inline(never)]
+fn put_bytes<T: Takes>(content: &Vec<u8>, to: &mut T) -> Result<(), AllocError> {
+    to.put(Value::Bytes(copy_elements(content)?));
+    Ok(())
+}
+
+/// Puts the copy of a bitmap.
+#[inline(never)]
+fn put_bitmap<T: Takes>(content: &Vec<u8>, to: &mut T) -> Result<(), AllocError> {
+    to.put(Value::Bitmap(copy_elements(content)?));
+    Ok(())
+}
+
+/// Puts the copy of an array.
+#[inline(never)]
+fn put_array<T: Takes>(array: &ValueArray, to: &mut T) -> Result<(), AllocError> {
+    to.put(Value::ValueArray(array.try_clone()?));
+    Ok(())
+}

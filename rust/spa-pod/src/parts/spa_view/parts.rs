@@ -1,0 +1,22 @@
+//! Views and the bytes that they stand for, for crates that walk pods themselves.
+
+use crate::shims::prelude::*;
+use crate::parts::spa_view::pod::Pod;
+
+/// The pod at the front of the bytes, and what follows it: None where fewer than 8 bytes are there, or fewer than the
+/// whole pod takes.
+pub fn split_first<'a>(bytes: &'a [u8]) -> Option<(Pod<'a>, &'a [u8])> {
+    let pod = Pod::from_bytes(bytes)?;
+    let (_, rest) = bytes.split_at(pod.bytes.len());
+    Some((pod, rest))
+}
+
+/// The whole pod, with its padding.
+pub fn whole_bytes<'a>(pod: &Pod<'a>) -> &'a [u8] {
+    pod.bytes
+}
+
+/// The bytes of the pod's body.
+pub fn body_bytes<'a>(pod: &Pod<'a>) -> &'a [u8] {
+    pod.body()
+}

@@ -1,0 +1,126 @@
+//! Views of objects, and their properties.
+
+use crate::shims::prelude::*;
+use crate::parts::spa_view::flags::{DONT_FIXATE, PodPropFlags};
+use crate::parts::spa_view::pod::Pod;
+use crate::parts::spa_bytes::{HEADER_LEN, extent_of, u32_at};
+use crate::parts::spa_utils::{Id, SpaTypes};
+
+/// Where an object's body has its type and its id.
+const OBJECT_TYPE_AT: usize = 0;
+
+const OBJECT_ID_AT: usize = 4;
+
+/// Where a property has its key, its flags and the size word of its value.
+const KEY_AT: usize = 0;
+
+const FLAGS_AT: usize = 4;
+
+const VALUE_AT: usize = 8;
+
+/// A view of an object.
+#[derive(Clone, Copy, Debug)]
+pub struct PodObject<'a> {
+    pub(crate) pod: Pod<'a>,
+}
+
+impl<'a> PodObject<'a> {
+    /// The object's pod.
+    pub fn as_pod(&self) -> Pod<'a> {
+        self.pod
+    }
+
+    /// The object's type.
+    pub fn type_(&self) -> SpaTypes {
+        SpaTypes(u32_at(self.pod.body(), OBJECT_TYPE_AT))
+    }
+
+    /// The object's id.
+    pub fn id(&self) -> Id {
+        Id(u32_at(self.pod.body(), OBJECT_ID_AT))
+    }
+
+    /// The properties in order, as long as whole ones are there.
+    pub fn props(&self) -> PodObjectIter<'a> {
+        let (_, left) = self.pod.body().split_at(HEADER_LEN);
+        PodObjectIter { left }
+    }
+
+    /// The first property with the key.
+    pub fn find_prop(&self, key: Id) -> Option<PodProp<'a>> {
+        for prop in self.props() {
+            if prop.key() == key {
+                return Some(prop);
+            }
+        }
+        None
+    }
+
+    /// Whether no property's value is a choice of another shape than None.
+    pub fn is_fixated(&self) -> bool {
+        for prop in self.props() {
+            if !prop.value().is_settled() {
+                return false;
+            }
+        }
+        true
+    }
+}
+
+/// A view of a property: key, flags and a whole pod.
+#[derive(Clone, Copy, Debug)]
+pub struct PodProp<'a> {
+    pub(crate) bytes: &'a [u8],
+}
+
+impl<'a> PodProp<'a> {
+    /// The key.
+    pub fn key(&self) -> Id {
+        Id(u32_at(self.bytes, KEY_AT))
+    }
+
+    /// The flags.
+    pub fn flags(&self) -> PodPropFlags {
+        PodPropFlags(u32_at(self.bytes, FLAGS_AT))
+    }
+
+    /// The value.
+    pub fn value(&self) -> Pod<'a> {
+        let (_, bytes) = self.bytes.split_at(HEADER_LEN);
+        Pod { bytes }
+    }
+
+    /// Whether fixation changes the value: it is a choice, and the flags lack DONT_FIXATE.
+    pub(crate) fn is_fixable(&self) -> bool {
+        self.flags().0 & DONT_FIXATE == 0 && self.value().is_choice()
+    }
+}
+
+/// How many bytes the first property takes, where it is there.
+pub(crate) fn prop_extent(left: &[u8]) -> Option<usize> {
+    if left.len() < HEADER_LEN + HEADER_LEN {
+        return None;
+    }
+    let extent = HEADER_LEN + extent_of(u32_at(left, VALUE_AT));
+    if left.len() < extent {
+        return None;
+    }
+    Some(extent)
+}
+
+/// The properties of an object that are still to come. It ends for good at the first that isn't whole.
+#[derive(Clone, Copy, Debug)]
+pub struct PodObjectIter<'a> {
+    left: &'a [u8],
+}
+
+impl<'a> Iterator for PodObjectIter<'a> {
+    type Item = PodProp<'a>;
+
+    fn next(&mut self) -> Option<PodProp<'a>> {
+        let extent = prop_extent(self.left)?;
+        let (bytes, left) = self.left.split_at(extent);
+        self.left = left;
+        Some(PodProp { bytes })
+    }
+}

@@ -1,0 +1,14 @@
+//! The writer of any value: a value's encoding is appended to any output.
+use crate::shims::prelude::*;
+mod count;
+mod known;
+mod largest;
+mod leaf;
+mod left;
+mod nested;
+mod short;
+mod size;
+mod sized;
+
+pub use leaf::put_leaf;
+pub use sized::{write_sized, write_value};

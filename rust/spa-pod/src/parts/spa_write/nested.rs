@@ -1,0 +1,122 @@
+//! Values with their members, written by a loop over those that are begun.
+//!
+//! The encoding is put together in a vector of its own, where each size word is written once what it counts is there.
+
+use crate::shims::prelude::*;
+use crate::parts::spa_write::leaf::put_leaf;
+use crate::parts::spa_write::left::{Begun, Left, Nested, Stop};
+use crate::parts::spa_write::short::short_encoding;
+use crate::shims::flags::Flags;
+use crate::parts::spa_leaf::{begin, close};
+use crate::parts::spa_sink::{GenError, PodSink, put_two};
+use crate::parts::spa_utils::SpaTypes;
+use crate::parts::spa_value::{Object, Property, Value};
+
+/// The encoding of a value: also of one that is nested deep, since what is begun is kept in a
+/// list.
+pub(crate) fn write_by_loop(value: &Value) -> Result<Vec<u8>, GenError> {
+    let mut out = Vec::new();
+    let Some(outermost) = put_or_pass(&mut out, value)? else {
+        return Ok(out);
+    };
+    let mut inner = begin_nested(&mut out, outermost)?;
+    let mut outer = Vec::new();
+    loop {
+        match put_left(inner.left, &mut out)? {
+            Some(Stop { nested, left }) => {
+                let begun = begin_nested(&mut out, nested)?;
+                let start = inner.start;
+                let Ok(()) = outer.try_push(Begun { start, left }) else {
+                    return Err(GenError::OutOfMemory);
+                };
+                inner = begun;
+            }
+            None => {
+                close(&mut out, inner.start)?;
+                let Some(next) = outer.pop() else {
+                    return Ok(out);
+                };
+                inner = next;
+            }
+        }
+    }
+}
+
+/// Appends a value that is neither a struct nor an object. One of these is answered, and nothing is appended.
+#[inline(always)]
+fn put_or_pass<'a>(out: &mut Vec<u8>, value: &'a Value) -> Result<Option<Nested<'a>>, GenError> {
+    match value {
+        Value::Struct(members) => return Ok(Some(Nested::Struct(members.as_slice()))),
+        Value::Object(object) => return Ok(Some(Nested::Object(object))),
+        leaf => put_any_leaf(out, leaf)?,
+    }
+    Ok(None)
+}
+
+/// Appends a value that is neither a struct nor an object.
+#[inline(always)]
+fn put_any_leaf(out: &mut Vec<u8>, value: &Value) -> Result<(), GenError> {
+    match short_encoding(value) {
+        Some(pod) => PodSink::append(out, &pod),
+        None => put_leaf(out, value),
+    }
+}
+
+/// Appends the header of a struct or of an object, with a size word of 0.
+#[inline(always)]
+fn begin_nested<'a>(out: &mut Vec<u8>, nested: Nested<'a>) -> Result<Begun<'a>, GenError> {
+    match nested {
+        Nested::Struct(members) => {
+            let start = begin(out, SpaTypes::Struct.0)?;
+            let left = Left::Members(members);
+            Ok(Begun { start, left })
+        }
+        Nested::Object(object) => {
+            let start = begin(out, SpaTypes::Object.0)?;
+            put_two(out, object.type_, object.id)?;
+            let left = Left::Properties(object.properties.as_slice());
+            Ok(Begun { start, left })
+        }
+    }
+}
+
+/// Appends what is left, to the next struct or object in it, or to its end.
+#[inline(always)]
+fn put_left<'a>(left: Left<'a>, out: &mut Vec<u8>) -> Result<Option<Stop<'a>>, GenError> {
+    match left {
+        Left::Members(members) => put_members(members, out),
+        Left::Properties(properties) => put_properties(properties, out),
+    }
+}
+
+/// Appends members, to the next struct or object, or to their end.
+#[inline(always)]
+fn put_members<'a>(members: &'a [Value], out: &mut Vec<u8>) -> Result<Option<Stop<'a>>, GenError> {
+    let mut left = members;
+    while let Some((member, behind)) = left.split_first() {
+        left = behind;
+        if let Some(nested) = put_or_pass(out, member)? {
+            let left = Left::Members(behind);
+            return Ok(Some(Stop { nested, left }));
+        }
+    }
+    Ok(None)
+}
+
+/// Appends properties, each with its key and flags, to the next whose value is a struct or an object, or to their end.
+#[inline(always)]
+fn put_properties<'a>(
+    properties: &'a [Property],
+    out: &mut Vec<u8>,
+) -> Result<Option<Stop<'a>>, GenError> {
+    let mut left = properties;
+    while let Some((property, behind)) = left.split_first() {
+        left = behind;
+        put_two(out, property.key, property.flags.bits())?;
+        if let Some(nested) = put_or_pass(out, &property.value)? {
+            let left = Left::Properties(behind);
+            return Ok(Some(Stop { nested, left }));
+        }
+    }
+    Ok(None)
+}

@@ -1,0 +1,73 @@
+//! Values whose pods have sixteen bytes.
+
+use crate::shims::prelude::*;
+use crate::parts::spa_fixed::{CanonicalFixedSizedPod, LONGEST_POD_LEN, pod_bytes, pod_len};
+use crate::parts::spa_value::Value;
+
+/// The encoding of a value of one of the nine types whose pods have sixteen bytes. None: it is of another type.
+#[inline(always)]
+pub(crate) fn short_encoding(value: &Value) -> Option<[u8; LONGEST_POD_LEN]> {
+    match value {
+        Value::Bool(value) => Some(short_pod(value)),
+        Value::Id(id) => Some(short_pod(id)),
+        Value::Int(number) => Some(short_pod(number)),
+        Value::Long(number) => Some(short_pod(number)),
+        Value::Float(bits) => Some(short_pod(bits)),
+        Value::Double(bits) => Some(short_pod(bits)),
+        Value::Rectangle(rectangle) => Some(short_pod(rectangle)),
+        Value::Fraction(fraction) => Some(short_pod(fraction)),
+        Value::Fd(fd) => Some(short_pod(fd)),
+        _ => None,
+    }
+}
+
+/// The pod of a value of fixed size, which isn't empty.
+#[inline(always)]
+fn short_pod<T: CanonicalFixedSizedPod>(value: &T) -> [u8; LONGEST_POD_LEN] {
+    pod_bytes(value)
+}
+
+/// In so many places are many values looked at in turn, so that the memory in which they lie is read at several places at once.
+const PLACES: usize = 4;
+
+/// Whether all of these are of one of these nine types.
+pub(crate) fn are_short(values: &[Value]) -> bool {
+    let part = values.len() / PLACES;
+    for index in 0..part {
+        let near = has_short_pod(&values[index]) & has_short_pod(&values[part + index]);
+        let far = has_short_pod(&values[2 * part + index])
+            & has_short_pod(&values[3 * part + index]);
+        if !(near & far) {
+            return false;
+        }
+    }
+    for index in PLACES * part..values.len() {
+        if !has_short_pod(&values[index]) {
+            return false;
+        }
+    }
+    true
+}
+
+/// Whether it is of one of these nine types.
+#[inline(always)]
+fn has_short_pod(value: &Value) -> bool {
+    match value {
+        Value::Bool(value) => is_short(value),
+        Value::Id(id) => is_short(id),
+        Value::Int(number) => is_short(number),
+        Value::Long(number) => is_short(number),
+        Value::Float(bits) => is_short(bits),
+        Value::Double(bits) => is_short(bits),
+        Value::Rectangle(rectangle) => is_short(rectangle),
+        Value::Fraction(fraction) => is_short(fraction),
+        Value::Fd(fd) => is_short(fd),
+        _ => false,
+    }
+}
+
+/// Whether the pod of this value of fixed size has sixteen bytes.
+#[inline(always)]
+fn is_short<T: CanonicalFixedSizedPod>(value: &T) -> bool {
+    pod_len(value) == LONGEST_POD_LEN
+}

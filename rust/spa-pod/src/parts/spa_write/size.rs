@@ -1,0 +1,200 @@
+//! How long encodings are, before a byte of them is written.
+
+use crate::shims::prelude::*;
+use crate::parts::spa_write::count::only_struct;
+use crate::parts::spa_write::short::are_short;
+use crate::parts::spa_bytes::{HEADER_LEN, POINTER_LEN, extent_of};
+use crate::parts::spa_fixed::{
+    CanonicalFixedSizedPod, ChoiceElement, LONGEST_POD_LEN, array_size, choice_size, pod_len,
+};
+use crate::parts::spa_sink::GenError;
+use crate::parts::spa_utils::Choice;
+use crate::parts::spa_value::{ChoiceValue, Property, Value, ValueArray};
+
+/// A size word can't count so many bytes.
+const SIZE_LIMIT: u64 = 1 << 32;
+
+/// How many bytes a value's encoding has. It is refused as `NulInText` where a text in it holds NUL, and as `TooLarge`
+/// where a size word would be 4294967296 or more.
+#[inline(always)]
+pub(crate) fn encoded_len(value: &Value) -> Result<u64, GenError> {
+    match value {
+        Value::Struct(members) => Ok(HEADER_LEN as u64 + members_len(members.as_slice())?),
+        Value::Object(object) => {
+            let len = properties_len(object.properties.as_slice())?;
+            Ok(HEADER_LEN as u64 + sum_of(HEADER_LEN as u64, len)?)
+        }
+        leaf => leaf_len(leaf),
+    }
+}
+
+/// How many bytes the encodings of these values have, which are to be the members of one struct. A struct that is the only
+/// member of another one takes no call.
+pub(crate) fn members_len(members: &[Value]) -> Result<u64, GenError> {
+    let mut outer = 0;
+    let mut left = members;
+    while let Some(inner) = only_struct(left) {
+        outer = sum_of(outer, HEADER_LEN as u64)?;
+        left = inner;
+    }
+    let len = all_len(left)?;
+    sum_of(outer, len)
+}
+
+/// How many pods of sixteen bytes a size word can't count.
+const SHORT_LIMIT: usize = 1 << 28;
+
+/// How many bytes the encodings of these values have: at once where they are all short, and else measured one by one.
+fn all_len(members: &[Value]) -> Result<u64, GenError> {
+    if members.len() < SHORT_LIMIT && are_short(members) {
+        return Ok((LONGEST_POD_LEN * members.len()) as u64);
+    }
+    let mut total = 0;
+    for member in members {
+        let len = encoded_len(member)?;
+        total = sum_of(total, len)?;
+    }
+    Ok(total)
+}
+
+/// How many bytes these properties have, which are to be in one object.
+pub(crate) fn properties_len(properties: &[Property]) -> Result<u64, GenError> {
+    let mut total = 0;
+    for property in properties {
+        let len = encoded_len(&property.value)?;
+        total = next_sum(total + HEADER_LEN as u64, len)?;
+    }
+    Ok(total)
+}
+
+/// The sum, where a size word can count so many bytes.
+#[inline(always)]
+fn sum_of(total: u64, more: u64) -> Result<u64, GenError> {
+    match total.checked_add(more) {
+        Some(sum) if sum < SIZE_LIMIT => Ok(sum),
+        _ => Err(GenError::TooLarge),
+    }
+}
+
+/// The same by one comparison, which is faster in a loop that goes over properties.
+#[inline(always)]
+fn next_sum(total: u64, more: u64) -> Result<u64, GenError> {
+    let sum = total.saturating_add(more);
+    if sum < SIZE_LIMIT {
+        Ok(sum)
+    } else {
+        Err(GenError::TooLarge)
+    }
+}
+
+/// The same of a value that is neither a struct nor an object.
+#[inline(always)]
+pub(crate) fn leaf_len(value: &Value) -> Result<u64, GenError> {
+    match value {
+        Value::None => number_len(&()),
+        Value::Bool(value) => number_len(value),
+        Value::Id(id) => number_len(id),
+        Value::Int(number) => number_len(number),
+        Value::Long(number) => number_len(number),
+        Value::Float(bits) => number_len(bits),
+        Value::Double(bits) => number_len(bits),
+        Value::String(text) => text_len(text.as_str()),
+        Value::Bytes(bytes) => bytes_len(bytes.as_slice()),
+        Value::Bitmap(bytes) => bitmap_len(bytes.as_slice()),
+        Value::Rectangle(rectangle) => number_len(rectangle),
+        Value::Fraction(fraction) => number_len(fraction),
+        Value::Fd(fd) => number_len(fd),
+        Value::ValueArray(array) => Ok(array_len(array)?),
+        Value::Choice(choice) => Ok(choice_len(choice)?),
+        Value::Pointer(type_, address) => pointer_len(*type_, *address),
+        Value::Struct(_) => unreachable!(),
+        Value::Object(_) => unreachable!(),
+    }
+}
+
+/// The length of the pod of a value of fixed size.
+#[inline(always)]
+fn number_len<T: CanonicalFixedSizedPod>(value: &T) -> Result<u64, GenError> {
+    Ok(pod_len(value) as u64)
+}
+
+/// The length of a pod whose body has so many bytes.
+fn framed_len(size: usize) -> Result<u64, GenError> {
+    match u32::try_from(size) {
+        Ok(size) => Ok(extent_of(size) as u64),
+        Err(_) => Err(GenError::TooLarge),
+    }
+}
+
+/// The length of the pod of a text.
+fn text_len(text: &str) -> Result<u64, GenError> {
+    let bytes = text.as_bytes();
+    if bytes.contains(&0) {
+        return Err(GenError::NulInText);
+    }
+    framed_len(bytes.len() + 1)
+}
+
+/// The length of the pod of bytes.
+fn bytes_len(bytes: &[u8]) -> Result<u64, GenError> {
+    framed_len(bytes.len())
+}
+
+/// The length of the pod of a bitmap.
+fn bitmap_len(bytes: &[u8]) -> Result<u64, GenError> {
+    framed_len(bytes.len())
+}
+
+/// The length of the pod of a pointer.
+fn pointer_len(type_: u32, address: u64) -> Result<u64, GenError> {
+    Ok((HEADER_LEN + POINTER_LEN) as u64)
+}
+
+/// The length of the pod of elements of one type of fixed size.
+fn elements_len<T: CanonicalFixedSizedPod>(values: &[T]) -> Result<u64, GenError> {
+    match array_size(values) {
+        Some(size) => Ok(extent_of(size) as u64),
+        None => Err(GenError::TooLarge),
+    }
+}
+
+/// The length of the pod of a choice over one type of fixed size.
+fn alternatives_len<T: ChoiceElement>(choice: &Choice<T>) -> Result<u64, GenError> {
+    match choice_size(choice) {
+        Some(size) => Ok(extent_of(size) as u64),
+        None => Err(GenError::TooLarge),
+    }
+}
+
+/// The length of the pod of an array.
+#[inline(always)]
+fn array_len(array: &ValueArray) -> Result<u64, GenError> {
+    match array {
+        ValueArray::None(units) => elements_len(units.as_slice()),
+        ValueArray::Bool(values) => elements_len(values.as_slice()),
+        ValueArray::Id(ids) => elements_len(ids.as_slice()),
+        ValueArray::Int(numbers) => elements_len(numbers.as_slice()),
+        ValueArray::Long(numbers) => elements_len(numbers.as_slice()),
+        ValueArray::Float(bits) => elements_len(bits.as_slice()),
+        ValueArray::Double(bits) => elements_len(bits.as_slice()),
+        ValueArray::Rectangle(rectangles) => elements_len(rectangles.as_slice()),
+        ValueArray::Fraction(fractions) => elements_len(fractions.as_slice()),
+        ValueArray::Fd(fds) => elements_len(fds.as_slice()),
+    }
+}
+
+/// The length of the pod of a choice.
+#[inline(always)]
+fn choice_len(choice: &ChoiceValue) -> Result<u64, GenError> {
+    match choice {
+        ChoiceValue::Bool(values) => alternatives_len(values),
+        ChoiceValue::Id(ids) => alternatives_len(ids),
+        ChoiceValue::Int(numbers) => alternatives_len(numbers),
+        ChoiceValue::Long(numbers) => alternatives_len(numbers),
+        ChoiceValue::Float(bits) => alternatives_len(bits),
+        ChoiceValue::Double(bits) => alternatives_len(bits),
+        ChoiceValue::Rectangle(rectangles) => alternatives_len(rectangles),
+        ChoiceValue::Fraction(fractions) => alternatives_len(fractions),
+        ChoiceValue::Fd(fds) => alternatives_len(fds),
+    }
+}

@@ -1,0 +1,35 @@
+//! What the tests assert of bytes and numbers: each assertion is proved here, once.
+use crate::shims::prelude::*;
+use crate::tests::spa_spelling::{bytes_of, bytes_spelled};
+use crate::shims::memory::AllocError;
+use crate::shims::test::Fail;
+
+/// Compares bytes with those that the words spell.
+pub(crate) fn assert_spelt(
+    found: &[u8],
+    words: &str,
+) -> Result<(), Fail> {
+    let wanted = bytes_spelled(words)?;
+    assert_eq!(found, wanted.as_slice(), "at {words}");
+    Ok(())
+}
+
+/// Compares numbers. The text says where.
+pub(crate) fn assert_number(found: usize, wanted: usize, at: &str) {
+    assert_eq!(found, wanted, "at {at}");
+}
+
+/// Something holds. The text says what.
+pub(crate) fn assert_holds(holds: bool, what: &str) {
+    assert!(holds, "{what}");
+}
+
+/// Whether the bytes are these words.
+pub(crate) fn are_words(found: &[u8], words: &[u32]) -> Result<bool, AllocError> {
+    Ok(found == bytes_of(words)?.as_slice())
+}
+
+/// Something holds of the row with this name and these words.
+pub(crate) fn assert_holds_at(holds: bool, name: &str, words: &[u32]) {
+    assert!(holds, "{name} at {words:?}");
+}

@@ -1,0 +1,63 @@
+//! A choice that gets shorter, deep in structs or objects that end where it does, rewritten where it lies.
+use crate::shims::prelude::*;
+use crate::tests::libspa_tests::deep::bytes::{DEPTHS, assert_holds, push_words};
+use crate::parts::libspa::pod::rewrite_in_place;
+use crate::shims::memory::AllocError;
+use crate::shims::test::Fail;
+
+/// What stands before the pod in a struct, behind its size word, and in an object.
+const STRUCT: &[u32] = &[14];
+
+const OBJECT: &[u32] = &[15, 1, 2, 3, 0];
+
+/// A choice of 7 with flags and values that mean nothing, and its rewriting.
+const CHOICE: &[u32] = &[28, 19, 0, 5, 4, 4, 7, 9, 11, 0];
+
+const SHORTER: &[u32] = &[20, 19, 0, 0, 4, 4, 7, 0];
+
+/// How many bytes these words are.
+fn byte_count(words: &[u32]) -> u32 {
+    match u32::try_from(words.len()) {
+        Ok(count) => count.wrapping_mul(4),
+        Err(_) => 0,
+    }
+}
+
+/// The pod in so many structs or objects.
+fn inside(depth: u32, header: &[u32], pod: &[u32]) -> Result<Vec<u8>, AllocError> {
+    let mut bytes = Vec::new();
+    let step = byte_count(header).wrapping_add(4);
+    let mut size = depth.wrapping_mul(step).wrapping_add(byte_count(pod));
+    for _ in 0..depth {
+        size = size.wrapping_sub(step);
+        push_words(&mut bytes, &[size.wrapping_add(step.wrapping_sub(8))])?;
+        push_words(&mut bytes, header)?;
+    }
+    push_words(&mut bytes, pod)?;
+    Ok(bytes)
+}
+
+/// Whether the rewriting of the bytes comes to stand at their front.
+fn is_rewritten(bytes: &mut [u8], wanted: &[u8]) -> Result<bool, Fail> {
+    match rewrite_in_place(bytes) {
+        Ok(len) => Ok(bytes.get(..len) == Some(wanted)),
+        Err(_) => Err(Fail::from("it isn't rewritten")),
+    }
+}
+
+#[test]
+fn depth_ends_no_rewriting_in_place() {
+    crate::shims::test::run(depth_ends_no_rewriting_in_place_answers())
+}
+
+fn depth_ends_no_rewriting_in_place_answers() -> Result<(), Fail> {
+    for header in [STRUCT, OBJECT] {
+        for depth in DEPTHS {
+            let mut bytes = inside(depth, header, CHOICE)?;
+            let wanted = inside(depth, header, SHORTER)?;
+            let is_rewritten = is_rewritten(bytes.as_mut_slice(), wanted.as_slice())?;
+            assert_holds(is_rewritten, "rewritten", depth);
+        }
+    }
+    Ok(())
+}

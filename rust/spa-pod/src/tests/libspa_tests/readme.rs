@@ -1,0 +1,304 @@
+//! What README.md shows of the library, word for word, and what each of these functions answers on bytes that PipeWire's own C
+//! builder made, or on a worked example of docs/FORMAT.md.
+use crate::shims::prelude::*;
+use crate::tests::libspa_tests::bytes::{assert_holds, assert_number, assert_spelt};
+use crate::tests::libspa_tests::readme::fixate::settle;
+use crate::tests::libspa_tests::readme::look::int_under;
+use crate::tests::libspa_tests::readme::look_up::channels;
+use crate::tests::libspa_tests::readme::read::count;
+use crate::tests::libspa_tests::readme::result_codes::told;
+use crate::tests::libspa_tests::readme::rewrite::{all_rewritten, say_the_same};
+use crate::tests::libspa_tests::readme::write::{encoded_int, encoded_pair};
+use crate::parts::libspa::utils::Id;
+use crate::tests::spa_spelling::bytes_spelled;
+use crate::shims::memory::AllocError;
+use crate::shims::test::Fail;
+
+mod read {
+    use crate::shims::prelude::*;
+    use crate::parts::libspa::pod::deserialize::{DeserializeError, PodDeserializer};
+    use crate::parts::libspa::pod::{Held, Value};
+
+    /// How many properties the object at the front has.
+    pub fn count(bytes: &[u8]) -> Result<usize, DeserializeError<&[u8]>> {
+        let (_rest, value) = PodDeserializer::deserialize_any_from(bytes)?;
+        let held = Held::from(value);
+        match &*held {
+            Value::Object(object) => Ok(object.properties.len()),
+            _ => Ok(0),
+        }
+    }
+}
+
+mod write {
+    use crate::shims::prelude::*;
+    use crate::shims::array::ArrayVec;
+    use crate::parts::libspa::pod::Value;
+    use crate::parts::libspa::pod::serialize::{GenError, PodSerializer};
+    use crate::shims::memory::AllocError;
+
+    /// A struct of an Int and a text.
+    pub fn pair() -> Result<Value, AllocError> {
+        let text = String::try_from_str("foo")?;
+        Ok(Value::Struct(crate::try_vec![Value::Int(313), Value::String(text)]?))
+    }
+
+    /// Its encoding, and the length of that.
+    pub fn encoded_pair() -> Result<(Vec<u8>, u64), GenError> {
+        PodSerializer::serialize(Vec::new(), &pair()?)
+    }
+
+    /// The encoding of an Int.
+    pub fn encoded_int(number: i32) -> Result<(ArrayVec<u8, 16>, u64), GenError> {
+        PodSerializer::serialize(ArrayVec::new(), &Value::Int(number))
+    }
+}
+
+mod rewrite {
+    use crate::shims::prelude::*;
+    use crate::parts::libspa::pod::{rewrite, rewrite_all};
+
+    /// Do two pods say the same value? None: one is refused.
+    pub fn say_the_same(one: &[u8], other: &[u8]) -> Option<bool> {
+        let (_, one) = rewrite(one).ok()?;
+        let (_, other) = rewrite(other).ok()?;
+        Some(one == other)
+    }
+
+    /// All pods rewritten, or the byte at which the refused one begins.
+    pub fn all_rewritten(pods: &[u8]) -> Result<Vec<u8>, usize> {
+        let mut out = Vec::new();
+        match rewrite_all(pods, &mut out) {
+            Ok(()) => Ok(out),
+            Err((left, _)) => Err(pods.len() - left.len()),
+        }
+    }
+}
+
+mod look {
+    use crate::shims::prelude::*;
+    use crate::parts::libspa::pod::Pod;
+    use crate::parts::libspa::utils::Id;
+
+    /// The Int under a key of the object at the front.
+    pub fn int_under(key: Id, bytes: &[u8]) -> Option<i32> {
+        let object = Pod::from_bytes(bytes)?.as_object().ok()?;
+        object.find_prop(key)?.value().get_int().ok()
+    }
+}
+
+mod fixate {
+    use crate::shims::prelude::*;
+    use crate::parts::libspa::pod::PodObject;
+    use crate::parts::libspa::utils::Errno;
+
+    /// Each unprotected choice of the object becomes its default.
+    pub fn settle(bytes: &mut [u8]) -> Result<(), Errno> {
+        PodObject::fixate(bytes)
+    }
+}
+
+mod look_up {
+    use crate::shims::prelude::*;
+    use crate::shims::flags::Flags;
+    use crate::parts::libspa::utils::dict::{DictRef, Flags as DictFlags};
+
+    /// The number of channels, where it is said.
+    pub fn channels(pairs: &[(&[u8], &[u8])]) -> Option<u32> {
+        let dict = DictRef::new(pairs, DictFlags::empty());
+        dict.parse::<u32>("audio.channels")?.ok()
+    }
+}
+
+mod result_codes {
+    use crate::shims::prelude::*;
+    use crate::parts::libspa::utils::result::{SpaResult, SpaSuccess};
+
+    /// What a result code says.
+    pub fn told(code: i32) -> &'static str {
+        match SpaResult::from_c(code).into_result() {
+            Ok(SpaSuccess::Sync(_)) => "done",
+            Ok(SpaSuccess::Async(_)) => "done later",
+            Err(_) => "failed",
+        }
+    }
+}
+
+/// examples/buffers.pod: five properties, under the keys 2 and 4 the Ints 1 and 4, under the others choices.
+const BUFFERS: &str = "
+192 15 262148 5
+1 0 28 19 1 0 4 4 2 1 32 0
+2 0 4 4 1 0
+3 0 28 19 1 0 4 4 4096 16 2147483647 0
+4 0 4 4 4 0
+6 0 20 19 4 0 4 4 14 0";
+
+/// The same with the shape words of the choices at 0.
+const FIXATED: &str = "
+192 15 262148 5
+1 0 28 19 0 0 4 4 2 1 32 0
+2 0 4 4 1 0
+3 0 28 19 0 0 4 4 4096 16 2147483647 0
+4 0 4 4 4 0
+6 0 20 19 0 0 4 4 14 0";
+
+/// The same without the values that aren't meant any more.
+const REWRITTEN: &str = "
+176 15 262148 5
+1 0 20 19 0 0 4 4 2 0
+2 0 4 4 1 0
+3 0 20 19 0 0 4 4 4096 0
+4 0 4 4 4 0
+6 0 20 19 0 0 4 4 14 0";
+
+#[test]
+fn reads() {
+    crate::shims::test::run(reads_answers())
+}
+
+fn reads_answers() -> Result<(), Fail> {
+    let bytes = bytes_spelled(BUFFERS)?;
+    let found = count_at(bytes.as_slice())?;
+    assert_number(found, 5, "the properties");
+    Ok(())
+}
+
+/// How many structs stand in one another: more than a stack of 8 MB holds of a function that calls itself for each.
+const LEVELS: u32 = 100_000;
+
+/// So many structs, each but the innermost with one struct in it.
+fn nested_structs() -> Result<Vec<u8>, AllocError> {
+    let mut bytes = Vec::new();
+    for outer in 0..LEVELS {
+        let size = 8 * (LEVELS - 1 - outer);
+        bytes.try_extend_from_slice(&size.to_le_bytes())?;
+        bytes.try_extend_from_slice(&14u32.to_le_bytes())?;
+    }
+    Ok(bytes)
+}
+
+#[test]
+fn reads_at_any_depth() {
+    crate::shims::test::run(reads_at_any_depth_answers())
+}
+
+fn reads_at_any_depth_answers() -> Result<(), Fail> {
+    let bytes = nested_structs()?;
+    let found = count_at(bytes.as_slice())?;
+    assert_number(found, 0, "the properties of a struct");
+    Ok(())
+}
+
+fn count_at(bytes: &[u8]) -> Result<usize, Fail> {
+    Ok(count(bytes)?)
+}
+
+#[test]
+fn writes() {
+    crate::shims::test::run(writes_answers())
+}
+
+fn writes_answers() -> Result<(), Fail> {
+    let (bytes, count) = encoded_pair()?;
+    assert_spelt(
+        bytes.as_slice(),
+        "32 14 4 4 313 0 4 8 7303014 0",
+    )?;
+    assert_holds(count == 40, "the length");
+    let (bytes, count) = encoded_int(3)?;
+    assert_spelt(bytes.as_slice(), "4 4 3 0")?;
+    assert_holds(count == 16, "the length of an Int");
+    Ok(())
+}
+
+#[test]
+fn rewrites() {
+    crate::shims::test::run(rewrites_answers())
+}
+
+fn rewrites_answers() -> Result<(), Fail> {
+    let rows = [
+        ("4 2 1 0", "4 2 7 9", true),
+        ("4 2 1 0", "4 2 0 0", false),
+        (REWRITTEN, FIXATED, true),
+        (FIXATED, BUFFERS, false),
+    ];
+    for (one, other, wanted) in rows {
+        let are_same = are_same(one, other)?;
+        assert_holds(are_same == wanted, other);
+    }
+    Ok(())
+}
+
+fn are_same(one: &str, other: &str) -> Result<bool, Fail> {
+    let one = bytes_spelled(one)?;
+    let other = bytes_spelled(other)?;
+    match say_the_same(one.as_slice(), other.as_slice()) {
+        Some(are_same) => Ok(are_same),
+        None => Err(Fail::from("a pod is refused")),
+    }
+}
+
+#[test]
+fn rewrites_lists() {
+    crate::shims::test::run(rewrites_lists_answers())
+}
+
+fn rewrites_lists_answers() -> Result<(), Fail> {
+    let pods = bytes_spelled("4 2 7 9 4 4 3 0")?;
+    let Ok(rewritten) = all_rewritten(pods.as_slice()) else {
+        return Err(Fail::from("the list is refused"));
+    };
+    assert_spelt(rewritten.as_slice(), "4 2 1 0 4 4 3 0")?;
+    let pods = bytes_spelled("4 4 3 0 8 4 3 0")?;
+    let place = refused_place(pods.as_slice());
+    assert_number(place, 16, "the refused pod");
+    Ok(())
+}
+
+fn refused_place(pods: &[u8]) -> usize {
+    match all_rewritten(pods) {
+        Ok(_) => usize::MAX,
+        Err(place) => place,
+    }
+}
+
+#[test]
+fn looks() {
+    crate::shims::test::run(looks_answers())
+}
+
+fn looks_answers() -> Result<(), Fail> {
+    let bytes = bytes_spelled(BUFFERS)?;
+    for (key, wanted) in [(1, None), (2, Some(1)), (4, Some(4)), (5, None)] {
+        let found = int_under(Id(key), bytes.as_slice());
+        assert_eq!(found, wanted, "under {key}");
+    }
+    Ok(())
+}
+
+#[test]
+fn fixates() {
+    crate::shims::test::run(fixates_answers())
+}
+
+fn fixates_answers() -> Result<(), Fail> {
+    let mut bytes = bytes_spelled(BUFFERS)?;
+    settle(bytes.as_mut_slice())?;
+    assert_spelt(bytes.as_slice(), FIXATED)
+}
+
+#[test]
+fn looks_up() {
+    let pairs: [(&[u8], &[u8]); 2] = [(b"media.class", b"Audio/Sink"), (b"audio.channels", b"2")];
+    assert_eq!(channels(&pairs), Some(2));
+    assert_eq!(channels(&[]), None);
+}
+
+#[test]
+fn tells() {
+    let rows = [(7, "done"), (1073741824, "done later"), (-22, "failed")];
+    for (code, wanted) in rows {
+        assert_eq!(told(code), wanted, "at {code}");
+    }
+}

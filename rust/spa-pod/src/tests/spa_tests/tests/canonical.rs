@@ -1,0 +1,193 @@
+//! Pods that are their own rewriting, and how deep pods nest.
+use crate::shims::prelude::*;
+use crate::tests::spa_tests::bytes::{assert_holds, assert_holds_at};
+use crate::tests::spa_tests::tables::{lines_of, lines_of_built};
+use crate::parts::libspa::pod::deserialize::DeserializeError;
+use crate::parts::libspa::pod::{is_canonical, nests_within, rewrite};
+use crate::tests::spa_spelling::bytes_spelled;
+use crate::shims::memory::AllocError;
+use crate::shims::test::Fail;
+
+/// Pods of which a byte is replaced: a struct of a Bool and a text, an object with a range, an array of Bools, a None choice,
+/// a pointer.
+const REPLACED: [&str; 5] = [
+    "32 14 4 2 1 0 3 8 x61620000 0 99 99 99 99",
+    "44 15 262147 3 65539 0 28 19 1 0 4 4 x05000000 x01000000 x09000000 0",
+    "16 13 4 2 1 0 5 99",
+    "20 19 0 0 4 4 7 0",
+    "16 17 1 0 5 6",
+];
+
+/// Words of a pod, and how many structs and objects stand in one another there. Four of these aren't accepted: the front isn't
+/// there, a member isn't whole, a property isn't, an object has no id.
+const DEPTHS: &str = "0
+4 4 7 0
+0
+20 13 4 4 1 2 3 0
+0
+20 19 0 0 4 4 7 0
+1
+0 14
+1
+8 15 262147 3
+1
+16 14 4 4 7 0
+2
+24 14 0 14 4 4 7 0
+4
+56 14 4 4 7 0 32 15 262147 3 1 0 8 14 0 14
+0
+99 14
+1
+16 14 99 14 0 0
+1
+24 15 262147 3 1 0 99 14
+1
+4 15 262147 0";
+
+/// The levels of the deep pods: past those that a look without memory goes into.
+const DEEP: u32 = 2000;
+
+/// Whether the front of an input is its own rewriting, by its rewriting.
+fn is_rewritten_alike(input: &[u8]) -> Result<bool, Fail> {
+    match rewrite(input) {
+        Ok((rest, rewriting)) => Ok(are_front(input, rest.len(), rewriting.as_slice())),
+        Err(DeserializeError::OutOfMemory) => Err(Fail::from("out of memory")),
+        Err(_) => Ok(false),
+    }
+}
+
+/// Whether bytes are those of an input before its last ones.
+fn are_front(input: &[u8], behind: usize, bytes: &[u8]) -> bool {
+    let (front, _) = input.split_at(input.len().saturating_sub(behind));
+    front == bytes
+}
+
+/// Compares the answer for each pod that PipeWire's builder makes with whether libspa 0.10.1 writes the same bytes.
+fn compare_built(row: &[&str; 4]) -> Result<(), Fail> {
+    let input = bytes_spelled(row[1])?;
+    let is_own = is_canonical(input.as_slice())?;
+    assert_holds(is_own == (row[3] == "="), row[0]);
+    Ok(())
+}
+
+#[test]
+fn finds_the_built_pods_that_are_their_own_rewriting() {
+    crate::shims::test::run(finds_the_built_pods_that_are_their_own_rewriting_answers())
+}
+
+fn finds_the_built_pods_that_are_their_own_rewriting_answers() -> Result<(), Fail> {
+    let lines = lines_of_built()?;
+    for row in lines.as_slice().as_chunks::<4>().0 {
+        compare_built(row)?;
+    }
+    Ok(())
+}
+
+/// Compares the answer for an input with its rewriting.
+fn compare_alike(input: &[u8]) -> Result<(), Fail> {
+    let is_alike = is_rewritten_alike(input)?;
+    let is_own = is_canonical(input)?;
+    assert_holds_at(is_own == is_alike, "its own rewriting", input);
+    Ok(())
+}
+
+/// Compares the answers where one byte of a pod is another one.
+fn compare_replaced(words: &str) -> Result<(), Fail> {
+    let mut input = bytes_spelled(words)?;
+    for at in 0..input.len() {
+        let byte = input[at];
+        for other in [0, 1, 2, 7, 19, 255] {
+            input[at] = other;
+            compare_alike(input.as_slice())?;
+        }
+        input[at] = byte;
+    }
+    Ok(())
+}
+
+#[test]
+fn answers_as_the_rewriting_shows() {
+    crate::shims::test::run(answers_as_the_rewriting_shows_answers())
+}
+
+fn answers_as_the_rewriting_shows_answers() -> Result<(), Fail> {
+    for words in REPLACED {
+        compare_replaced(words)?;
+    }
+    Ok(())
+}
+
+/// Structs in one another, or objects, and in the innermost one a Bool of this number.
+fn nested(levels: u32, type_: u32, truth: u32) -> Result<Vec<u8>, AllocError> {
+    let mut bytes = Vec::new();
+    let head: u32 = if type_ == 15 { 24 } else { 8 };
+    for level in 0..levels {
+        let size = (levels - level).wrapping_mul(head).wrapping_add(8);
+        push_words(&mut bytes, &[size, type_])?;
+        if type_ == 15 {
+            push_words(&mut bytes, &[262147, 3, 1, 0])?;
+        }
+    }
+    push_words(&mut bytes, &[4, 2, truth, 0])?;
+    Ok(bytes)
+}
+
+fn push_words(bytes: &mut Vec<u8>, words: &[u32]) -> Result<(), AllocError> {
+    for word in words {
+        bytes.try_extend_from_slice(&word.to_le_bytes())?;
+    }
+    Ok(())
+}
+
+/// The pods that stand so deep are found to be their own rewriting or not, and each level is counted.
+fn compare_deep(type_: u32, truth: u32) -> Result<(), Fail> {
+    let input = nested(DEEP, type_, truth)?;
+    let is_own = is_canonical(input.as_slice())?;
+    assert_holds(is_own == (truth < 2), "deep pods");
+    compare_depth(input.as_slice(), DEEP, "deep pods");
+    Ok(())
+}
+
+/// An input nests in so many levels, and in no fewer.
+fn compare_depth(input: &[u8], levels: u32, at: &str) {
+    assert_holds(nests_within(input, levels), at);
+    if levels > 0 {
+        assert_holds(!nests_within(input, levels - 1), at);
+    }
+}
+
+#[test]
+fn looks_into_any_depth() {
+    crate::shims::test::run(looks_into_any_depth_answers())
+}
+
+fn looks_into_any_depth_answers() -> Result<(), Fail> {
+    for type_ in [14, 15] {
+        for truth in [0, 1, 7] {
+            compare_deep(type_, truth)?;
+        }
+    }
+    Ok(())
+}
+
+/// Compares the levels of the input that a row spells.
+fn compare_levels(row: &[&str; 2]) -> Result<(), Fail> {
+    let input = bytes_spelled(row[1])?;
+    let levels: u32 = row[0].parse()?;
+    compare_depth(input.as_slice(), levels, row[1]);
+    Ok(())
+}
+
+#[test]
+fn counts_levels() {
+    crate::shims::test::run(counts_levels_answers())
+}
+
+fn counts_levels_answers() -> Result<(), Fail> {
+    let lines = lines_of(DEPTHS)?;
+    for row in lines.as_slice().as_chunks::<2>().0 {
+        compare_levels(row)?;
+    }
+    Ok(())
+}

@@ -1,0 +1,235 @@
+//! Types that are declared by what they are made of: written, read back, cut short, and written where they don't fit.
+use crate::shims::prelude::*;
+use crate::tests::spa_typed_tests::compare::{assert_refused, assert_words, assert_written, put};
+use crate::shims::array::ArrayVec;
+use crate::parts::libspa::pod::deserialize::{DeserializeError, PodDeserialize, PodDeserializer};
+use crate::parts::libspa::pod::serialize::{GenError, PodSerialize};
+use crate::parts::libspa::utils::{Float32, Id};
+use crate::tests::spa_spelling::bytes_spelled;
+use crate::tests::spa_uses::{AudioFormat, Curve, put_curve, put_format};
+use crate::shims::memory::AllocError;
+use crate::shims::test::Fail;
+
+/// A curve, in words: `up`, -2, the id 7 and three points.
+const CURVE: &str =
+    "80 14 3 8 28789 0 4 4 4294967294 0 4 3 7 0 20 13 4 6 1138491392 0 1065353216 0";
+
+/// A format with that curve, its properties in the order in which they are written.
+const FORMAT: &str =
+    "208 15 262147 4 65537 0 4 3 259 0 65539 0 4 4 48000 0 65540 0 4 4 2 0 65541 0 16 13 4 3 3 4 65550 0 80 14 3 8 28789 0 4 4 4294967294 0 4 3 7 0 20 13 4 6 1138491392 0 1065353216 0";
+
+/// The same without its channels.
+const WITHOUT_CHANNELS: &str =
+    "184 15 262147 4 65537 0 4 3 259 0 65539 0 4 4 48000 0 65541 0 16 13 4 3 3 4 65550 0 80 14 3 8 28789 0 4 4 4294967294 0 4 3 7 0 20 13 4 6 1138491392 0 1065353216 0";
+
+/// The same as the first in another order, with a property that isn't known among the others and a second rate behind the first.
+const MIXED: &str =
+    "248 15 262147 4 65550 0 80 14 3 8 28789 0 4 4 4294967294 0 4 3 7 0 20 13 4 6 1138491392 0 1065353216 0 65540 0 4 4 2 0 9 0 0 1 65541 0 16 13 4 3 3 4 65539 0 4 4 48000 0 65539 0 4 4 1 0 65537 0 4 3 259 0";
+
+/// The curve of these words.
+fn curve() -> Result<Curve, AllocError> {
+    Ok(Curve {
+        name: String::try_from_str("up")?,
+        order: -2,
+        channel: Id(7),
+        points: crate::try_vec![Float32(1138491392), Float32(0), Float32(1065353216)]?,
+    })
+}
+
+/// The format of these words, with as many channels.
+fn format(channels: Option<i32>) -> Result<AudioFormat, AllocError> {
+    Ok(AudioFormat {
+        encoding: Id(259),
+        rate: 48000,
+        channels,
+        positions: crate::try_vec![Id(3), Id(4)]?,
+        curve: curve()?,
+    })
+}
+
+/// What is written of the format with as many channels.
+fn format_written(channels: Option<i32>) -> Result<Vec<u8>, GenError> {
+    put(Vec::new(), &format(channels)?)
+}
+
+#[test]
+fn declared_types_are_written() {
+    crate::shims::test::run(declared_types_are_written_answers())
+}
+
+fn declared_types_are_written_answers() -> Result<(), Fail> {
+    assert_written(&curve()?, CURVE)?;
+    let written = format_written(Some(2))?;
+    assert_words(written.as_slice(), FORMAT)?;
+    let written = format_written(None)?;
+    assert_words(written.as_slice(), WITHOUT_CHANNELS)
+}
+
+/// How many bytes follow what is read, and that written again; or why it isn't read.
+type Again<'a> = Result<(usize, Result<Vec<u8>, GenError>), DeserializeError<&'a [u8]>>;
+
+/// Reads what these bytes begin with, and writes it again.
+fn read_again<'de, P: PodDeserialize<'de> + PodSerialize>(
+    input: &'de [u8],
+) -> Again<'de> {
+    match PodDeserializer::deserialize_from::<P>(input) {
+        Ok((rest, it)) => {
+            let written = put(Vec::new(), &it);
+            Ok((rest.len(), written))
+        }
+        Err(e) => Err(e),
+    }
+}
+
+/// The same of a curve.
+fn curve_again(input: &[u8]) -> Again<'_> {
+    read_again::<Curve>(input)
+}
+
+/// The same of a format.
+fn format_again(input: &[u8]) -> Again<'_> {
+    read_again::<AudioFormat>(input)
+}
+
+/// Compares what is read of these words, written again, with the wanted words.
+fn assert_again(
+    found: Again<'_>,
+    wanted: &str,
+) -> Result<(), Fail> {
+    match found {
+        Ok((0, Ok(written))) => assert_words(written.as_slice(), wanted),
+        Ok((_, written)) => {
+            drop(written);
+            Err(Fail::new("bytes follow, or it isn't written"))
+        }
+        Err(e) => Err(Fail::new(e.kind())),
+    }
+}
+
+#[test]
+fn declared_types_come_back() {
+    crate::shims::test::run(declared_types_come_back_answers())
+}
+
+fn declared_types_come_back_answers() -> Result<(), Fail> {
+    let curve = bytes_spelled(CURVE)?;
+    let format = bytes_spelled(FORMAT)?;
+    let without = bytes_spelled(WITHOUT_CHANNELS)?;
+    assert_again(curve_again(curve.as_slice()), CURVE)?;
+    assert_again(format_again(format.as_slice()), FORMAT)?;
+    let found = format_again(without.as_slice());
+    assert_again(found, WITHOUT_CHANNELS)
+}
+
+#[test]
+fn properties_stand_in_any_order() {
+    crate::shims::test::run(properties_stand_in_any_order_answers())
+}
+
+fn properties_stand_in_any_order_answers() -> Result<(), Fail> {
+    let input = bytes_spelled(MIXED)?;
+    let found = format_again(input.as_slice());
+    assert_again(found, FORMAT)
+}
+
+/// Compares the refusal of these words.
+fn assert_refusal(found: Again<'_>, wanted: &str, at: usize) {
+    let Err(e) = found else {
+        assert!(false, "read at {at}");
+        return;
+    };
+    assert_eq!(e.kind(), wanted, "at {at}");
+}
+
+#[test]
+fn cut_pods_are_refused() {
+    crate::shims::test::run(cut_pods_are_refused_answers())
+}
+
+fn cut_pods_are_refused_answers() -> Result<(), Fail> {
+    let curve = bytes_spelled(CURVE)?;
+    for len in 0..curve.len() {
+        assert_refusal(curve_again(&curve[..len]), "Short", len);
+    }
+    let format = bytes_spelled(FORMAT)?;
+    for len in 0..format.len() {
+        assert_refusal(format_again(&format[..len]), "Short", len);
+    }
+    Ok(())
+}
+
+#[test]
+fn other_pods_are_refused() {
+    crate::shims::test::run(other_pods_are_refused_answers())
+}
+
+fn other_pods_are_refused_answers() -> Result<(), Fail> {
+    let rows = [
+        // One member too few, one too many, another type.
+        ("16 14 3 8 28789 0", "PropertyMissing"),
+        (
+            "96 14 3 8 28789 0 4 4 1 0 4 3 7 0 20 13 4 6 1 2 3 0 4 4 1 0",
+            "UnreadMembers",
+        ),
+        ("80 14 3 8 28789 0 4 4 1 0 4 4 7 0 20 13 4 6 1 2 3 0", "Tag"),
+    ];
+    for (index, (words, wanted)) in rows.iter().enumerate() {
+        let input = bytes_spelled(words)?;
+        assert_refusal(curve_again(input.as_slice()), wanted, index);
+    }
+    let rows = [
+        // Another id, another type, a property that has to be there.
+        ("8 15 262147 3", "UnsupportedType"),
+        ("8 15 262146 4", "UnsupportedType"),
+        ("32 15 262147 4 65537 0 4 3 259 0", "PropertyMissing"),
+    ];
+    for (index, (words, wanted)) in rows.iter().enumerate() {
+        let input = bytes_spelled(words)?;
+        assert_refusal(format_again(input.as_slice()), wanted, index);
+    }
+    Ok(())
+}
+
+/// An output that holds so many zeros.
+fn filled<const N: usize>(len: usize) -> ArrayVec<u8, N> {
+    let mut out = ArrayVec::new();
+    for _ in 0..len {
+        let _ = out.try_push(0);
+    }
+    out
+}
+
+#[test]
+fn declared_types_are_written_where_they_fit() {
+    crate::shims::test::run(declared_types_are_written_where_they_fit_answers())
+}
+
+fn declared_types_are_written_where_they_fit_answers() -> Result<(), Fail> {
+    let (curve, format) = (curve()?, format(Some(2))?);
+    for len in 0..=96 {
+        let refusal = put_curve(filled::<96>(len), &curve).err();
+        let wanted = if len <= 8 { None } else { Some(GenError::Full) };
+        assert!(refusal == wanted, "a curve behind {len}");
+    }
+    for len in 0..=224 {
+        let refusal = put_format(filled::<224>(len), &format).err();
+        let wanted = if len <= 8 { None } else { Some(GenError::Full) };
+        assert!(refusal == wanted, "a format behind {len}");
+    }
+    Ok(())
+}
+
+#[test]
+fn a_text_with_nul_is_refused() {
+    crate::shims::test::run(a_text_with_nul_is_refused_answers())
+}
+
+fn a_text_with_nul_is_refused_answers() -> Result<(), Fail> {
+    let mut other = curve()?;
+    other.name = String::try_from_str("u\0")?;
+    assert_refused(
+        put_curve(filled::<96>(0), &other).err(),
+        GenError::NulInText,
+    );
+    Ok(())
+}

@@ -1,0 +1,16 @@
+//! Tests of typed reads and writes, of visitors, and of types of a program's own. There is nothing here but tests.
+use crate::shims::prelude::*;
+#[cfg(test)]
+mod built_in;
+#[cfg(test)]
+mod compare;
+#[cfg(test)]
+mod declared;
+#[cfg(test)]
+mod own_types;
+#[cfg(test)]
+mod reading;
+#[cfg(test)]
+mod reads;
+#[cfg(test)]
+mod refusals;

@@ -1,0 +1,10 @@
+//! Typed reads, visitors and a user's own readers.
+use crate::shims::prelude::*;
+mod answers;
+mod built;
+mod declining;
+mod elements;
+mod objects;
+mod structs;
+mod telling;
+mod visitors;

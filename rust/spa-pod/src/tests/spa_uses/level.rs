@@ -1,0 +1,64 @@
+//! A type of one's own that is written and read as one of the types of fixed size.
+
+use crate::shims::prelude::*;
+use crate::parts::libspa::pod::FixedSizedPod;
+use crate::parts::libspa::pod::deserialize::{
+    DeserializeError, DeserializeSuccess, PodDeserialize, PodDeserializer,
+};
+use crate::parts::libspa::pod::serialize::{GenError, PodOutput, PodSerialize, PodSerializer, SerializeSuccess};
+
+/// A loudness, written as an Int.
+#[derive(Clone, Copy)]
+pub struct Level {
+    pub steps: i32,
+}
+
+impl FixedSizedPod for Level {
+    type CanonicalType = i32;
+
+    fn as_canonical_type(&self) -> i32 {
+        self.steps
+    }
+
+    fn from_canonical_type(canonical: &i32) -> Level {
+        Level { steps: *canonical }
+    }
+}
+
+impl PodSerialize for Level {
+    fn serialize<O: PodOutput>(
+        &self,
+        serializer: PodSerializer<O>,
+    ) -> Result<SerializeSuccess<O>, GenError> {
+        serializer.serialized_fixed_sized_pod(self)
+    }
+}
+
+/// It is refused as an Int is, and asks for no memory.
+impl<'de> PodDeserialize<'de> for Level {
+    fn deserialize(
+        deserializer: PodDeserializer<'de>,
+    ) -> Result<(Level, DeserializeSuccess<'de>), DeserializeError<&'de [u8]>> {
+        let (steps, success) = i32::deserialize(deserializer)?;
+        Ok((Level { steps }, success))
+    }
+}
+
+/// Levels, written as an array of Ints one by one.
+#[derive(Clone, Copy)]
+pub struct Pair {
+    pub left: Level,
+    pub right: Level,
+}
+
+impl PodSerialize for Pair {
+    fn serialize<O: PodOutput>(
+        &self,
+        serializer: PodSerializer<O>,
+    ) -> Result<SerializeSuccess<O>, GenError> {
+        let mut elements = serializer.serialize_array::<Level>(2)?;
+        elements.serialize_element(&self.left)?;
+        elements.serialize_element(&self.right)?;
+        elements.end()
+    }
+}

@@ -1,0 +1,19 @@
+//! Types of a program's own, written as pods. They know the library by its contracts alone.
+use crate::shims::prelude::*;
+mod control;
+mod curve;
+mod format;
+mod level;
+mod mode;
+mod screen;
+mod song;
+mod tagged;
+
+pub use control::{Control, with_volume};
+pub use curve::{Curve, put_curve};
+pub use format::{AudioFormat, put_format};
+pub use level::{Level, Pair};
+pub use mode::{Mode, Size, put_mode, read_mode, sent};
+pub use screen::{Device, Screen};
+pub use song::{Cover, Song};
+pub use tagged::{Tagged, is_number, tagged_number};

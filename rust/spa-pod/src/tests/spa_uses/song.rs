@@ -1,0 +1,54 @@
+//! A struct with a text and a struct in it.
+
+use crate::shims::prelude::*;
+use crate::parts::libspa::pod::deserialize::{DeserializeAs, StructOf};
+use crate::parts::libspa::pod::serialize::{GenError, PodOutput, SerializeAs, write_struct};
+use crate::parts::libspa::utils::Rectangle;
+
+/// A picture's size, written as a struct of one member.
+#[derive(Clone, Copy)]
+pub struct Cover {
+    pub size: Rectangle,
+}
+
+/// Read as a struct of this one, and refused exactly where no such struct is there.
+impl DeserializeAs for Cover {
+    type Content = StructOf<(Rectangle, ())>;
+
+    fn of_content(StructOf((size, ())): Self::Content) -> Cover {
+        Cover { size }
+    }
+}
+
+impl SerializeAs for Cover {
+    fn write_as<O: PodOutput>(&self, out: &mut O) -> Result<(), GenError> {
+        write_struct(out, &(&self.size, ()))
+    }
+}
+
+/// A number, a title and a cover. Read, its title is a part of the input.
+#[derive(Clone, Copy)]
+pub struct Song<'a> {
+    pub number: i32,
+    pub title: &'a str,
+    pub cover: Cover,
+}
+
+/// Read as a struct of these three, and refused exactly where no such struct is there.
+impl<'a> DeserializeAs for Song<'a> {
+    type Content = StructOf<(i32, (&'a str, (Cover, ())))>;
+
+    fn of_content(StructOf((number, (title, (cover, ())))): Self::Content) -> Song<'a> {
+        Song {
+            number,
+            title,
+            cover,
+        }
+    }
+}
+
+impl SerializeAs for Song<'_> {
+    fn write_as<O: PodOutput>(&self, out: &mut O) -> Result<(), GenError> {
+        write_struct(out, &(&self.number, (&self.title, (&self.cover, ()))))
+    }
+}

@@ -34,7 +34,7 @@ impl<'a> Device<'a> {
         }
     }
 
-    /// The same, but it refuses to be flushed.
+    /// A writer with this room that refuses to be flushed, and takes at most `piece` bytes at once.
     pub fn unflushed(room: &'a mut [u8], piece: usize) -> Device<'a> {
         Device {
             room,
@@ -97,7 +97,7 @@ impl<'a> Source<'a> {
         }
     }
 
-    /// The same, but behind these bytes it refuses so.
+    /// A reader that gives these bytes, at most `piece` of them at once, and behind them refuses so.
     pub fn broken(bytes: &'a [u8], refusal: ErrorKind, piece: usize) -> Source<'a> {
         Source {
             left: bytes,

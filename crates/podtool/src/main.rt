@@ -8,28 +8,33 @@ use std::env;
 use std::io::{self, ErrorKind};
 use std::process::ExitCode;
 
-/// Hands the words behind the program's name and the standard streams to `run`, tells what became of that, and answers its
-/// status. Where the line can't be written, nothing changes.
+/// Hands the words behind the program's name and the standard streams to `run`, and answers its status.
 fn main(rt: HostRuntime) -> ExitCode {
-    let answer = outcome(&rt);
-    let _ = tell(&mut rt.stderr(), &answer);
-    ExitCode::from(answer.status())
+    ExitCode::from(status(&rt).unwrap_or_else(|| refused(&rt)))
 }
 
-/// What became of the run.
-fn outcome(rt: &HostRuntime) -> Answer {
-    let Ok(given) = given_words(rt) else {
-        return Answer::Refused(Failure::OutOfMemory);
-    };
+/// The status of the run, unless memory for the words is refused.
+fn status(rt: &HostRuntime) -> Option<u8> {
+    let given = given_words(rt).ok()?;
     let words: Result<Vec<&str>, AllocError> = given
         .iter()
         .map(|word| word.as_str())
         .collect(rt.alloc());
-    let Ok(words) = words else {
-        return Answer::Refused(Failure::OutOfMemory);
-    };
-    let (answer, _) = run(rt.alloc(), words.as_slice(), &mut rt.stdin(), rt.stdout());
-    answer
+    let words = words.ok()?;
+    Some(run(
+        rt.alloc(),
+        words.as_slice(),
+        &mut rt.stdin(),
+        &mut rt.stdout(),
+        &mut rt.stderr(),
+    ))
+}
+
+/// The status of a run that memory is refused, of which it tells. Where the line can't be written, nothing changes.
+fn refused(rt: &HostRuntime) -> u8 {
+    let answer = Answer::Refused(Failure::OutOfMemory);
+    let _ = tell(&mut rt.stderr(), &answer);
+    answer.status()
 }
 
 /// The words behind the program's name. Where one isn't UTF-8, there is one empty word, which is none of the program's.

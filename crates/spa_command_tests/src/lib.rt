@@ -1,15 +1,9 @@
-//! Tests of what the three programs do, over streams that break off and files that are held, and of values as text and their names.
+//! Tests of what `podtext` does, over streams that break off and files that are held, and of values as text and their names.
 //! There is nothing here but tests.
 #![tactic(auto)]
 
 #[cfg(test)]
-mod example_pods;
-#[cfg(test)]
-mod meetings;
-#[cfg(test)]
 mod names;
-#[cfg(test)]
-mod pods;
 #[cfg(test)]
 mod streams;
 #[cfg(test)]

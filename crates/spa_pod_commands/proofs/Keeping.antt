@@ -1,8 +1,8 @@
 -- Known bytes that stay, and then stay or grow.
 use Rattle.std.specs.Io.KnownBytes.{Appends, Keeps}
-use Rattle.std.proofs.Common.{◌≡◌, ◌≤◌, ℕ, ◌+◌, length-append, length-drop, drop, List, [], Option, Some, None, refl, sym, inl, inr, append-nil, arith, take, length, ◌∙◌, ◌++◌, ap, subst}
+use Rattle.std.proofs.Common.{◌≡◌, ◌≤◌, ℕ, ◌+◌, length-append, length-drop, drop, List, [], Option, Some, None, refl, sym, inl, inr, append-nil, arith, take, length, ◌∙◌, ap, subst}
 use Rattle.std.specs.Borrow.{Bor}
-use Rattle.std.specs.Prelude.{⊤, Result, Ok, Err, OnOk, IfErr, OnErr}
+use Rattle.std.specs.Prelude.{Result, Ok, Err, OnOk, IfErr, OnErr}
 use Rattle.std.proofs.lemmas.Bool.{cases_lt}
 use Rattle.std.proofs.lemmas.List.{nil_from_length, take_all}
 use Rattle.spa_format.specs.Tree.{Trees}
@@ -11,12 +11,10 @@ use Rattle.spa_leaf.specs.Reading.{OnFault}
 use Rattle.spa_fixed.specs.Faults.{kind_text}
 use Rattle.spa_fixed.specs.declared.fault.DeserializeError.{DeserializeError}
 use Rattle.spa_fixed.specs.declared.fault.DeserializeError.TheVariants as error
-use Rattle.spa_rewrite.specs.Rewriting.{IsLeft, RefusesFront, RefusesList}
-use Rattle.spa_in_place.specs.InPlace.{RefusesListAt}
+use Rattle.spa_rewrite.specs.Rewriting.{IsLeft, RefusesFront}
 use Rattle.spa_device.specs.Whole.{IsAllOf}
-use Rattle.spa_pod_commands.specs.Answers.{Answers, BeginsToWrite, IsCutOff, IsNotListed, IsRefusalAt, IsTold, IsUndone, OnAnswer, RefusesInput, Writes}
+use Rattle.spa_pod_commands.specs.Answers.{Answers, BeginsToWrite, IsCutOff, IsNotListed, IsRefusalAt, IsTold, IsUndone, OnAnswer, Writes}
 use Rattle.spa_pod_commands.specs.declared.answer.Answer.{Answer}
-use Rattle.spa_pod_commands.specs.declared.answer.Answer.TheVariants.{Refused}
 use Rattle.spa_pod_commands.specs.declared.answer.Failure.{Failure}
 use Rattle.spa_pod_commands.specs.declared.answer.Failure.TheVariants.{Pod, OutOfMemory, ReadFailed, WriteFailed}
 
@@ -30,22 +28,11 @@ keeps_keeps (Some a) None c k l = absurd k
 keeps_keeps (Some a) (Some b) None k l = absurd l
 keeps_keeps (Some a) (Some b) (Some c) k l = l ∙ k
 
-pub keeps_appends : (a b c : Option (List ℕ)) (xs : List ℕ) → Keeps a b → Appends b c xs → Appends a c xs
-keeps_appends None b c xs k l = tt
-keeps_appends (Some a) None c xs k l = absurd k
-keeps_appends (Some a) (Some b) None xs k l = absurd l
-keeps_appends (Some a) (Some b) (Some c) xs k l = l ∙ ap (λ ys. ys ++ xs) k
-
 pub appends_keeps : (a b c : Option (List ℕ)) (xs : List ℕ) → Appends a b xs → Keeps b c → Appends a c xs
 appends_keeps None b c xs k l = tt
 appends_keeps (Some a) None c xs k l = absurd k
 appends_keeps (Some a) (Some b) None xs k l = absurd l
 appends_keeps (Some a) (Some b) (Some c) xs k l = l ∙ k
-
-pub keeps_nothing : (a b : Option (List ℕ)) (xs : List ℕ) → Keeps a b → Appends a b (take 0 xs)
-keeps_nothing None b xs k = tt
-keeps_nothing (Some a) None xs k = absurd k
-keeps_nothing (Some a) (Some b) xs k = k ∙ sym (append-nil a)
 
 pub appends_nothing : (a : Option (List ℕ)) → Appends a a []
 appends_nothing None = tt

@@ -1,5 +1,4 @@
 -- The steps of listing pods, and those inside them.
-use Rattle.std.specs.Io.KnownBytes.{Appends}
 use Rattle.std.proofs.Common.{◌≡◌, ◌≤◌, ◌<◌, ℕ, suc, zero, ◌+◌, List, [], ◌∷◌, ◌++◌, Option, Some, None, refl, sym, inl, inr, arith, take, drop, length, ◌∙◌, ap, subst, length-append, length-drop, length-take, append_assoc, append-nil}
 use Rattle.std.specs.Prelude.{if◌then◌else◌, IfNone}
 use Rattle.std.proofs.lemmas.Bool.Decides.{leb_tells}
@@ -11,7 +10,6 @@ use Rattle.spa_format.specs.Fixation.{walk_size}
 use Rattle.spa_format.proofs.WalkLemmas.{walk-end}
 use Rattle.spa_pod_commands.specs.Lines.{AreLines, Inside, Says, level_pods, line_of_pod, values_of, no_pods, pod}
 use Rattle.spa_pod_commands.specs.declared.listing.Level.{Level}
-use Rattle.spa_pod_commands.specs.declared.listing.Level.TheVariants.{Pods}
 use Rattle.spa_pod_commands.proofs.Keeping.{appends_nothing}
 
 -- what a walk finds takes no more bytes than there are

@@ -1,3 +1,4 @@
 mod Keeping
+mod Running
 mod Fixating
 mod Levels

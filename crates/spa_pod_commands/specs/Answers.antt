@@ -12,15 +12,10 @@ use Rattle.spa_rewrite.specs.Rewriting.{AreRewritten, IsLeft, RefusesFront}
 use Rattle.spa_fixed.specs.Faults.{kind_text}
 use Rattle.spa_fixed.specs.declared.fault.DeserializeError.{DeserializeError}
 use Rattle.spa_fixed.specs.declared.fault.DeserializeError.TheVariants as error
-use Rattle.spa_pod_commands.specs.declared.output.Output.{Output}
 use Rattle.spa_pod_commands.specs.declared.answer.Answer.{Answer}
 use Rattle.spa_pod_commands.specs.declared.answer.Answer.TheVariants.{Done, Refused, Misused}
 use Rattle.spa_pod_commands.specs.declared.answer.Failure.{Failure}
 use Rattle.spa_pod_commands.specs.declared.answer.Failure.TheVariants.{Pod, OutOfMemory, ReadFailed, WriteFailed}
-
--- the bytes that the device of an output holds, where they are known
-abbrev pub held : {W : Type 0} → (W → Option (List ℕ)) → Output W → Option (List ℕ)
-held contents output = contents output.sink.device.device
 
 -- the words are this one alone
 abbrev pub IsOneWord : List (Bor (List ℕ)) → List ℕ → Type 0
@@ -117,12 +112,13 @@ IsUndone Makes remaining old new OutOfMemory = Keeps old new
 IsUndone Makes remaining old new ReadFailed = Keeps old new
 IsUndone Makes remaining old new WriteFailed = BeginsToWrite Makes remaining old new
 
--- the input was read whole, and behind its first whole pods, at this place, begins none
-pub record HasRemainder (remaining : Option (List ℕ)) (place : ℕ) : Type 0 where
+-- the input was read whole, and behind its first whole pods, at this place, begins none: what is there is too short
+pub record HasRemainder (remaining : Option (List ℕ)) (place : ℕ) (kind : List ℕ) : Type 0 where
   pub input : List ℕ
   pub read : IsAllOf remaining input
   pub behind : place ≡ walk_size (walk input)
   pub some : place < length input
+  pub its_kind : kind ≡ codes "Short"
 
 -- a reason that ends a listing after it has begun
 abbrev pub IsCutOff : Failure → Type 0
@@ -130,7 +126,7 @@ IsCutOff why = (why ≡ OutOfMemory) ⊎ (why ≡ WriteFailed)
 
 -- Why pods weren't listed, and what was written: nothing, where they weren't whole or weren't read.
 abbrev pub IsNotListed : Option (List ℕ) → Option (List ℕ) → Option (List ℕ) → Failure → Type 0
-IsNotListed remaining old new (Pod place kind) = HasRemainder remaining place × Keeps old new
+IsNotListed remaining old new (Pod place kind) = HasRemainder remaining place kind.now × Keeps old new
 IsNotListed remaining old new OutOfMemory = ⊤
 IsNotListed remaining old new ReadFailed = Keeps old new
 IsNotListed remaining old new WriteFailed = ⊤

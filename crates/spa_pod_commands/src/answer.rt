@@ -1,8 +1,10 @@
 //! What becomes of a run, and what is said of it.
-ghost use Rattle.std.specs.Prelude.{◌≡◌, OnOk};
+ghost use Rattle.std.specs.Prelude.{◌≡◌, ◌++◌, ℕ, OnErr, OnOk, take};
 ghost use Rattle.std.specs.Io.KnownBytes.{Appends};
 ghost use Rattle.spa_pod_commands.specs.Answers.{line_of, status_of};
 
+use crate::output::write;
+use arrayvec::ArrayVec;
 use spa_device::ReadError;
 use std::fmt;
 use std::io::{self, Write};
@@ -74,14 +76,29 @@ impl From<ReadError> for Failure {
     }
 }
 
+/// Room for the longest line: of a pod at a byte of 20 digits, refused for `MissingChoiceValues`.
+const LINE_LIMIT: usize = 64;
+
 /// Writes the line of this answer, of work that was done nothing.
-#[tactic(auto, using(crate::proofs::Keeping::appends_nothing))]
-pub fn tell<E: Write>(faults: &mut E, answer: &Answer) -> io::Result<()>
+#[tactic(auto, using(crate::proofs::Running::begins_nothing))]
+pub fn tell<E: Write>(faults: &mut E, answer: &Answer) -> Result<(), Failure>
     ensures told { OnOk result (Appends (E.contents faults.old) (E.contents faults.new) (line_of answer.now)) }
+    ensures begun { OnErr result ((n : ℕ) × Appends (E.contents faults.old) (E.contents faults.new) (take n (line_of answer.now))) }
+{
+    let mut line = ArrayVec::new();
+    if add_line(&mut line, answer).is_err() {
+        return Err(Failure::WriteFailed);
+    }
+    write(faults, line.as_slice())
+}
+
+/// Adds the line of this answer.
+fn add_line(line: &mut ArrayVec<u8, LINE_LIMIT>, answer: &Answer) -> io::Result<()>
+    ensures { OnOk result (line.new.items ≡ line.old.items ++ line_of answer.now) }
 {
     match answer {
         Answer::Done => Ok(()),
-        Answer::Refused(why) => writeln!(faults, "{why}"),
-        Answer::Misused => writeln!(faults, "usage: podtool rewrite|fixate|show"),
+        Answer::Refused(why) => writeln!(line, "{why}"),
+        Answer::Misused => writeln!(line, "usage: podtool rewrite|fixate|show"),
     }
 }

@@ -4,11 +4,11 @@ ghost use Rattle.spa_format.specs.Fixation.{walk_size};
 ghost use Rattle.spa_format.specs.Walk.{walk};
 ghost use Rattle.spa_format.specs.Words.{header_size};
 ghost use Rattle.spa_view.specs.View.{pod_bytes};
-ghost use Rattle.spa_pod_commands.specs.Answers.{IsCutOff, held};
+ghost use Rattle.spa_pod_commands.specs.Answers.{IsCutOff};
 ghost use Rattle.spa_pod_commands.specs.Lines.{AreLines, Inside, Says, level_pods, line_of_pod};
 
 use crate::answer::Failure;
-use crate::output::Output;
+use crate::output::write;
 use crate::pods::first_of;
 use spa_view::{Pod, PodObjectIter, PodStructIter};
 use std::alloc::Global;
@@ -27,14 +27,14 @@ pub(crate) enum Level<'a> {
 
 /// Makes the lines of pods one after another: for each pod a line with its depth, type number and size, and then the same of what
 /// is inside it, each field and each property's value in order. Lines are appended to those that wait, and written from time to time.
-pub(crate) fn list<W: Write + Drop>(
+pub(crate) fn list<W: Write>(
     alloc: Global,
     pods: &[u8],
     lines: &mut String,
-    output: &mut Output<W>,
+    output: &mut W,
 ) -> Result<(), Failure>
     ensures listed { OnOk result ((out : List ℕ) × AreLines 0 (walk pods.now) out
-        × Says (held W.contents output.old) (string_bytes lines.old) (held W.contents output.new) (string_bytes lines.new) out) }
+        × Says (W.contents output.old) (string_bytes lines.old) (W.contents output.new) (string_bytes lines.new) out) }
     ensures cause { IfErr result IsCutOff }
 {
     let mut levels = Vec::new(alloc);
@@ -96,13 +96,13 @@ fn push<'a>(levels: &mut Vec<Level<'a>>, level: Level<'a>) -> Result<(), Failure
 }
 
 /// Makes the line of a pod at this depth.
-fn add_line<W: Write + Drop>(
+fn add_line<W: Write>(
     depth: usize,
     pod: Pod<'_>,
     lines: &mut String,
-    output: &mut Output<W>,
+    output: &mut W,
 ) -> Result<(), Failure>
-    ensures added { OnOk result (Says (held W.contents output.old) (string_bytes lines.old) (held W.contents output.new) (string_bytes lines.new)
+    ensures added { OnOk result (Says (W.contents output.old) (string_bytes lines.old) (W.contents output.new) (string_bytes lines.new)
         (line_of_pod depth (pod_bytes pod.entry))) }
     ensures cause { IfErr result IsCutOff }
 {
@@ -110,7 +110,7 @@ fn add_line<W: Write + Drop>(
         return Err(Failure::OutOfMemory);
     }
     if lines.len() >= WAITING_LIMIT {
-        output.write(lines.as_bytes())?;
+        write(output, lines.as_bytes())?;
         lines.clear();
     }
     Ok(())

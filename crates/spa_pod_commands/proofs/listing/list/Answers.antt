@@ -1,5 +1,5 @@
 use Rattle.std.specs.Prelude.{string_bytes}
-use Rattle.std.proofs.Common.{[], ◌∷◌, ◌++◌, ap, ◌∙◌, length, refl, subst, sym}
+use Rattle.std.proofs.Common.{[], ◌∷◌, ◌++◌, ap, ◌∙◌, refl, subst, sym}
 use Rattle.std.proofs.lemmas.List.{nil_from_length}
 use Rattle.spa_pod_commands.specs.Lines.{Says, line_of_pod}
 use Rattle.spa_pod_commands.proofs.Levels.{begins, closed, ends, lighter_closed, lighter_taken, taken}
@@ -7,7 +7,7 @@ use Rattle.spa_pod_commands.proofs.listing.list.Goals as goal
 
 pub loop-level-init : goal.loop-level-init
 loop-level-init g c =
-    begins c.args.pods.now (g.W.Write.contents c.args.output.now.sink.device.device) (string_bytes c.args.lines.now) c.push.new.levels.items _ _
+    begins c.args.pods.now (g.W.Write.contents c.args.output.now) (string_bytes c.args.lines.now) c.push.new.levels.items _ _
     c.in_ok-push.ensures.pushed c.new-levels.ensures.items refl
 
 pub loop-level-smaller-in-Continue-branch-4 : goal.loop-level-smaller-in-Continue-branch-4
@@ -18,9 +18,9 @@ loop-level-smaller-in-Continue-branch-4 g c =
 
 pub loop-level-preserved-in-Continue-branch-4 : goal.loop-level-preserved-in-Continue-branch-4
 loop-level-preserved-in-Continue-branch-4 g c =
-    let old = g.W.Write.contents c.args.output.now.sink.device.device in
-    let mid = g.W.Write.contents c.loop-level.output.sink.device.device in
-    let new = g.W.Write.contents c.add_line.new.output.sink.device.device in
+    let old = g.W.Write.contents c.args.output.now in
+    let mid = g.W.Write.contents c.loop-level.output in
+    let new = g.W.Write.contents c.add_line.new.output in
     let p = c.in-Some-next.pod.bytes.now in
     let ls = c.pop.new.self.items in
     taken c.args.pods.now old mid new (string_bytes c.args.lines.now) (string_bytes c.loop-level.lines) (string_bytes c.add_line.new.lines)
@@ -35,12 +35,12 @@ loop-level-smaller g c = lighter_closed c.loop-level.levels.items c.pop.new.self
 
 pub loop-level-preserved : goal.loop-level-preserved
 loop-level-preserved g c =
-    closed c.args.pods.now (g.W.Write.contents c.args.output.now.sink.device.device) (g.W.Write.contents c.loop-level.output.sink.device.device)
+    closed c.args.pods.now (g.W.Write.contents c.args.output.now) (g.W.Write.contents c.loop-level.output)
     (string_bytes c.args.lines.now) (string_bytes c.loop-level.lines) c.loop-level.levels.items c.pop.new.self.items c.in-Some.level
     c.in-Some.ensures.items c.in_default-next.ensures.end c.loop-level.invariant
 
 pub returns-clause-listed : goal.returns-clause-listed
 returns-clause-listed g c =
-    ends c.args.pods.now (g.W.Write.contents c.args.output.now.sink.device.device) (g.W.Write.contents c.loop-level.output.sink.device.device)
+    ends c.args.pods.now (g.W.Write.contents c.args.output.now) (g.W.Write.contents c.loop-level.output)
     (string_bytes c.args.lines.now) (string_bytes c.loop-level.lines) c.loop-level.levels.items
     (nil_from_length c.loop-level.levels.items (sym c.loop-level.levels.ok.0 ∙ c.in_default.ensures.cases.0)) c.loop-level.invariant

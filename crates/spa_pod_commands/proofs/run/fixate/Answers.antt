@@ -11,6 +11,6 @@ returns-in-Err-clause-undone g c =
     let left = c.in-Err.left.now in
     let r = c.in-Err.ensures.refused in
     let fits = left_fits whole left r.behind in
-    refusal_undone Fixates remaining (g.W.Write.contents c.args.output.now.sink.device.device) whole left (length whole - length left) c.in-Err.error
+    refusal_undone Fixates remaining (g.W.Write.contents c.args.output.now) whole left (length whole - length left) c.in-Err.error
     c.in-Err.error c.refused.result (subst (IsAllOf remaining) (sym c.as_slice-whole.ensures.value) c.in_ok-bytes.ensures) r.behind
     (omega (arith, fits)) r.refused r.front refl c.refused.ensures

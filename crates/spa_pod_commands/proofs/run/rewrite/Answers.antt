@@ -11,7 +11,7 @@ returns-clause-undone g c =
     let input = c.as_mut_slice.result.now in
     let place = c.in-Err.place in
     let r = c.in-Err.ensures.refused in
-    refusal_undone Rewrites remaining (g.W.Write.contents c.args.output.now.sink.device.device) input (drop place input) place c.in-Err.error r.told
+    refusal_undone Rewrites remaining (g.W.Write.contents c.args.output.now) input (drop place input) place c.in-Err.error r.told
     c.refused.result (subst (IsAllOf remaining) (sym c.as_mut_slice.ensures.value) c.in_ok-bytes.ensures) r.behind (some_left input place r.behind)
     r.refused r.front r.same c.refused.ensures
 

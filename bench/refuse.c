@@ -43,7 +43,7 @@ static void say(const char *bytes, size_t length) {
 
 // Tells how the copy ended that was refused this request, and what it wrote.
 static void tell(int wrote, int status) {
-  static char text[4096];
+  static char text[1 << 16];
   off_t length = lseek(wrote, 0, SEEK_CUR);
   size_t told = length < (off_t)sizeof text ? (size_t)length : sizeof text;
   if (pread(wrote, text, told, 0) != (ssize_t)told)

@@ -2,6 +2,7 @@
 """refuse.py [PROGRAM ..]: runs the built programs with each of their requests of memory refused in turn.
 refuse.py tests CRATE ..: does so with each test of these crates, as `rt test` has built them. CRATE/START: of those alone whose
 names begin so.
+refuse.py rows CRATE ..: does so with these programs of rows, as `rt run` has built them.
 
 Each word of podtool runs on each pod of examples/, on all of them one after another, and on a list whose last pod is
 short; meet runs on pairs of objects, of which some meet and some don't. A run must end as it does with memory, or write
@@ -41,6 +42,10 @@ WANTS_MEMORY = re.compile(
     rb"[Ee]rror: (AllocError|AllocFailed \{ \.\. \}|\"?OutOfMemory\"?|\"out of memory\"|Errno\(12\))\n"
     rb"the test failed: its result gives status 1\n"
 )
+
+# How a program of rows ends by such an error, and what a row's run says behind its label.
+PROGRAM_WANTS_MEMORY = re.compile(rb"Error: .*(AllocError|OutOfMemory).*\n")
+RUN_WANTS_MEMORY = re.compile(rb"1 \w+: out of memory\xe2\x8f\x8e \|.*")
 
 
 def pairs():
@@ -104,24 +109,63 @@ def copies(told):
         yield number, (status, told[end + 1 : at])
 
 
-def refuse_in_test(library, program, test):
-    """Refuses each request of the test, and returns how many there were and what is wrong with it."""
+def refuse_each(library, command, given, passed, is_refused):
+    """Refuses each request of a command, which ends so with memory, and returns how many there were and what is wrong with it."""
     with tempfile.TemporaryFile() as mark:
         env = {**os.environ, "LD_PRELOAD": library, "REFUSED": "each", "MARK": str(mark.fileno())}
         how = {"env": env, "stdout": subprocess.PIPE, "stderr": subprocess.STDOUT, "pass_fds": (mark.fileno(),)}
         wrong = []
         try:
-            ran = subprocess.run([program, test], stdin=subprocess.DEVNULL, timeout=SECONDS, **how)
-            if (ran.returncode, ran.stdout) != PASSED:
+            ran = subprocess.run(command, input=given, timeout=SECONDS, **how)
+            if (ran.returncode, ran.stdout) != passed:
                 wrong.append(f"with memory: {(ran.returncode, ran.stdout)}")
         except subprocess.TimeoutExpired:
             wrong.append(f"not all its requests were refused in {SECONDS} seconds")
         mark.seek(0)
         ended = list(copies(mark.read()))
     for number, (status, wrote) in ended:
-        if (status, wrote) != PASSED and not (status == 101 and WANTS_MEMORY.fullmatch(wrote)):
+        if (status, wrote) != passed and not is_refused(status, wrote):
             wrong.append(f"request {number}: {(status, wrote)}")
     return len(ended), wrong
+
+
+def refuse_in_test(library, program, test):
+    """Refuses each request of the test, and returns how many there were and what is wrong with it."""
+
+    def wants_memory(status, wrote):
+        return status == 101 and WANTS_MEMORY.fullmatch(wrote)
+
+    return refuse_each(library, [program, test], b"", PASSED, wants_memory)
+
+
+def row_wants_memory(line, row):
+    """Whether a line has the label of this row, and says that its run is out of memory."""
+    label, said = (it.partition(b": ") for it in (row, line))
+    return label[0] == said[0] and RUN_WANTS_MEMORY.fullmatch(said[2])
+
+
+def refuse_in_rows(library, crates):
+    """Refuses each request of the programs of rows, and returns how many there were and how many ended wrongly."""
+    runs = wrong = 0
+    for crate in crates:
+        home = HERE.parent / f"crates/{crate}"
+        wanted = (home / "stdout").read_bytes()
+        rows = wanted.split(b"\n")
+
+        def wants_memory(status, wrote):
+            if status != 0:
+                return PROGRAM_WANTS_MEMORY.fullmatch(wrote)
+            lines = wrote.split(b"\n")
+            alike = (line == row or row_wants_memory(line, row) for line, row in zip(lines, rows))
+            return len(lines) == len(rows) and all(alike)
+
+        command = [home / f"out/{crate}"]
+        count, found = refuse_each(library, command, (home / "stdin").read_bytes(), (0, wanted), wants_memory)
+        print(f"{crate}: {count} requests", flush=True)
+        for it in found:
+            print(f"  {it}", flush=True)
+        runs, wrong = runs + count, wrong + len(found)
+    return runs, wrong
 
 
 def refuse_in_tests(library, crates):
@@ -147,6 +191,8 @@ def main(words):
         of_tests = words[:1] == ["tests"]
         if of_tests:
             runs, wrong = refuse_in_tests(library, words[1:])
+        elif words[:1] == ["rows"]:
+            runs, wrong = refuse_in_rows(library, words[1:])
         else:
             runs, wrong = refuse_in_programs(library, words or PROGRAMS)
     print(f"{runs} runs with a refused request, {wrong} of them wrong")

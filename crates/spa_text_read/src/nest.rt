@@ -100,15 +100,17 @@ impl Nest {
         }
     }
 
-    /// Takes apart what is read, by loops: it may be nested deep. Appends the path of the value that was being read, as far as there is
-    /// memory for it.
-    pub(crate) fn give_up(self, path: &mut String) {
+    /// Takes apart what is read, by loops: it may be nested deep. Appends the path of the value that was being read, and answers whether
+    /// there was memory for all of it.
+    pub(crate) fn give_up(self, path: &mut String) -> bool {
         let Nest { inner, outer } = self;
+        let mut is_whole = true;
         for around in outer {
-            let _appended = around.push_place(path).is_ok();
+            is_whole = around.push_place(path).is_ok() && is_whole;
             around.give_up();
         }
-        let _appended = inner.push_place(path).is_ok();
+        is_whole = inner.push_place(path).is_ok() && is_whole;
         inner.give_up();
+        is_whole
     }
 }

@@ -1,5 +1,5 @@
 //! Values read from text.
-ghost use Rattle.std.specs.Prelude.{◌≡◌, ◌≢◌, [], IfErr, IfOk, Some, None};
+ghost use Rattle.std.specs.Prelude.{◌≡◌, ◌≢◌, [], IfErr, IfOk, Some, None, string_bytes};
 ghost use Rattle.json.specs.Lex.{tokens};
 ghost use Rattle.spa_format.specs.Tree.{Tree};
 ghost use Rattle.spa_text_read.specs.Grammar.{ReadsAs, nothing};
@@ -27,7 +27,8 @@ pub struct TextError {
     pub line: usize,
     /// How many bytes of that line stand before it, and one.
     pub column: usize,
-    /// The value that was being read, as `.props.rate` or `[2].props.volume`; empty for the outermost, and where memory ran out.
+    /// The value that was being read, as `.props.rate` or `[2].props.volume`, whole; empty for the outermost, and where memory ran out,
+    /// also for the path itself.
     pub path: String,
 }
 
@@ -51,6 +52,7 @@ impl TextReader {
     pub fn read(&mut self, text: &str) -> Result<Value, TextError>
         ensures value { IfOk result (λ v. ReadsAs nothing (view v) (tokens text.now) []) }
         ensures refused { IfErr result (λ e. e.cause ≢ Cause.OutOfMemory → (v : Tree) → ¬ (ReadsAs nothing v (tokens text.now) [])) }
+        ensures no_path { IfErr result (λ e. e.cause ≡ Cause.OutOfMemory → string_bytes e.path ≡ []) }
     {
         let mut path = String::new(self.alloc);
         let Ok(mut reader) = Reader::new(text, &mut self.scratch) else {
@@ -70,15 +72,20 @@ impl TextReader {
 pub fn read(alloc: Global, text: &str) -> Result<Value, TextError>
     ensures value { IfOk result (λ v. ReadsAs nothing (view v) (tokens text.now) []) }
     ensures refused { IfErr result (λ e. e.cause ≢ Cause.OutOfMemory → (v : Tree) → ¬ (ReadsAs nothing v (tokens text.now) [])) }
+    ensures no_path { IfErr result (λ e. e.cause ≡ Cause.OutOfMemory → string_bytes e.path ≡ []) }
 {
     let mut reader = TextReader::new(alloc);
     reader.read(text)
 }
 
-/// The refusal at this place.
-fn error_at(cause: Cause, text: &str, offset: usize, path: String) -> TextError
-    ensures { result.cause ≡ cause }
+/// The refusal at this place, without its path where memory ran out.
+fn error_at(cause: Cause, text: &str, offset: usize, mut path: String) -> TextError
+    ensures cause { result.cause ≡ cause }
+    ensures no_path { cause ≡ Cause.OutOfMemory → string_bytes result.path ≡ [] }
 {
+    if cause == Cause::OutOfMemory {
+        path.clear();
+    }
     let mut line: usize = 1;
     let mut column: usize = 1;
     for (at, byte) in text.as_bytes().iter().enumerate() {
@@ -142,7 +149,10 @@ fn read_value(alloc: Global, reader: &mut Reader<'_>, path: &mut String) -> Resu
                 return inner.into_value();
             }
             Err(why) => {
-                nest.give_up(path);
+                let is_whole = nest.give_up(path);
+                if !is_whole {
+                    return Err(Cause::OutOfMemory);
+                }
                 return Err(why);
             }
         }

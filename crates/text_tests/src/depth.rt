@@ -1,6 +1,6 @@
 //! Texts that nest deep.
-use super::{assert_so, is_read_as, printed};
-use spa_value::{Held, Value};
+use crate::read::{assert_so, held, printed};
+use spa_value::{Held, Value, same};
 use std::alloc::{AllocError, Global};
 
 /// How deep the text nests.
@@ -28,14 +28,18 @@ fn nested_structs(alloc: Global) -> Result<Held, AllocError> {
 fn is_deep_read(alloc: Global) -> Result<bool, AllocError> {
     let text = nested_text(alloc)?;
     let wanted = nested_structs(alloc)?;
-    is_read_as(alloc, text.as_str(), &*wanted)
+    match held(alloc, text.as_str())? {
+        Ok(value) => same(alloc, &*value, &*wanted),
+        Err(_) => Ok(false),
+    }
 }
 
 /// Whether the value is printed as the text.
 fn is_deep_printed(alloc: Global) -> Result<bool, AllocError> {
     let value = nested_structs(alloc)?;
     let wanted = nested_text(alloc)?;
-    Ok(printed(alloc, &*value)? == Some(wanted))
+    let printed = printed(alloc, &*value)?;
+    Ok(printed.as_slice() == wanted.as_bytes())
 }
 
 #[test]

@@ -1,5 +1,5 @@
 //! Texts with each byte changed to each other one: blanks around them change nothing of what is read, nor whether it is.
-use super::{assert_so, held};
+use crate::read::{assert_so, held};
 use spa_value::same;
 use std::alloc::{AllocError, Global};
 use std::process::Abort;
@@ -63,8 +63,8 @@ fn reads_alike(alloc: Global, text: &str) -> Result<bool, AllocError> {
     let mut wide = String::from_str(alloc, " \n")?;
     wide.push_str(text)?;
     wide.push_str("\t\r")?;
-    let narrow = held(alloc, text);
-    match held(alloc, wide.as_str()) {
+    let narrow = held(alloc, text)?;
+    match held(alloc, wide.as_str())? {
         Ok(other) => match narrow {
             Ok(value) => same(alloc, &*value, &*other),
             Err(_) => Ok(false),

@@ -1,0 +1,87 @@
+//! Rows of what `podtext` does: standard input has a label, the program's words, what it is given and, where that is little, the room
+//! for what it writes on each line, and standard output the status, what is said and what is written, behind the label.
+#![tactic(auto)]
+
+use spa_spelling::{SpellingError, bytes_spelled};
+use spa_text_commands::answer::tell;
+use spa_text_commands::files::Sources;
+use spa_text_commands::run::run;
+use std::alloc::Global;
+use std::io::{self, Error, ErrorKind, Write};
+use test_streams::{ALL, Device, OneLine, Source, Words};
+
+/// Files whose names spell their bytes, with commas between the words. Another name is none of a file.
+#[derive(Drop)]
+struct Spelt;
+
+impl Sources for Spelt {
+    ghost use Rattle.std.specs.Prelude.{None};
+
+    ghost holds = { λ _ _. None };
+
+    fn read_file(&self, alloc: Global, name: &str) -> io::Result<Vec<u8>> {
+        let words = name.replace(alloc, ",", " ")?;
+        bytes_of(alloc, words.as_str())
+    }
+}
+
+/// The bytes that these words spell, or behind a colon those of a text, in which `⏎` is a line feed.
+fn bytes_of(alloc: Global, spelt: &str) -> io::Result<Vec<u8>> {
+    if let Some(text) = spelt.strip_prefix(":") {
+        return Ok(text.replace(alloc, "⏎", "\n")?.into_bytes());
+    }
+    match bytes_spelled(alloc, spelt) {
+        Ok(bytes) => Ok(bytes),
+        Err(SpellingError::Misspelt) => Err(Error::from(ErrorKind::NotFound)),
+        Err(SpellingError::OutOfMemory) => Err(Error::from(ErrorKind::OutOfMemory)),
+    }
+}
+
+/// Answers all rows, and then writes the answers.
+fn main(rt: HostRuntime) -> io::Result<()> {
+    let rows = io::read_to_string(rt.alloc(), rt.stdin())?;
+    let mut answers = Vec::new(rt.alloc());
+    for row in rows.lines() {
+        answer_row(rt.alloc(), row, &mut answers)?;
+    }
+    rt.stdout().write_all(answers.as_slice())
+}
+
+/// More bytes than any row writes, or says.
+const ROOM: usize = 1000;
+
+/// Adds the label of a row and its answer. A line of one part is no row.
+fn answer_row(alloc: Global, row: &str, answers: &mut Vec<u8>) -> io::Result<()> {
+    let mut parts = row.split(" | ");
+    let label = parts.next().unwrap_or("");
+    let Some(words) = parts.next() else {
+        return Ok(());
+    };
+    let given = bytes_of(alloc, parts.next().unwrap_or(""))?;
+    let room = parts.next().and_then(|it| it.parse().ok()).unwrap_or(ROOM);
+    write!(answers, "{label}: ")?;
+    answer_run(alloc, words, given.as_slice(), room, answers)
+}
+
+/// Adds the status of a run, what it says, and what it writes into this room: pods as words, where they are read.
+fn answer_run(
+    alloc: Global,
+    words: &str,
+    given: &[u8],
+    room: usize,
+    answers: &mut Vec<u8>,
+) -> io::Result<()> {
+    let words: Vec<&str> = words.split_whitespace().collect(alloc)?;
+    let mut input = Source::whole(given, ALL);
+    let mut written = [0; ROOM];
+    let device = Device::new(&mut written[..room.min(ROOM)], ALL);
+    let (answer, device) = run(alloc, words.as_slice(), &mut input, &Spelt, device);
+    let mut said = [0; ROOM];
+    let mut faults = Device::new(&mut said, ALL);
+    tell(&mut faults, &answer)?;
+    let (status, said) = (answer.status(), OneLine(faults.taken()));
+    match words.first() {
+        Some(&"read") => writeln!(answers, "{status} {said} |{}", Words(device.taken())),
+        _ => writeln!(answers, "{status} {said} |{}", OneLine(device.taken())),
+    }
+}

@@ -1,0 +1,60 @@
+//! Inputs shown.
+use spa_text_commands::answer::tell;
+use spa_text_commands::run::run;
+use std::alloc::{AllocError, Global};
+use std::io::ErrorKind;
+use test_streams::{ALL, Device, PIECE, Source};
+
+/// What is wanted of a run: the end of what it writes, what it says, and its status.
+type Wanted<'a> = (&'a [u8], &'a [u8], u8);
+
+/// Whether `show` answers so over this input, with this room for what it writes.
+fn shows(rt: &HostRuntime, mut source: Source<'_>, room: &mut [u8], wanted: Wanted<'_>) -> bool {
+    let device = Device::new(room, ALL);
+    let (answer, device) = run(rt.alloc(), &["show"], &mut source, rt, device);
+    let mut line = [0; 100];
+    let mut faults = Device::new(&mut line, PIECE);
+    let is_told = tell(&mut faults, &answer).is_ok();
+    let (end, said, status) = wanted;
+    is_told && device.taken().ends_with(end) && faults.taken() == said && answer.status() == status
+}
+
+#[test]
+fn an_input_that_breaks_off_is_refused(rt: HostRuntime) {
+    let source = Source::broken(&[0, 0, 0, 0, 1, 0, 0, 0], ErrorKind::Other, PIECE);
+    // Without room, a write would fail.
+    let holds = shows(&rt, source, &mut [], (b"", b"podtext: read failed\n", 1));
+    assert!(rt; holds);
+}
+
+/// Structs in one another.
+fn nested(alloc: Global, count: u32) -> Result<Vec<u8>, AllocError> {
+    let mut bytes = Vec::new(alloc);
+    for outer in 0..count {
+        bytes.extend_from_slice(&(8 * (count - 1 - outer) as u64).to_le_bytes()[..4])?;
+        bytes.extend_from_slice(&[14, 0, 0, 0])?;
+    }
+    Ok(bytes)
+}
+
+/// How many levels the deepest pod has.
+const LEVELS: u32 = 100_000;
+
+/// Room for so many lines, which don't grow with their depth.
+const ROOM: usize = LEVELS as usize * 120;
+
+/// Whether `show` shows so many levels.
+fn is_deep_shown(rt: &HostRuntime) -> Result<bool, AllocError> {
+    let bytes = nested(rt.alloc(), LEVELS)?;
+    let mut room = vec![in rt.alloc(); 0; ROOM]?;
+    let source = Source::whole(bytes.as_slice(), ALL);
+    let wanted: Wanted<'_> = (b"(99999) Struct: size 0\n", b"", 0);
+    Ok(shows(rt, source, room.as_mut_slice(), wanted))
+}
+
+#[test]
+fn deep_pods_are_shown(rt: HostRuntime) -> Result<(), AllocError> {
+    let holds = is_deep_shown(&rt)?;
+    assert!(rt; holds);
+    Ok(())
+}

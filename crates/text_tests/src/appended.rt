@@ -1,0 +1,24 @@
+//! Texts behind what was there.
+use crate::read::assert_so;
+use spa_text::print;
+use spa_value::Value;
+use std::alloc::{AllocError, Global};
+
+/// Two texts behind a line.
+fn print_twice(alloc: Global) -> Result<Vec<u8>, AllocError> {
+    let mut bytes = Vec::from_slice(alloc, b"a\n")?;
+    print(alloc, &Value::Int(5), &mut bytes)?;
+    print(alloc, &Value::None, &mut bytes)?;
+    Ok(bytes)
+}
+
+#[test]
+fn texts_stand_behind_what_was_there(rt: HostRuntime) -> Result<(), AllocError> {
+    let bytes = print_twice(rt.alloc())?;
+    assert_so(
+        &rt,
+        bytes.as_slice() == b"a\n5null".as_slice(),
+        "5 and null",
+    );
+    Ok(())
+}

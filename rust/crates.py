@@ -1,13 +1,46 @@
-"""Which proved crates the Rust crate is made of."""
-
-# The libraries, lowest first; each becomes a module.
-PARTS = '''spa_format spa_utils spa_dict spa_bytes spa_sink spa_device spa_fixed spa_leaf spa_names spa_value spa_print spa_view
-spa_events spa_parser spa_read spa_typed_read spa_visitors spa_write spa_typed_write spa_scan spa_rewrite spa_in_place spa_room
-spa_builder spa_negotiate spa_fronts spa_negotiate_pods spa_multiples spa_orders spa_steps spa_offers spa_filter
-spa_filter_pods'''.split()
+"""Which proved crates the Rust crate is made of, by what crates.txt says each stands on."""
+import os
 
 # The crate that gives the libraries under libspa's paths.
 WHOLE = 'libspa'
+# The libraries that are public beside it; with these come those that they stand on.
+BESIDE = ['spa_names', 'spa_events', 'spa_negotiate_pods', 'spa_filter_pods']
+# Crates of tests are those whose names end so. These are of the programs and of text, which aren't in the Rust crate.
+TEST_SUFFIX = '_tests'
+NOT_HERE = ['spa_command_tests']
+# The kit's crates for which shims stand.
+SHIMS = {'bitflags', 'arrayvec', 'thiserror'}
 
-# The crates of tests, and those that only tests use.
-TESTS = '''spa_spelling spa_uses spa_callers spa_part_tests spa_typed_tests spa_tests libspa_tests spa_filter_tests'''.split()
+
+def listed(crates):
+    """What each crate of crates.txt stands on, in the file's order."""
+    found = {}
+    with open(os.path.join(crates, '..', 'crates.txt'), encoding='utf-8') as lines:
+        for line in lines:
+            line = line.split('#')[0].strip()
+            if line:
+                name, below = line.split(':', 1)
+                found[name.split()[0]] = below.split()
+    return found
+
+
+def with_those_below(names, stands_on):
+    """These crates and all below them, in the order of crates.txt."""
+    found, left = set(), list(names)
+    while left:
+        name = left.pop()
+        if name in SHIMS or name in found:
+            continue
+        if name not in stands_on:
+            raise ValueError('for the crate "%s" of the kit there is no shim' % name)
+        found.add(name)
+        left += stands_on[name]
+    return [name for name in stands_on if name in found]
+
+
+def parts_and_tests(crates):
+    """The libraries, and the crates that only tests need."""
+    stands_on = listed(crates)
+    parts = with_those_below([WHOLE] + BESIDE, stands_on)
+    tests = [name for name in stands_on if name.endswith(TEST_SUFFIX) and name not in NOT_HERE]
+    return parts, [name for name in with_those_below(tests, stands_on) if name not in parts]

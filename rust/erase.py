@@ -9,7 +9,7 @@ import shutil
 import sys
 
 import rattle
-from crates import PARTS, TESTS, WHOLE
+from crates import WHOLE, parts_and_tests
 from patches import PATCHES
 
 # What takes memory: an allocator, or the runtime that hands one out, as an argument, a parameter, a field or a part of a `use`.
@@ -161,13 +161,13 @@ def name_calls(text):
     return re.sub(r'(: (?:[\w ]+\+ )*)Clone\b(?=\s*[,>+{])', r'\1TryClone', text)
 
 
-def name_paths(text, name, home):
+def name_paths(text, name, home, parts, tests):
     """Paths as they are in one crate."""
     text = re.sub(r'\$crate::(\w+)!', '$\x03::\\1!', text)
     text = re.sub(r'\$crate::(?=\w)', '$\x03::macros::%s::' % name, text)
     text = text.replace('crate::try_', '\x03::try_').replace('crate::shims', '\x03::shims').replace('core::mem', '\x04::mem')
     text = re.sub(r'\bcrate::', '%s::%s::' % (home, name), text)
-    for names, place in ((PARTS + [WHOLE], '\x03::parts'), (TESTS, '\x03::tests')):
+    for names, place in ((parts, '\x03::parts'), (tests, '\x03::tests')):
         for other in names:
             text = re.sub(r'(?<![\w:.$])%s(?=::|;)(?!:[^:])' % other, '%s::%s' % (place, other), text)
     return text.replace('\x03', 'crate').replace('\x04', 'core')
@@ -186,7 +186,7 @@ def names_of(braces):
     return [p for p in parts + [part.strip()] if p]
 
 
-def name_imports(text, name, macros):
+def name_imports(text, name, macros, of_std):
     """`use` items: without what is erased, and from where things stand in Rust."""
     def one(found):
         lead, public, path = found.group(1), found.group(2) or '', found.group(3)
@@ -208,8 +208,8 @@ def name_imports(text, name, macros):
                 base = new + base[len(old):]
         if base.startswith('std::') and not base.startswith('std::io') or base == 'std':
             base = 'core' + base[3:]
-        lines = []
-        if kept == parts and braces:
+        lines = ['%s#[cfg(feature = "std")]\n' % lead] if public and root in of_std else []
+        if kept == parts and braces and len(kept) > 1:
             lines.append('%s%suse %s::{%s};\n' % (lead, public, base, braces.group(2)))
         elif len(kept) == 1:
             lines.append('%s%suse %s::%s;\n' % (lead, public, base, kept[0]))
@@ -224,8 +224,28 @@ def name_imports(text, name, macros):
     return re.sub(r'^([ \t]*)(pub(?:\(\w+\))? )?use ([^;]*);\n', one, text, flags=re.M)
 
 
-def erase(source, name, home, macros):
-    """The Rust text of a Rattle file of the crate of this name. `home` is the module where such crates stand."""
+# A call from outside can break these `requires`: the function of a file, and what is asserted in its place.
+ASSERTED = {
+    ('async_seq', 'from_raw'): 'assert!(code.cast_unsigned() >> SEQ_BITS == 1, "the code is not asynchronous");',
+    ('code', 'into_sync_result'): 'assert!(!self.is_async(), "the code is asynchronous");',
+    ('code', 'into_async_result'): 'assert!(self.0 < 0 || self.is_async(), "the code is neither an error nor asynchronous");',
+}
+
+
+def assert_required(text, file):
+    """With the assertions in place of `requires` that a call from outside can break."""
+    for (where, name), assertion in ASSERTED.items():
+        if where == os.path.basename(file):
+            text, count = re.subn(r'^( *)(pub fn %s\([^{]*\{\n)' % name, lambda m: '%s%s%s    %s\n' % (m.group(1), m.group(2), m.group(1), assertion),
+                                  text, flags=re.M)
+            if count != 1:
+                raise ValueError('%s: %d functions %s' % (file, count, name))
+    return text
+
+
+def erase(source, name, home, macros, parts, tests, of_std=()):
+    """The Rust text of a Rattle file of the crate of this name. `home` is the module where such crates stand, `macros` says which
+    macros each crate exports; `parts` and `tests` are the names of the crates in these two modules."""
     text, kept = rattle.hide(source)
     text = drop_contracts(text)
     text = drop_item(text, r'impl(?:<[^{]*>)? Model for [^{]*\{')
@@ -245,10 +265,10 @@ def erase(source, name, home, macros):
     text = re.sub(r', thiserror::Error\b', '', text)
     text = re.sub(r'^[ \t]*#\[error\([^\]]*\)\]\n', '', text, flags=re.M)
     text = re.sub(r'\bprove(_eq)?!\(', r'debug_assert\1!(', text)
-    text = name_imports(text, name, macros)
+    text = name_imports(text, name, macros, of_std)
     text = re.sub(r'(?<![\w:$])(bitflags|arrayvec)::', lambda m: '%s::' % dict(HOMES)[m.group(1)], text)
     text = re.sub(r'(?<![\w:$])std::(?!io\b|thread\b|env\b)', 'core::', text)
-    text = name_paths(text, name, 'crate::' + home)
+    text = name_paths(text, name, 'crate::' + home, parts, tests)
     # What a crate without std, and with fallible growth, has in scope.
     if name != WHOLE:
         prelude = 'use crate::shims::prelude::*;'
@@ -274,10 +294,10 @@ def sources(folder):
     return sorted(found)
 
 
-def exported_macros(crates):
+def exported_macros(crates, parts):
     """The names of the macros that each crate exports."""
     found = {}
-    for name in PARTS:
+    for name in parts:
         for _, text in sources(os.path.join(crates, name, 'src')):
             found.setdefault(name, set()).update(re.findall(r'#\[macro_export\]\s*macro_rules! (\w+)', text))
     found[WHOLE] = set().union(*found.values())
@@ -295,16 +315,17 @@ def patched(path, text):
 
 def generate(crates):
     """All generated files: path in src/ and text."""
-    macros = exported_macros(crates)
+    parts, tests = parts_and_tests(crates)
+    macros = exported_macros(crates, parts)
     made = {}
-    for home, names in (('parts', PARTS + [WHOLE]), ('tests', TESTS)):
+    of_std = [name for name in parts if any('std::io' in text for _, text in sources(os.path.join(crates, name, 'src')))]
+    for home, names in (('parts', parts), ('tests', tests)):
         for name in names:
             for path, text in sources(os.path.join(crates, name, 'src')):
-                rust = erase(text, name, home, macros)
                 file = '%s/%s/%s.rs' % (home, name, 'mod' if path == 'lib' else path)
-                made[file] = patched(file, rust)
-    for home, names in (('parts', PARTS + [WHOLE]), ('tests', TESTS)):
-        made[home + '/mod.rs'] = '//! Made by rust/erase.py of the proved crates, a module each.\n' + ''.join('pub mod %s;\n' % n for n in sorted(names))
+                made[file] = patched(file, assert_required(erase(text, name, home, macros, parts, tests, of_std), path))
+        items = ''.join('%spub mod %s;\n' % ('#[cfg(feature = "std")]\n' if name in of_std else '', name) for name in sorted(names))
+        made[home + '/mod.rs'] = '//! Made by rust/erase.py of the proved crates, a module each.\n' + items
     return made
 
 

@@ -8,17 +8,29 @@ extern crate std;
 #[cfg(not(target_pointer_width = "64"))]
 compile_error!("spa-pod counts bytes in a usize of 64 bits");
 
-mod shims;
-#[allow(unused_imports, unused_variables, dead_code, non_upper_case_globals)]
-mod parts;
 mod api;
-#[cfg(test)]
+// The text follows its proofs. What lints say of style goes unheeded; those of correctness stand.
+#[allow(unused_imports, unused_variables, dead_code, non_upper_case_globals)]
+#[allow(clippy::style, clippy::complexity, clippy::perf)]
+mod parts;
+mod shims;
+#[cfg(all(test, feature = "std"))]
 pub(crate) use shims::memory::tests::try_format;
-#[cfg(test)]
+#[cfg(all(test, feature = "std"))]
 #[allow(unused_imports, unused_variables, dead_code)]
 mod tests;
 
 pub use parts::libspa::{constants, pod, utils};
+
+pub mod negotiation {
+    pub use crate::parts::spa_negotiate::{NegotiateError, Side, is_supported, negotiate};
+    pub use crate::parts::spa_negotiate_pods::negotiate_pods;
+}
+
+pub mod filtering {
+    pub use crate::parts::spa_filter::{FilterError, Side, filter};
+    pub use crate::parts::spa_filter_pods::filter_pods;
+}
 
 #[doc(hidden)]
 pub mod macros {

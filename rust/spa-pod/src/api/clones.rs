@@ -1,8 +1,9 @@
 //! `Clone` and `Default` of the types whose copies may be refused for want of memory: `clone` panics then, as Rust's own does end
 //! the process; the proved calls `try_clone` answer an error.
-use crate::parts::spa_utils::{Choice, ChoiceEnum};
-use crate::parts::spa_value::{ChoiceValue, Object, Property, Value, ValueArray};
-use crate::shims::memory::TryClone;
+use crate::pod::{ChoiceValue, Object, Property, Value, ValueArray};
+use crate::shims::memory::{AllocError, TryClone};
+use crate::utils::dict::CIter;
+use crate::utils::{Choice, ChoiceEnum};
 
 /// The copy, where there is memory.
 fn copy_of<T: TryClone>(value: &T) -> T {
@@ -47,8 +48,8 @@ impl Default for Value {
     }
 }
 
-impl TryClone for crate::parts::spa_dict::CIter<'_> {
-    fn try_clone(&self) -> Result<Self, crate::shims::memory::AllocError> {
+impl TryClone for CIter<'_> {
+    fn try_clone(&self) -> Result<Self, AllocError> {
         Ok(self.clone())
     }
 }

@@ -1,11 +1,9 @@
 //! The errors as Rust's: each is `core::error::Error`, and prints in words.
-#[cfg(feature = "std")]
-use crate::parts::spa_device::ReadError;
-use crate::parts::spa_filter::FilterError;
-use crate::parts::spa_fixed::{DeserializeError, Fault, FaultKind};
-use crate::parts::spa_negotiate::NegotiateError;
-use crate::parts::spa_sink::GenError;
-use crate::parts::spa_utils::{Errno, result};
+use crate::filtering::FilterError;
+use crate::negotiation::NegotiateError;
+use crate::pod::deserialize::{DeserializeError, Fault, FaultKind};
+use crate::pod::serialize::GenError;
+use crate::utils::{Errno, result};
 use core::error::Error;
 use core::fmt::{Debug, Display, Formatter, Result};
 
@@ -88,16 +86,3 @@ meeting_errors! {
     NegotiateError: {}
     FilterError: { FilterError::Missing(key) => "one object lacks the key {key}, which is mandatory in the other" }
 }
-
-#[cfg(feature = "std")]
-impl Display for ReadError {
-    fn fmt(&self, f: &mut Formatter<'_>) -> Result {
-        f.write_str(match self {
-            ReadError::OutOfMemory => "out of memory",
-            ReadError::Failed => "the reader failed",
-        })
-    }
-}
-
-#[cfg(feature = "std")]
-impl Error for ReadError {}

@@ -2,6 +2,7 @@
 pub mod libspa;
 pub mod spa_builder;
 pub mod spa_bytes;
+#[cfg(feature = "std")]
 pub mod spa_device;
 pub mod spa_dict;
 pub mod spa_events;
@@ -21,6 +22,7 @@ pub mod spa_orders;
 pub mod spa_parser;
 pub mod spa_print;
 pub mod spa_read;
+pub mod spa_result;
 pub mod spa_rewrite;
 pub mod spa_room;
 pub mod spa_scan;

@@ -22,7 +22,7 @@ pub mod utils {
 
     /// Result codes, which say an error, a value, or that the answer comes later.
     pub mod result {
-        pub use crate::parts::spa_utils::result::{AsyncSeq, Error, SpaResult, SpaSuccess};
+        pub use crate::parts::spa_result::{AsyncSeq, Error, SpaResult, SpaSuccess};
     }
 }
 
@@ -51,6 +51,7 @@ pub mod pod {
 
     /// Writing values.
     pub mod serialize {
+        #[cfg(feature = "std")]
         pub use crate::parts::spa_device::IoSink;
         pub use crate::parts::spa_sink::{GenError, PodOutput, PodSink};
         pub use crate::parts::spa_typed_write::{ArrayPodSerializer, ExactSerialize, Maybe, ObjectPodSerializer, PodSerialize, PodSerializer, SerializeAs, SerializeMembers, SerializeProperties, SerializeSuccess, StructPodSerializer, write_object, write_struct};

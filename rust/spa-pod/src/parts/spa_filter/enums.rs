@@ -8,7 +8,7 @@ use crate::parts::spa_bytes::{HEADER_LEN, SECOND_WORD, u32_at};
 use crate::parts::spa_fixed::{ENUM_SHAPE, open_array};
 use crate::parts::spa_offers::{Element, is_among, is_same};
 use crate::parts::spa_utils::{Choice, ChoiceEnum, ChoiceFlags};
-use crate::shims::memory::{AllocError};
+use crate::shims::memory::AllocError;
 
 /// How long the body of an Enum is, at most, whose values are looked for one by one: 17 values of two words each.
 const SHORT_LEN: usize = 152;

@@ -3,7 +3,7 @@
 use crate::shims::prelude::*;
 use crate::parts::spa_value::laws::property_lists_are_in_order;
 use crate::parts::spa_value::{Object, Property, Value, discard};
-use crate::shims::memory::{AllocError};
+use crate::shims::memory::AllocError;
 
 /// Properties of an answer. Their values may be nested deep, so they are taken apart by a loop.
 pub(crate) struct Met {

@@ -6,7 +6,7 @@ use crate::parts::spa_offers::{Element, default_of, offer_of};
 use crate::parts::spa_utils::Choice;
 use crate::parts::spa_value::laws::{objects_are_their_fields, property_lists_are_in_order};
 use crate::parts::spa_value::{ChoiceValue, Object, Property, Value};
-use crate::shims::memory::{AllocError};
+use crate::shims::memory::AllocError;
 
 /// An object with each choice at its default, under all its keys and flags. What two objects are filtered to is by that a fixed
 /// object which both admit.

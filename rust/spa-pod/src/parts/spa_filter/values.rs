@@ -6,7 +6,7 @@ use crate::parts::spa_offers::{Element, Offer, meet, meet_only, offer_of};
 use crate::parts::spa_utils::{Choice, ChoiceEnum};
 use crate::parts::spa_value::laws::{equal_trees_are_the_same, trees_have_their_types};
 use crate::parts::spa_value::{ChoiceValue, Value, same};
-use crate::shims::memory::{AllocError};
+use crate::shims::memory::AllocError;
 
 /// A value that admits exactly what two values admit that stand under this key, with the first of their defaults that both admit.
 ///

@@ -7,7 +7,7 @@ use crate::parts::spa_fixed::fixed::{CanonicalFixedSizedPod, WIDE_LEN, WORD_LEN}
 use crate::parts::spa_bytes::{HEADER_LEN, joined, two_words, u32_at};
 use crate::parts::spa_sink::{GenError, PodSink};
 use crate::parts::spa_utils::SpaTypes;
-use crate::shims::memory::{AllocError};
+use crate::shims::memory::AllocError;
 
 /// The bodies of the elements in the body of an array of this type, where its sizes are right: the child size is the
 /// type's, and whole elements follow. It asks for no memory.

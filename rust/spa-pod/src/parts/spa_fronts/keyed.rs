@@ -2,7 +2,7 @@
 
 use crate::shims::prelude::*;
 use crate::parts::spa_fronts::object_view::{PropertyView, find, first_property};
-use crate::shims::memory::{AllocError};
+use crate::shims::memory::AllocError;
 
 /// How long properties are at most, in bytes, that are few without being counted.
 const SHORT_LEN: usize = 512;

@@ -5,7 +5,7 @@ use crate::parts::spa_negotiate::numbers::has;
 use crate::parts::spa_negotiate::offer::{Offer, Rule};
 use crate::parts::spa_value::laws::{equal_trees_are_the_same, trees_have_their_types};
 use crate::parts::spa_value::{Value, same};
-use crate::shims::memory::{AllocError};
+use crate::shims::memory::AllocError;
 
 /// Whether the first is no greater than the second, where both are ids, both ints or both longs.
 fn is_at_most(value: &Value, other: &Value) -> bool {

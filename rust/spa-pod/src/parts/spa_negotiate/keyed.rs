@@ -2,7 +2,7 @@
 
 use crate::shims::prelude::*;
 use crate::parts::spa_value::{Property, Value};
-use crate::shims::memory::{AllocError};
+use crate::shims::memory::AllocError;
 use crate::shims::sorted::{BTreeMap, BTreeSet};
 
 /// Properties, and the place of the first one with each key.

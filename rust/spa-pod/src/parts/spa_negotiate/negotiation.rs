@@ -7,7 +7,7 @@ use crate::parts::spa_negotiate::keyed::{Keyed, add_key};
 use crate::parts::spa_negotiate::offer::{Offer, offer_of, settled};
 use crate::parts::spa_value::laws::{objects_are_their_fields, property_lists_are_in_order};
 use crate::parts::spa_value::{Object, Property, Value, discard};
-use crate::shims::memory::{AllocError};
+use crate::shims::memory::AllocError;
 use crate::shims::sorted::BTreeSet;
 
 /// The object in which two objects meet.

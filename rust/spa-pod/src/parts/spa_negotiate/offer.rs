@@ -6,7 +6,7 @@ use crate::parts::spa_negotiate::numbers::{Numbers, add};
 use crate::parts::spa_utils::ChoiceEnum;
 use crate::parts::spa_value::laws::trees_have_their_types;
 use crate::parts::spa_value::{ChoiceValue, Value, discard};
-use crate::shims::memory::{AllocError};
+use crate::shims::memory::AllocError;
 use crate::shims::sorted::BTreeSet;
 
 /// Which values an offer admits.

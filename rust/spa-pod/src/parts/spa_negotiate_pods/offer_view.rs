@@ -5,7 +5,7 @@ use crate::parts::spa_bytes::{HEADER_LEN, open, u32_at, u64_at};
 use crate::parts::spa_fixed::{ENUM_SHAPE, NONE_SHAPE, RANGE_SHAPE};
 use crate::parts::spa_leaf::{CHOICE_HEADER_LEN, VALUE_TYPE_AT};
 use crate::parts::spa_utils::SpaTypes;
-use crate::shims::memory::{AllocError};
+use crate::shims::memory::AllocError;
 
 /// The length in bytes of a body of one word.
 const ONE_WORD: usize = 4;

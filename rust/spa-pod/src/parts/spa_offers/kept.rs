@@ -4,7 +4,7 @@ use crate::shims::prelude::*;
 use crate::parts::spa_offers::element::Element;
 use crate::parts::spa_offers::numbers::{Numbers, add};
 use crate::parts::spa_offers::offer::{Offer, admits, is_among};
-use crate::shims::memory::{AllocError};
+use crate::shims::memory::AllocError;
 use crate::shims::sorted::BTreeSet;
 
 /// How many alternatives are looked through one by one, at most.

@@ -7,7 +7,7 @@ use crate::parts::spa_offers::offer::{Offer, admits, common_default};
 use crate::parts::spa_steps::{Steps, multiples_of_both, within};
 use crate::parts::spa_utils::ChoiceEnum;
 use crate::parts::spa_value::Value;
-use crate::shims::memory::{AllocError};
+use crate::shims::memory::AllocError;
 
 /// What admits exactly the elements that both offers admit, where there is one: a plain value where one of them is one, else an
 /// Enum where one of them is one, else a Range, a Step or Flags.

@@ -9,7 +9,7 @@ use crate::parts::spa_bytes::{Front, HEADER_LEN, SECOND_WORD, extent_of, u32_at}
 use crate::parts::spa_fixed::Refusal;
 use crate::parts::spa_utils::SpaTypes;
 use crate::parts::spa_value::{Object, Property, PropertyFlags, Takes, Value};
-use crate::shims::memory::{AllocError};
+use crate::shims::memory::AllocError;
 
 /// What is read of a body so far.
 pub(crate) enum Inside {

@@ -8,7 +8,7 @@ use crate::parts::spa_bytes::{Front, HEADER_LEN, SECOND_WORD, u32_at};
 use crate::parts::spa_fixed::Refusal;
 use crate::parts::spa_utils::SpaTypes;
 use crate::parts::spa_value::{PropertyFlags, Value, discard};
-use crate::shims::memory::{AllocError};
+use crate::shims::memory::AllocError;
 use core::mem;
 
 /// A struct or an object whose header is read and whose body isn't yet read to its end.

@@ -4,7 +4,7 @@ use crate::shims::prelude::*;
 use crate::parts::spa_rewrite::rewriting::rewrite;
 use crate::parts::spa_fixed::DeserializeError;
 use crate::parts::spa_scan::{LEVELS, canonical_front, nests_within};
-use crate::shims::memory::{AllocError};
+use crate::shims::memory::AllocError;
 
 /// Whether the pod at the front of the input is its own rewriting: all of it is there, and `rewrite` would give the same bytes.
 /// A front that is refused isn't, and what follows the front doesn't count.

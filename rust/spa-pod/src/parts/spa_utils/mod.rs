@@ -10,7 +10,6 @@ mod fraction;
 mod frame;
 mod id;
 mod rectangle;
-pub mod result;
 mod types;
 
 pub use choice::{Choice, ChoiceEnum, ChoiceFlags};

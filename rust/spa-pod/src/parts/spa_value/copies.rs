@@ -8,7 +8,7 @@ use crate::parts::spa_value::leaves::copy_leaf;
 use crate::parts::spa_value::nested_copies::{copy_nested, object_copy, struct_copy};
 use crate::parts::spa_value::object::{Object, Property};
 use crate::parts::spa_value::value::Value;
-use crate::shims::memory::{AllocError};
+use crate::shims::memory::AllocError;
 
 impl TryClone for ValueArray {
     #[inline(always)]

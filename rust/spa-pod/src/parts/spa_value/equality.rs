@@ -7,7 +7,7 @@ use crate::parts::spa_value::comparison::{Pair, Step, Verdict, compare, compare_
 use crate::parts::spa_value::elements::same_elements;
 use crate::parts::spa_value::object::{Object, Property};
 use crate::parts::spa_value::value::Value;
-use crate::shims::memory::{AllocError};
+use crate::shims::memory::AllocError;
 
 impl PartialEq for ValueArray {
     fn eq(&self, other: &ValueArray) -> bool {

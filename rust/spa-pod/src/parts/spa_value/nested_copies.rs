@@ -7,7 +7,7 @@ use crate::parts::spa_value::object::{Object, Property, PropertyFlags};
 use crate::parts::spa_value::taking::Takes;
 use crate::parts::spa_value::value::Value;
 use crate::shims::flags::Flags;
-use crate::shims::memory::{AllocError};
+use crate::shims::memory::AllocError;
 use core::mem;
 
 /// A struct that is copied: the copies so far, and what is left behind their sources.

@@ -1,7 +1,7 @@
 //! What the tests assert of bytes and numbers: each assertion is proved here, once.
 use crate::shims::prelude::*;
 use crate::tests::spa_spelling::{bytes_of, bytes_spelled};
-use crate::shims::memory::{AllocError};
+use crate::shims::memory::AllocError;
 use crate::shims::test::Fail;
 
 /// Compares bytes with those that the words spell.

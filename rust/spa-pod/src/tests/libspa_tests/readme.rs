@@ -11,7 +11,7 @@ use crate::tests::libspa_tests::readme::rewrite::{all_rewritten, say_the_same};
 use crate::tests::libspa_tests::readme::write::{encoded_int, encoded_pair};
 use crate::parts::libspa::utils::Id;
 use crate::tests::spa_spelling::bytes_spelled;
-use crate::shims::memory::{AllocError};
+use crate::shims::memory::AllocError;
 use crate::shims::test::Fail;
 
 mod read {
@@ -35,7 +35,7 @@ mod write {
     use crate::shims::array::ArrayVec;
     use crate::parts::libspa::pod::Value;
     use crate::parts::libspa::pod::serialize::{GenError, PodSerializer};
-    use crate::shims::memory::{AllocError};
+    use crate::shims::memory::AllocError;
 
     /// A struct of an Int and a text.
     pub fn pair() -> Result<Value, AllocError> {

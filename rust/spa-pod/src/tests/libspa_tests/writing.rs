@@ -7,7 +7,7 @@ use crate::parts::libspa::pod::serialize::{GenError, PodSerializer};
 use crate::parts::libspa::pod::{ChoiceValue, Object, Property, PropertyFlags, Value, ValueArray};
 use crate::parts::libspa::utils::{Choice, ChoiceEnum, ChoiceFlags, Float32, Rectangle};
 use crate::tests::spa_spelling::bytes_spelled;
-use crate::shims::memory::{AllocError};
+use crate::shims::memory::AllocError;
 use crate::shims::test::Fail;
 
 /// Compares a value's encoding, behind bytes that were there, with the bytes that the words spell.

@@ -3,7 +3,7 @@ use crate::shims::prelude::*;
 use crate::tests::spa_filter_tests::objects::{Given, object};
 use crate::parts::spa_filter::{FilterError, filter};
 use crate::parts::spa_value::Object;
-use crate::shims::memory::{AllocError};
+use crate::shims::memory::AllocError;
 use crate::shims::test::Fail;
 
 /// What is to be answered: the properties of the object, or a refusal.

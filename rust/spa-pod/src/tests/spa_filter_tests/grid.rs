@@ -6,7 +6,7 @@ use crate::tests::spa_filter_tests::objects::Shape::{Enum, Flags, None, Plain, R
 use crate::tests::spa_filter_tests::objects::{Kind, Shape, object};
 use crate::parts::spa_filter::FilterError;
 use crate::parts::spa_value::Object;
-use crate::shims::memory::{AllocError};
+use crate::shims::memory::AllocError;
 use crate::shims::test::Fail;
 
 /// A value: its shape, and its numbers with the default first.

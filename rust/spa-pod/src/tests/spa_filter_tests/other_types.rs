@@ -6,7 +6,7 @@ use crate::tests::spa_filter_tests::objects::Shape::Plain;
 use crate::tests::spa_filter_tests::objects::object;
 use crate::parts::spa_filter::FilterError;
 use crate::parts::spa_value::{Object, Property, Value, ValueArray};
-use crate::shims::memory::{AllocError};
+use crate::shims::memory::AllocError;
 use crate::shims::test::Fail;
 
 /// How many values there are.

@@ -5,7 +5,7 @@ use crate::tests::spa_filter_tests::objects::{Kind, Shape, object};
 use crate::parts::spa_filter::{FilterError, filter};
 use crate::parts::spa_utils::{ChoiceEnum, Fraction, Rectangle};
 use crate::parts::spa_value::{ChoiceValue, Object, Value};
-use crate::shims::memory::{AllocError};
+use crate::shims::memory::AllocError;
 use crate::shims::test::Fail;
 
 /// The numbers of the domain are those from 0 up to this one: ints from -5 on, and both numbers of a rectangle or a fraction

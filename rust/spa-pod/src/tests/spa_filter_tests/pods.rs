@@ -10,7 +10,7 @@ use crate::tests::spa_spelling::bytes_of;
 use crate::parts::spa_typed_read::PodDeserializer;
 use crate::parts::spa_value::Value;
 use crate::parts::spa_write::write_value;
-use crate::shims::memory::{AllocError};
+use crate::shims::memory::AllocError;
 use crate::shims::test::Fail;
 
 /// What is to be answered: the words of a pod, or a refusal.

@@ -5,7 +5,7 @@ use crate::tests::spa_filter_tests::objects::Shape::{Enum, Flags, None, Plain, R
 use crate::tests::spa_filter_tests::objects::{Given, object};
 use crate::parts::spa_filter::settle;
 use crate::parts::spa_value::Object;
-use crate::shims::memory::{AllocError};
+use crate::shims::memory::AllocError;
 use crate::shims::test::Fail;
 
 /// A property of each shape.

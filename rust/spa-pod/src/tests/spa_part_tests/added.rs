@@ -6,7 +6,7 @@ use crate::parts::spa_builder::Builder;
 use crate::tests::spa_spelling::bytes_spelled;
 use crate::parts::spa_utils::Errno;
 use crate::parts::spa_value::Value;
-use crate::shims::memory::{AllocError};
+use crate::shims::memory::AllocError;
 use crate::shims::test::Fail;
 
 /// What a builder gives to which the value alone is added.

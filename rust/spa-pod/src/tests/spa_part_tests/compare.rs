@@ -2,7 +2,7 @@
 use crate::shims::prelude::*;
 use crate::parts::spa_fixed::Refusal;
 use crate::tests::spa_spelling::bytes_of;
-use crate::shims::memory::{AllocError};
+use crate::shims::memory::AllocError;
 use core::fmt::Debug;
 use crate::shims::test::Fail;
 

@@ -3,7 +3,7 @@ use crate::shims::prelude::*;
 use crate::tests::spa_part_tests::compare::assert_holds;
 use crate::tests::spa_part_tests::counting::{nested, nested_objects, read};
 use crate::parts::spa_value::{Held, same};
-use crate::shims::memory::{AllocError};
+use crate::shims::memory::AllocError;
 use crate::shims::test::Fail;
 
 /// More levels than a stack of 8 MB holds of a drop that calls itself for each of them.

@@ -4,7 +4,7 @@ use crate::parts::spa_fixed::DeserializeError;
 use crate::tests::spa_spelling::bytes_of;
 use crate::parts::spa_typed_read::PodDeserializer;
 use crate::parts::spa_value::{Value, discard};
-use crate::shims::memory::{AllocError};
+use crate::shims::memory::AllocError;
 use crate::shims::test::Fail;
 
 /// Inputs as words; what their read answers, `accepted` or the name of the refusal; and how many headers it opens.

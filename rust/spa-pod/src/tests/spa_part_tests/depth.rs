@@ -11,7 +11,7 @@ use crate::parts::spa_utils::{Errno, Frame};
 use crate::parts::spa_value::{Held, Value, same};
 use crate::parts::spa_view::Pod;
 use crate::parts::spa_write::{write_sized, write_value};
-use crate::shims::memory::{AllocError};
+use crate::shims::memory::AllocError;
 use crate::shims::test::Fail;
 
 /// Levels that the parser's tests have, too, and more than a stack of 8 MB holds of a function that calls itself for each.

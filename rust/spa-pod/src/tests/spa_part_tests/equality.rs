@@ -4,7 +4,7 @@ use crate::shims::prelude::*;
 use crate::parts::spa_dict::{CIter, Flags, ParseValueError};
 use crate::parts::spa_fixed::{DeserializeError, Fault, FaultKind};
 use crate::parts::spa_sink::GenError;
-use crate::parts::spa_utils::result::{AsyncSeq, Error, SpaResult, SpaSuccess};
+use crate::parts::spa_result::{AsyncSeq, Error, SpaResult, SpaSuccess};
 use crate::parts::spa_utils::{
     Choice, ChoiceEnum, ChoiceFlags, Direction, Errno, Fd, Float32, Float64, Fraction, Frame, Id,
     Rectangle, SpaTypes,

@@ -5,7 +5,7 @@ use crate::parts::spa_fixed::{DeserializeError, Fault};
 use crate::tests::spa_spelling::bytes_of;
 use crate::parts::spa_typed_read::{DeserializeSuccess, PodDeserialize, PodDeserializer};
 use crate::parts::spa_value::Value;
-use crate::shims::memory::{AllocError};
+use crate::shims::memory::AllocError;
 use crate::shims::test::Fail;
 
 /// Inputs as words, and what a read answers: the value, as its `Debug` text, and how many bytes follow its pod; or the

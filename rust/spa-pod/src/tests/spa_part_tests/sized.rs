@@ -8,7 +8,7 @@ use crate::parts::spa_sink::GenError;
 use crate::tests::spa_spelling::bytes_spelled;
 use crate::parts::spa_value::Value;
 use crate::parts::spa_write::write_sized;
-use crate::shims::memory::{AllocError};
+use crate::shims::memory::AllocError;
 use std::io::{self, Error, ErrorKind, Write};
 use crate::shims::test::Fail;
 

@@ -5,7 +5,7 @@ use crate::shims::flags::Flags;
 use crate::tests::spa_spelling::bytes_spelled;
 use crate::parts::spa_utils::{Errno, Id};
 use crate::parts::spa_view::{Pod, PodObject, PodObjectIter, PodProp, PodPropFlags, PodStruct, PodStructIter};
-use crate::shims::memory::{AllocError};
+use crate::shims::memory::AllocError;
 use core::fmt::Debug;
 use crate::shims::test::Fail;
 

@@ -11,7 +11,7 @@ use crate::parts::spa_typed_write::{PodSerializer, laws};
 use crate::parts::spa_utils::{Choice, ChoiceEnum, ChoiceFlags};
 use crate::parts::spa_value::{ChoiceValue, Value, ValueArray};
 use crate::parts::spa_write::{put_leaf, write_sized};
-use crate::shims::memory::{AllocError};
+use crate::shims::memory::AllocError;
 use crate::shims::test::Fail;
 
 /// Values as their `Debug` text, and the words of their encodings.

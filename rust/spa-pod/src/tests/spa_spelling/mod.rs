@@ -1,7 +1,7 @@
 //! Bytes for tests: from the words of a table, and from a text that spells them. There is nothing here that the library uses.
 
 use crate::shims::prelude::*;
-use crate::shims::memory::{AllocError};
+use crate::shims::memory::AllocError;
 
 /// Why a text spells no bytes.
 #[derive(Clone, Copy, PartialEq, Eq, Debug)]

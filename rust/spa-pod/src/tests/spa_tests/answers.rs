@@ -6,7 +6,7 @@ use crate::parts::libspa::pod::deserialize::{DeserializeError, PodDeserializer};
 use crate::parts::libspa::pod::serialize::{GenError, PodSerializer};
 use crate::parts::libspa::pod::{Pod, PodObject, Value, rewrite, rewrite_in_parts};
 use crate::parts::libspa::utils::Errno;
-use crate::shims::memory::{AllocError};
+use crate::shims::memory::AllocError;
 use crate::shims::test::Fail;
 
 /// What the library answers at the front of an input.

@@ -2,7 +2,7 @@
 
 use crate::shims::prelude::*;
 use crate::tests::spa_tests::said::{say_bytes, say_comma, say_text};
-use crate::shims::memory::{AllocError};
+use crate::shims::memory::AllocError;
 use crate::shims::test::Fail;
 
 /// The length in bytes of a header, of an array's child header, and of a property's key and flags.

@@ -2,7 +2,7 @@
 use crate::shims::prelude::*;
 use crate::tests::spa_tests::tables::built::BUILT;
 use crate::tests::spa_tests::tables::read_rows::READ_ROWS;
-use crate::shims::memory::{AllocError};
+use crate::shims::memory::AllocError;
 
 pub mod built;
 pub mod c_bytes;

@@ -8,7 +8,7 @@ use crate::parts::libspa::pod::serialize::{GenError, PodSerialize, PodSerializer
 use crate::parts::libspa::utils::{
     Choice, ChoiceEnum, ChoiceFlags, Fd, Float32, Float64, Fraction, Id, Rectangle,
 };
-use crate::shims::memory::{AllocError};
+use crate::shims::memory::AllocError;
 use crate::shims::test::Fail;
 
 /// The words of what `singles` writes.

@@ -7,7 +7,7 @@ use crate::parts::libspa::pod::serialize::{GenError, PodSerialize};
 use crate::parts::libspa::utils::{Float32, Id};
 use crate::tests::spa_spelling::bytes_spelled;
 use crate::tests::spa_uses::{AudioFormat, Curve, put_curve, put_format};
-use crate::shims::memory::{AllocError};
+use crate::shims::memory::AllocError;
 use crate::shims::test::Fail;
 
 /// A curve, in words: `up`, -2, the id 7 and three points.

@@ -7,7 +7,7 @@ use crate::tests::spa_spelling::bytes_spelled;
 use crate::tests::spa_uses::{
     Device, Level, Mode, Screen, Size, Song, Tagged, is_number, read_mode, sent, with_volume,
 };
-use crate::shims::memory::{AllocError};
+use crate::shims::memory::AllocError;
 use crate::shims::test::Fail;
 
 /// What a test compares.

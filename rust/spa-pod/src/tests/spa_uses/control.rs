@@ -10,7 +10,7 @@ use crate::parts::libspa::pod::value_laws::{
 };
 use crate::parts::libspa::pod::{Held, Object, Property, PropertyFlags, Value, discard};
 use crate::parts::libspa::utils::Float32;
-use crate::shims::memory::{AllocError};
+use crate::shims::memory::AllocError;
 
 /// The key of a volume, which PipeWire calls `SPA_PROP_volume`.
 const VOLUME: u32 = 65539;

@@ -3,7 +3,7 @@ use crate::shims::prelude::*;
 use crate::tests::libspa_tests::bytes::{are_words, assert_holds};
 use crate::parts::spa_builder::Builder;
 use crate::parts::spa_utils::Errno;
-use crate::shims::memory::{AllocError};
+use crate::shims::memory::AllocError;
 use crate::shims::test::Fail;
 
 /// Begins a struct of an Int, and closes it where it is to be whole. The answer is how many pods are begun then.

@@ -5,7 +5,7 @@ use crate::parts::spa_builder::Builder;
 use crate::builder_add;
 use crate::parts::spa_utils::{Errno, Float32, Float64, Fraction, Id, Rectangle};
 use crate::parts::spa_value::Value;
-use crate::shims::memory::{AllocError};
+use crate::shims::memory::AllocError;
 use crate::shims::test::Fail;
 
 /// What is added.

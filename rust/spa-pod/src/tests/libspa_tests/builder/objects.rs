@@ -7,7 +7,7 @@ use crate::parts::spa_typed_write::PodSerializer;
 use crate::parts::spa_utils::{Choice, ChoiceEnum, ChoiceFlags, Errno, Id, SpaTypes};
 use crate::parts::spa_value::{ChoiceValue, Object, Property, Value, ValueArray};
 use crate::{object, property};
-use crate::shims::memory::{AllocError};
+use crate::shims::memory::AllocError;
 use crate::shims::test::Fail;
 
 /// Which object is made.

@@ -6,7 +6,7 @@ use crate::builder_add;
 use crate::tests::spa_spelling::bytes_of;
 use crate::parts::spa_utils::Errno;
 use crate::parts::spa_view::Pod;
-use crate::shims::memory::{AllocError};
+use crate::shims::memory::AllocError;
 use crate::shims::test::Fail;
 
 /// The words of a pod, of what is built where it is added to a struct and to an array in that, and whether the array takes

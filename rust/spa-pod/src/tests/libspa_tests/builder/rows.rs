@@ -3,7 +3,7 @@ use crate::shims::prelude::*;
 use crate::tests::libspa_tests::bytes::{are_words, assert_holds};
 use crate::parts::spa_builder::{BuildCall, replay};
 use crate::parts::spa_utils::Errno;
-use crate::shims::memory::{AllocError};
+use crate::shims::memory::AllocError;
 use crate::shims::test::Fail;
 
 /// A call's answer.

@@ -5,7 +5,7 @@ use crate::tests::libspa_tests::builder::shown::by_calls::format_pod;
 use crate::tests::libspa_tests::builder::shown::by_value::format_object;
 use crate::tests::libspa_tests::bytes::{are_words, assert_holds};
 use crate::parts::spa_utils::Errno;
-use crate::shims::memory::{AllocError};
+use crate::shims::memory::AllocError;
 use crate::shims::test::Fail;
 
 mod by_calls {

@@ -2,7 +2,7 @@
 use crate::shims::prelude::*;
 use crate::parts::libspa::pod::Held;
 use crate::parts::libspa::pod::deserialize::{DeserializeError, PodDeserializer};
-use crate::shims::memory::{AllocError};
+use crate::shims::memory::AllocError;
 use crate::shims::test::Fail;
 
 /// Few levels, and more than a stack of 8 MB holds of a function that calls itself for each of them.

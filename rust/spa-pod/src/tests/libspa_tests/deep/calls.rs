@@ -5,7 +5,7 @@ use crate::parts::libspa::pod::builder::Builder;
 use crate::parts::libspa::pod::parser::Parser;
 use crate::parts::libspa::pod::{Frame, Printed, Value};
 use crate::parts::libspa::utils::Errno;
-use crate::shims::memory::{AllocError};
+use crate::shims::memory::AllocError;
 use crate::shims::test::Fail;
 
 /// Whether the text of a value is that of so many structs around a None.

@@ -4,7 +4,7 @@ use crate::tests::libspa_tests::deep::bytes::{DEPTHS, EMPTY, NONE, assert_holds,
 use crate::parts::libspa::pod::{Held, Object, Value, same};
 use crate::parts::spa_negotiate::{NegotiateError, negotiate};
 use crate::parts::spa_negotiate_pods::negotiate_pods;
-use crate::shims::memory::{AllocError};
+use crate::shims::memory::AllocError;
 use crate::shims::test::Fail;
 
 /// An object with such structs under key 1.

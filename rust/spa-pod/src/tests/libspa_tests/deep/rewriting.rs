@@ -2,7 +2,7 @@
 use crate::shims::prelude::*;
 use crate::tests::libspa_tests::deep::bytes::{DEPTHS, assert_holds, push_words};
 use crate::parts::libspa::pod::rewrite_in_place;
-use crate::shims::memory::{AllocError};
+use crate::shims::memory::AllocError;
 use crate::shims::test::Fail;
 
 /// What stands before the pod in a struct, behind its size word, and in an object.

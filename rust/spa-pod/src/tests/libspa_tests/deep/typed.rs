@@ -6,7 +6,7 @@ use crate::parts::libspa::pod::deserialize::{
     DeserializeError, ObjectOf, PodDeserialize, PodDeserializer, Required, StructOf,
 };
 use crate::parts::libspa::pod::serialize::write_struct;
-use crate::shims::memory::{AllocError};
+use crate::shims::memory::AllocError;
 use crate::shims::test::Fail;
 
 /// A struct of any value.

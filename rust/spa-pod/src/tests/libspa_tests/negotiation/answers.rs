@@ -5,7 +5,7 @@ use crate::parts::libspa::pod::serialize::PodSerializer;
 use crate::parts::libspa::pod::{Object, Value};
 use crate::parts::spa_negotiate::{NegotiateError, negotiate};
 use crate::parts::spa_negotiate_pods::negotiate_pods;
-use crate::shims::memory::{AllocError};
+use crate::shims::memory::AllocError;
 use crate::shims::test::Fail;
 
 /// What is to be answered: the properties of the object, or a refusal.

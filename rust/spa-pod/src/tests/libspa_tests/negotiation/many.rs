@@ -6,7 +6,7 @@ use crate::shims::flags::Flags;
 use crate::parts::libspa::pod::{ChoiceValue, Object, Value};
 use crate::parts::libspa::utils::{Choice, ChoiceEnum, ChoiceFlags};
 use crate::parts::spa_negotiate::NegotiateError;
-use crate::shims::memory::{AllocError};
+use crate::shims::memory::AllocError;
 use crate::shims::test::Fail;
 
 /// How many keys an object has, and how many alternatives an Enum.

@@ -3,7 +3,7 @@ use crate::shims::prelude::*;
 use crate::shims::flags::Flags;
 use crate::parts::libspa::pod::{ChoiceValue, Object, Property, PropertyFlags, Value};
 use crate::parts::libspa::utils::{Choice, ChoiceEnum, ChoiceFlags, Float32, Id};
-use crate::shims::memory::{AllocError};
+use crate::shims::memory::AllocError;
 
 /// The type of a value, or of a choice's elements.
 #[derive(Clone, Copy)]

@@ -4,7 +4,7 @@ use crate::parts::libspa::pod::Pod;
 use crate::parts::spa_negotiate_pods::NegotiateError::{Disjoint, NotObject, TypeMismatch, Unread, Unsupported};
 use crate::parts::spa_negotiate_pods::{NegotiateError, Side, negotiate_pods};
 use crate::tests::spa_spelling::bytes_of;
-use crate::shims::memory::{AllocError};
+use crate::shims::memory::AllocError;
 use crate::shims::test::Fail;
 
 /// What is to be answered: the words of a pod, or a refusal.

@@ -7,7 +7,7 @@ use crate::tests::libspa_tests::negotiation::objects::Shape::{Flags, Plain, Rang
 use crate::tests::libspa_tests::negotiation::objects::{Given, object};
 use crate::parts::spa_negotiate::NegotiateError;
 use crate::parts::spa_negotiate::NegotiateError::{Disjoint, Unsupported};
-use crate::shims::memory::{AllocError};
+use crate::shims::memory::AllocError;
 use crate::shims::test::Fail;
 
 const REFUSALS: &[Row] = &[

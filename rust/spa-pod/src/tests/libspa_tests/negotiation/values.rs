@@ -4,7 +4,7 @@ use crate::tests::libspa_tests::negotiation::answers::answer_of;
 use crate::tests::libspa_tests::negotiation::objects::property;
 use crate::parts::libspa::pod::{Object, Value, ValueArray};
 use crate::parts::spa_negotiate::NegotiateError;
-use crate::shims::memory::{AllocError};
+use crate::shims::memory::AllocError;
 use crate::shims::test::Fail;
 
 fn empty() -> Object {

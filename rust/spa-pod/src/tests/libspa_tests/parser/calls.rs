@@ -4,7 +4,7 @@ use crate::parts::libspa::pod::parser::Parser;
 use crate::parts::libspa::pod::{Frame, Pod};
 use crate::parts::libspa::utils::{Errno, Id};
 use crate::tests::spa_spelling::{bytes_of, bytes_spelled};
-use crate::shims::memory::{AllocError};
+use crate::shims::memory::AllocError;
 use core::fmt::Debug;
 use crate::shims::test::Fail;
 

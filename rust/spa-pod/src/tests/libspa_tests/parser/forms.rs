@@ -5,7 +5,7 @@ use crate::parser_get;
 use crate::parts::libspa::pod::{Frame, Pod};
 use crate::parts::libspa::utils::{Errno, Float32, Float64, Fraction, Id, Rectangle};
 use crate::tests::spa_spelling::bytes_of;
-use crate::shims::memory::{AllocError};
+use crate::shims::memory::AllocError;
 use crate::shims::test::Fail;
 
 fn bool_at(input: &[u8]) -> Result<bool, Errno> {

@@ -8,7 +8,7 @@ use crate::parts::spa_fixed::{CanonicalFixedSizedPod, Refusal, next_element, ope
 use crate::parts::spa_sink::GenError;
 use crate::tests::spa_spelling::bytes_of;
 use crate::parts::spa_utils::{Fraction, Id};
-use crate::shims::memory::{AllocError};
+use crate::shims::memory::AllocError;
 use crate::shims::test::Fail;
 
 /// An array's body read as one of this type.

@@ -6,7 +6,7 @@ use crate::parts::spa_bytes::u32_at;
 use crate::parts::spa_fixed::{ChoiceElement, Refusal, put_choice, read_choice};
 use crate::parts::spa_sink::GenError;
 use crate::parts::spa_utils::{Choice, ChoiceEnum, ChoiceFlags, Id};
-use crate::shims::memory::{AllocError};
+use crate::shims::memory::AllocError;
 use crate::shims::test::Fail;
 
 /// The length in bytes of what stands before the values in a choice's body.

@@ -3,7 +3,7 @@ use crate::shims::prelude::*;
 use crate::tests::spa_part_tests::compare::{assert_holds, assert_same};
 use crate::shims::flags::Flags as _;
 use crate::parts::spa_dict::{DictRef, Flags, ParsableValue};
-use crate::shims::memory::{AllocError};
+use crate::shims::memory::AllocError;
 use core::fmt::Debug;
 use crate::shims::test::Fail;
 

@@ -3,7 +3,7 @@ use crate::shims::prelude::*;
 use crate::tests::spa_part_tests::compare::assert_same;
 use crate::tests::spa_part_tests::values::table::{arrays, choices, deep_values, distinct_values, properties};
 use crate::parts::spa_value::{Value, same};
-use crate::shims::memory::{AllocError};
+use crate::shims::memory::AllocError;
 use crate::shims::test::Fail;
 
 /// Whether both operators answer that two are equal, or that they are not.

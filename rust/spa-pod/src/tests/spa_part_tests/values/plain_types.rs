@@ -7,7 +7,7 @@ use crate::parts::spa_utils::{
     Choice, ChoiceEnum, ChoiceFlags, Direction, Errno, Fd, Float32, Float64, Fraction, Id,
     Rectangle, SpaTypes,
 };
-use crate::shims::memory::{AllocError};
+use crate::shims::memory::AllocError;
 use crate::shims::test::Fail;
 
 #[test]

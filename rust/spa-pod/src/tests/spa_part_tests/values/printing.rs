@@ -5,7 +5,7 @@ use crate::tests::spa_part_tests::values::table::{distinct_values, worked_values
 use crate::shims::flags::Flags;
 use crate::parts::spa_print::Printed;
 use crate::parts::spa_value::{Held, Object, Property, PropertyFlags, Value};
-use crate::shims::memory::{AllocError};
+use crate::shims::memory::AllocError;
 use crate::shims::test::Fail;
 
 /// The text of a value, printed by a loop.

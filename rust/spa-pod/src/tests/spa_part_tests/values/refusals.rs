@@ -3,7 +3,7 @@ use crate::shims::prelude::*;
 use crate::tests::spa_part_tests::compare::assert_same;
 use crate::parts::spa_fixed::{DeserializeError, Fault, FaultKind, Refusal};
 use crate::parts::spa_sink::GenError;
-use crate::shims::memory::{AllocError};
+use crate::shims::memory::AllocError;
 use crate::shims::test::Fail;
 
 /// What a writer's refusal prints.

@@ -2,7 +2,7 @@
 use crate::shims::prelude::*;
 use crate::tests::spa_part_tests::compare::assert_same;
 use crate::parts::spa_utils::Errno;
-use crate::parts::spa_utils::result::{AsyncSeq, SpaResult, SpaSuccess};
+use crate::parts::spa_result::{AsyncSeq, SpaResult, SpaSuccess};
 use crate::shims::test::Fail;
 
 /// How many sequence numbers there are.

@@ -3,7 +3,7 @@ use crate::shims::prelude::*;
 use crate::shims::flags::Flags;
 use crate::parts::spa_utils::{Choice, ChoiceEnum, ChoiceFlags, Fd, Float32, Float64, Fraction, Id, Rectangle};
 use crate::parts::spa_value::{ChoiceValue, Object, Property, PropertyFlags, Value, ValueArray};
-use crate::shims::memory::{AllocError};
+use crate::shims::memory::AllocError;
 
 const NARROW: Rectangle = Rectangle {
     width: 1,

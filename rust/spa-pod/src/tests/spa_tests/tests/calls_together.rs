@@ -9,7 +9,7 @@ use crate::parts::libspa::utils::Id;
 use crate::parts::libspa::utils::dict::{DictRef, Flags as DictFlags};
 use crate::parts::libspa::utils::result::{SpaResult, SpaSuccess};
 use crate::tests::spa_spelling::bytes_spelled;
-use crate::shims::memory::{AllocError};
+use crate::shims::memory::AllocError;
 use crate::shims::test::Fail;
 
 /// The value that is written there.

@@ -5,7 +5,7 @@ use crate::tests::spa_tests::tables::{lines_of, lines_of_built};
 use crate::parts::libspa::pod::deserialize::DeserializeError;
 use crate::parts::libspa::pod::{is_canonical, nests_within, rewrite};
 use crate::tests::spa_spelling::bytes_spelled;
-use crate::shims::memory::{AllocError};
+use crate::shims::memory::AllocError;
 use crate::shims::test::Fail;
 
 /// Pods of which a byte is replaced: a struct of a Bool and a text, an object with a range, an array of Bools, a None choice,

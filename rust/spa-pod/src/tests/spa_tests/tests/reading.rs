@@ -10,7 +10,7 @@ use crate::tests::spa_tests::tables::{lines_of, lines_of_built, lines_of_read_ro
 use crate::parts::libspa::pod::Value;
 use crate::parts::libspa::pod::deserialize::PodDeserializer;
 use crate::tests::spa_spelling::bytes_spelled;
-use crate::shims::memory::{AllocError};
+use crate::shims::memory::AllocError;
 use crate::shims::test::Fail;
 
 /// How deep the nested input is.

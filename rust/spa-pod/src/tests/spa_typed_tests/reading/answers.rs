@@ -12,7 +12,7 @@ use crate::tests::spa_spelling::bytes_spelled;
 use crate::parts::spa_typed_read::{PodDeserialize, PodDeserializer};
 use crate::parts::spa_utils::{Choice, Fd, Float32, Float64, Fraction, Id, Rectangle};
 use crate::parts::spa_value::Bitmap;
-use crate::shims::memory::{AllocError};
+use crate::shims::memory::AllocError;
 use core::fmt::Debug;
 use crate::shims::test::Fail;
 

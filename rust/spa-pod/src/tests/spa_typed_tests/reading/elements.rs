@@ -4,7 +4,7 @@ use crate::shims::prelude::*;
 use crate::tests::spa_typed_tests::reading::answers::refused;
 use crate::parts::spa_fixed::{CanonicalFixedSizedPod, DeserializeError, FixedSizedPod};
 use crate::parts::spa_typed_read::{ArrayPodDeserializer, DeserializeSuccess, PodDeserialize, PodDeserializer};
-use crate::shims::memory::{AllocError};
+use crate::shims::memory::AllocError;
 
 /// A loudness, which is a number.
 struct Level {

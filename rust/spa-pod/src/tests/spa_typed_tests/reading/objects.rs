@@ -9,7 +9,7 @@ use crate::parts::spa_typed_read::{
     StructPodDeserializer, Visit, Visitor,
 };
 use crate::parts::spa_utils::Float32;
-use crate::shims::memory::{AllocError};
+use crate::shims::memory::AllocError;
 
 /// An object of a device's name and its volume.
 struct Device<'de> {

@@ -9,7 +9,7 @@ use crate::parts::spa_typed_read::{
     StructPodDeserializer, Visit, Visitor,
 };
 use crate::parts::spa_utils::Rectangle;
-use crate::shims::memory::{AllocError};
+use crate::shims::memory::AllocError;
 
 /// A struct of a rectangle.
 struct Frame {

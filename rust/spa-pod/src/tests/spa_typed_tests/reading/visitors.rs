@@ -14,7 +14,7 @@ use crate::parts::spa_visitors::{
     FractionVisitor, IdVisitor, IntVisitor, LongVisitor, NoneVisitor, PointerVisitor,
     RectangleVisitor, StringVisitor, ValueVisitor, VecVisitor,
 };
-use crate::shims::memory::{AllocError};
+use crate::shims::memory::AllocError;
 use core::fmt::Debug;
 use crate::shims::test::Fail;
 

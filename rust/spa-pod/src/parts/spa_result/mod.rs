@@ -1,5 +1,4 @@
 //! Result codes: numbers that say whether a call failed, is done, or will be done later.
-
 use crate::shims::prelude::*;
 mod async_seq;
 mod code;

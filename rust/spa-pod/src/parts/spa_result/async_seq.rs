@@ -21,6 +21,7 @@ impl AsyncSeq {
 
     /// The sequence number of an asynchronous code. Whether a code is one, `SpaResult::from_c(code).is_async()` tells.
     pub fn from_raw(code: i32) -> AsyncSeq {
+        assert!(code.cast_unsigned() >> SEQ_BITS == 1, "the code is not asynchronous");
         AsyncSeq(code)
     }
 

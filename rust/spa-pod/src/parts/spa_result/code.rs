@@ -47,6 +47,7 @@ impl SpaResult {
 
     /// The code of a call that is done, or the error. For codes that aren't asynchronous.
     pub fn into_sync_result(self) -> Result<i32, Error> {
+        assert!(!self.is_async(), "the code is asynchronous");
         match self.into_result()? {
             SpaSuccess::Sync(code) => Ok(code),
             SpaSuccess::Async(_) => unreachable!(),
@@ -55,6 +56,7 @@ impl SpaResult {
 
     /// The sequence number of a call that will be done later, or the error. For codes that are below 0 or asynchronous.
     pub fn into_async_result(self) -> Result<AsyncSeq, Error> {
+        assert!(self.0 < 0 || self.is_async(), "the code is neither an error nor asynchronous");
         match self.into_result()? {
             SpaSuccess::Async(seq) => Ok(seq),
             SpaSuccess::Sync(_) => unreachable!(),

@@ -1,0 +1,293 @@
+#!/usr/bin/env python3
+"""Judges whether a Rust file differs from the Rattle file it was made of by nothing but the listed rules.
+
+It shares no rule with erase.py. Contracts, ghost items and proofs' attributes are dropped from the Rattle file by counting brackets;
+`use` items are compared path by path; the other tokens are walked through side by side, and where they aren't the same there must stand
+an instance of one of RULES.
+
+usage: compare.py CRATES OUT     (as erase.py)"""
+import collections
+import os
+import re
+import sys
+
+import rattle
+from crates import WHOLE, parts_and_tests
+from patches import PATCHES
+
+GHOST_ATTRIBUTES = {'tactic', 'cycle', 'derive_where', 'rattlefmt'}
+MEMORY = r'(?:[&*] )*(?:(?:\w+ \. )+alloc(?: \( \))?|(?:\w+ \. )+allocator \( \)|rt|alloc|\$ alloc|Global)'
+TYPED = r'(?:mut )?_?alloc : (?:Global|%s)|rt : (?:HostRuntime|& impl Abort)|%s' % (MEMORY, MEMORY)
+RENAMED = [('push', 'try_push'), ('push_reserved', 'push'), ('reserve', 'make_room'), ('insert', 'try_insert'), ('resize', 'try_resize'),
+           ('extend_from_slice', 'try_extend_from_slice'), ('push_str', 'try_push_str'), ('split_off', 'try_split_off'),
+           ('repeat', 'try_repeat'), ('append', 'try_append'), ('with_capacity', 'with_room'), ('from_slice', 'try_from_slice'),
+           ('from_str', 'try_from_str'), ('from_array', 'try_from_array'), ('collect', 'try_to_vec'), ('to_vec', 'try_to_vec')]
+
+# The rules of docs/RUST.md: a name, what goes, and what comes in its place, as tokens with spaces between them. A group of what goes is
+# named \1 in what comes.
+RULES = [
+    ('allocator', r'(?:%s) ,|, (?:%s)|(?:%s)' % (TYPED, TYPED, TYPED), r''),
+    ('allocator', r'let _?alloc = %s ;' % MEMORY, r''),
+    ('allocator', r'(?:pub (?:\( crate \) )?)?alloc : (?:Global|%s) ,' % MEMORY, r''),
+    ('allocator', r'(?:# \[ inline \] )?(?:pub (?:\( crate \) )?)?fn allocator \( & self \) - > Global \{ [^{}]* (?:\{ [^{}]* \} )?\}', r''),
+    ('allocator', r'fn own_allocator \( & self \) - > Option < Global > \{ None \}', r'fn has_own_memory ( & self ) - > bool { false }'),
+    ('allocator', r'fn own_allocator \( & self \) - > Option < Global > \{ Some \( %s \) \}' % MEMORY,
+     r'fn has_own_memory ( & self ) - > bool { true }'),
+    ('allocator', r'let Some \( alloc \) = (\w+) \. own_allocator', r'\1 . has_own_memory'),
+    ('memory in macros', r'in (?:\$ alloc : expr|%s) ;' % MEMORY, r''),
+    ('memory in macros', r'%s ;' % MEMORY, r''),
+    ('memory in macros', r'(vec|format) ! ([\[(]) in %s ;' % MEMORY, r'crate : : try_\1 ! \2'),
+    ('memory in macros', r'vec ! \[ in \$ alloc ;', r'$ crate : : try_vec ! ['),
+    ('fallible copies', r'Clone', r'TryClone'),
+    ('fallible copies', r'\. clone \( \)', r'. try_clone ( )'),
+    ('fallible copies', r'0\.clone \( \)', r'0.try_clone ( )'),
+    ('fallible copies', r'1\.clone \( \)', r'1.try_clone ( )'),
+    ('fallible copies', r'fn clone \( & self \)', r'fn try_clone ( & self )'),
+    ('names of fallible calls', r'Vec : : reserve', r'VecRoom : : make_room'),
+    ('Drop', r'# \[ derive \( Drop \) \]', r''),
+    ('Drop', r', Drop|Drop ,|\+ Drop|: Drop|Drop \+|: Drop \+', r''),
+    ('drop(self)', r'fn drop \( self \)', r'fn drop ( & mut self )'),
+    ('drop(self)', r'\( self', r'( mut self'),
+    ('printing', r'< \w+ : fmt : : Write >', r''),
+    ('printing', r', W : fmt : : Write', r''),
+    ('printing', r'fmt : : Formatter < W >', r"fmt : : Formatter < '_ >"),
+    ('errors', r', thiserror : : Error', r''),
+    ('errors', r'# \[ error \( "[^"]*" \) \]', r''),
+    ('final', r'final', r''),
+    ('paths into crates', r'', r'crate : : (?:parts|tests) : :'),
+    ('paths into crates', r'crate : :', r'crate : : (?:parts|tests) : : \w+ : :'),
+    ('paths into crates', r'\$ crate : :', r'\$ crate : : macros : : \w+ : :'),
+    ('paths', r'std : :', r'core : :'),
+    ('paths', r'bitflags : :', r'crate : : shims : : flags : :'),
+    ('tests', r'\) - > Result < \( \) , Fail > \{',
+     r'\) \{ crate : : shims : : test : : run \( (\w+) \( \) \) \} fn \1 \( \) - > Result < \( \) , Fail > \{'),
+    ('features', r'', r'# [ cfg ( feature = "std" ) ]'),
+    ('asserted', r'', r'assert ! \( [^;]* \) ;'),
+] + [('names of fallible calls', r'([.]|: :|fn) %s' % a, r'\1 %s' % b) for a, b in RENAMED]
+# A type with a drop is taken apart by its fields: `let T { a, b: _ } = self;`.
+TAKEN = re.compile(r'let \w+ \{ ((?:\w+ (?:: _ )?,? ?)+)\} = self ; ')
+
+
+def compiled(rules):
+    """The rules with patterns for texts in which a space stands behind each token. What comes is text with the groups of what goes, or,
+    for the rules that say so, a pattern."""
+    for name, goes, comes in rules:
+        pattern = name in PATTERNS
+        yield name, re.compile('(?:%s) ' % goes if goes else ''), re.compile(comes + ' ') if pattern else comes + ' ' if comes else comes
+
+
+PATTERNS = {'paths into crates', 'tests', 'asserted'}
+COMPILED = list(compiled(RULES))
+
+
+def contracts_dropped(tokens):
+    """Without clauses, ghost items, the attributes of proofs and models, of tokens without comments."""
+    out, i = [], 0
+
+    def behind_group(i):
+        depth = 0
+        while True:
+            depth += (tokens[i] in '([{') - (tokens[i] in ')]}')
+            i += 1
+            if depth == 0:
+                return i
+
+    while i < len(tokens):
+        t = tokens[i]
+        if t in ('requires', 'ensures'):
+            while tokens[i] != '{':
+                i += 1
+            i = behind_group(i)
+        elif t == 'ghost' or t == 'pub' and tokens[i + 1] == 'ghost':
+            while tokens[i] not in ';,}':
+                i = behind_group(i) if tokens[i] in '([{' else i + 1
+            i += tokens[i] != '}'
+        elif t == '#' and tokens[i + 1 + (tokens[i + 1] == '!') + 1] in GHOST_ATTRIBUTES:
+            i = behind_group(i + 1 + (tokens[i + 1] == '!'))
+        elif t == 'impl' and 'Model' in tokens[i:i + 24] and re.match(r'impl (?:< [^{]* > )?Model for ', ' '.join(tokens[i:i + 26])):
+            while tokens[i] != '{':
+                i += 1
+            i = behind_group(i)
+        else:
+            out.append(t)
+            i += 1
+    return out
+
+
+def uses_apart(tokens):
+    """The tokens without `use` items, and the paths that these name, with a mark for public ones."""
+    out, paths, i = [], collections.Counter(), 0
+
+    def leaves(i, base):
+        """The paths of a use tree, and the place behind it."""
+        path, named = base, ''
+        found = []
+        while tokens[i] not in (',', '}', ';'):
+            if tokens[i] == '{':
+                i += 1
+                while tokens[i] != '}':
+                    more, i = leaves(i, path)
+                    found += more
+                    i += tokens[i] == ','
+                return found, i + 1
+            path += (' ' + tokens[i] + ' ') if tokens[i] == 'as' else tokens[i]
+            i += 1
+        return [path + named], i
+
+    while i < len(tokens):
+        if tokens[i] == 'use':
+            public = 'pub ' if out and out[-1] == 'pub' else 'crate ' if out[-4:] == ['pub', '(', 'crate', ')'] else ''
+            if public:
+                del out[-(1 if public == 'pub ' else 4):]
+            found, i = leaves(i + 1, '')
+            paths.update((public, path) for path in found)
+            i += 1
+        else:
+            out.append(tokens[i])
+            i += 1
+    return out, paths
+
+
+def same_place(path, name, crates):
+    """A Rust path as the Rattle file of the crate of this name has it."""
+    path = re.sub(r'^crate::(?:parts|tests)::(\w+)', lambda m: 'crate' if m.group(1) == name else m.group(1), path)
+    for old, new in (('std::alloc', 'crate::shims::memory'), ('std::collections', 'crate::shims::sorted'), ('std::test', 'crate::shims::test'),
+                     ('bitflags', 'crate::shims::flags'), ('arrayvec', 'crate::shims::array'), ('std', 'core')):
+        path = re.sub('^%s(?=::|$)' % new, old, path)
+    return path
+
+
+def judge_uses(rattles, rusts, name, crates, macros):
+    """Which paths differ otherwise than by rule, and how many by which."""
+    counts, faults = collections.Counter(), []
+    left = collections.Counter()
+    for (public, path), count in rattles.items():
+        last = path.split('::')[-1]
+        if last in ('Global', 'Abort', 'Model'):
+            counts['allocator' if last == 'Global' else 'imports'] += count
+        elif name == WHOLE and public and path.split(' ')[0].endswith('laws'):
+            left['crate ', path] += count
+            counts['laws are not public'] += count
+        else:
+            left[public, path] += count
+    for (public, path), count in rusts.items():
+        if path == 'crate::shims::prelude::*':
+            counts['prelude'] += count
+            continue
+        found = next((p for p in left if p[0] == public and (p[1] == same_place(path, name, crates)
+                      or path.startswith('crate::') and path.count('::') == 1 and p[1].split('::')[-1] == path[7:] and path[7:] in macros)), None)
+        if found is None or left[found] < count:
+            faults.append('+ use %s%s' % (public, path))
+        else:
+            left[found] -= count
+            counts['imports'] += (found[1] != path) * count
+    faults += ['- use %s%s' % key for key, count in left.items() if count > 0]
+    return counts, faults
+
+
+def instances(a, i, b, j):
+    """The instances of rules that begin at these places of both texts: the rule, and the places behind."""
+    found = TAKEN.match(a, i)
+    if found:
+        fields = [f.split(':')[0].strip() for f in found.group(1).split(',') if f.strip() and '_' not in f.split()]
+        wanted = ''.join('let %s = core : : mem : : take ( & mut self . %s ) ; ' % (f, f) for f in fields)
+        if b.startswith(wanted, j):
+            yield 'drop(self)', found.end(), j + len(wanted)
+    for name, goes, comes in COMPILED:
+        found = goes.match(a, i)
+        if not found:
+            continue
+        if isinstance(comes, str):
+            wanted = re.sub(r'\\(\d)', lambda m: found.group(int(m.group(1))), comes)
+            if b.startswith(wanted, j):
+                yield name, found.end(), j + len(wanted)
+        else:
+            new = comes.match(b, j)
+            if new:
+                yield name, found.end(), new.end()
+
+
+def walk(a, b):
+    """Both texts of tokens side by side: the rules whose instances stand where the tokens aren't the same; and where no rule says how
+    to go on, the two places."""
+    a, b = ''.join(t + ' ' for t in a), ''.join(t + ' ' for t in b)
+    # Ways to go on, the last one tried first: where, and how it was come by.
+    left, seen, behind, furthest = [(0, 0, None)], set(), {}, (0, 0)
+    while left:
+        i, j, how = left.pop()
+        if (i, j) in seen:
+            continue
+        seen.add((i, j))
+        behind[i, j] = how
+        furthest = max(furthest, (i, j), key=sum)
+        if i == len(a) and j == len(b):
+            rules = []
+            while behind[i, j]:
+                (i, j), rule = behind[i, j]
+                rules += [rule] if rule else []
+            return rules, None
+        for name, to_i, to_j in instances(a, i, b, j):
+            if (to_i, to_j) != (i, j):
+                left.append((to_i, to_j, ((i, j), name)))
+        if i < len(a) and j < len(b):
+            token = a[i:a.index(' ', i) + 1]
+            if b.startswith(token, j):
+                left.append((i + len(token), j + len(token), ((i, j), None)))
+    i, j = furthest
+    return [], '.. %s | %s | %s' % (a[max(0, i - 60):i], a[i:i + 120], b[j:j + 120])
+
+
+def judge(source, rust, name, crates, macros, patches=()):
+    """How often each rule is used, and what no rule says, of a Rattle file and the Rust file made of it."""
+    for reason, old, new in patches:
+        rust = rust.replace(new, old)
+    a, rattle_uses = uses_apart(contracts_dropped(rattle.code(source)))
+    b, rust_uses = uses_apart(rattle.code(rust))
+    counts, faults = judge_uses(rattle_uses, rust_uses, name, crates, macros)
+    rules, fault = walk(a, b)
+    counts.update(rules)
+    if fault:
+        faults.append(fault)
+    return counts, faults
+
+
+def main():
+    crates, out = sys.argv[1:3]
+    parts, tests = parts_and_tests(crates)
+    total, faults, files, same = collections.Counter(), 0, 0, 0
+    macros = set()
+    for name in parts:
+        for root, _, found in os.walk(os.path.join(crates, name, 'src')):
+            for file in found:
+                with open(os.path.join(root, file), encoding='utf-8') as f:
+                    macros.update(re.findall(r'macro_rules! (\w+)', f.read()))
+    for home, names in (('parts', parts), ('tests', tests)):
+        for name in names:
+            folder = os.path.join(crates, name, 'src')
+            for root, _, found in os.walk(folder):
+                for file in sorted(found):
+                    path = os.path.relpath(os.path.join(root, file), folder)[:-3]
+                    made = '%s/%s/%s.rs' % (home, name, 'mod' if path == 'lib' else path)
+                    with open(os.path.join(root, file), encoding='utf-8') as f:
+                        source = f.read()
+                    with open(os.path.join(out, 'src', made), encoding='utf-8') as f:
+                        rust = f.read()
+                    counts, wrong = judge(source, rust, name, crates, macros, PATCHES.get(made, ()))
+                    total.update(counts)
+                    faults += len(wrong)
+                    files += 1
+                    same += set(counts) <= {'prelude', 'imports', 'paths'}
+                    for fault in wrong:
+                        print('%s: %s' % (made, fault))
+    print('%d files; in %d of them nothing but names of places differs' % (files, same))
+    for rule, count in total.most_common():
+        print('%6d %s' % (count, rule))
+    for file, patches in PATCHES.items():
+        for reason, _, _ in patches:
+            print('       patch of %s: %s' % (file, reason))
+    print('%d patches; %d differences that no rule says' % (sum(map(len, PATCHES.values())), faults))
+    return 1 if faults else 0
+
+
+if __name__ == '__main__':
+    sys.exit(main())

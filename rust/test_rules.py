@@ -1,0 +1,144 @@
+"""Tests of the script that makes Rust, and of the one that judges it."""
+import os
+import sys
+import unittest
+
+sys.path.insert(0, os.path.dirname(os.path.abspath(__file__)))
+
+import compare
+import erase
+import rattle
+
+SOURCE = '''//! Counts.
+#![tactic(auto)]
+ghost use Rattle.std.specs.Prelude.{◌≡◌, ℕ};
+
+use crate::other::Thing;
+use std::alloc::{AllocError, Global};
+use std::fmt;
+
+/// A count's list.
+#[derive(Debug, Drop)]
+pub struct Counts {
+    alloc: Global,
+    pub items: Vec<u32>,
+    ghost extra: { ℕ },
+}
+
+impl Model for Counts {
+    ghost Value = { ℕ };
+}
+
+impl Counts {
+    /// With one more: "in memory; of alloc".
+    #[tactic(auto, using(a::b))]
+    pub fn with(mut self, alloc: Global, count: u32) -> Result<Counts, AllocError>
+        requires { count < 7 }
+        // Nothing is lost.
+        ensures kept { length result.items ≡ 1 + length self.items }
+    {
+        self.items.push(count)?;
+        let more = small(alloc, &self.items, Vec::new(alloc))?;
+        Ok(Counts { alloc, items: more })
+    }
+}
+
+impl fmt::Display for Counts {
+    fn fmt<W: fmt::Write>(&self, f: &mut fmt::Formatter<W>) -> fmt::Result {
+        write!(f, "{}", self.items.len())
+    }
+}
+
+impl Drop for Counts {
+    fn drop(self) {
+        let Counts { alloc: _, items } = self;
+        discard(items);
+    }
+}
+'''
+
+RUST = '''//! Counts.
+
+use crate::shims::prelude::*;
+use crate::parts::counts::other::Thing;
+use crate::shims::memory::AllocError;
+use core::fmt;
+
+/// A count's list.
+#[derive(Debug)]
+pub struct Counts {
+    pub items: Vec<u32>,
+}
+
+impl Counts {
+    /// With one more: "in memory; of alloc".
+    pub fn with(mut self, count: u32) -> Result<Counts, AllocError> {
+        self.items.try_push(count)?;
+        let more = small(&self.items, Vec::new())?;
+        Ok(Counts { items: more })
+    }
+}
+
+impl fmt::Display for Counts {
+    fn fmt(&self, f: &mut fmt::Formatter<'_>) -> fmt::Result {
+        write!(f, "{}", self.items.len())
+    }
+}
+
+impl Drop for Counts {
+    fn drop(&mut self) {
+        let items = core::mem::take(&mut self.items);
+        discard(items);
+    }
+}
+'''
+
+
+def faults(rust, source=SOURCE):
+    return compare.judge(source, rust, 'counts', None, set())[1]
+
+
+class Rules(unittest.TestCase):
+    def test_tokens_join_to_the_text(self):
+        text = "a 'b' 'life \"s\\\"t\" // c\n/* d */ r#\"e\"# 0..1 /// f"
+        self.assertEqual(''.join(t for _, t in rattle.tokens(text)), text)
+        hidden, kept = rattle.hide(text)
+        self.assertNotIn('s\\"t', hidden)
+        self.assertEqual(rattle.show(hidden, kept), text)
+
+    def test_a_file_is_erased(self):
+        self.assertEqual(erase.erase(SOURCE, 'counts', 'parts', {}, ['counts'], []), RUST)
+
+    def test_the_erased_file_differs_by_rules(self):
+        self.assertEqual(faults(RUST), [])
+
+    def test_each_other_change_is_seen(self):
+        for old, new in [('count)?;', 'count + 1)?;'), ('self.items.try_push(count)?;\n', ''), ('&self.items', '&items'),
+                         ('discard(items);', ''), ('"{}"', '"{:?}"'), ('(mut self, count', '(self, count'), ('more })', 'more, x })'),
+                         ('core::mem::take', 'core::mem::replace'), ('other::Thing', 'another::Thing'), ('pub items', 'items'),
+                         ('small(&self.items, Vec::new())', 'small(Vec::new(), &self.items)'), ('u32>', 'u64>'),
+                         ('use core::fmt;\n', 'use core::fmt;\nuse core::mem;\n'), ('#[derive(Debug)]', '#[derive(Debug, Clone)]')]:
+            self.assertIn(old, RUST)
+            self.assertNotEqual(faults(RUST.replace(old, new, 1)), [], (old, new))
+
+    def test_each_change_of_the_source_is_seen(self):
+        for old, new in [('self.items.push(count)?;', 'self.items.push_reserved(count);'), ('Ok(Counts', 'Err(Counts'),
+                         ('discard(items)', 'keep(items)'), ('alloc: _, items }', 'alloc: _, items: _ }')]:
+            self.assertIn(old, SOURCE)
+            self.assertNotEqual(faults(RUST, SOURCE.replace(old, new, 1)), [], (old, new))
+
+    def test_a_patch_that_fits_nowhere_is_an_error(self):
+        erase.PATCHES['x.rs'] = [('why', 'absent', 'new')]
+        try:
+            self.assertRaises(ValueError, erase.patched, 'x.rs', 'text')
+        finally:
+            del erase.PATCHES['x.rs']
+
+    def test_a_kit_crate_without_a_shim_is_an_error(self):
+        from crates import with_those_below
+        self.assertRaises(ValueError, with_those_below, ['a'], {'a': ['json']})
+        self.assertEqual(with_those_below(['a'], {'b': [], 'a': ['b', 'bitflags']}), ['b', 'a'])
+
+
+if __name__ == '__main__':
+    unittest.main()

@@ -10,7 +10,7 @@ import sys
 
 import rattle
 from crates import WHOLE, parts_and_tests
-from patches import PATCHES
+from patches import PATCHES, WORDS
 
 # What takes memory: an allocator, or the runtime that hands one out, as an argument, a parameter, a field or a part of a `use`.
 MEMORY = r'(?:\*\s*|&\s*)*(?:rt|alloc|\$alloc|Global|[\w.]+\.alloc(?:\(\))?|[\w.]+\.allocator\(\))'
@@ -103,6 +103,7 @@ def drop_memory(text):
     # Statements, fields, prefixes of macros.
     text = re.sub(r'^[ \t]*let _?alloc = %s;\n+' % MEMORY, '', text, flags=re.M)
     text = re.sub(r'^(?:[ \t]*\x01d\d+\x02\n)*[ \t]*(?:pub(?:\(crate\))? )?alloc: (?:Global|%s),\n' % MEMORY, '', text, flags=re.M)
+    text = re.sub(r'\bvec!\[\s*in\s+\$alloc;\s*', '$crate::try_vec![', text)
     text = re.sub(r'\b(vec|format)!([\[(])\s*in\s+%s;\s*' % MEMORY, r'crate::try_\1!\2', text)
     text = re.sub(r'([(\[]\s*)in\s+(?:\$alloc:expr|%s);\s*' % MEMORY, r'\1', text)
     text = re.sub(r'\b(assert\w*!\(\s*)%s;\s*' % MEMORY, r'\1', text)
@@ -165,7 +166,8 @@ def name_paths(text, name, home, parts, tests):
     """Paths as they are in one crate."""
     text = re.sub(r'\$crate::(\w+)!', '$\x03::\\1!', text)
     text = re.sub(r'\$crate::(?=\w)', '$\x03::macros::%s::' % name, text)
-    text = text.replace('crate::try_', '\x03::try_').replace('crate::shims', '\x03::shims').replace('core::mem', '\x04::mem')
+    text = re.sub(r'\bcrate::try_', '\x03::try_', text)
+    text = text.replace('crate::shims', '\x03::shims').replace('core::mem', '\x04::mem')
     text = re.sub(r'\bcrate::', '%s::%s::' % (home, name), text)
     for names, place in ((parts, '\x03::parts'), (tests, '\x03::tests')):
         for other in names:
@@ -306,7 +308,7 @@ def exported_macros(crates, parts):
 
 def patched(path, text):
     """The text with its patches, each of which stands for one place."""
-    for reason, old, new in PATCHES.get(path, []):
+    for reason, old, new in PATCHES.get(path, []) + [('words', old, new) for old, new in WORDS.get(path, [])]:
         if text.count(old) != 1:
             raise ValueError('%s: the patch "%s" fits %d places' % (path, reason, text.count(old)))
         text = text.replace(old, new)

@@ -48,6 +48,41 @@ impl<I> Display for DeserializeError<I> {
 
 impl<I: Debug> Error for DeserializeError<I> {}
 
+impl DeserializeError<&[u8]> {
+    /// The same refusal, with the byte of `input` at which the fault stands in place of the bytes from there on: so that it outlives them.
+    /// `input` is what was read.
+    ///
+    /// ```
+    /// use spa_pod::pod::deserialize::PodDeserializer;
+    ///
+    /// fn count(bytes: &[u8]) -> Result<usize, Box<dyn std::error::Error>> {
+    ///     let (rest, _) = PodDeserializer::deserialize_any_from(bytes).map_err(|error| error.placed_in(bytes))?;
+    ///     Ok(bytes.len() - rest.len())
+    /// }
+    /// assert_eq!(count(&[0, 0, 0, 0, 1, 0, 0, 0]).unwrap(), 8);
+    /// assert!(count(&[9, 0, 0, 0]).is_err());
+    /// ```
+    pub fn placed_in(self, input: &[u8]) -> DeserializeError<usize> {
+        match self {
+            DeserializeError::Nom(fault) => DeserializeError::Nom(Fault {
+                input: input.len().saturating_sub(fault.input.len()),
+                kind: fault.kind,
+            }),
+            DeserializeError::UnsupportedType => DeserializeError::UnsupportedType,
+            DeserializeError::InvalidType => DeserializeError::InvalidType,
+            DeserializeError::PropertyMissing => DeserializeError::PropertyMissing,
+            DeserializeError::PropertyWrongKey(key) => DeserializeError::PropertyWrongKey(key),
+            DeserializeError::InvalidChoiceType => DeserializeError::InvalidChoiceType,
+            DeserializeError::MissingChoiceValues => DeserializeError::MissingChoiceValues,
+            DeserializeError::WrongSize => DeserializeError::WrongSize,
+            DeserializeError::UnreadMembers => DeserializeError::UnreadMembers,
+            DeserializeError::NoElementLeft => DeserializeError::NoElementLeft,
+            DeserializeError::FailedReader => DeserializeError::FailedReader,
+            DeserializeError::OutOfMemory => DeserializeError::OutOfMemory,
+        }
+    }
+}
+
 impl Error for GenError {}
 
 impl Error for Errno {}

@@ -1,3 +1,5 @@
-//! What Rust's users expect of these types beside the proved items.
+//! What Rust's users expect of these types beside the proved items. It is written by hand, over the generated modules.
 mod clones;
 mod errors;
+pub mod levels;
+mod numbers;

@@ -8,7 +8,8 @@ pub struct Flag<B> {
     pub value: B,
 }
 
-/// A set of flags.
+/// A set of flags. The inherent calls do the same; the tests call these.
+#[allow(dead_code)]
 pub trait Flags: Sized + 'static {
     /// The number.
     type Bits;

@@ -163,18 +163,6 @@ impl<T, I: Iterator<Item = T>> ToVec<T> for I {
     }
 }
 
-/// Slices copied into a vector.
-pub trait SliceToVec<T> {
-    /// Copies of all in a vector.
-    fn try_to_vec(&self) -> Result<Vec<T>, AllocError>;
-}
-
-impl<T: Copy> SliceToVec<T> for [T] {
-    fn try_to_vec(&self) -> Result<Vec<T>, AllocError> {
-        Vec::try_from_slice(self)
-    }
-}
-
 /// A vector of these elements, or want of memory.
 #[doc(hidden)]
 #[macro_export]
@@ -254,6 +242,18 @@ pub mod tests {
                 copy.try_push(x.try_clone()?).map_err(|_: AllocFailed<T>| AllocError)?;
             }
             Ok(copy)
+        }
+    }
+
+    /// Slices copied into a vector.
+    pub trait SliceToVec<T> {
+        /// Copies of all in a vector.
+        fn try_to_vec(&self) -> Result<Vec<T>, AllocError>;
+    }
+
+    impl<T: Copy> SliceToVec<T> for [T] {
+        fn try_to_vec(&self) -> Result<Vec<T>, AllocError> {
+            Vec::try_from_slice(self)
         }
     }
 

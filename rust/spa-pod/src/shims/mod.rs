@@ -11,8 +11,8 @@ pub mod test;
 /// What each generated module has in scope.
 pub mod prelude {
     #[cfg(test)]
-    pub use super::memory::tests::{Repeat, SplitOff, StringRoom};
-    pub use super::memory::{SliceToVec, Text, ToVec, TryClone, VecRoom};
+    pub use super::memory::tests::{Repeat, SliceToVec, SplitOff, StringRoom};
+    pub use super::memory::{Text, ToVec, TryClone, VecRoom};
     pub use alloc::string::String;
     pub use alloc::vec::Vec;
 }

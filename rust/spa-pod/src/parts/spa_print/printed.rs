@@ -8,14 +8,14 @@ use core::fmt;
 /// A value that is printed by a loop: `{:?}` of it is the text that `{:?}` of the value is, in one line, whatever options are given.
 ///
 /// `{:?}` of a value has no answer for want of memory, and so calls itself for each level of nesting. This takes memory for each
-/// level from its allocator, and is refused as `fmt::Error` where that is, or where what is printed to refuses.
+/// level, and is refused as `fmt::Error` where that is, or where what is printed to refuses.
 #[derive(Clone, Copy)]
 pub struct Printed<'a> {
     value: &'a Value,
 }
 
 impl<'a> Printed<'a> {
-    /// This value, printed with memory of this allocator.
+    /// This value, printed.
     pub fn new(value: &'a Value) -> Printed<'a> {
         Printed { value }
     }

@@ -11,8 +11,8 @@ pub trait PodSink {
     /// Appends the bytes. A refusal leaves a beginning of them appended.
     fn append(&mut self, bytes: &[u8]) -> Result<(), GenError>;
 
-    /// The allocator that its bytes lie in, where it has one. A writer may put together in memory of this allocator what it appends then:
-    /// so the sink may always refuse for want of memory, and be left as it was. A sink that has none keeps the default.
+    /// Whether it takes memory as it grows. A writer may put together in memory what it appends then:
+    /// so the sink may always refuse for want of memory, and be left as it was. A sink that takes none keeps the default.
     fn has_own_memory(&self) -> bool {
         false
     }

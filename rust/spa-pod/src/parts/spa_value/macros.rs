@@ -10,7 +10,7 @@ pub fn no_flags() -> ChoiceFlags {
     ChoiceFlags::empty()
 }
 
-/// A property without flags: `property!(in alloc; key, ..)`, where `alloc` is what a list takes memory from. The key,
+/// A property without flags: `property!(key, ..)`. The key,
 /// and the ids below, are of types with a method `as_raw`, such as `Id`. Behind the key stands
 ///
 /// - a value; or
@@ -27,7 +27,7 @@ macro_rules! property {
         $crate::property!($key, $crate::macros::spa_value::Value::Id($crate::macros::spa_value::Id($value.as_raw())))
     };
     ($key:expr, Choice, Enum, Id, $default:expr, $($alternative:expr),+ $(,)?) => {
-        match crate::try_vec![$($crate::macros::spa_value::Id($alternative.as_raw())),+] {
+        match $crate::try_vec![$($crate::macros::spa_value::Id($alternative.as_raw())),+] {
             Ok(alternatives) => $crate::choice_property!(
                 $key,
                 Id,
@@ -40,7 +40,7 @@ macro_rules! property {
         }
     };
     ($key:expr, Choice, Enum, $kind:ident, $default:expr, $($alternative:expr),+ $(,)?) => {
-        match crate::try_vec![$($alternative),+] {
+        match $crate::try_vec![$($alternative),+] {
             Ok(alternatives) => $crate::choice_property!(
                 $key,
                 $kind,
@@ -53,7 +53,7 @@ macro_rules! property {
         }
     };
     ($key:expr, Choice, Flags, $kind:ident, $default:expr, $($flag:expr),+ $(,)?) => {
-        match crate::try_vec![$($flag),+] {
+        match $crate::try_vec![$($flag),+] {
             Ok(flags) => $crate::choice_property!(
                 $key,
                 $kind,
@@ -111,7 +111,7 @@ macro_rules! choice_property {
     };
 }
 
-/// An object: `object!(in alloc; type, id, properties..)`, where `alloc` is what the list takes memory from. The type
+/// An object: `object!(type, id, properties..)`. The type
 /// and the id are of types with a method `as_raw`, such as `Id`, and each property, of which there may be none, is a
 /// `Property`: behind each `property!` stands a `?`.
 ///

@@ -12,7 +12,7 @@ use crate::parts::spa_sink::{GenError, PodSink, put_two};
 use crate::parts::spa_utils::SpaTypes;
 use crate::parts::spa_value::{Object, Property, Value};
 
-/// The encoding of a value, in memory of this allocator: also of one that is nested deep, since what is begun is kept in a
+/// The encoding of a value: also of one that is nested deep, since what is begun is kept in a
 /// list.
 pub(crate) fn write_by_loop(value: &Value) -> Result<Vec<u8>, GenError> {
     let mut out = Vec::new();

@@ -23,7 +23,7 @@ const KEYED_LEN: usize = 24;
 /// 4294967296 or more are refused before a byte is appended. Where the sink refuses it, the sink has taken a beginning of
 /// the encoding.
 ///
-/// Where the sink names an allocator, the encoding of a struct or of an object in which more than 64 values lie is put
+/// Where the sink has memory of its own, the encoding of a struct or of an object in which more than 64 values lie is put
 /// together in memory of that one by a loop, and appended at once; structs that are the only member of another one aren't
 /// counted. A smaller one, and any into another sink, is written by functions that call themselves for each level of nesting
 /// but that of such structs, and takes no memory. Where such a sink knows how much room it has, no call is nested deeper than
@@ -45,7 +45,7 @@ pub fn write_sized<S: PodSink>(sink: &mut S, value: &Value) -> Result<u64, GenEr
 }
 
 /// Appends the encoding of a value to any sink, at once, and answers its length. It is put together by a loop, in memory of
-/// this allocator: so a value may be nested as deep as it likes, whatever the sink is. A text with NUL, a size of 4294967296
+/// memory: so a value may be nested as deep as it likes, whatever the sink is. A text with NUL, a size of 4294967296
 /// or more, and want of that memory are refused before a byte is appended. Where the sink refuses it, the sink has taken a
 /// beginning of the encoding.
 pub fn write_value<S: PodSink>(sink: &mut S, value: &Value) -> Result<u64, GenError> {

@@ -1,0 +1,90 @@
+//! Reading under a limit of nesting.
+use crate::pod::deserialize::{DeserializeError, PodDeserializer};
+use crate::pod::{Value, nests_within};
+use core::error::Error;
+use core::fmt::{Display, Formatter, Result as Printed};
+
+/// Why a pod was not read under a limit of nesting.
+#[derive(Debug, PartialEq)]
+pub enum NestedReadError<I> {
+    /// More structs and objects stand in one another than the limit says.
+    TooDeep,
+    /// The bytes are refused.
+    Refused(DeserializeError<I>),
+}
+
+impl<I> From<DeserializeError<I>> for NestedReadError<I> {
+    fn from(error: DeserializeError<I>) -> NestedReadError<I> {
+        NestedReadError::Refused(error)
+    }
+}
+
+impl<I> Display for NestedReadError<I> {
+    fn fmt(&self, f: &mut Formatter<'_>) -> Printed {
+        match self {
+            NestedReadError::TooDeep => f.write_str("values nest deeper than the limit"),
+            NestedReadError::Refused(error) => Display::fmt(error, f),
+        }
+    }
+}
+
+impl<I: core::fmt::Debug> Error for NestedReadError<I> {}
+
+impl<'de> PodDeserializer<'de> {
+    /// Reads the pod at the front, in which at most so many structs and objects may stand in one another: an Int nests in 0 levels,
+    /// a struct of Ints in 1. The answer is what is left of the bytes, and the value.
+    ///
+    /// A [`Value`] is dropped, compared by `==` and printed by `{:?}` level by level, each on the stack. In a thread of 2 MiB a value
+    /// of 1000 levels is dropped also without optimization; PipeWire's own nest in fewer than ten. Where no limit will do, read by
+    /// [`deserialize_any_from`](PodDeserializer::deserialize_any_from), and hold the value in a [`Held`](crate::pod::Held) at once.
+    ///
+    /// ```
+    /// use spa_pod::pod::deserialize::{NestedReadError, PodDeserializer};
+    /// use spa_pod::pod::serialize::PodSerializer;
+    /// use spa_pod::pod::Value;
+    ///
+    /// let inner = Value::Struct(vec![Value::Int(1)]);
+    /// let (bytes, _) = PodSerializer::serialize(Vec::new(), &Value::Struct(vec![inner]))?;
+    /// assert!(PodDeserializer::deserialize_any_within(2, &bytes).is_ok());
+    /// assert_eq!(PodDeserializer::deserialize_any_within(1, &bytes), Err(NestedReadError::TooDeep));
+    /// # Ok::<(), Box<dyn std::error::Error>>(())
+    /// ```
+    ///
+    /// # Errors
+    /// [`TooDeep`](NestedReadError::TooDeep) before anything is read; else as `deserialize_any_from` refuses.
+    pub fn deserialize_any_within(
+        levels: u32,
+        input: &'de [u8],
+    ) -> Result<(&'de [u8], Value), NestedReadError<&'de [u8]>> {
+        if !nests_within(input, levels) {
+            return Err(NestedReadError::TooDeep);
+        }
+        Ok(PodDeserializer::deserialize_any_from(input)?)
+    }
+}
+
+#[cfg(all(test, feature = "std"))]
+mod tests {
+    use crate::pod::Value;
+    use alloc::format;
+    use alloc::vec::Vec;
+    use std::thread::Builder;
+
+    fn nested(levels: u32) -> Value {
+        let mut value = Value::Int(1);
+        for _ in 0..levels {
+            value = Value::Struct(Vec::from([value]));
+        }
+        value
+    }
+
+    #[test]
+    fn a_thread_of_2_mib_drops_compares_and_prints_1000_levels() {
+        let thread = Builder::new().stack_size(2 << 20).spawn(|| {
+            let (one, other) = (nested(1000), nested(1000));
+            assert!(one == other);
+            assert_eq!(format!("{one:?}").matches("Struct(").count(), 1000);
+        });
+        thread.unwrap().join().unwrap();
+    }
+}

@@ -154,8 +154,11 @@ pub trait ToVec<T> {
 }
 
 impl<T, I: Iterator<Item = T>> ToVec<T> for I {
-    fn try_to_vec(self) -> Result<Vec<T>, AllocError> {
-        let mut made = Vec::with_room(self.size_hint().0)?;
+    fn try_to_vec(mut self) -> Result<Vec<T>, AllocError> {
+        let least = self.size_hint().0;
+        let mut made = Vec::with_room(least)?;
+        // There is room for these, so that `extend` asks for no memory.
+        made.extend(self.by_ref().take(least));
         for x in self {
             made.try_push(x)?;
         }

@@ -17,7 +17,7 @@ from patches import PATCHES
 
 GHOST_ATTRIBUTES = {'tactic', 'cycle', 'derive_where', 'rattlefmt'}
 MEMORY = r'(?:[&*] )*(?:(?:\w+ \. )+alloc(?: \( \))?|(?:\w+ \. )+allocator \( \)|rt|alloc|\$ alloc|Global)'
-TYPED = r'(?:mut )?_?alloc : (?:Global|%s)|rt : (?:HostRuntime|& impl Abort)|%s' % (MEMORY, MEMORY)
+TYPED = r'(?:mut )?_?alloc : (?:Global|%s)|rt : (?:&? ?HostRuntime|& impl Abort)|%s' % (MEMORY, MEMORY)
 RENAMED = [('push', 'try_push'), ('push_reserved', 'push'), ('reserve', 'make_room'), ('insert', 'try_insert'), ('resize', 'try_resize'),
            ('extend_from_slice', 'try_extend_from_slice'), ('push_str', 'try_push_str'), ('split_off', 'try_split_off'),
            ('repeat', 'try_repeat'), ('append', 'try_append'), ('with_capacity', 'with_room'), ('from_slice', 'try_from_slice'),
@@ -61,6 +61,11 @@ RULES = [
     ('paths', r'bitflags : :', r'crate : : shims : : flags : :'),
     ('tests', r'\) - > Result < \( \) , Fail > \{',
      r'\) \{ crate : : shims : : test : : run \( (\w+) \( \) \) \} fn \1 \( \) - > Result < \( \) , Fail > \{'),
+    ('tests', r'fn main \( rt : HostRuntime \)', r'pub fn main \( \)'),
+    ('tests', r'print ! \( rt ;', r'crate : : shims : : test : : print ! \('),
+    ('tests', r'println ! \( rt ;', r'crate : : shims : : test : : println ! \('),
+    ('tests', r'rt \. stdin', r'crate : : shims : : test : : stdin'),
+    ('tests', r'rt \. stdout', r'crate : : shims : : test : : stdout'),
     ('features', r'', r'# [ cfg ( feature = "std" ) ]'),
     ('asserted', r'', r'assert ! \( [^;]* \) ;'),
 ] + [('names of fallible calls', r'([.]|: :|fn) %s' % a, r'\1 %s' % b) for a, b in RENAMED]
@@ -266,8 +271,10 @@ def main():
             folder = os.path.join(crates, name, 'src')
             for root, _, found in os.walk(folder):
                 for file in sorted(found):
+                    if not file.endswith('.rt'):
+                        continue
                     path = os.path.relpath(os.path.join(root, file), folder)[:-3]
-                    made = '%s/%s/%s.rs' % (home, name, 'mod' if path == 'lib' else path)
+                    made = '%s/%s/%s.rs' % (home, name, 'mod' if path in ('lib', 'main') else path)
                     with open(os.path.join(root, file), encoding='utf-8') as f:
                         source = f.read()
                     with open(os.path.join(out, 'src', made), encoding='utf-8') as f:

@@ -5,9 +5,11 @@ import os
 WHOLE = 'libspa'
 # The libraries that are public beside it; with these come those that they stand on.
 BESIDE = ['spa_names', 'spa_events', 'spa_negotiate_pods', 'spa_filter_pods']
-# Crates of tests are those whose names end so. These are of the programs and of text, which aren't in the Rust crate.
-TEST_SUFFIX = '_tests'
-NOT_HERE = ['spa_command_tests']
+# Crates of tests are those whose names end so, and programs that answer rows, each of which becomes a test. Those that stand on a crate of the kit without a shim, as what reads text does, are left out.
+TEST_SUFFIXES = ('_tests', '_rows')
+ROWS_SUFFIX = '_rows'
+# It reads files by the kit's runtime: tests that stand on it are left out too.
+LEFT_OUT = ['spa_meet_commands']
 # The kit's crates for which shims stand.
 SHIMS = {'bitflags', 'arrayvec', 'thiserror'}
 
@@ -31,6 +33,8 @@ def with_those_below(names, stands_on):
         name = left.pop()
         if name in SHIMS or name in found:
             continue
+        if name in LEFT_OUT:
+            raise ValueError('"%s" is left out' % name)
         if name not in stands_on:
             raise ValueError('for the crate "%s" of the kit there is no shim' % name)
         found.add(name)
@@ -42,5 +46,11 @@ def parts_and_tests(crates):
     """The libraries, and the crates that only tests need."""
     stands_on = listed(crates)
     parts = with_those_below([WHOLE] + BESIDE, stands_on)
-    tests = [name for name in stands_on if name.endswith(TEST_SUFFIX) and name not in NOT_HERE]
-    return parts, [name for name in with_those_below(tests, stands_on) if name not in parts]
+    needed = set()
+    for name in stands_on:
+        if name.endswith(TEST_SUFFIXES):
+            try:
+                needed.update(with_those_below([name], stands_on))
+            except ValueError:
+                pass
+    return parts, [name for name in stands_on if name in needed and name not in parts]

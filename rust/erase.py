@@ -9,12 +9,12 @@ import shutil
 import sys
 
 import rattle
-from crates import WHOLE, parts_and_tests
+from crates import ROWS_SUFFIX, WHOLE, parts_and_tests
 from patches import PATCHES, WORDS
 
 # What takes memory: an allocator, or the runtime that hands one out, as an argument, a parameter, a field or a part of a `use`.
-MEMORY = r'(?:\*\s*|&\s*)*(?:rt|alloc|\$alloc|Global|[\w.]+\.alloc(?:\(\))?|[\w.]+\.allocator\(\))'
-TYPED = r'(?:%s\s*:\s*(?:Global|HostRuntime|&impl Abort|%s)|%s)' % (MEMORY, MEMORY, MEMORY)
+MEMORY = r'(?:\*\s*|&\s*)*(?:rt|_?alloc|\$alloc|Global|[\w.]+\.alloc(?:\(\))?|[\w.]+\.allocator\(\))'
+TYPED = r'(?:%s\s*:\s*(?:Global|&?HostRuntime|&impl Abort|%s)|%s)' % (MEMORY, MEMORY, MEMORY)
 
 # Methods of std that may be refused memory, as the module `memory` names them.
 FALLIBLE = {
@@ -107,6 +107,10 @@ def drop_memory(text):
     text = re.sub(r'\b(vec|format)!([\[(])\s*in\s+%s;\s*' % MEMORY, r'crate::try_\1!\2', text)
     text = re.sub(r'([(\[]\s*)in\s+(?:\$alloc:expr|%s);\s*' % MEMORY, r'\1', text)
     text = re.sub(r'\b(assert\w*!\(\s*)%s;\s*' % MEMORY, r'\1', text)
+    # A program of rows is a test.
+    text = re.sub(r'\b(print(?:ln)?)!\(\s*rt;\s*', r'crate::shims::test::\1!(', text)
+    text = re.sub(r'\brt\.(stdin|stdout)\(\)', r'crate::shims::test::\1()', text)
+    text = re.sub(r'^fn main\(rt: HostRuntime\)', 'pub fn main()', text, flags=re.M)
     # Items of lists: the first, one behind another, the only one.
     before = None
     while before != text:
@@ -210,7 +214,11 @@ def name_imports(text, name, macros, of_std):
                 base = new + base[len(old):]
         if base.startswith('std::') and not base.startswith('std::io') or base == 'std':
             base = 'core' + base[3:]
+        of_files = [p for p in kept if base == 'core' and p.split('::')[0] == 'io']
+        kept = [p for p in kept if p not in of_files]
         lines = ['%s#[cfg(feature = "std")]\n' % lead] if public and root in of_std else []
+        for part in of_files:
+            lines.append('%s%suse std::%s;\n' % (lead, public, part))
         if kept == parts and braces and len(kept) > 1:
             lines.append('%s%suse %s::{%s};\n' % (lead, public, base, braces.group(2)))
         elif len(kept) == 1:
@@ -315,6 +323,15 @@ def patched(path, text):
     return text
 
 
+# The test of a program of rows.
+ROWS = '''
+#[test]
+fn NAME_are_answered() {
+    crate::shims::test::answer_rows(include_str!("NAME/stdin"), include_str!("NAME/stdout"), NAME::main);
+}
+'''
+
+
 def generate(crates):
     """All generated files: path in src/ and text."""
     parts, tests = parts_and_tests(crates)
@@ -324,9 +341,14 @@ def generate(crates):
     for home, names in (('parts', parts), ('tests', tests)):
         for name in names:
             for path, text in sources(os.path.join(crates, name, 'src')):
-                file = '%s/%s/%s.rs' % (home, name, 'mod' if path == 'lib' else path)
+                file = '%s/%s/%s.rs' % (home, name, 'mod' if path in ('lib', 'main') else path)
                 made[file] = patched(file, assert_required(erase(text, name, home, macros, parts, tests, of_std), path))
+            if name.endswith(ROWS_SUFFIX):
+                for stream in ('stdin', 'stdout'):
+                    with open(os.path.join(crates, name, stream), encoding='utf-8') as f:
+                        made['%s/%s/%s' % (home, name, stream)] = f.read()
         items = ''.join('%spub mod %s;\n' % ('#[cfg(feature = "std")]\n' if name in of_std else '', name) for name in sorted(names))
+        items += ''.join(ROWS.replace('NAME', name) for name in sorted(names) if name.endswith(ROWS_SUFFIX))
         made[home + '/mod.rs'] = '//! Made by rust/erase.py of the proved crates, a module each.\n' + items
     return made
 

@@ -170,6 +170,13 @@ impl<T, I: Iterator<Item = T>> ToVec<T> for I {
 #[doc(hidden)]
 #[macro_export]
 macro_rules! try_vec {
+    ($x:expr; $count:expr) => {{
+        let mut made = $crate::macros::Vec::new();
+        match $crate::macros::VecRoom::try_resize(&mut made, $count, $x) {
+            Ok(()) => Ok(made),
+            Err(error) => Err(error),
+        }
+    }};
     ($($x:expr),* $(,)?) => {
         <$crate::macros::Vec<_> as $crate::macros::VecRoom<_>>::try_from_array([$($x),*])
     };

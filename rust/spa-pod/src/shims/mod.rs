@@ -5,7 +5,8 @@ pub mod array;
 pub mod flags;
 pub mod memory;
 pub mod sorted;
-#[cfg(test)]
+#[cfg(all(test, feature = "std"))]
+#[allow(dead_code, unused_macros, unused_imports)]
 pub mod test;
 
 /// What each generated module has in scope.

@@ -1,8 +1,43 @@
 //! Made by rust/erase.py of the proved crates, a module each.
+pub mod filter_pods_rows;
+pub mod filter_rows;
 pub mod libspa_tests;
-pub mod spa_filter_tests;
-pub mod spa_part_tests;
+pub mod multiples_tests;
+pub mod negotiate_rows;
+pub mod negotiation_tests;
+pub mod podtool_rows;
+pub mod podtool_tests;
+pub mod spa_builder_tests;
+pub mod spa_fixed_tests;
+pub mod spa_parser_tests;
+pub mod spa_pod_commands;
+pub mod spa_read_tests;
 pub mod spa_spelling;
 pub mod spa_tests;
 pub mod spa_typed_tests;
 pub mod spa_uses;
+pub mod spa_utils_tests;
+pub mod spa_value_tests;
+pub mod spa_view_tests;
+pub mod spa_write_tests;
+pub mod test_streams;
+
+#[test]
+fn filter_pods_rows_are_answered() {
+    crate::shims::test::answer_rows(include_str!("filter_pods_rows/stdin"), include_str!("filter_pods_rows/stdout"), filter_pods_rows::main);
+}
+
+#[test]
+fn filter_rows_are_answered() {
+    crate::shims::test::answer_rows(include_str!("filter_rows/stdin"), include_str!("filter_rows/stdout"), filter_rows::main);
+}
+
+#[test]
+fn negotiate_rows_are_answered() {
+    crate::shims::test::answer_rows(include_str!("negotiate_rows/stdin"), include_str!("negotiate_rows/stdout"), negotiate_rows::main);
+}
+
+#[test]
+fn podtool_rows_are_answered() {
+    crate::shims::test::answer_rows(include_str!("podtool_rows/stdin"), include_str!("podtool_rows/stdout"), podtool_rows::main);
+}

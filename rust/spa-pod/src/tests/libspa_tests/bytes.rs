@@ -1,7 +1,6 @@
 //! What the tests assert of bytes and numbers: each assertion is proved here, once.
 use crate::shims::prelude::*;
-use crate::tests::spa_spelling::{bytes_of, bytes_spelled};
-use crate::shims::memory::AllocError;
+use crate::tests::spa_spelling::bytes_spelled;
 use crate::shims::test::Fail;
 
 /// Compares bytes with those that the words spell.
@@ -22,14 +21,4 @@ pub(crate) fn assert_number(found: usize, wanted: usize, at: &str) {
 /// Something holds. The text says what.
 pub(crate) fn assert_holds(holds: bool, what: &str) {
     assert!(holds, "{what}");
-}
-
-/// Whether the bytes are these words.
-pub(crate) fn are_words(found: &[u8], words: &[u32]) -> Result<bool, AllocError> {
-    Ok(found == bytes_of(words)?.as_slice())
-}
-
-/// Something holds of the row with this name and these words.
-pub(crate) fn assert_holds_at(holds: bool, name: &str, words: &[u32]) {
-    assert!(holds, "{name} at {words:?}");
 }

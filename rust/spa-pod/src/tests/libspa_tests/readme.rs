@@ -211,21 +211,23 @@ fn writes_answers() -> Result<(), Fail> {
     Ok(())
 }
 
+/// Two pods, and whether they say the same value.
+const ALIKE: &[(&str, &str, bool)] = &[
+    ("4 2 1 0", "4 2 7 9", true),
+    ("4 2 1 0", "4 2 0 0", false),
+    (REWRITTEN, FIXATED, true),
+    (FIXATED, BUFFERS, false),
+];
+
 #[test]
 fn rewrites() {
     crate::shims::test::run(rewrites_answers())
 }
 
 fn rewrites_answers() -> Result<(), Fail> {
-    let rows = [
-        ("4 2 1 0", "4 2 7 9", true),
-        ("4 2 1 0", "4 2 0 0", false),
-        (REWRITTEN, FIXATED, true),
-        (FIXATED, BUFFERS, false),
-    ];
-    for (one, other, wanted) in rows {
+    for (one, other, wanted) in ALIKE {
         let are_same = are_same(one, other)?;
-        assert_holds(are_same == wanted, other);
+        assert_holds(are_same == *wanted, other);
     }
     Ok(())
 }
@@ -263,6 +265,13 @@ fn refused_place(pods: &[u8]) -> usize {
     }
 }
 
+/// Keys, and the Ints under them in examples/buffers.pod.
+const UNDER: &[(u32, Option<i32>)] = &[(1, None), (2, Some(1)), (4, Some(4)), (5, None)];
+
+fn assert_under(found: Option<i32>, wanted: Option<i32>, key: u32) {
+    assert_eq!(found, wanted, "under {key}");
+}
+
 #[test]
 fn looks() {
     crate::shims::test::run(looks_answers())
@@ -270,9 +279,9 @@ fn looks() {
 
 fn looks_answers() -> Result<(), Fail> {
     let bytes = bytes_spelled(BUFFERS)?;
-    for (key, wanted) in [(1, None), (2, Some(1)), (4, Some(4)), (5, None)] {
-        let found = int_under(Id(key), bytes.as_slice());
-        assert_eq!(found, wanted, "under {key}");
+    for (key, wanted) in UNDER {
+        let found = int_under(Id(*key), bytes.as_slice());
+        assert_under(found, *wanted, *key);
     }
     Ok(())
 }
@@ -288,17 +297,23 @@ fn fixates_answers() -> Result<(), Fail> {
     assert_spelt(bytes.as_slice(), FIXATED)
 }
 
+/// Pairs of a dictionary.
+const PAIRS: &[(&[u8], &[u8])] = &[(b"media.class", b"Audio/Sink"), (b"audio.channels", b"2")];
+
 #[test]
 fn looks_up() {
-    let pairs: [(&[u8], &[u8]); 2] = [(b"media.class", b"Audio/Sink"), (b"audio.channels", b"2")];
-    assert_eq!(channels(&pairs), Some(2));
-    assert_eq!(channels(&[]), None);
+    let found = channels(PAIRS);
+    assert_holds(found == Some(2), "two channels");
+    let found = channels(&[]);
+    assert_holds(found.is_none(), "no channels");
 }
+
+/// Result codes, and what they say.
+const CODES: &[(i32, &str)] = &[(7, "done"), (1073741824, "done later"), (-22, "failed")];
 
 #[test]
 fn tells() {
-    let rows = [(7, "done"), (1073741824, "done later"), (-22, "failed")];
-    for (code, wanted) in rows {
-        assert_eq!(told(code), wanted, "at {code}");
+    for (code, wanted) in CODES {
+        assert_holds(told(*code) == *wanted, wanted);
     }
 }

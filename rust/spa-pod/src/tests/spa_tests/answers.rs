@@ -2,10 +2,14 @@
 use crate::shims::prelude::*;
 use crate::tests::spa_tests::bytes::{assert_bytes, assert_spelt, assert_text};
 use crate::tests::spa_tests::said::say_value;
-use crate::parts::libspa::pod::deserialize::{DeserializeError, PodDeserializer};
-use crate::parts::libspa::pod::serialize::{GenError, PodSerializer};
-use crate::parts::libspa::pod::{Pod, PodObject, Value, rewrite, rewrite_in_parts};
-use crate::parts::libspa::utils::Errno;
+use crate::parts::spa_fixed::DeserializeError;
+use crate::parts::spa_rewrite::{rewrite, rewrite_in_parts};
+use crate::parts::spa_sink::GenError;
+use crate::parts::spa_typed_read::PodDeserializer;
+use crate::parts::spa_typed_write::PodSerializer;
+use crate::parts::spa_utils::Errno;
+use crate::parts::spa_value::Value;
+use crate::parts::spa_view::{Pod, PodObject};
 use crate::shims::memory::AllocError;
 use crate::shims::test::Fail;
 

@@ -1,4 +1,5 @@
-//! Tests that cross crates, over the paths that a user of the library writes. There is nothing here but tests.
+//! Tests that cross crates: what is read, written, rewritten, fixated and viewed agrees, on pods of PipeWire's own and on hostile bytes.
+//! There is nothing here but tests.
 use crate::shims::prelude::*;
 #[cfg(test)]
 mod answers;

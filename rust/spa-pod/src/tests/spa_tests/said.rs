@@ -1,10 +1,8 @@
 //! What values say, as text, so that each of their fields is compared with a tree that another program printed.
 use crate::shims::prelude::*;
 use crate::shims::flags::Flags;
-use crate::parts::libspa::pod::{ChoiceValue, Object, Value, ValueArray};
-use crate::parts::libspa::utils::{
-    Choice, ChoiceEnum, ChoiceFlags, Fd, Float32, Float64, Fraction, Id, Rectangle,
-};
+use crate::parts::spa_utils::{Choice, ChoiceEnum, ChoiceFlags, Fd, Float32, Float64, Fraction, Id, Rectangle};
+use crate::parts::spa_value::{ChoiceValue, Object, Value, ValueArray};
 use crate::shims::memory::AllocError;
 
 /// A value of fixed size, as JSON: a number, `true`, `false`, `null`, or a list of two numbers. A float is its bits.

@@ -65,6 +65,8 @@ fn lent() -> Result<Vec<u8>, GenError> {
     put(out, &Bitmap(&[]))
 }
 
+const DOUBLES: &[Float64] = &[Float64(4607182418800017408), Float64(4612136378390124954)];
+
 /// Arrays, one behind another.
 fn lists() -> Result<Vec<u8>, GenError> {
     let out = put(Vec::new(), &[(); 5].as_slice())?;
@@ -73,8 +75,7 @@ fn lists() -> Result<Vec<u8>, GenError> {
     let out = put(out, &[10i32, 15, 19].as_slice())?;
     let out = put(out, &[1i64, 2, 3].as_slice())?;
     let out = put(out, &[Float32(1065353216), Float32(1074580685)].as_slice())?;
-    let doubles = [Float64(4607182418800017408), Float64(4612136378390124954)];
-    let out = put(out, &doubles.as_slice())?;
+    let out = put(out, &DOUBLES)?;
     let out = put(
         out,
         &[rectangle(800, 600), rectangle(1920, 1080)].as_slice(),
@@ -154,18 +155,29 @@ fn ranges() -> Result<Vec<u8>, GenError> {
     put(out, &plain(ChoiceEnum::None(true)))
 }
 
+const FRACTIONS: &[Fraction] = &[Fraction { num: 2, denom: 3 }, Fraction { num: 1, denom: 3 }];
+
+const RECTANGLES: &[Rectangle] = &[
+    Rectangle {
+        width: 1920,
+        height: 1080,
+    },
+    Rectangle {
+        width: 300,
+        height: 200,
+    },
+];
+
 /// Choices of any number of values, one behind another.
 fn alternatives() -> Result<Vec<u8>, GenError> {
     let out = put(
         Vec::new(),
         &any_of(Fd(5), &[Fd(2), Fd(10), Fd(1)])?,
     )?;
-    let fractions = [fraction(2, 3), fraction(1, 3)];
-    let out = put(out, &any_of(fraction(1, 2), &fractions)?)?;
+    let out = put(out, &any_of(fraction(1, 2), FRACTIONS)?)?;
     let out = put(out, &any_of(5, &[2, 10, 1])?)?;
     let out = put(out, &any_of(Id(5), &[Id(2), Id(10), Id(1)])?)?;
-    let rectangles = [rectangle(1920, 1080), rectangle(300, 200)];
-    let out = put(out, &any_of(rectangle(800, 600), &rectangles)?)?;
+    let out = put(out, &any_of(rectangle(800, 600), RECTANGLES)?)?;
     put(out, &flags_of(5, &[2, 10, 1])?)
 }
 

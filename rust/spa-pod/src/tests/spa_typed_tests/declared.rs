@@ -158,34 +158,50 @@ fn cut_pods_are_refused_answers() -> Result<(), Fail> {
     Ok(())
 }
 
+/// What is no curve, and why: one member too few, one too many, another type.
+const NO_CURVES: &[(&str, &str)] = &[
+    ("16 14 3 8 28789 0", "PropertyMissing"),
+    (
+        "96 14 3 8 28789 0 4 4 1 0 4 3 7 0 20 13 4 6 1 2 3 0 4 4 1 0",
+        "UnreadMembers",
+    ),
+    ("80 14 3 8 28789 0 4 4 1 0 4 4 7 0 20 13 4 6 1 2 3 0", "Tag"),
+];
+
+/// What is no format, and why: another id, another type, without a property that has to be there.
+const NO_FORMATS: &[(&str, &str)] = &[
+    ("8 15 262147 3", "UnsupportedType"),
+    ("8 15 262146 4", "UnsupportedType"),
+    ("32 15 262147 4 65537 0 4 3 259 0", "PropertyMissing"),
+];
+
+fn assert_no_curve(row: (&str, &str)) -> Result<(), Fail> {
+    let input = bytes_spelled(row.0)?;
+    assert_refusal(curve_again(input.as_slice()), row.1, input.len());
+    Ok(())
+}
+
+fn assert_no_format(row: (&str, &str)) -> Result<(), Fail> {
+    let input = bytes_spelled(row.0)?;
+    assert_refusal(
+        format_again(input.as_slice()),
+        row.1,
+        input.len(),
+    );
+    Ok(())
+}
+
 #[test]
 fn other_pods_are_refused() {
     crate::shims::test::run(other_pods_are_refused_answers())
 }
 
 fn other_pods_are_refused_answers() -> Result<(), Fail> {
-    let rows = [
-        // One member too few, one too many, another type.
-        ("16 14 3 8 28789 0", "PropertyMissing"),
-        (
-            "96 14 3 8 28789 0 4 4 1 0 4 3 7 0 20 13 4 6 1 2 3 0 4 4 1 0",
-            "UnreadMembers",
-        ),
-        ("80 14 3 8 28789 0 4 4 1 0 4 4 7 0 20 13 4 6 1 2 3 0", "Tag"),
-    ];
-    for (index, (words, wanted)) in rows.iter().enumerate() {
-        let input = bytes_spelled(words)?;
-        assert_refusal(curve_again(input.as_slice()), wanted, index);
+    for row in NO_CURVES {
+        assert_no_curve(*row)?;
     }
-    let rows = [
-        // Another id, another type, a property that has to be there.
-        ("8 15 262147 3", "UnsupportedType"),
-        ("8 15 262146 4", "UnsupportedType"),
-        ("32 15 262147 4 65537 0 4 3 259 0", "PropertyMissing"),
-    ];
-    for (index, (words, wanted)) in rows.iter().enumerate() {
-        let input = bytes_spelled(words)?;
-        assert_refusal(format_again(input.as_slice()), wanted, index);
+    for row in NO_FORMATS {
+        assert_no_format(*row)?;
     }
     Ok(())
 }
@@ -199,23 +215,44 @@ fn filled<const N: usize>(len: usize) -> ArrayVec<u8, N> {
     out
 }
 
-#[test]
-fn declared_types_are_written_where_they_fit() {
-    crate::shims::test::run(declared_types_are_written_where_they_fit_answers())
+/// What an output in which there is room behind so many bytes, and no more, answers at `len`.
+fn answer_behind(len: usize) -> Option<GenError> {
+    if len <= 8 {
+        return None;
+    }
+    Some(GenError::Full)
 }
 
-fn declared_types_are_written_where_they_fit_answers() -> Result<(), Fail> {
-    let (curve, format) = (curve()?, format(Some(2))?);
+/// The first length behind which a curve isn't answered so, in an output of 96 bytes.
+fn misplaced_curve(curve: &Curve) -> Option<usize> {
     for len in 0..=96 {
-        let refusal = put_curve(filled::<96>(len), &curve).err();
-        let wanted = if len <= 8 { None } else { Some(GenError::Full) };
-        assert!(refusal == wanted, "a curve behind {len}");
+        if put_curve(filled::<96>(len), curve).err() != answer_behind(len) {
+            return Some(len);
+        }
     }
+    None
+}
+
+/// The same of a format in one of 224 bytes.
+fn misplaced_format(format: &AudioFormat) -> Option<usize> {
     for len in 0..=224 {
-        let refusal = put_format(filled::<224>(len), &format).err();
-        let wanted = if len <= 8 { None } else { Some(GenError::Full) };
-        assert!(refusal == wanted, "a format behind {len}");
+        if put_format(filled::<224>(len), format).err() != answer_behind(len) {
+            return Some(len);
+        }
     }
+    None
+}
+
+fn assert_all_placed(misplaced: Option<usize>, what: &str) {
+    assert_eq!(misplaced, None, "{what}");
+}
+
+#[test]
+fn declared_types_are_written_where_they_fit() -> Result<(), AllocError> {
+    let curve = curve()?;
+    assert_all_placed(misplaced_curve(&curve), "a curve");
+    let format = format(Some(2))?;
+    assert_all_placed(misplaced_format(&format), "a format");
     Ok(())
 }
 

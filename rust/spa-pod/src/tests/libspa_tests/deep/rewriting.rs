@@ -10,6 +10,8 @@ const STRUCT: &[u32] = &[14];
 
 const OBJECT: &[u32] = &[15, 1, 2, 3, 0];
 
+const HEADERS: &[&[u32]] = &[STRUCT, OBJECT];
+
 /// A choice of 7 with flags and values that mean nothing, and its rewriting.
 const CHOICE: &[u32] = &[28, 19, 0, 5, 4, 4, 7, 9, 11, 0];
 
@@ -51,7 +53,7 @@ fn depth_ends_no_rewriting_in_place() {
 }
 
 fn depth_ends_no_rewriting_in_place_answers() -> Result<(), Fail> {
-    for header in [STRUCT, OBJECT] {
+    for header in HEADERS {
         for depth in DEPTHS {
             let mut bytes = inside(depth, header, CHOICE)?;
             let wanted = inside(depth, header, SHORTER)?;

@@ -3,12 +3,14 @@ use crate::shims::prelude::*;
 use crate::tests::spa_tests::answers::{after_of, assert_own_rewriting, value_of, write};
 use crate::tests::spa_tests::bytes::{assert_bytes, assert_holds};
 use crate::shims::flags::Flags;
-use crate::parts::libspa::pod::serialize::GenError;
-use crate::parts::libspa::pod::{Pod, PodObject, Value, rewrite_all};
-use crate::parts::libspa::utils::Id;
-use crate::parts::libspa::utils::dict::{DictRef, Flags as DictFlags};
-use crate::parts::libspa::utils::result::{SpaResult, SpaSuccess};
+use crate::parts::spa_dict::{DictRef, Flags as DictFlags};
+use crate::parts::spa_rewrite::rewrite_all;
+use crate::parts::spa_sink::GenError;
 use crate::tests::spa_spelling::bytes_spelled;
+use crate::parts::spa_utils::Id;
+use crate::parts::spa_result::{SpaResult, SpaSuccess};
+use crate::parts::spa_value::Value;
+use crate::parts::spa_view::{Pod, PodObject};
 use crate::shims::memory::AllocError;
 use crate::shims::test::Fail;
 
@@ -104,17 +106,22 @@ fn looks_and_fixates_answers() -> Result<(), Fail> {
     Ok(())
 }
 
-#[test]
-fn looks_up_and_tells() {
-    crate::shims::test::run(looks_up_and_tells_answers())
+/// Pairs of a dictionary.
+const PAIRS: &[(&[u8], &[u8])] = &[(b"audio.channels", b"2")];
+
+/// The number of channels that they have.
+fn channels() -> Option<u32> {
+    DictRef::new(PAIRS, DictFlags::empty())
+        .parse::<u32>("audio.channels")?
+        .ok()
 }
 
-fn looks_up_and_tells_answers() -> Result<(), Fail> {
-    let items: [(&[u8], &[u8]); 1] = [(b"audio.channels", b"2")];
-    let dict = DictRef::new(&items, DictFlags::empty());
-    let channels = dict.parse::<u32>("audio.channels");
-    assert!(matches!(channels, Some(Ok(2))));
-    let done = SpaResult::from_c(7).into_result();
-    assert!(matches!(done, Ok(SpaSuccess::Sync(7))));
-    Ok(())
+fn is_done(code: i32, number: i32) -> bool {
+    matches!(SpaResult::from_c(code).into_result(), Ok(SpaSuccess::Sync(it)) if it == number)
+}
+
+#[test]
+fn looks_up_and_tells() {
+    assert_holds(channels() == Some(2), "two channels");
+    assert_holds(is_done(7, 7), "done");
 }

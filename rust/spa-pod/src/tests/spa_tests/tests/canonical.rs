@@ -2,15 +2,16 @@
 use crate::shims::prelude::*;
 use crate::tests::spa_tests::bytes::{assert_holds, assert_holds_at};
 use crate::tests::spa_tests::tables::{lines_of, lines_of_built};
-use crate::parts::libspa::pod::deserialize::DeserializeError;
-use crate::parts::libspa::pod::{is_canonical, nests_within, rewrite};
+use crate::parts::spa_fixed::DeserializeError;
+use crate::parts::spa_rewrite::{is_canonical, rewrite};
+use crate::parts::spa_scan::nests_within;
 use crate::tests::spa_spelling::bytes_spelled;
 use crate::shims::memory::AllocError;
 use crate::shims::test::Fail;
 
 /// Pods of which a byte is replaced: a struct of a Bool and a text, an object with a range, an array of Bools, a None choice,
 /// a pointer.
-const REPLACED: [&str; 5] = [
+const REPLACED: &[&str] = &[
     "32 14 4 2 1 0 3 8 x61620000 0 99 99 99 99",
     "44 15 262147 3 65539 0 28 19 1 0 4 4 x05000000 x01000000 x09000000 0",
     "16 13 4 2 1 0 5 99",
@@ -92,13 +93,16 @@ fn compare_alike(input: &[u8]) -> Result<(), Fail> {
     Ok(())
 }
 
+/// What each byte is replaced by in turn.
+const OTHERS: &[u8] = &[0, 1, 2, 7, 19, 255];
+
 /// Compares the answers where one byte of a pod is another one.
 fn compare_replaced(words: &str) -> Result<(), Fail> {
     let mut input = bytes_spelled(words)?;
     for at in 0..input.len() {
         let byte = input[at];
-        for other in [0, 1, 2, 7, 19, 255] {
-            input[at] = other;
+        for other in OTHERS {
+            input[at] = *other;
             compare_alike(input.as_slice())?;
         }
         input[at] = byte;
@@ -157,16 +161,17 @@ fn compare_depth(input: &[u8], levels: u32, at: &str) {
     }
 }
 
+/// What is nested, structs or objects, and the number of the Bool in the innermost.
+const DEEP_PODS: &[(u32, u32)] = &[(14, 0), (14, 1), (14, 7), (15, 0), (15, 1), (15, 7)];
+
 #[test]
 fn looks_into_any_depth() {
     crate::shims::test::run(looks_into_any_depth_answers())
 }
 
 fn looks_into_any_depth_answers() -> Result<(), Fail> {
-    for type_ in [14, 15] {
-        for truth in [0, 1, 7] {
-            compare_deep(type_, truth)?;
-        }
+    for (type_, truth) in DEEP_PODS {
+        compare_deep(*type_, *truth)?;
     }
     Ok(())
 }

@@ -1,9 +1,10 @@
 //! Readers other than the untyped one, on pods that are cut or changed.
 use crate::shims::prelude::*;
-use crate::parts::libspa::pod::deserialize::{DeserializeError, PodDeserialize, PodDeserializer};
-use crate::parts::libspa::pod::parser::Parser;
-use crate::parts::libspa::pod::{Bitmap, Pod, Value};
-use crate::parts::libspa::utils::{Choice, Fd, Float32, Float64, Fraction, Id, Rectangle};
+use crate::parts::spa_parser::Parser;
+use crate::parts::spa_typed_read::{PodDeserialize, PodDeserializer};
+use crate::parts::spa_utils::{Choice, Fd, Float32, Float64, Fraction, Id, Rectangle};
+use crate::parts::spa_value::{Bitmap, Value};
+use crate::parts::spa_view::Pod;
 
 /// Whether reading this type finds the front short.
 fn is_short<'de, T: PodDeserialize<'de>>(input: &'de [u8]) -> bool {

@@ -4,8 +4,8 @@ use crate::tests::spa_tests::answers::{assert_rewriting, fixate, object_of, said
 use crate::tests::spa_tests::bytes::{assert_holds, assert_spelt};
 use crate::tests::spa_tests::tables::fixations::FIXATIONS;
 use crate::tests::spa_tests::tables::lines_of;
-use crate::parts::libspa::utils::Errno;
 use crate::tests::spa_spelling::bytes_spelled;
+use crate::parts::spa_utils::Errno;
 use crate::shims::test::Fail;
 
 /// Compares the fixation of the bytes that the words spell with what a row says.

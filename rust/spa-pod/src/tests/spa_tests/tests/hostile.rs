@@ -12,7 +12,7 @@ use crate::tests::spa_spelling::bytes_spelled;
 use crate::shims::test::Fail;
 
 /// What each byte is replaced by in turn.
-const REPLACEMENTS: [u8; 6] = [0, 1, 7, 127, 128, 255];
+const REPLACEMENTS: &[u8] = &[0, 1, 7, 127, 128, 255];
 
 /// Compares the library's reading of an input with that of the second reader.
 fn compare(input: &[u8]) -> Result<(), Fail> {
@@ -102,7 +102,7 @@ fn cut_everywhere(input: &[u8]) -> Result<(), Fail> {
 fn change_everywhere(input: &mut [u8]) -> Result<(), Fail> {
     for byte in REPLACEMENTS {
         for place in 0..input.len() {
-            change_one(input, place, byte)?;
+            change_one(input, place, *byte)?;
         }
     }
     Ok(())

@@ -7,9 +7,9 @@ use crate::tests::spa_tests::answers::{
 use crate::tests::spa_tests::bytes::{assert_holds_at, assert_number, assert_number_at, assert_text};
 use crate::tests::spa_tests::tables::c_bytes::C_BYTES;
 use crate::tests::spa_tests::tables::{lines_of, lines_of_built, lines_of_read_rows};
-use crate::parts::libspa::pod::Value;
-use crate::parts::libspa::pod::deserialize::PodDeserializer;
 use crate::tests::spa_spelling::bytes_spelled;
+use crate::parts::spa_typed_read::PodDeserializer;
+use crate::parts::spa_value::Value;
 use crate::shims::memory::AllocError;
 use crate::shims::test::Fail;
 

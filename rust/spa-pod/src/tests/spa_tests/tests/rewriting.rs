@@ -4,8 +4,9 @@ use crate::tests::spa_tests::answers::are_joined;
 use crate::tests::spa_tests::bytes::{assert_holds, assert_number, assert_spelt};
 use crate::tests::spa_tests::tables::lines_of;
 use crate::tests::spa_tests::tables::lists::LISTS;
-use crate::parts::libspa::pod::deserialize::DeserializeError;
-use crate::parts::libspa::pod::{accept_all, rewrite_all, rewrite_in_parts, rewrite_in_place};
+use crate::parts::spa_fixed::DeserializeError;
+use crate::parts::spa_in_place::rewrite_in_place;
+use crate::parts::spa_rewrite::{accept_all, rewrite_all, rewrite_in_parts};
 use crate::tests::spa_spelling::bytes_spelled;
 use crate::shims::test::Fail;
 

@@ -4,9 +4,10 @@ use crate::tests::spa_tests::answers::{after_of, object_of, value_of, verdict_of
 use crate::tests::spa_tests::bytes::{assert_holds, assert_holds_at};
 use crate::tests::spa_tests::tables::{lines_of_built, lines_of_read_rows};
 use crate::shims::flags::Flags;
-use crate::parts::libspa::pod::{Object, Pod, PodObject, PodProp, PodStruct, Property, Value};
-use crate::parts::libspa::utils::{Errno, Id};
 use crate::tests::spa_spelling::bytes_spelled;
+use crate::parts::spa_utils::{Errno, Id};
+use crate::parts::spa_value::{Object, Property, Value};
+use crate::parts::spa_view::{Pod, PodObject, PodProp, PodStruct};
 use crate::shims::test::Fail;
 
 /// Does the view show the value?

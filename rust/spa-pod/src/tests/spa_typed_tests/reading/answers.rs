@@ -244,9 +244,11 @@ steps | 20 13 4 4 10 15 19 0 | [10, 15, 19]
 marks | 8 13 0 1 | 0
 first mark | 8 13 0 1 | NoElementLeft"#;
 
-/// The tables: each is named here alone, as a function that names a long table is proved with all of it.
-fn tables() -> [&'static str; 4] {
-    [READ, CALLS, OWN, BUILT]
+const TABLES: &[&str] = &[READ, CALLS, OWN, BUILT];
+
+/// The tables: they are named here alone, as a function that names a long table is proved with all of it.
+fn tables() -> &'static [&'static str] {
+    TABLES
 }
 
 /// The parts of a row, without the spaces around them.

@@ -211,6 +211,9 @@ fn assert_deep_refused(
     Ok(())
 }
 
+/// What stands in an object before its first value, which is so deep.
+const OBJECT: &[u32] = &[800_032, 15, 5, 3, 1, 0];
+
 /// What was made of the values before a refused one is taken apart without a stack that grows with each level.
 #[test]
 fn depth_before_a_refused_value() {
@@ -219,6 +222,5 @@ fn depth_before_a_refused_value() {
 
 fn depth_before_a_refused_value_answers() -> Result<(), Fail> {
     assert_deep_refused(14, &[800_008, 14], &[0, 21])?;
-    let object = [800_032, 15, 5, 3, 1, 0];
-    assert_deep_refused(15, &object, &[2, 0, 0, 21])
+    assert_deep_refused(15, OBJECT, &[2, 0, 0, 21])
 }

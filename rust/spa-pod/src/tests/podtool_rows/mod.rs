@@ -1,0 +1,75 @@
+//! Rows of what `podtool` does: each line of standard input is a label, the program's words and what it is given, and the same line
+//! of standard output has the status, what is said and what is written, behind the label.
+//!
+//! What is given is spelled in words; `-` is an input that can't be read, and `""` an empty word of the program's.
+use crate::shims::prelude::*;
+use crate::tests::spa_pod_commands::run::run;
+use crate::tests::spa_spelling::{SpellingError, bytes_spelled};
+use crate::shims::memory::AllocError;
+use std::io::{self, Error, ErrorKind};
+use crate::tests::test_streams::{Device, OneLine, PIECE, Source, Words};
+
+/// Prints the answer of each row.
+pub fn main() -> io::Result<()> {
+    let rows = io::read_to_string(crate::shims::test::stdin())?;
+    for row in rows.lines() {
+        let (label, rest) = split_part(row);
+        let (words, given) = split_part(rest);
+        print_answer(label, words, given)?;
+    }
+    Ok(())
+}
+
+/// The first part of a row, and what follows it.
+fn split_part(row: &str) -> (&str, &str) {
+    let (part, rest) = row.split_once('|').unwrap_or((row, ""));
+    (part.trim(), rest.trim())
+}
+
+/// More bytes than any row writes, and than any says.
+const ROOM: usize = 4096;
+
+const LINE_ROOM: usize = 100;
+
+/// Prints a row's label, the status of its run, what that says, and what it writes, of `show` as text.
+fn print_answer(label: &str, words: &str, given: &str) -> io::Result<()> {
+    let bytes = bytes_of(given)?;
+    let mut input = if given == "-" {
+        Source::broken(&[], ErrorKind::UnexpectedEof, PIECE)
+    } else {
+        Source::whole(bytes.as_slice(), PIECE)
+    };
+    let (mut room, mut line_room) = ([0; ROOM], [0; LINE_ROOM]);
+    let mut output = Device::new(&mut room, PIECE);
+    let mut faults = Device::new(&mut line_room, PIECE);
+    let all = words_of(words)?;
+    let status = run(
+        all.as_slice(),
+        &mut input,
+        &mut output,
+        &mut faults,
+    );
+    let said = OneLine(faults.taken());
+    if words == "show" {
+        crate::shims::test::println!("{label}: {status} {said} |{}", OneLine(output.taken()))
+    } else {
+        crate::shims::test::println!("{label}: {status} {said} |{}", Words(output.taken()))
+    }
+}
+
+/// The words of a run.
+fn words_of(words: &str) -> Result<Vec<&str>, AllocError> {
+    words
+        .split_whitespace()
+        .map(|word| if word == "\"\"" { "" } else { word })
+        .try_to_vec()
+}
+
+/// The bytes that are given.
+fn bytes_of(given: &str) -> io::Result<Vec<u8>> {
+    match bytes_spelled(given.trim_start_matches('-')) {
+        Ok(bytes) => Ok(bytes),
+        Err(SpellingError::Misspelt) => Err(Error::from(ErrorKind::InvalidInput)),
+        Err(SpellingError::OutOfMemory) => Err(Error::from(ErrorKind::OutOfMemory)),
+    }
+}

@@ -1,0 +1,69 @@
+//! Pods that stand deep in one another.
+use crate::shims::prelude::*;
+use crate::tests::podtool_tests::streams::{Wanted, assert_run};
+use crate::tests::spa_spelling::bytes_of;
+use crate::shims::memory::AllocError;
+use crate::tests::test_streams::{ALL, Device, Source};
+
+/// How many structs or objects stand in one another: more than a stack holds that grows with each level.
+const DEEP: u32 = 20_000;
+
+/// So many pods in one another, each of a size and these words, and in the last one four words more.
+fn nested(head: &[u32], inner: [u32; 4]) -> Result<Vec<u8>, AllocError> {
+    let head = bytes_of(head)?;
+    let inner = bytes_of(&inner)?;
+    let mut bytes = Vec::new();
+    for level in 0..DEEP {
+        let levels = u64::from(DEEP - level);
+        let left = levels * (4 + head.len() as u64) + inner.len() as u64;
+        bytes.try_extend_from_slice(&(left - 8).to_le_bytes()[..4])?;
+        bytes.try_extend_from_slice(head.as_slice())?;
+    }
+    bytes.try_extend_from_slice(inner.as_slice())?;
+    Ok(bytes)
+}
+
+/// Compares the run of a word over all these bytes with what is wanted.
+fn assert_row(
+    word: &str,
+    given: &[u8],
+    wanted: Wanted<'_>,
+) -> Result<(), AllocError> {
+    let mut room = crate::try_vec![0; given.len()]?;
+    let mut line_room = [0; 100];
+    let output = Device::new(room.as_mut_slice(), ALL);
+    let faults = Device::new(&mut line_room, ALL);
+    assert_run(
+        word,
+        Source::whole(given, ALL),
+        output,
+        faults,
+        wanted,
+    )
+}
+
+/// The words behind the size of a struct, and of an object with one property.
+const HEADS: [&[u32]; 2] = [&[14], &[15, 5, 3, 1, 0]];
+
+/// A truth value of 1 stays as it is, one of 7 is rewritten to it, and a pod of no known type is refused.
+#[test]
+fn deep_pods_are_rewritten() -> Result<(), AllocError> {
+    for head in HEADS {
+        let one = nested(head, [4, 2, 1, 0])?;
+        let seven = nested(head, [4, 2, 7, 0])?;
+        let unknown = nested(head, [4, 21, 7, 0])?;
+        let (one, seven, unknown) = (one.as_slice(), seven.as_slice(), unknown.as_slice());
+        let refused: Wanted<'_> = (1, "podtool: byte 0: InvalidType\n", &[]);
+        let rows = [
+            ("rewrite", one, (0, "", one)),
+            ("rewrite", seven, (0, "", one)),
+            ("fixate", seven, (0, "", seven)),
+            ("rewrite", unknown, refused),
+            ("fixate", unknown, refused),
+        ];
+        for (word, given, wanted) in rows {
+            assert_row(word, given, wanted)?;
+        }
+    }
+    Ok(())
+}

@@ -1,0 +1,7 @@
+//! Tests of what `podtool` does over streams that break off, are full or can't be flushed, and of pods that stand deep in one another.
+//! There is nothing here but tests.
+use crate::shims::prelude::*;
+#[cfg(test)]
+mod deep;
+#[cfg(test)]
+mod streams;

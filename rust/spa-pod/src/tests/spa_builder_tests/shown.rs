@@ -1,0 +1,52 @@
+//! What docs/CALLING.md shows of the builder, word for word.
+use crate::shims::prelude::*;
+use crate::tests::spa_builder_tests::bytes::{are_words, assert_holds};
+use crate::tests::spa_builder_tests::shown::by_calls::format_pod;
+use crate::parts::spa_utils::Errno;
+use crate::shims::memory::AllocError;
+
+mod by_calls {
+    use crate::shims::prelude::*;
+    use crate::parts::spa_builder::Builder;
+    use crate::builder_add;
+    use crate::parts::spa_utils::{Errno, Fraction, Id, Rectangle};
+
+    /// A video format in the vector: of type 262147, for the parameter 4.
+    pub fn format_pod(bytes: Vec<u8>) -> Result<Vec<u8>, Errno> {
+        let size = Rectangle {
+            width: 320,
+            height: 240,
+        };
+        let rate = Fraction { num: 25, denom: 1 };
+        let mut builder = Builder::new(bytes);
+        builder_add!(builder, Object(262147, 4) {
+            1 => Id(Id(2)),
+            2 => Id(Id(1)),
+            131075 => Rectangle(size),
+            131076 => Fraction(rate),
+        })?;
+        Ok(builder.into_inner())
+    }
+}
+
+/// The words of the format, by the rules of the format of pods.
+const FORMAT: &[u32] = &[
+    104, 15, 262147, 4, 1, 0, 4, 3, 2, 0, 2, 0, 4, 3, 1, 0, 131075, 0, 8, 10, 320, 240, 131076, 0,
+    8, 11, 25, 1,
+];
+
+/// Whether the calls make these words.
+fn is_built() -> Result<bool, AllocError> {
+    match format_pod(Vec::new()) {
+        Ok(bytes) => are_words(bytes.as_slice(), FORMAT),
+        Err(Errno::NOMEM) => Err(AllocError),
+        Err(_) => Ok(false),
+    }
+}
+
+#[test]
+fn a_format_is_made() -> Result<(), AllocError> {
+    let built = is_built()?;
+    assert_holds(built, "the format by calls");
+    Ok(())
+}

@@ -1,0 +1,7 @@
+//! What `podtool` does: the pods of a reader are rewritten, fixated or listed on a writer.
+use crate::shims::prelude::*;
+pub mod answer;
+mod listing;
+mod output;
+mod pods;
+pub mod run;

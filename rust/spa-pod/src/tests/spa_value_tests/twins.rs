@@ -1,0 +1,93 @@
+//! Values, and parts of values, equal themselves alone.
+use crate::shims::prelude::*;
+use crate::tests::spa_value_tests::compare::assert_same;
+use crate::tests::spa_value_tests::table::{arrays, choices, deep_values, distinct_values, properties};
+use crate::parts::spa_value::{Value, same};
+use crate::shims::memory::AllocError;
+
+/// Whether both operators answer that two are equal, or that they are not.
+fn answers<T: PartialEq>(value: &T, twin: &T, equal: bool) -> bool {
+    (value == twin) == equal && (value != twin) != equal
+}
+
+/// The place of the first twin that the value at this place is wrongly said to equal, or not to equal.
+fn wrong_twin<T: PartialEq>(place: usize, value: &T, twins: &[T]) -> Option<usize> {
+    for (j, twin) in twins.iter().enumerate() {
+        if !answers(value, twin, place == j) {
+            return Some(j);
+        }
+    }
+    None
+}
+
+/// The places of the first value and twin that are wrongly said to be equal, or not to be.
+fn wrongly_answered<T: PartialEq>(values: &[T], twins: &[T]) -> Option<(usize, usize)> {
+    for (i, value) in values.iter().enumerate() {
+        if let Some(j) = wrong_twin(i, value, twins) {
+            return Some((i, j));
+        }
+    }
+    None
+}
+
+/// Each of these equals its twin alone.
+fn assert_distinct<T: PartialEq>(
+    values: Result<Vec<T>, AllocError>,
+    twins: Result<Vec<T>, AllocError>,
+) -> Result<(), AllocError> {
+    let values = values?;
+    let twins = twins?;
+    let wrong = wrongly_answered(values.as_slice(), twins.as_slice());
+    assert_same(&wrong, &None, "each of the two");
+    Ok(())
+}
+
+/// The places of the first value and twin that `same` wrongly tells to be equal, or not to be.
+fn wrongly_told(
+    values: &[Value],
+    twins: &[Value],
+) -> Result<Option<(usize, usize)>, AllocError> {
+    for (i, value) in values.iter().enumerate() {
+        for (j, twin) in twins.iter().enumerate() {
+            if same(value, twin)? != (i == j) {
+                return Ok(Some((i, j)));
+            }
+        }
+    }
+    Ok(None)
+}
+
+/// Each of these is told to be the same as its twin alone.
+fn assert_told(
+    values: Result<Vec<Value>, AllocError>,
+    twins: Result<Vec<Value>, AllocError>,
+) -> Result<(), AllocError> {
+    let values = values?;
+    let twins = twins?;
+    let wrong = wrongly_told(values.as_slice(), twins.as_slice())?;
+    assert_same(&wrong, &None, "each of the two");
+    Ok(())
+}
+
+#[test]
+fn values_are_the_same_as_themselves_alone() -> Result<(), AllocError> {
+    assert_told(distinct_values(), distinct_values())?;
+    assert_told(deep_values(), deep_values())
+}
+
+#[test]
+fn values_equal_themselves_alone() -> Result<(), AllocError> {
+    assert_distinct(distinct_values(), distinct_values())
+}
+
+#[test]
+fn parts_equal_themselves_alone() -> Result<(), AllocError> {
+    assert_distinct(properties(), properties())?;
+    assert_distinct(arrays(), arrays())?;
+    assert_distinct(choices(), choices())
+}
+
+#[test]
+fn deep_structs_equal_themselves_alone() -> Result<(), AllocError> {
+    assert_distinct(deep_values(), deep_values())
+}

@@ -1,0 +1,12 @@
+//! Tests of views, of fixation, and of what lies inside an input, told pod by pod. There is nothing here but tests.
+use crate::shims::prelude::*;
+#[cfg(test)]
+mod compare;
+#[cfg(test)]
+mod depth;
+#[cfg(test)]
+mod equality;
+#[cfg(test)]
+mod events;
+#[cfg(test)]
+mod viewing;

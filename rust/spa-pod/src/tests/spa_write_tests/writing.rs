@@ -1,0 +1,299 @@
+//! Values with their encodings, from outside, and each call once.
+use crate::shims::prelude::*;
+use crate::tests::spa_write_tests::compare::{assert_bytes, assert_holds, assert_said};
+use crate::tests::spa_write_tests::nested::read;
+use crate::shims::array::ArrayVec;
+use crate::shims::flags::Flags;
+use crate::parts::spa_leaf::{put_bitmap, put_bytes, put_pointer, put_text};
+use crate::parts::spa_sink::GenError;
+use crate::tests::spa_spelling::bytes_spelled;
+use crate::parts::spa_typed_write::{PodSerializer, laws};
+use crate::parts::spa_utils::{Choice, ChoiceEnum, ChoiceFlags};
+use crate::parts::spa_value::{ChoiceValue, Value, ValueArray};
+use crate::parts::spa_write::{put_leaf, write_sized};
+use crate::shims::memory::AllocError;
+use crate::shims::test::Fail;
+
+/// Values as their `Debug` text, and the words of their encodings.
+pub(crate) const ROWS: &[(&str, &str)] = &[
+    ("None", "0 1"),
+    ("Bool(true)", "4 2 1 0"),
+    ("Id(Id(4294967295))", "4 3 4294967295 0"),
+    ("Int(-2147483648)", "4 4 2147483648 0"),
+    ("Long(-9223372036854775808)", "8 5 0 2147483648"),
+    ("Float(Float32(2143289344))", "4 6 2143289344 0"),
+    ("Double(Float64(9223372036854775808))", "8 7 0 2147483648"),
+    (
+        "Rectangle(Rectangle { width: 1920, height: 1080 })",
+        "8 10 1920 1080",
+    ),
+    (
+        "Fraction(Fraction { num: 30000, denom: 1001 })",
+        "8 11 30000 1001",
+    ),
+    ("Fd(Fd(-1))", "8 18 4294967295 4294967295"),
+    (
+        "Pointer(65537, 139638282147448)",
+        "16 17 65537 0 305419896 32512",
+    ),
+    ("String(\"1234567\")", "8 8 875770417 3618357"),
+    ("String(\"\")", "1 8 0 0"),
+    ("String(\"foo\")", "4 8 7303014 0"),
+    ("Bytes([0, 1, 2, 3, 255])", "5 9 50462976 255"),
+    ("Bytes([])", "0 9"),
+    ("Bitmap([1, 2, 3])", "3 12 197121 0"),
+    ("Struct([Bitmap([1, 2, 3])])", "16 14 3 12 197121 0"),
+    (FIVE_UNITS, "8 13 0 1"),
+    ("ValueArray(Id([Id(3), Id(4), Id(6)]))", "20 13 4 3 3 4 6 0"),
+    (
+        "ValueArray(Fraction([Fraction { num: 1, denom: 2 }, Fraction { num: 30, denom: 1 }]))",
+        "24 13 8 11 1 2 30 1",
+    ),
+    ("ValueArray(Long([1, 2]))", "24 13 8 5 1 0 2 0"),
+    (FLAGGED, "20 19 0 5 4 4 7 0"),
+    (
+        "Choice(Bool(Choice(ChoiceFlags(1), Enum { default: false, alternatives: [true, false] })))",
+        "28 19 3 1 4 2 0 1 0 0",
+    ),
+    (
+        "Choice(Fd(Choice(ChoiceFlags(0), Range { default: Fd(3), min: Fd(4), max: Fd(5) })))",
+        "40 19 1 0 8 18 3 0 4 0 5 0",
+    ),
+    (
+        "Struct([Int(313), String(\"foo\"), Struct([Rectangle(Rectangle { width: 31, height: 14 })])])",
+        "56 14 4 4 313 0 4 8 7303014 0 16 14 8 10 31 14",
+    ),
+    ("Struct([])", "0 14"),
+    (
+        "Object(Object { type_: 5, id: 3, properties: [Property { key: 9, flags: PropertyFlags(2147483649), value: Struct([Int(3)]) }] })",
+        "40 15 5 3 9 2147483649 16 14 4 4 3 0",
+    ),
+    (
+        "Object(Object { type_: 5, id: 3, properties: [Property { key: 1, flags: PropertyFlags(0), value: String(\"hw:0\") }, Property { key: 2, flags: PropertyFlags(0), value: Float(Float32(1138491392)) }] })",
+        "56 15 5 3 1 0 5 8 809138024 0 2 0 4 6 1138491392 0",
+    ),
+    (
+        "Object(Object { type_: 5, id: 3, properties: [Property { key: 1, flags: PropertyFlags(0), value: Choice(Int(Choice(ChoiceFlags(0), Range { default: 5, min: 2, max: 10 }))) }] })",
+        "56 15 5 3 1 0 28 19 1 0 4 4 5 2 10 0",
+    ),
+];
+
+/// Five units, which no array is read as.
+const FIVE_UNITS: &str = "ValueArray(None([(), (), (), (), ()]))";
+
+/// A None choice with flags, which none is read with.
+const FLAGGED: &str = "Choice(Int(Choice(ChoiceFlags(5), None(7))))";
+
+/// Texts, and the words of their pods.
+const TEXTS: &[(&str, &str)] = &[
+    ("1234567", "8 8 875770417 3618357"),
+    ("", "1 8 0 0"),
+    ("foo", "4 8 7303014 0"),
+];
+
+/// The value of a row: read from its words, where it can be.
+pub(crate) fn value_of(row: &(&str, &str)) -> Result<Value, Fail> {
+    match row.0 {
+        FIVE_UNITS => Ok(units()?),
+        FLAGGED => Ok(flagged()),
+        _ => read_spelled(row.1),
+    }
+}
+
+/// The value that these words say.
+fn read_spelled(words: &str) -> Result<Value, Fail> {
+    let input = bytes_spelled(words)?;
+    read(input.as_slice())
+}
+
+fn units() -> Result<Value, AllocError> {
+    let units = Vec::try_from_slice(&[(); 5])?;
+    Ok(Value::ValueArray(ValueArray::None(units)))
+}
+
+fn flagged() -> Value {
+    let flags = ChoiceFlags::from_bits_retain(5);
+    Value::Choice(ChoiceValue::Int(Choice(flags, ChoiceEnum::None(7))))
+}
+
+/// A struct of the Int 3.
+pub(crate) fn three() -> Result<Value, AllocError> {
+    Ok(Value::Struct(crate::try_vec![Value::Int(3)]?))
+}
+
+/// A struct of the Int 3 and a text that holds NUL.
+pub(crate) fn three_and_nul() -> Result<Value, AllocError> {
+    let text = String::try_from_str("a\0b")?;
+    Ok(Value::Struct(crate::try_vec![Value::Int(3), Value::String(text)]?))
+}
+
+/// What a value shows.
+fn shown(value: &Value) -> Result<String, AllocError> {
+    crate::try_format!("{value:?}")
+}
+
+/// The encoding of a value, and its length.
+fn written(value: &Value) -> Result<(Vec<u8>, u64), GenError> {
+    PodSerializer::serialize(Vec::new(), value)
+}
+
+/// The output, with the value written behind what it holds.
+fn written_behind(out: Vec<u8>, value: &Value) -> Result<Vec<u8>, GenError> {
+    let (out, _) = laws::values_are_written_into_memory(out, value)?;
+    Ok(out)
+}
+
+/// Whether bytes are these two times.
+fn are_twice(found: &[u8], bytes: &[u8]) -> bool {
+    let (first, second) = found.split_at(bytes.len().min(found.len()));
+    first == bytes && second == bytes
+}
+
+/// Compares what a value shows, and its encoding, with a row.
+fn assert_written(
+    value: &Value,
+    row: &(&str, &str),
+) -> Result<(), Fail> {
+    let (text, words) = *row;
+    let shown = shown(value)?;
+    assert_said(shown.as_str(), text, words);
+    let wanted = bytes_spelled(words)?;
+    let (out, count) = written(value)?;
+    assert_bytes(out.as_slice(), wanted.as_slice(), words);
+    assert_holds(count == wanted.len() as u64, words);
+    let both = written_behind(out, value)?;
+    let are_twice = are_twice(both.as_slice(), wanted.as_slice());
+    assert_holds(are_twice, words);
+    Ok(())
+}
+
+/// The same of a row's value.
+fn assert_row(row: &(&str, &str)) -> Result<(), Fail> {
+    let value = value_of(row)?;
+    let compared = assert_written(&value, row);
+    drop(value);
+    compared
+}
+
+#[test]
+fn values_have_these_encodings() {
+    crate::shims::test::run(values_have_these_encodings_answers())
+}
+
+fn values_have_these_encodings_answers() -> Result<(), Fail> {
+    for row in ROWS {
+        assert_row(row)?;
+    }
+    Ok(())
+}
+
+/// Compares the pod of a text with these words.
+fn assert_put(text: &str, words: &str) -> Result<(), Fail> {
+    let wanted = bytes_spelled(words)?;
+    let mut out = Vec::new();
+    put_text(&mut out, text)?;
+    assert_bytes(out.as_slice(), wanted.as_slice(), text);
+    Ok(())
+}
+
+#[test]
+fn texts_have_these_pods() {
+    crate::shims::test::run(texts_have_these_pods_answers())
+}
+
+fn texts_have_these_pods_answers() -> Result<(), Fail> {
+    for (text, words) in TEXTS {
+        assert_put(text, words)?;
+    }
+    Ok(())
+}
+
+/// A number's encoding in an output of this many bytes.
+fn three_written<const N: usize>() -> Result<(ArrayVec<u8, N>, u64), GenError> {
+    PodSerializer::serialize(ArrayVec::new(), &Value::Int(3))
+}
+
+fn three_behind<const N: usize>(out: ArrayVec<u8, N>) -> Result<(ArrayVec<u8, N>, u64), GenError> {
+    laws::values_are_written_where_they_fit(out, &Value::Int(3))
+}
+
+fn assert_refused(refused: Option<GenError>, wanted: GenError) {
+    assert_holds(refused == Some(wanted), "a refusal");
+}
+
+#[test]
+fn a_short_output_is_full() {
+    assert_refused(three_written::<15>().err(), GenError::Full);
+}
+
+#[test]
+fn a_fixed_output_takes_what_fits() {
+    crate::shims::test::run(a_fixed_output_takes_what_fits_answers())
+}
+
+fn a_fixed_output_takes_what_fits_answers() -> Result<(), Fail> {
+    let wanted = bytes_spelled("4 4 3 0")?;
+    let (out, count) = three_written::<16>()?;
+    assert_bytes(out.as_slice(), wanted.as_slice(), "its end");
+    assert_holds(count == 16, "its end");
+    assert_refused(three_behind(out).err(), GenError::Full);
+    Ok(())
+}
+
+/// Why the text with NUL isn't written.
+fn nul_refusal() -> Result<Option<GenError>, AllocError> {
+    let value = three_and_nul()?;
+    let refusal = written(&value).err();
+    drop(value);
+    Ok(refusal)
+}
+
+#[test]
+fn a_text_with_nul_is_refused() {
+    crate::shims::test::run(a_text_with_nul_is_refused_answers())
+}
+
+fn a_text_with_nul_is_refused_answers() -> Result<(), Fail> {
+    assert_refused(nul_refusal()?, GenError::NulInText);
+    Ok(())
+}
+
+/// Appends a leaf.
+fn put_true(out: &mut Vec<u8>) -> Result<(), GenError> {
+    put_leaf(out, &Value::Bool(true))
+}
+
+/// Appends a struct.
+fn put_struct(out: &mut Vec<u8>) -> Result<(), GenError> {
+    let value = three()?;
+    let answer = write_sized(out, &value);
+    drop(value);
+    answer?;
+    Ok(())
+}
+
+/// What each call appends, one behind another.
+fn parts() -> Result<Vec<u8>, GenError> {
+    let mut out = Vec::new();
+    put_pointer(&mut out, 7, 4096)?;
+    put_bytes(&mut out, &[1, 2, 3])?;
+    put_bitmap(&mut out, &[1, 2, 3])?;
+    put_true(&mut out)?;
+    put_struct(&mut out)?;
+    Ok(out)
+}
+
+/// The words of what they append.
+const PARTS: &str = "16 17 7 0 4096 0 3 9 197121 0 3 12 197121 0 4 2 1 0 16 14 4 4 3 0";
+
+#[test]
+fn parts_are_appended_in_place() {
+    crate::shims::test::run(parts_are_appended_in_place_answers())
+}
+
+fn parts_are_appended_in_place_answers() -> Result<(), Fail> {
+    let wanted = bytes_spelled(PARTS)?;
+    let out = parts()?;
+    assert_bytes(out.as_slice(), wanted.as_slice(), "the parts");
+    Ok(())
+}

@@ -69,8 +69,8 @@ pub mod pod {
         pub use spa_typed_read::{
             ArrayPodDeserializer, DeserializeAs, DeserializeMembers, DeserializeProperties,
             DeserializeSuccess, ExactDeserialize, Never, ObjectOf, ObjectPodDeserializer, Optional,
-            PodDeserialize, PodDeserializer, Required, StructOf, StructPodDeserializer, Visit,
-            Visitor, laws,
+            PodDeserialize, PodDeserializer, Required, Skipped, StructOf, StructPodDeserializer,
+            Visit, Visitor, laws,
         };
         pub use spa_visitors::{
             BitmapVisitor, BoolVisitor, BytesVisitor, ChoiceBoolVisitor, ChoiceDoubleVisitor,

@@ -1,6 +1,5 @@
 -- Structs that are read member by member, and what is refused of them.
-use Rattle.std.proofs.Common.{◌≡◌, ◌≢◌, ℕ, List, [], length, drop, refl, sym, ap, ◌∙◌, subst, arith, length-append}
-use Rattle.std.specs.Prelude.{⊤}
+use Rattle.std.proofs.Common.{◌≡◌, ◌≢◌, ℕ, List, [], length, drop, refl, sym, ap, ◌∙◌, subst, arith, inl, inr, length-append}
 use Rattle.std.specs.Borrow.{Bor}
 use Rattle.spa_format.specs.Words.{body_of, header_size, word_at}
 use Rattle.spa_format.specs.Tree.{Tree, Trees, Properties, member, no_trees, object, object_type, struct_type, type_of}
@@ -13,9 +12,9 @@ use Rattle.spa_fixed.specs.declared.fault.DeserializeError.{DeserializeError}
 use Rattle.spa_fixed.specs.declared.fault.DeserializeError.TheVariants as error
 use Rattle.spa_format.proofs.Fronts.{front_of_whole}
 use Rattle.spa_typed_read.specs.Asking.{LacksBytes, LacksFront, LacksObject, of_type}
-use Rattle.spa_typed_read.specs.Exactly.{AreUnread, IsUnread, ReadsFirst, ReadsStruct, RefusesExactly}
+use Rattle.spa_typed_read.specs.Exactly.{AreUnread, IsUnread, ReadsFirst, ReadsStruct, RefusesExactly, RefusesStructOf, its_members}
 use Rattle.spa_typed_read.specs.ExactlyLaws.{asked_exactly, fault_to, memory_to}
-use Rattle.spa_typed_read.specs.Lookup.{ReadsObject}
+use Rattle.spa_typed_read.specs.Lookup.{HoldsDeep, ReadsObject, TakesIn}
 use Rattle.spa_typed_read.specs.Members.{ObjectReader, OpensObject, OpensStruct, Reader}
 use Rattle.spa_leaf.specs.Reading.{IsShortAt, OnFault, OnMemory}
 use Rattle.spa_typed_read.proofs.Asking.{front_refused}
@@ -54,20 +53,6 @@ behind_unread reads others b c e u vs x m r =
 
 -- Structs.
 
-memory_there : (A : Type 0) (e : DeserializeError (Bor (List ℕ))) → A → OnMemory A e
-memory_there A (error.Nom f) h = tt
-memory_there A error.UnsupportedType h = tt
-memory_there A error.InvalidType h = tt
-memory_there A error.PropertyMissing h = tt
-memory_there A (error.PropertyWrongKey k) h = tt
-memory_there A error.InvalidChoiceType h = tt
-memory_there A error.MissingChoiceValues h = tt
-memory_there A error.WrongSize h = tt
-memory_there A error.UnreadMembers h = tt
-memory_there A error.NoElementLeft h = tt
-memory_there A error.FailedReader h = tt
-memory_there A error.OutOfMemory h = h
-
 -- the front is no struct
 pub struct_unopened : {X : Type 0} (reads : Trees → X → Type 0) (b : List ℕ) (e : DeserializeError (Bor (List ℕ))) →
     (takes : Type 0) → LacksFront struct_type b e → RefusesExactly (λ v (x : X). ReadsStruct reads v x) takes b e
@@ -93,6 +78,12 @@ struct_unread {X = X} reads b e r takes o h m = record {
   short_first = λ n. absurd (n o.opens.there);
   memory = memory_to takes (takes × HasFront b) e (λ t. (t, o.opens.there)) m;
 }
+
+-- its members are refused
+pub members_of : (refuses : List ℕ → DeserializeError (Bor (List ℕ)) → Type 0) (b : List ℕ) (e : DeserializeError (Bor (List ℕ)))
+    (r : Reader) → OpensStruct b r → refuses r.left e → RefusesStructOf refuses b e
+members_of refuses b e r o h =
+    its_members o.opens.there (sym o.opens.its_type) (subst (λ l. refuses l e) o.opens.its_body h)
 
 -- Objects.
 
@@ -143,7 +134,7 @@ bytes_short b fault_kind.Short s n = refl
 bytes_short b fault_kind.Tag s n = absurd (n s.0)
 bytes_short b fault_kind.Text s n = absurd s
 
-lacks_short : (b : List ℕ) (e : DeserializeError (Bor (List ℕ))) → LacksObject b e → ¬ (HasFront b) → IsShortAt b e
+pub lacks_short : (b : List ℕ) (e : DeserializeError (Bor (List ℕ))) → LacksObject b e → ¬ (HasFront b) → IsShortAt b e
 lacks_short b (error.Nom f) h n = (bytes_short b f.kind h.1 n, h.0)
 lacks_short b error.WrongSize h n = absurd (n h.0)
 lacks_short b error.UnsupportedType h n = absurd h
@@ -157,7 +148,7 @@ lacks_short b error.NoElementLeft h n = absurd h
 lacks_short b error.FailedReader h n = absurd h
 lacks_short b error.OutOfMemory h n = absurd h
 
-lacks_memory : (b : List ℕ) (e : DeserializeError (Bor (List ℕ))) → LacksObject b e → OnMemory (⊤ × HasFront b) e
+pub lacks_memory : (b : List ℕ) (e : DeserializeError (Bor (List ℕ))) → LacksObject b e → OnMemory (⊥ × HasFront b) e
 lacks_memory b (error.Nom f) h = tt
 lacks_memory b error.UnsupportedType h = tt
 lacks_memory b error.InvalidType h = tt
@@ -173,19 +164,19 @@ lacks_memory b error.OutOfMemory h = absurd h
 
 -- the front is no object, or lacks its type or its id
 pub object_unopened : {X : Type 0} (type id : ℕ) (reads : Properties → X → Type 0) (b : List ℕ) (e : DeserializeError (Bor (List ℕ))) →
-    LacksObject b e → RefusesExactly (λ v (x : X). ReadsObject type id reads v x) ⊤ b e
-object_unopened type id reads b e h = record {
+    (takes : Type 0) → LacksObject b e → RefusesExactly (λ v (x : X). ReadsObject type id reads v x) takes b e
+object_unopened type id reads b e takes h = record {
   unread = lacks_object type id reads b e h;
   short_first = lacks_short b e h;
-  memory = lacks_memory b e h;
+  memory = memory_to (⊥ × HasFront b) (takes × HasFront b) e (λ k. absurd k.0) (lacks_memory b e h);
 }
 
 -- its type, its id or its properties aren't those that are read
 pub object_unread : {X : Type 0} (type id : ℕ) (reads : Properties → X → Type 0) (b : List ℕ) (e : DeserializeError (Bor (List ℕ)))
-    (r : ObjectReader) → OpensObject b r →
+    (r : ObjectReader) (takes : Type 0) → OpensObject b r →
     OnFault ((ps : Properties) (x : X) → type ≡ r.type → id ≡ r.id → AreProperties ps r.reader.left → ¬ (reads ps x)) e →
-    RefusesExactly (λ v (x : X). ReadsObject type id reads v x) ⊤ b e
-object_unread {X = X} type id reads b e r o h = record {
+    OnMemory takes e → RefusesExactly (λ v (x : X). ReadsObject type id reads v x) takes b e
+object_unread {X = X} type id reads b e r takes o h m = record {
   unread =
       fault_to ((ps : Properties) (x : X) → type ≡ r.type → id ≡ r.id → AreProperties ps r.reader.left → ¬ (reads ps x))
       (IsUnread (λ v (x : X). ReadsObject type id reads v x) b) e
@@ -193,5 +184,17 @@ object_unread {X = X} type id reads b e r o h = record {
       let opened = opened_object b r type id s.properties o (subst (Begins b) s.is g) in
       n s.properties x opened.0 opened.1 opened.2 s.are) h;
   short_first = λ n. absurd (n o.opens.there);
-  memory = memory_there (⊤ × HasFront b) e (tt, o.opens.there);
+  memory = memory_to takes (takes × HasFront b) e (λ t. (t, o.opens.there)) m;
 }
+
+-- what is asked for takes memory, or what is passed does
+its_left : (b : List ℕ) (r : ObjectReader) → OpensObject b r → r.reader.left ≡ drop header_size (body_of b)
+its_left b r o = o.left ∙ ap (drop header_size) o.opens.its_body
+
+pub asked_takes : (takes : List ℕ → Type 0) (b : List ℕ) (r : ObjectReader) (e : DeserializeError (Bor (List ℕ))) → OpensObject b r →
+    OnMemory (takes r.reader.left) e → OnMemory (TakesIn takes b) e
+asked_takes takes b r e o m = memory_to (takes r.reader.left) (TakesIn takes b) e (λ t. inl (subst takes (its_left b r o) t)) m
+
+pub passed_takes : (takes : List ℕ → Type 0) (b : List ℕ) (r : ObjectReader) (e : DeserializeError (Bor (List ℕ))) → OpensObject b r →
+    OnMemory (HoldsDeep r.reader.left) e → OnMemory (TakesIn takes b) e
+passed_takes takes b r e o m = memory_to (HoldsDeep r.reader.left) (TakesIn takes b) e (λ t. inr (subst HoldsDeep (its_left b r o) t)) m

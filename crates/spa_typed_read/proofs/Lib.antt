@@ -1,7 +1,9 @@
 pub mod Asking
+pub mod Causes
 pub mod Elements
 pub mod Exactly
 pub mod Fronts
 pub mod Lookups
 pub mod Placed
 pub mod Stepping
+pub mod Visits

@@ -12,11 +12,12 @@ use Rattle.spa_format.proofs.Sequences.{props_left}
 use Rattle.spa_format.proofs.Unique.{one_value}
 use Rattle.spa_fixed.specs.declared.fault.DeserializeError.TheVariants as error
 use Rattle.spa_fixed.specs.declared.fault.DeserializeError.{DeserializeError}
-use Rattle.spa_typed_read.specs.ExactlyLaws.{fault_to}
+use Rattle.spa_typed_read.specs.ExactlyLaws.{fault_there, fault_to, memory_to}
+use Rattle.spa_typed_read.proofs.Causes.{short_no_memory}
 use Rattle.spa_typed_read.specs.Exactly.{IsUnread, RefusesExactly}
-use Rattle.spa_typed_read.specs.Lookup.{AreNoProperties, HasFirst, LacksProperty, NoneRead, RefusesFirst, cut, refused_first}
+use Rattle.spa_typed_read.specs.Lookup.{AreNoProperties, HasFirst, IsUnder, LacksProperty, LeadsTo, NoneRead, RefusesUnder, arrived, behind_another, short_key, short_pod, under_key}
 use Rattle.spa_typed_read.specs.Members.{FurtherIn, ObjectReader}
-use Rattle.spa_leaf.specs.Reading.{IsRead, OnFault, RefusesInput}
+use Rattle.spa_leaf.specs.Reading.{IsRead, OnFault, OnMemory, RefusesInput}
 
 -- these properties, behind some first ones that aren't under the key, are those
 abbrev pub IsBehind : ℕ → Properties → Properties → Type 0
@@ -135,6 +136,39 @@ cut_pod key b c p n short ps m =
     let f = first_of_all c h.0 n h.1 in
     short f.begins.there
 
+-- Where a walk over whole properties leads to.
+
+some_long : (c : List ℕ) → header_size ≤ length c → c ≢ []
+some_long c l none = absurd (let e = ap length none in omega (arith, l, e))
+
+behind_trans : (key : ℕ) (ps qs rs : Properties) → IsBehind key ps qs → IsBehind key qs rs → IsBehind key ps rs
+behind_trans key no_properties qs rs b c = subst (λ q. IsBehind key q rs) b c
+behind_trans key (property k f v ps) qs rs b c =
+    ⊎_elim (λ e. subst (λ q. IsBehind key q rs) e c) (λ h. inr (h.0, behind_trans key ps qs rs h.1 c)) b
+
+passes_trans : (key : ℕ) (b c d : List ℕ) → Passes key b c → Passes key c d → Passes key b d
+passes_trans key b c d p q = record {
+  each = λ ps m.
+      let h = p.each ps m in
+      let k = q.each h.0 h.1 in
+      (k.0, k.1, behind_trans key ps h.0 k.0 h.2 k.2);
+}
+
+-- of properties it leads past those that aren't under the key
+pub leads_passes : (key : ℕ) (left b : List ℕ) → LeadsTo key left b → Passes key b left
+leads_passes key left b (arrived _ e) = subst (Passes key b) e (passes_none key b)
+leads_passes key left b (behind_another _ l n h more) =
+    passes_trans key b (rest_of (drop header_size b)) left (passes_one key b b _ (passes_none key b) (some_long b l) n refl)
+    (leads_passes key left _ more)
+
+-- and it leads on over one more
+pub leads_on : (key : ℕ) (c d b : List ℕ) → LeadsTo key c b → header_size ≤ length c → word_at c 0 ≢ key →
+    HasFront (drop header_size c) → d ≡ rest_of (drop header_size c) → LeadsTo key d b
+leads_on key c d b (arrived _ e) l n h r =
+    behind_another b (subst (λ x. header_size ≤ length x) (sym e) l) (subst (λ x. word_at x 0 ≢ key) (sym e) n)
+    (subst (λ x. HasFront (drop header_size x)) (sym e) h) (arrived _ (ap (λ x. rest_of (drop header_size x)) e ∙ sym r))
+leads_on key c d b (behind_another _ m o i more) l n h r = behind_another b m o i (leads_on key c d _ more l n h r)
+
 -- What is skipped.
 
 -- where what is left is no properties, neither was what was left before
@@ -178,21 +212,6 @@ first_to key P Q (property k f v ps) to p =
 pub read_first : (input rest : List ℕ) (P : Tree → Type 0) (v : Tree) → IsRead input rest P → Begins input v → P v
 read_first input rest P v r b = subst P (one_value (front_of input) r.value v r.begins.pod b.pod) r.holds
 
--- a refusal for any cause
-fault_there : (A : Type 0) (e : DeserializeError (Bor (List ℕ))) → A → OnFault A e
-fault_there A (error.Nom f) h = h
-fault_there A error.UnsupportedType h = h
-fault_there A error.InvalidType h = h
-fault_there A error.PropertyMissing h = h
-fault_there A (error.PropertyWrongKey k) h = h
-fault_there A error.InvalidChoiceType h = h
-fault_there A error.MissingChoiceValues h = h
-fault_there A error.WrongSize h = h
-fault_there A error.UnreadMembers h = h
-fault_there A error.NoElementLeft h = h
-fault_there A error.FailedReader h = h
-fault_there A error.OutOfMemory h = tt
-
 -- skipping is refused at a property that isn't there, or whose value is refused
 pub none_behind : (a b : ObjectReader) (e : DeserializeError (Bor (List ℕ))) → FurtherIn a b → b.reader.failed ≡ false →
     b.reader.left ≢ [] → (header_size ≤ length b.reader.left → RefusesInput (drop header_size b.reader.left) e) →
@@ -207,23 +226,33 @@ none_behind a b e f good some refuses =
 
 -- the value that has to be there, or may be, is refused
 pub required_refused : {A R X : Type 0} (reads : Tree → A → Type 0) (refuses : List ℕ → DeserializeError (Bor (List ℕ)) → Type 0)
-    (takes : Type 0) (key : ℕ) (made : X → A) (others : Properties → R → Type 0) (b : List ℕ) (e : DeserializeError (Bor (List ℕ))) →
-    ((place : List ℕ) (f : DeserializeError (Bor (List ℕ))) → refuses place f → RefusesExactly reads takes place f) →
-    RefusesFirst refuses key b e →
+    (takes : List ℕ → Type 0) (key : ℕ) (made : X → A) (others : Properties → R → Type 0) (b : List ℕ) (e : DeserializeError (Bor (List ℕ))) →
+    ((place : List ℕ) (f : DeserializeError (Bor (List ℕ))) → refuses place f → RefusesExactly reads (takes place) place f) →
+    RefusesUnder refuses key b e →
     OnFault (NoneRead (λ ps (x : X × R). HasFirst key (λ v. reads v (made x.0)) ps × others ps x.1) b) e
-required_refused {R = R} {X = X} reads refuses takes key made others b e law (cut place s n) =
-    fault_there (NoneRead (λ ps (x : X × R). HasFirst key (λ v. reads v (made x.0)) ps × others ps x.1) b) e
-    (λ ps x m r. n ps m)
-required_refused {R = R} {X = X} reads refuses takes key made others b e law (refused_first place r h) =
-    fault_to (IsUnread reads place) (NoneRead (λ ps (x : X × R). HasFirst key (λ v. reads v (made x.0)) ps × others ps x.1) b) e
-    (λ n ps x m q.
-    no_first key (λ v. Begins place v) (λ v. reads v (made x.0)) ps (h ps m) q.0 (λ v g i. n v (made x.0) g i))
-    (law place e r).unread
+required_refused {R = R} {X = X} reads refuses takes key made others b e law refusal = by_cause refusal
+  where
+    Reads : Properties → X × R → Type 0
+    Reads ps x = HasFirst key (λ v. reads v (made x.0)) ps × others ps x.1
+
+    by_cause : RefusesUnder refuses key b e → OnFault (NoneRead Reads b) e
+    by_cause (short_key left l n s i) =
+        fault_there (NoneRead Reads b) e (λ ps x m r. cut_key key b left (leads_passes key left b l) n s ps m)
+    by_cause (short_pod left l long s i) =
+        fault_there (NoneRead Reads b) e
+        (λ ps x m r. cut_pod key b left (leads_passes key left b l) (some_long left long) s ps m)
+    by_cause (under_key left l long k r) =
+        let place = drop header_size left in
+        fault_to (IsUnread reads place) (NoneRead Reads b) e
+        (λ n ps x m q.
+        no_first key (λ v. Begins place v) (λ v. reads v (made x.0)) ps
+        (found_first key b left (λ v. Begins place v) (leads_passes key left b l) (some_long left long) k (λ v g. g) ps m) q.0
+        (λ v g i. n v (made x.0) g i)) (law place e r).unread
 
 pub optional_refused : {A R X : Type 0} (reads : Tree → A → Type 0) (refuses : List ℕ → DeserializeError (Bor (List ℕ)) → Type 0)
-    (takes : Type 0) (key : ℕ) (made : X → Option A) (others : Properties → R → Type 0) (b : List ℕ) (e : DeserializeError (Bor (List ℕ))) →
-    ((place : List ℕ) (f : DeserializeError (Bor (List ℕ))) → refuses place f → RefusesExactly reads takes place f) →
-    RefusesFirst refuses key b e →
+    (takes : List ℕ → Type 0) (key : ℕ) (made : X → Option A) (others : Properties → R → Type 0) (b : List ℕ) (e : DeserializeError (Bor (List ℕ))) →
+    ((place : List ℕ) (f : DeserializeError (Bor (List ℕ))) → refuses place f → RefusesExactly reads (takes place) place f) →
+    RefusesUnder refuses key b e →
     OnFault
     (NoneRead
     (λ ps (x : X × R). MatchOption (made x.0) (LacksProperty key ps) (λ a. HasFirst key (λ v. reads v a) ps) × others ps x.1)
@@ -238,8 +267,29 @@ optional_refused {A = A} {R = R} {X = X} reads refuses takes key made others b e
     unread ps place None n h q = no_none key (λ v. Begins place v) ps h q
     unread ps place (Some a) n h q = no_first key (λ v. Begins place v) (λ v. reads v a) ps h q (λ v g i. n v a g i)
 
-    by_cause : RefusesFirst refuses key b e → OnFault (NoneRead Reads b) e
-    by_cause (cut place s n) = fault_there (NoneRead Reads b) e (λ ps x m r. n ps m)
-    by_cause (refused_first place r h) =
-        fault_to (IsUnread reads place) (NoneRead Reads b) e (λ n ps x m q. unread ps place (made x.0) n (h ps m) q.0)
+    by_cause : RefusesUnder refuses key b e → OnFault (NoneRead Reads b) e
+    by_cause (short_key left l n s i) =
+        fault_there (NoneRead Reads b) e (λ ps x m r. cut_key key b left (leads_passes key left b l) n s ps m)
+    by_cause (short_pod left l long s i) =
+        fault_there (NoneRead Reads b) e
+        (λ ps x m r. cut_pod key b left (leads_passes key left b l) (some_long left long) s ps m)
+    by_cause (under_key left l long k r) =
+        let place = drop header_size left in
+        fault_to (IsUnread reads place) (NoneRead Reads b) e
+        (λ n ps x m q.
+        unread ps place (made x.0) n
+        (found_first key b left (λ v. Begins place v) (leads_passes key left b l) (some_long left long) k (λ v g. g) ps m) q.0)
         (law place e r).unread
+
+-- memory runs out only as for its type
+pub under_memory : {A : Type 0} (reads : Tree → A → Type 0) (refuses : List ℕ → DeserializeError (Bor (List ℕ)) → Type 0)
+    (takes : List ℕ → Type 0) (key : ℕ) (b : List ℕ) (e : DeserializeError (Bor (List ℕ))) →
+    ((place : List ℕ) (f : DeserializeError (Bor (List ℕ))) → refuses place f → RefusesExactly reads (takes place) place f) →
+    RefusesUnder refuses key b e → OnMemory (IsUnder key takes b) e
+under_memory reads refuses takes key b e law (short_key left l n s i) = short_no_memory (IsUnder key takes b) left e i
+under_memory reads refuses takes key b e law (short_pod left l long s i) =
+    short_no_memory (IsUnder key takes b) (drop header_size left) e i
+under_memory reads refuses takes key b e law (under_key left l long k r) =
+    let place = drop header_size left in
+    memory_to (takes place × HasFront place) (IsUnder key takes b) e
+    (λ m. record { left = left; leads = l; header = long; its_key = k; holds = m.0 }) (law place e r).memory

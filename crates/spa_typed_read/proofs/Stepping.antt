@@ -1,5 +1,6 @@
 -- How the calls of a reader of members or properties add up: what the author of a visitor cites.
-use Rattle.std.proofs.Common.{◌≡◌, ◌≢◌, ℕ, ◌<◌, true, false, List, [], ◌++◌, length, drop, refl, sym, subst, ◌∙◌, ap, arith, append_assoc, length-drop}
+use Rattle.std.proofs.Common.{◌≡◌, ◌≢◌, ℕ, ◌<◌, ◌≤◌, Bool, true, false, List, [], ◌∷◌, ◌++◌, length, drop, refl, sym, subst, ◌∙◌, ap, arith, append_assoc, length-drop, inl, inr, ⊎_elim}
+use Rattle.std.proofs.lemmas.Bool.{cases_lt}
 use Rattle.std.specs.Prelude.{⊤}
 use Rattle.std.specs.Borrow.{Bor}
 use Rattle.std.proofs.lemmas.List.{append-nil}
@@ -10,10 +11,17 @@ use Rattle.spa_format.specs.Front.{IsRefused, front_of}
 use Rattle.spa_format.proofs.Refused.{refused_behind_members}
 use Rattle.spa_format.proofs.Sequences.{members_joined, members_push, props_joined}
 use Rattle.spa_fixed.specs.declared.fault.DeserializeError.{DeserializeError}
-use Rattle.spa_leaf.specs.Reading.{BeginsWith, IsRead, OnFault, RefusesInput}
-use Rattle.spa_typed_read.specs.Exactly.{AreNoMembers}
-use Rattle.spa_typed_read.specs.ExactlyLaws.{fault_to}
-use Rattle.spa_typed_read.specs.Members.{AllMembers, AllProperties, AtEnd, Further, FurtherIn, ObjectReader, Reader, TakesField, TakesProperty}
+use Rattle.spa_leaf.specs.Reading.{BeginsWith, IsRead, IsShortAt, OnMemory, RefusesInput}
+use Rattle.spa_format.specs.Faults.{Stands}
+use Rattle.spa_fixed.specs.declared.fault.DeserializeError.TheVariants as error
+use Rattle.spa_leaf.specs.Refusing.{StandsInMembers, StandsInProperties}
+use Rattle.spa_scan.specs.Depth.{levels_looked_into}
+use Rattle.spa_typed_read.specs.Exactly.{AreNoMembers, RefusesMembers}
+use Rattle.spa_typed_read.specs.Lookup.{HoldsDeep, IsNoneWithin, RefusesProperties}
+use Rattle.spa_typed_read.specs.ExactlyLaws.{fault_to, memory_there, memory_to}
+use Rattle.spa_typed_read.proofs.Causes.{names_to, short_named, short_no_memory}
+use Rattle.spa_typed_read.proofs.Lookups.{none_behind}
+use Rattle.spa_typed_read.specs.Members.{AllMembers, AllProperties, AtEnd, Further, FurtherIn, IsOfObject, ObjectReader, Reader, TakesField, TakesProperty}
 use Rattle.spa_typed_read.specs.declared.visitor.Visit.{Visit}
 use Rattle.spa_typed_read.specs.Visiting.{IsVisited}
 use Rattle.spa_read.proofs.Remainders.{HasKey, first_property}
@@ -118,13 +126,46 @@ all_left a b f e =
 pub field_shorter : (a b : Reader) (P : Tree → Type 0) → TakesField a b P → length b.left < length a.left
 field_shorter a b P f = rest_shorter a.left b.left P f.field
 
--- where what is left of them is refused as any value, what was left before is no members
-pub none_further_on : (a b : Reader) (e : DeserializeError (Bor (List ℕ))) → Further a b → b.failed ≡ false → b.left ≢ [] →
-    RefusesInput b.left e → OnFault (AreNoMembers a.left) e
-none_further_on a b e f good some refuses =
+-- What is refused further on.
+
+-- what is left further on, and so something was left before
+some_left : (seen left : List ℕ) (b : List ℕ) → b ≡ seen ++ left → left ≢ [] → b ≢ []
+some_left [] left b e n = λ none. n (sym e ∙ none)
+some_left (x ∷ seen) left b e n = λ none. cc (e, none)
+
+-- where what is left of them is refused as any value, what was left before is refused as members
+pub members_refused : (a b : Reader) (e : DeserializeError (Bor (List ℕ))) → Further a b → b.failed ≡ false → b.left ≢ [] →
+    RefusesInput b.left e → RefusesMembers a.left e
+members_refused a b e f good some refuses =
     let h = f.ahead good in
-    fault_to (IsRefused b.left) (AreNoMembers a.left) e
-    (λ n vs m. refused_behind_members h.members vs h.seen b.left h.are some n (subst (AreMembers vs) h.left m)) refuses.refused
+    record {
+      unread =
+          fault_to (IsRefused b.left) (AreNoMembers a.left) e
+          (λ n vs m. refused_behind_members h.members vs h.seen b.left h.are some n (subst (AreMembers vs) h.left m)) refuses.refused;
+      named =
+          names_to (λ k place. Stands k place b.left) (λ k place. StandsInMembers a.left place k) e
+          (λ k place s. (h.members, h.seen, b.left, h.left, h.are, some, s)) refuses.named;
+      memory = memory_there (a.left ≢ []) e (some_left h.seen b.left a.left h.left some);
+    }
+
+-- where memory runs out for a member that is read
+pub no_room_for_member : (a b c : Reader) (P : Tree → Type 0) → Further a b → TakesField b c P → RefusesMembers a.left error.OutOfMemory
+no_room_for_member a b c P f t =
+    let h = f.ahead t.was_good in
+    let long = t.field.begins.there.header in
+    record {
+      unread = tt;
+      named = tt;
+      memory = some_left h.seen b.left a.left h.left (λ none. let e = ap length none in absurd (omega (arith, long, e)));
+    }
+
+-- a reader that has failed stays so
+pub failed_further : (a b : Reader) → Further a b → a.failed ≡ true → b.failed ≡ true
+failed_further a b f failed = by b.failed refl
+  where
+    by : (x : Bool) → b.failed ≡ x → b.failed ≡ true
+    by true e = e
+    by false e = absurd (cc ((f.ahead e).good, failed))
 
 -- a reader's calls took these members, and it hasn't failed
 pub record AheadBy (lent now : Reader) (vs : Trees) : Type 0 where
@@ -174,13 +215,20 @@ took_all a b vs t e =
 
 -- Properties of an object.
 
+pub same_object : (r : ObjectReader) → IsOfObject r r
+same_object r = record { type = refl; id = refl }
+
+pub object_trans : (a b c : ObjectReader) → IsOfObject a b → IsOfObject b c → IsOfObject a c
+object_trans a b c o p = record { type = p.type ∙ o.type; id = p.id ∙ o.id }
+
 pub further_in_same : (r : ObjectReader) → FurtherIn r r
 further_in_same r = record {
-  ahead = λ good. record { properties = no_properties; seen = []; good = good; left = refl; are = refl; after = refl };
+  ahead = λ good. record { properties = no_properties; seen = []; good = good; left = refl; are = refl; after = refl; object = same_object r };
+  object = same_object r;
 }
 
-pub further_in_failed : (a b : ObjectReader) → b.reader.failed ≡ true → FurtherIn a b
-further_in_failed a b failed = record { ahead = λ good. absurd (cc (failed, good)) }
+pub further_in_failed : (a b : ObjectReader) → IsOfObject a b → b.reader.failed ≡ true → FurtherIn a b
+further_in_failed a b o failed = record { ahead = λ good. absurd (cc (failed, good)); object = o }
 
 pub further_property : (a b : ObjectReader) (key flags : ℕ) (P : Tree → Type 0) → TakesProperty a b key flags P → FurtherIn a b
 further_property a b key flags P t =
@@ -195,7 +243,9 @@ further_property a b key flags P t =
         left = one.parts;
         are = one.its_bytes;
         after = t.after;
+        object = t.object;
       };
+      object = t.object;
     }
 
 pub further_in_trans : (a b c : ObjectReader) → FurtherIn a b → FurtherIn b c → FurtherIn a c
@@ -210,7 +260,9 @@ further_in_trans a b c f g = record {
         left = rw (k.left, h.left) (simp append_assoc);
         are = props_joined k.properties h.properties k.seen h.seen k.are h.are;
         after = h.after ∙ k.after;
+        object = object_trans a b c f.object g.object;
       };
+  object = object_trans a b c f.object g.object;
 }
 
 -- no property is left
@@ -277,27 +329,25 @@ pub record AheadInBy (lent now : ObjectReader) (ps : Properties) : Type 0 where
 -- or it has
 pub record TookIn (lent now : ObjectReader) (ps : Properties) : Type 0 where
   pub ahead : now.reader.failed ≡ false → AheadInBy lent now ps
-  pub same_type : now.type ≡ lent.type
-  pub same_id : now.id ≡ lent.id
+  pub object : IsOfObject lent now
 
 pub took_none_in : (r : ObjectReader) → TookIn r r no_properties
 took_none_in r = record {
   ahead = λ good. record { seen = []; good = good; left = refl; are = refl; after = refl };
-  same_type = refl;
-  same_id = refl;
+  object = same_object r;
 }
 
 pub took_further_in : (a b : ObjectReader) (ps : Properties) → TookIn a b ps → FurtherIn a b
 took_further_in a b ps t = record {
   ahead = λ good.
       let h = t.ahead good in
-      record { properties = ps; seen = h.seen; good = h.good; left = h.left; are = h.are; after = h.after };
+      record { properties = ps; seen = h.seen; good = h.good; left = h.left; are = h.are; after = h.after; object = t.object };
+  object = t.object;
 }
 
 pub took_property : (a b c : ObjectReader) (ps : Properties) (key flags : ℕ) (v : Tree) → TookIn a b ps →
-    TakesProperty b c key flags (λ w. v ≡ w) → c.type ≡ b.type → c.id ≡ b.id →
-    TookIn a c (join_properties ps (property key flags v no_properties))
-took_property a b c ps key flags v t f x y = record {
+    TakesProperty b c key flags (λ w. v ≡ w) → TookIn a c (join_properties ps (property key flags v no_properties))
+took_property a b c ps key flags v t f = record {
   ahead = λ good.
       let h = t.ahead f.was_good in
       let behind = drop header_size b.reader.left in
@@ -311,8 +361,7 @@ took_property a b c ps key flags v t f x y = record {
         are = props_joined ps (property key flags v no_properties) h.seen one.here h.are its_bytes;
         after = f.after ∙ h.after;
       };
-  same_type = x ∙ t.same_type;
-  same_id = y ∙ t.same_id;
+  object = object_trans a b c t.object f.object;
 }
 
 pub took_all_in : (a b : ObjectReader) (ps : Properties) → TookIn a b ps → AtEnd b.reader → AllProperties a (λ qs. qs ≡ ps)
@@ -320,6 +369,59 @@ took_all_in a b ps t e =
     let h = t.ahead e.good in
     let whole : a.reader.left ≡ h.seen = h.left ∙ ap (λ l. h.seen ++ l) e.none_left ∙ append-nil h.seen in
     record { properties = ps; are = subst (AreProperties ps) (sym whole) h.are; holds = refl }
+
+-- where what is left of them is refused, what was left before is refused as properties
+pub properties_refused : (a b : ObjectReader) (e : DeserializeError (Bor (List ℕ))) → FurtherIn a b → b.reader.failed ≡ false →
+    b.reader.left ≢ [] → (length b.reader.left < header_size → IsShortAt b.reader.left e) →
+    (header_size ≤ length b.reader.left → RefusesInput (drop header_size b.reader.left) e) → RefusesProperties a.reader.left e
+properties_refused a b e f good some short refuses =
+    let h = f.ahead good in
+    record {
+      unread = none_behind a b e f good some refuses;
+      named =
+          ⊎_elim
+          (λ cut.
+          short_named (λ k place. StandsInProperties a.reader.left place k) b.reader.left e (short cut)
+          (h.properties, h.seen, b.reader.left, h.left, h.are, inl (refl, refl, some, cut)))
+          (λ long.
+          names_to (λ k place. Stands k place (drop header_size b.reader.left)) (λ k place. StandsInProperties a.reader.left place k) e
+          (λ k place s. (h.properties, h.seen, b.reader.left, h.left, h.are, inr (long, s))) (refuses long).named)
+          (cases_lt (length b.reader.left) header_size);
+      memory = memory_there (a.reader.left ≢ []) e (some_left h.seen b.reader.left a.reader.left h.left some);
+    }
+
+-- where memory runs out for one that is passed
+pub deep_further : (a b : ObjectReader) (e : DeserializeError (Bor (List ℕ))) → FurtherIn a b → b.reader.failed ≡ false →
+    (length b.reader.left < header_size → IsShortAt b.reader.left e) →
+    (header_size ≤ length b.reader.left → OnMemory (IsNoneWithin levels_looked_into (drop header_size b.reader.left)) e) →
+    OnMemory (HoldsDeep a.reader.left) e
+deep_further a b e f good short deep =
+    let h = f.ahead good in
+    ⊎_elim (λ cut. short_no_memory (HoldsDeep a.reader.left) b.reader.left e (short cut))
+    (λ long.
+    memory_to (IsNoneWithin levels_looked_into (drop header_size b.reader.left)) (HoldsDeep a.reader.left) e
+    (λ d. record { properties = h.properties; first = h.seen; left = b.reader.left; parts = h.left; are = h.are; header = long; deep = d })
+    (deep long)) (cases_lt (length b.reader.left) header_size)
+
+-- where memory runs out for a property that is read
+pub no_room_for_property : (a b c : ObjectReader) (key flags : ℕ) (P : Tree → Type 0) → FurtherIn a b → TakesProperty b c key flags P →
+    RefusesProperties a.reader.left error.OutOfMemory
+no_room_for_property a b c key flags P f t =
+    let h = f.ahead t.was_good in
+    let long = t.header in
+    record {
+      unread = tt;
+      named = tt;
+      memory = some_left h.seen b.reader.left a.reader.left h.left (λ none. let e = ap length none in absurd (omega (arith, long, e)));
+    }
+
+-- an object's reader that has failed stays so
+pub failed_further_in : (a b : ObjectReader) → FurtherIn a b → a.reader.failed ≡ true → b.reader.failed ≡ true
+failed_further_in a b f failed = by b.reader.failed refl
+  where
+    by : (x : Bool) → b.reader.failed ≡ x → b.reader.failed ≡ true
+    by true e = e
+    by false e = absurd (cc ((f.ahead e).good, failed))
 
 -- Whatever is read.
 

@@ -1,11 +1,16 @@
 -- Reads that are refused only where the input isn't read so: docs/FORMAT.md, "Faults".
-use Rattle.std.specs.Prelude.{◌≡◌, ℕ, List}
+use Rattle.std.specs.Prelude.{◌≡◌, ◌≢◌, ℕ, List, []}
 use Rattle.std.specs.Borrow.{Bor}
 use Rattle.spa_format.specs.Tree.{Tree, Trees, member, struct}
 use Rattle.spa_format.specs.Pod.{AreMembers}
 use Rattle.spa_format.specs.Front.{HasFront, Begins}
+use Rattle.spa_format.specs.Tree.{struct_type}
+use Rattle.spa_format.specs.Words.{body_of, word_at}
 use Rattle.spa_fixed.specs.declared.fault.DeserializeError.{DeserializeError}
-use Rattle.spa_leaf.specs.Reading.{IsShortAt, OnFault, OnMemory}
+use Rattle.spa_fixed.specs.declared.fault.DeserializeError.TheVariants as error
+use Rattle.spa_leaf.specs.Reading.{IsRead, IsShortAt, Names, OnFault, OnMemory}
+use Rattle.spa_leaf.specs.Refusing.{StandsInMembers}
+use Rattle.spa_typed_read.specs.Asking.{LacksFront}
 
 -- the input begins with no value that is read as one of this type
 abbrev pub IsUnread : {X : Type 0} → (Tree → X → Type 0) → List ℕ → Type 0
@@ -25,6 +30,28 @@ AreUnread {X = X} reads b = (vs : Trees) (x : X) → AreMembers vs b → ¬ (rea
 -- these bytes are the pods of no members
 abbrev pub AreNoMembers : List ℕ → Type 0
 AreNoMembers b = (vs : Trees) → ¬ (AreMembers vs b)
+
+-- Any refusal of members, whatever they are, but one for lack of memory says that these bytes are none, and names a fault that
+-- stands in them. One for lack of memory says that there are some bytes.
+pub record RefusesMembers (b : List ℕ) (e : DeserializeError (Bor (List ℕ))) : Type 0 where
+  pub unread : OnFault (AreNoMembers b) e
+  pub named : Names (λ k place. StandsInMembers b place k) e
+  pub memory : OnMemory (b ≢ []) e
+
+-- Of members that are read one by one: the first one isn't there, or is refused, or is read, and those behind it are refused.
+pub data RefusesFirst {A : Type 0} (reads : Tree → A → Type 0) (refuses others : List ℕ → DeserializeError (Bor (List ℕ)) → Type 0) (b : List ℕ) (e : DeserializeError (Bor (List ℕ))) : Type 0 where
+  missing : b ≡ [] → e ≡ error.PropertyMissing → RefusesFirst reads refuses others b e
+  first : b ≢ [] → refuses b e → RefusesFirst reads refuses others b e
+  behind : (x : A) (rest : List ℕ) → IsRead b rest (λ v. reads v x) → others rest e → RefusesFirst reads refuses others b e
+
+-- one more member is left than are read
+abbrev pub RefusesMore : List ℕ → DeserializeError (Bor (List ℕ)) → Type 0
+RefusesMore b e = (b ≢ []) × (e ≡ error.UnreadMembers)
+
+-- The struct at the front isn't opened, or its members are refused.
+pub data RefusesStructOf (refuses : List ℕ → DeserializeError (Bor (List ℕ)) → Type 0) (b : List ℕ) (e : DeserializeError (Bor (List ℕ))) : Type 0 where
+  not_struct : LacksFront struct_type b e → RefusesStructOf refuses b e
+  its_members : HasFront b → word_at b 4 ≡ struct_type → refuses (body_of b) e → RefusesStructOf refuses b e
 
 -- the first of these members and those behind it are read so
 pub record ReadsFirst {A R : Type 0} (reads : Tree → A → Type 0) (others : Trees → R → Type 0) (vs : Trees) (a : A) (r : R) : Type 0 where

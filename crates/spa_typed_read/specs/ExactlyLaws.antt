@@ -44,6 +44,49 @@ memory_to A B error.NoElementLeft to h = h
 memory_to A B error.FailedReader to h = h
 memory_to A B error.OutOfMemory to h = to h
 
+-- what holds whatever the refusal is
+pub fault_there : {I : Type 0} (A : Type 0) (e : DeserializeError I) → A → OnFault A e
+fault_there A (error.Nom f) h = h
+fault_there A error.UnsupportedType h = h
+fault_there A error.InvalidType h = h
+fault_there A error.PropertyMissing h = h
+fault_there A (error.PropertyWrongKey k) h = h
+fault_there A error.InvalidChoiceType h = h
+fault_there A error.MissingChoiceValues h = h
+fault_there A error.WrongSize h = h
+fault_there A error.UnreadMembers h = h
+fault_there A error.NoElementLeft h = h
+fault_there A error.FailedReader h = h
+fault_there A error.OutOfMemory h = tt
+
+pub memory_there : {I : Type 0} (A : Type 0) (e : DeserializeError I) → A → OnMemory A e
+memory_there A (error.Nom f) h = tt
+memory_there A error.UnsupportedType h = tt
+memory_there A error.InvalidType h = tt
+memory_there A error.PropertyMissing h = tt
+memory_there A (error.PropertyWrongKey k) h = tt
+memory_there A error.InvalidChoiceType h = tt
+memory_there A error.MissingChoiceValues h = tt
+memory_there A error.WrongSize h = tt
+memory_there A error.UnreadMembers h = tt
+memory_there A error.NoElementLeft h = tt
+memory_there A error.FailedReader h = tt
+memory_there A error.OutOfMemory h = h
+
+pub both_on_memory : {I : Type 0} (A B : Type 0) (e : DeserializeError I) → OnMemory A e → OnMemory B e → OnMemory (A × B) e
+both_on_memory A B (error.Nom f) h k = tt
+both_on_memory A B error.UnsupportedType h k = tt
+both_on_memory A B error.InvalidType h k = tt
+both_on_memory A B error.PropertyMissing h k = tt
+both_on_memory A B (error.PropertyWrongKey n) h k = tt
+both_on_memory A B error.InvalidChoiceType h k = tt
+both_on_memory A B error.MissingChoiceValues h k = tt
+both_on_memory A B error.WrongSize h k = tt
+both_on_memory A B error.UnreadMembers h k = tt
+both_on_memory A B error.NoElementLeft h k = tt
+both_on_memory A B error.FailedReader h k = tt
+both_on_memory A B error.OutOfMemory h k = (h, k)
+
 -- a type whose values are those that are asked for
 pub asked_exactly : {X : Type 0} (a : Asked) (m : Type 0) (reads : Tree → X → Type 0) →
     ((v : Tree) (x : X) → reads v x → IsAsked a v) → (b : List ℕ) (e : DeserializeError (Bor (List ℕ))) →
@@ -61,6 +104,15 @@ any_exactly reads b e r = record {
   unread = fault_to (IsRefused b) (IsUnread reads b) e (λ n v x g h. n v g) r.refused;
   short_first = r.short_first;
   memory = memory_to (MayLackMemory b) (⊤ × HasFront b) e (λ k. (tt, k.0)) r.memory;
+}
+
+-- the same where it asks for memory only where this holds
+pub passed_exactly : {X : Type 0} (reads : Tree → X → Type 0) (takes_memory : Type 0) (b : List ℕ) (e : DeserializeError (Bor (List ℕ))) →
+    RefusesInput b e → OnMemory takes_memory e → RefusesExactly reads takes_memory b e
+passed_exactly reads takes_memory b e r m = record {
+  unread = fault_to (IsRefused b) (IsUnread reads b) e (λ n v x g h. n v g) r.refused;
+  short_first = r.short_first;
+  memory = both_on_memory takes_memory (HasFront b) e m (memory_to (MayLackMemory b) (HasFront b) e (λ k. k.0) r.memory);
 }
 
 -- a type that is read as another one is, and made of that

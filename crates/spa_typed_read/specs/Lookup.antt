@@ -1,11 +1,18 @@
 -- Properties that are looked up by their keys: docs/FORMAT.md, "A pod".
-use Rattle.std.specs.Prelude.{◌≡◌, ◌≢◌, ℕ, ◌⊎◌, List, Option, Some, None, MatchOption, ⊤}
+use Rattle.std.specs.Prelude.{◌≡◌, ◌≢◌, ℕ, ◌≤◌, ◌<◌, ◌⊎◌, List, [], ◌++◌, length, drop, Option, Some, None, MatchOption, ⊤}
 use Rattle.std.specs.Borrow.{Bor}
 use Rattle.spa_format.specs.Tree.{Tree, Properties, no_properties, property, object}
 use Rattle.spa_format.specs.Pod.{AreProperties}
-use Rattle.spa_format.specs.Front.{Begins}
+use Rattle.spa_format.specs.Words.{body_of, header_size, word_at}
+use Rattle.spa_format.specs.Front.{HasFront, rest_of}
 use Rattle.spa_fixed.specs.declared.fault.DeserializeError.{DeserializeError}
-use Rattle.spa_leaf.specs.Reading.{IsShortAt}
+use Rattle.spa_leaf.specs.Reading.{IsRead, IsShortAt, Names, OnFault, OnMemory}
+use Rattle.spa_leaf.specs.Refusing.{StandsInProperties}
+use Rattle.spa_scan.specs.Canonical.{BeginsCanonical}
+use Rattle.spa_scan.specs.Depth.{depth_of, levels_looked_into}
+use Rattle.spa_fixed.specs.declared.fault.DeserializeError.TheVariants as error
+use Rattle.spa_typed_read.specs.Asking.{LacksObject}
+use Rattle.spa_typed_read.specs.Members.{ObjectReader, OpensObject}
 
 -- the fact holds of the value of the first property under this key
 abbrev pub HasFirst : ℕ → (Tree → Type 0) → Properties → Type 0
@@ -26,22 +33,93 @@ optional_property key says (Some x) ps = property key 0 (says x) ps
 abbrev pub AreNoProperties : List ℕ → Type 0
 AreNoProperties b = (ps : Properties) → ¬ (AreProperties ps b)
 
+-- Any refusal of properties, whatever they are, but one for lack of memory says that these bytes are none, and names a fault that
+-- stands in them. One for lack of memory says that there are some bytes.
+pub record RefusesProperties (b : List ℕ) (e : DeserializeError (Bor (List ℕ))) : Type 0 where
+  pub unread : OnFault (AreNoProperties b) e
+  pub named : Names (λ k place. StandsInProperties b place k) e
+  pub memory : OnMemory (b ≢ []) e
+
+-- the input begins with no pod that is its value's encoding and nests in so many levels at most
+abbrev pub IsNoneWithin : ℕ → List ℕ → Type 0
+IsNoneWithin levels b = (rest : List ℕ) (c : BeginsCanonical b rest) → levels < depth_of c.value
+
+-- behind some first properties stands a key with flags, and behind those no encoding that nests in 1000 levels at most
+pub record HoldsDeep (b : List ℕ) : Type 0 where
+  pub properties : Properties
+  pub first : List ℕ
+  pub left : List ℕ
+  pub parts : b ≡ first ++ left
+  pub are : AreProperties properties first
+  pub header : header_size ≤ length left
+  pub deep : IsNoneWithin levels_looked_into (drop header_size left)
+
+-- these bytes are some whole properties under other keys, whatever their pods say, and then what is left
+pub data LeadsTo (key : ℕ) (left : List ℕ) : List ℕ → Type 0 where
+  arrived : (b : List ℕ) → b ≡ left → LeadsTo key left b
+  behind_another : (b : List ℕ) → header_size ≤ length b → word_at b 0 ≢ key → HasFront (drop header_size b) → LeadsTo key left (rest_of (drop header_size b)) → LeadsTo key left b
+
+-- the fact holds of where the value of the first property under the key begins
+pub record IsUnder (key : ℕ) (P : List ℕ → Type 0) (b : List ℕ) : Type 0 where
+  pub left : List ℕ
+  pub leads : LeadsTo key left b
+  pub header : header_size ≤ length left
+  pub its_key : word_at left 0 ≡ key
+  pub holds : P (drop header_size left)
+
+-- what is left begins with the first property under the key, whose value is read so
+pub record FindsUnder {X : Type 0} (reads : Tree → X → Type 0) (key : ℕ) (b : List ℕ) (x : X) : Type 0 where
+  pub left : List ℕ
+  pub leads : LeadsTo key left b
+  pub header : header_size ≤ length left
+  pub its_key : word_at left 0 ≡ key
+  pub rest : List ℕ
+  pub value : IsRead (drop header_size left) rest (λ v. reads v x)
+
+-- this one is found under the key, or these bytes are whole properties under others
+abbrev pub FindsIn : {X : Type 0} → (Tree → X → Type 0) → ℕ → List ℕ → Option X → Type 0
+FindsIn reads key b read = MatchOption read (LeadsTo key [] b) (λ x. FindsUnder reads key b x)
+
 -- of the properties that these bytes are, this is the first one under the key, or there is none
 abbrev pub FindsFirst : {X : Type 0} → (Tree → X → Type 0) → ℕ → List ℕ → Option X → Type 0
 FindsFirst reads key b read =
     (ps : Properties) → AreProperties ps b → MatchOption read (LacksProperty key ps) (λ x. HasFirst key (λ v. reads v x) ps)
 
--- A property's pod is short, and these bytes are no properties; or the first one under the key is refused.
-pub data RefusesFirst (refuses : List ℕ → DeserializeError (Bor (List ℕ)) → Type 0) (key : ℕ) (b : List ℕ) (e : DeserializeError (Bor (List ℕ))) : Type 0 where
-  cut : (place : List ℕ) → IsShortAt place e → AreNoProperties b → RefusesFirst refuses key b e
-  refused_first : (place : List ℕ) → refuses place e → ((ps : Properties) → AreProperties ps b → HasFirst key (λ v. Begins place v) ps) → RefusesFirst refuses key b e
+-- Where some whole properties under other keys end, a key or a pod is short; or the first property under the key is refused.
+pub data RefusesUnder (refuses : List ℕ → DeserializeError (Bor (List ℕ)) → Type 0) (key : ℕ) (b : List ℕ) (e : DeserializeError (Bor (List ℕ))) : Type 0 where
+  short_key : (left : List ℕ) → LeadsTo key left b → left ≢ [] → length left < header_size → IsShortAt left e → RefusesUnder refuses key b e
+  short_pod : (left : List ℕ) → LeadsTo key left b → header_size ≤ length left → ¬ (HasFront (drop header_size left)) → IsShortAt (drop header_size left) e → RefusesUnder refuses key b e
+  under_key : (left : List ℕ) → LeadsTo key left b → header_size ≤ length left → word_at left 0 ≡ key → refuses (drop header_size left) e → RefusesUnder refuses key b e
 
 -- these bytes are the pods of no properties that are read so
 abbrev pub NoneRead : {X : Type 0} → (Properties → X → Type 0) → List ℕ → Type 0
 NoneRead {X = X} reads b = (ps : Properties) (x : X) → AreProperties ps b → ¬ (reads ps x)
+
+-- this value is an object, which is read so by its type, its id and its properties
+pub record ReadsObjectBy {X : Type 0} (reads : ℕ → ℕ → Properties → X → Type 0) (v : Tree) (x : X) : Type 0 where
+  pub type : ℕ
+  pub id : ℕ
+  pub properties : Properties
+  pub is : v ≡ object type id properties
+  pub are : reads type id properties x
 
 -- this value is an object of this type and id, whose properties are read so
 pub record ReadsObject {X : Type 0} (type id : ℕ) (reads : Properties → X → Type 0) (v : Tree) (x : X) : Type 0 where
   pub properties : Properties
   pub is : v ≡ object type id properties
   pub are : reads properties x
+
+-- The object at the front isn't opened, or is another one; or what is asked for among its properties is refused, or those are.
+pub data RefusesObjectOf (type id : ℕ) (refuses : List ℕ → DeserializeError (Bor (List ℕ)) → Type 0) (b : List ℕ) (e : DeserializeError (Bor (List ℕ))) : Type 0 where
+  not_object : LacksObject b e → RefusesObjectOf type id refuses b e
+  other_object : (r : ObjectReader) → OpensObject b r → (r.type ≢ type) ⊎ (r.id ≢ id) → e ≡ error.UnsupportedType → RefusesObjectOf type id refuses b e
+  asked_for : (r : ObjectReader) → OpensObject b r → refuses r.reader.left e → RefusesObjectOf type id refuses b e
+  passed : (r : ObjectReader) → OpensObject b r → RefusesProperties r.reader.left e → RefusesObjectOf type id refuses b e
+
+-- one that has to be there is refused, or isn't under its key
+abbrev pub RefusesRequired : (List ℕ → DeserializeError (Bor (List ℕ)) → Type 0) → ℕ → List ℕ → DeserializeError (Bor (List ℕ)) → Type 0
+RefusesRequired refuses key b e = RefusesUnder refuses key b e ⊎ ((e ≡ error.PropertyMissing) × LeadsTo key [] b)
+
+-- the reads that are asked for take memory in the properties of the object at the front, or another value nests deep
+abbrev pub TakesIn : (List ℕ → Type 0) → List ℕ → Type 0
+TakesIn takes b = takes (drop header_size (body_of b)) ⊎ HoldsDeep (drop header_size (body_of b))

@@ -75,6 +75,11 @@ pub record OpensObject (input : List ℕ) (r : ObjectReader) : Type 0 where
   pub its_id : r.id ≡ word_at body 4
   pub left : r.reader.left ≡ drop header_size body
 
+-- this is a reader of the same object: one of its type and its id
+pub record IsOfObject (lent now : ObjectReader) : Type 0 where
+  pub type : now.type ≡ lent.type
+  pub id : now.id ≡ lent.id
+
 -- this is the object's reader that was lent, some properties further and not failed
 pub record AheadIn (lent now : ObjectReader) : Type 0 where
   pub properties : Properties
@@ -83,10 +88,12 @@ pub record AheadIn (lent now : ObjectReader) : Type 0 where
   pub left : lent.reader.left ≡ seen ++ now.reader.left
   pub are : AreProperties properties seen
   pub after : now.reader.after ≡ lent.reader.after
+  pub object : IsOfObject lent now
 
--- this is the object's reader that was lent, some properties further, or it has failed
+-- this is the object's reader that was lent, some properties further, or it has failed; it is of the same object
 pub record FurtherIn (lent now : ObjectReader) : Type 0 where
   pub ahead : now.reader.failed ≡ false → AheadIn lent now
+  pub object : IsOfObject lent now
 
 -- all that the reader had left are these properties
 pub record AllProperties (lent : ObjectReader) (P : Properties → Type 0) : Type 0 where
@@ -103,6 +110,7 @@ pub record TakesProperty (old new : ObjectReader) (key flags : ℕ) (P : Tree �
   pub its_flags : flags ≡ word_at old.reader.left 4
   pub value : IsRead (drop header_size old.reader.left) new.reader.left P
   pub after : new.reader.after ≡ old.reader.after
+  pub object : IsOfObject old new
 
 -- A refusal of the next property under a key: the reader has failed; or none is left, and it is the same; or another key
 -- stands there, of a property that is taken.

@@ -1,14 +1,17 @@
 -- What a visitor is handed, and what is made of it.
-use Rattle.std.specs.Prelude.{◌≡◌, ◌≢◌, ℕ, List, [], map, true, ⊤, Vec}
+use Rattle.std.specs.Prelude.{◌≡◌, ◌≢◌, ℕ, List, [], map, false, true, ⊤, Vec}
 use Rattle.std.specs.Borrow.{Bor}
 use Rattle.std.specs.Global.{Global}
 use Rattle.spa_format.specs.Kind.{Kind, Fixed, none, bool, id, int, long, float, double, rectangle, fraction, fd}
-use Rattle.spa_format.specs.Tree.{Tree, fixed, string, bytes, bitmap, array, pointer, type_of, choice_type, struct_type}
+use Rattle.spa_format.specs.Tree.{Tree, Trees, Properties, fixed, string, bytes, bitmap, array, pointer, type_of, choice_type, struct_type}
 use Rattle.spa_format.specs.Pod.{IsBody}
 use Rattle.spa_format.specs.Front.{Begins, rest_of}
 use Rattle.spa_fixed.specs.declared.fault.DeserializeError.{DeserializeError}
 use Rattle.spa_fixed.specs.declared.fault.DeserializeError.TheVariants as error
 use Rattle.spa_value.specs.View.{choice_view}
+use Rattle.spa_leaf.specs.Reading.{OnFault, OnMemory}
+use Rattle.spa_typed_read.specs.Exactly.{AreUnread}
+use Rattle.spa_typed_read.specs.Lookup.{NoneRead}
 use Rattle.spa_typed_read.specs.Asking.{LacksFront, LacksObject, array_of, of_type, RefusesAsked}
 use Rattle.spa_typed_read.specs.Members.{Ahead, AheadIn, Further, FurtherIn, ObjectReader, OpensObject, OpensStruct, Reader}
 use Rattle.spa_typed_read.specs.declared.visitor.Visit.{Visit}
@@ -80,3 +83,22 @@ pub data RefusesObject (declines : ObjectReader → ObjectReader → Deserialize
   declined_object : (lent now : ObjectReader) → OpensObject input lent → FurtherIn lent now → declines lent now e → RefusesObject declines leaves input e
   failed_object : (lent now : ObjectReader) → OpensObject input lent → leaves lent now → now.reader.failed ≡ true → e ≡ error.FailedReader → RefusesObject declines leaves input e
   unread_object : (lent now : ObjectReader) → OpensObject input lent → AheadIn lent now → leaves lent now → now.reader.left ≢ [] → e ≡ error.UnreadMembers → RefusesObject declines leaves input e
+
+-- A visitor declines a struct that it is lent at its first member, but for lack of memory, only where its members aren't read so.
+pub record DeclinesExactly {X : Type 0} (reads : Trees → X → Type 0) (takes_memory : Type 0) (lent now : Reader) (e : DeserializeError (Bor (List ℕ))) : Type 0 where
+  pub unread : lent.failed ≡ false → OnFault (AreUnread reads lent.left) e
+  pub memory : lent.failed ≡ false → OnMemory takes_memory e
+
+-- It answers without a refused call, and leaves members only where they aren't read so.
+pub record LeavesExactly {X : Type 0} (reads : Trees → X → Type 0) (lent now : Reader) : Type 0 where
+  pub good : lent.failed ≡ false → now.failed ≡ false
+  pub unread : lent.failed ≡ false → now.left ≢ [] → AreUnread reads lent.left
+
+-- the same of an object, by its type, its id and its properties
+pub record DeclinesExactlyIn {X : Type 0} (reads : ℕ → ℕ → Properties → X → Type 0) (takes_memory : Type 0) (lent now : ObjectReader) (e : DeserializeError (Bor (List ℕ))) : Type 0 where
+  pub unread : lent.reader.failed ≡ false → OnFault (NoneRead (reads lent.type lent.id) lent.reader.left) e
+  pub memory : lent.reader.failed ≡ false → OnMemory takes_memory e
+
+pub record LeavesExactlyIn {X : Type 0} (reads : ℕ → ℕ → Properties → X → Type 0) (lent now : ObjectReader) : Type 0 where
+  pub good : lent.reader.failed ≡ false → now.reader.failed ≡ false
+  pub unread : lent.reader.failed ≡ false → now.reader.left ≢ [] → NoneRead (reads lent.type lent.id) lent.reader.left

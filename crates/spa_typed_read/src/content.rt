@@ -1,9 +1,11 @@
 //! Types that are made of what is read: of a struct's members, and of anything else.
-ghost use Rattle.std.specs.Prelude.{◌≡◌, ◌≢◌, ◌⊎◌, ℕ, List, false, IfErr, IfOk};
+ghost use Rattle.std.specs.Prelude.{◌≡◌, ◌⊎◌, ℕ, List, false, IfErr, IfOk};
 ghost use Rattle.std.specs.Borrow.{Bor};
 ghost use Rattle.spa_fixed.specs.declared.fault.DeserializeError.{DeserializeError};
+ghost use Rattle.spa_format.specs.Front.{rest_of};
 ghost use Rattle.spa_format.specs.Tree.{Tree, Trees, no_trees};
-ghost use Rattle.spa_typed_read.specs.Exactly.{AreUnread, ReadsFirst, ReadsStruct, RefusesExactly};
+ghost use Rattle.spa_format.specs.Words.{body_of};
+ghost use Rattle.spa_typed_read.specs.Exactly.{AreUnread, ReadsFirst, ReadsStruct, RefusesExactly, RefusesFirst, RefusesMore, RefusesStructOf};
 ghost use Rattle.spa_typed_read.specs.ExactlyLaws.{made_exactly};
 ghost use Rattle.spa_typed_read.specs.Members.{AllMembers, AtEnd, Further};
 ghost use Rattle.spa_leaf.specs.Reading.{OnFault, OnMemory};
@@ -56,7 +58,7 @@ where
 {
     ghost takes_memory = { T.Content.takes_memory };
 
-    ghost exactly = { λ b e r. made_exactly T.Content.reads T.Content.takes_memory T.content b e (T.Content.exactly b e r) };
+    ghost exactly = { λ b e r. made_exactly T.Content.reads (T.Content.takes_memory b) T.content b e (T.Content.exactly b e r) };
 }
 
 /// Any value, kept so that it is let go by a loop: where what is read behind it is refused, too.
@@ -75,8 +77,11 @@ pub trait DeserializeMembers<'de>: Sized + Drop {
     /// Which results these members may be read as.
     ghost reads_members: { Trees → Self → Type 0 };
 
-    /// Whether their reads take memory.
-    ghost takes_memory: { Type 0 };
+    /// How such members may be refused, in these bytes.
+    ghost refuses_members: { List ℕ → DeserializeError (Bor (List ℕ)) → Type 0 };
+
+    /// Whether their reads take memory, in these bytes.
+    ghost takes_memory: { List ℕ → Type 0 };
 
     /// Reads all that is left.
     ///
@@ -88,15 +93,18 @@ pub trait DeserializeMembers<'de>: Sized + Drop {
         ensures same { Further reader.old reader.new }
         ensures end { IfOk result (λ _. AtEnd reader.new) }
         ensures read { IfOk result (λ x. AllMembers reader.old (λ members. reads_members members x)) }
-        // Any refusal but one for lack of memory says that these bytes are no such members.
+        // A refusal is that of the member that isn't read. But for lack of memory it says that these bytes are no such members.
+        ensures named { reader.old.failed ≡ false → IfErr result (refuses_members reader.old.left) }
         ensures refused { reader.old.failed ≡ false → IfErr result (λ e. OnFault (AreUnread reads_members reader.old.left) e) }
-        ensures memory { reader.old.failed ≡ false → IfErr result (OnMemory takes_memory) };
+        ensures memory { reader.old.failed ≡ false → IfErr result (OnMemory (takes_memory reader.old.left)) };
 }
 
 impl<'de> DeserializeMembers<'de> for () {
     ghost reads_members = { λ members _. members ≡ no_trees };
 
-    ghost takes_memory = { ⊥ };
+    ghost refuses_members = { RefusesMore };
+
+    ghost takes_memory = { λ _. ⊥ };
 
     fn read_members(
         reader: &mut StructPodDeserializer<'de>,
@@ -108,7 +116,9 @@ impl<'de> DeserializeMembers<'de> for () {
 impl<'de, A: ExactDeserialize<'de>, R: DeserializeMembers<'de>> DeserializeMembers<'de> for (A, R) {
     ghost reads_members = { λ members x. ReadsFirst A.reads R.reads_members members x.0 x.1 };
 
-    ghost takes_memory = { A.takes_memory ⊎ R.takes_memory };
+    ghost refuses_members = { RefusesFirst A.reads A.refuses R.refuses_members };
+
+    ghost takes_memory = { λ b. A.takes_memory b ⊎ R.takes_memory (rest_of b) };
 
     fn read_members(
         reader: &mut StructPodDeserializer<'de>,
@@ -134,7 +144,7 @@ pub struct StructOf<M>(pub M);
 impl<'de, M: DeserializeMembers<'de>> PodDeserialize<'de> for StructOf<M> {
     ghost reads = { λ value it. ReadsStruct M.reads_members value it.0 };
 
-    ghost refuses = { λ input e. RefusesExactly (λ value (members : M). ReadsStruct M.reads_members value members) M.takes_memory input e };
+    ghost refuses = { λ input e. RefusesStructOf M.refuses_members input e × RefusesExactly (λ value (members : M). ReadsStruct M.reads_members value members) (M.takes_memory (body_of input)) input e };
 
     fn deserialize(
         deserializer: PodDeserializer<'de>,
@@ -155,7 +165,7 @@ impl<'de, M: DeserializeMembers<'de>> PodDeserialize<'de> for StructOf<M> {
 }
 
 impl<'de, M: DeserializeMembers<'de>> ExactDeserialize<'de> for StructOf<M> {
-    ghost takes_memory = { M.takes_memory };
+    ghost takes_memory = { λ b. M.takes_memory (body_of b) };
 
-    ghost exactly = { λ b e r. made_exactly (λ value (members : M). ReadsStruct M.reads_members value members) M.takes_memory (λ it. it.0) b e r };
+    ghost exactly = { λ b e r. made_exactly (λ value (members : M). ReadsStruct M.reads_members value members) (M.takes_memory (body_of b)) (λ it. it.0) b e r.1 };
 }

@@ -20,12 +20,12 @@ use spa_value::{Bitmap, Value};
 ///
 /// A type that another one is made of has to be one. What `DeserializeAs` makes is one.
 pub trait ExactDeserialize<'de>: PodDeserialize<'de> {
-    /// Whether such a read takes memory. A type that takes some keeps the default.
-    ghost takes_memory: { Type 0 } = { ⊤ };
+    /// Whether the read of such an input takes memory. A type that takes some keeps the default.
+    ghost takes_memory: { List ℕ → Type 0 } = { λ _. ⊤ };
 
     /// Any refusal but one for lack of memory says that no such value is there; where the front isn't there, it is `Nom` with
     /// `Short`. Memory runs out only where the front is there and such a read takes memory.
-    ghost exactly: { (b : List ℕ) (e : DeserializeError (Bor (List ℕ))) → Self.refuses b e → RefusesExactly Self.reads takes_memory b e };
+    ghost exactly: { (b : List ℕ) (e : DeserializeError (Bor (List ℕ))) → Self.refuses b e → RefusesExactly Self.reads (takes_memory b) b e };
 }
 
 impl<'de> ExactDeserialize<'de> for Value {
@@ -33,7 +33,7 @@ impl<'de> ExactDeserialize<'de> for Value {
 }
 
 impl<'de> ExactDeserialize<'de> for &'de str {
-    ghost takes_memory = { ⊥ };
+    ghost takes_memory = { λ _. ⊥ };
 
     ghost exactly = { λ b e r. asked_exactly (of_type string_type) ⊥ _ (λ v x h. ap type_of h) b e r };
 }
@@ -43,7 +43,7 @@ impl<'de> ExactDeserialize<'de> for String {
 }
 
 impl<'de> ExactDeserialize<'de> for &'de [u8] {
-    ghost takes_memory = { ⊥ };
+    ghost takes_memory = { λ _. ⊥ };
 
     ghost exactly = { λ b e r. asked_exactly (of_type bytes_type) ⊥ _ (λ v x h. ap type_of h) b e r };
 }
@@ -53,73 +53,73 @@ impl<'de> ExactDeserialize<'de> for Vec<u8> {
 }
 
 impl<'de> ExactDeserialize<'de> for Bitmap<'de> {
-    ghost takes_memory = { ⊥ };
+    ghost takes_memory = { λ _. ⊥ };
 
     ghost exactly = { λ b e r. asked_exactly (of_type bitmap_type) ⊥ _ (λ v x h. ap type_of h) b e r };
 }
 
 impl<'de> ExactDeserialize<'de> for (u32, u64) {
-    ghost takes_memory = { ⊥ };
+    ghost takes_memory = { λ _. ⊥ };
 
     ghost exactly = { λ b e r. asked_exactly (of_type pointer_type) ⊥ _ (λ v x h. ap type_of h) b e r };
 }
 
 impl<'de> ExactDeserialize<'de> for () {
-    ghost takes_memory = { ⊥ };
+    ghost takes_memory = { λ _. ⊥ };
 
     ghost exactly = { λ b e r. asked_exactly (of_type (type_number k.none_kind)) ⊥ _ (λ v x h. ap type_of h) b e r };
 }
 
 impl<'de> ExactDeserialize<'de> for bool {
-    ghost takes_memory = { ⊥ };
+    ghost takes_memory = { λ _. ⊥ };
 
     ghost exactly = { λ b e r. asked_exactly (of_type (type_number k.bool_kind)) ⊥ _ (λ v x h. ap type_of h) b e r };
 }
 
 impl<'de> ExactDeserialize<'de> for Id {
-    ghost takes_memory = { ⊥ };
+    ghost takes_memory = { λ _. ⊥ };
 
     ghost exactly = { λ b e r. asked_exactly (of_type (type_number k.id_kind)) ⊥ _ (λ v x h. ap type_of h) b e r };
 }
 
 impl<'de> ExactDeserialize<'de> for i32 {
-    ghost takes_memory = { ⊥ };
+    ghost takes_memory = { λ _. ⊥ };
 
     ghost exactly = { λ b e r. asked_exactly (of_type (type_number k.int_kind)) ⊥ _ (λ v x h. ap type_of h) b e r };
 }
 
 impl<'de> ExactDeserialize<'de> for i64 {
-    ghost takes_memory = { ⊥ };
+    ghost takes_memory = { λ _. ⊥ };
 
     ghost exactly = { λ b e r. asked_exactly (of_type (type_number k.long_kind)) ⊥ _ (λ v x h. ap type_of h) b e r };
 }
 
 impl<'de> ExactDeserialize<'de> for Float32 {
-    ghost takes_memory = { ⊥ };
+    ghost takes_memory = { λ _. ⊥ };
 
     ghost exactly = { λ b e r. asked_exactly (of_type (type_number k.float_kind)) ⊥ _ (λ v x h. ap type_of h) b e r };
 }
 
 impl<'de> ExactDeserialize<'de> for Float64 {
-    ghost takes_memory = { ⊥ };
+    ghost takes_memory = { λ _. ⊥ };
 
     ghost exactly = { λ b e r. asked_exactly (of_type (type_number k.double_kind)) ⊥ _ (λ v x h. ap type_of h) b e r };
 }
 
 impl<'de> ExactDeserialize<'de> for Rectangle {
-    ghost takes_memory = { ⊥ };
+    ghost takes_memory = { λ _. ⊥ };
 
     ghost exactly = { λ b e r. asked_exactly (of_type (type_number k.rectangle_kind)) ⊥ _ (λ v x h. ap type_of h) b e r };
 }
 
 impl<'de> ExactDeserialize<'de> for Fraction {
-    ghost takes_memory = { ⊥ };
+    ghost takes_memory = { λ _. ⊥ };
 
     ghost exactly = { λ b e r. asked_exactly (of_type (type_number k.fraction_kind)) ⊥ _ (λ v x h. ap type_of h) b e r };
 }
 
 impl<'de> ExactDeserialize<'de> for Fd {
-    ghost takes_memory = { ⊥ };
+    ghost takes_memory = { λ _. ⊥ };
 
     ghost exactly = { λ b e r. asked_exactly (of_type (type_number k.fd_kind)) ⊥ _ (λ v x h. ap type_of h) b e r };
 }

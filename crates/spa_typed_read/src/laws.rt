@@ -1,11 +1,14 @@
-//! Laws of values of fixed size, and of arrays that are read element by element. Each function does nothing: its contract is the law.
-ghost use Rattle.std.specs.Prelude.{◌≡◌, ◌<◌, ◌++◌, [], List, ℕ};
+//! Laws of values of fixed size, of arrays that are read element by element, and of readers that are lent. Each function does
+//! nothing: its contract is the law.
+ghost use Rattle.std.specs.Prelude.{◌≡◌, ◌<◌, ◌≤◌, ◌++◌, [], List, drop, length, ℕ};
 ghost use Rattle.spa_format.specs.Encoding.{encoding_of};
-ghost use Rattle.spa_format.specs.Front.{Begins};
-ghost use Rattle.spa_format.specs.Tree.{fixed};
+ghost use Rattle.spa_format.specs.Front.{Begins, rest_of};
+ghost use Rattle.spa_format.specs.Pod.{AreMembers, AreProperties};
+ghost use Rattle.spa_format.specs.Tree.{Properties, Tree, Trees, fixed, member, property};
 ghost use Rattle.spa_format.specs.Typed.{IsTyped};
+ghost use Rattle.spa_format.specs.Words.{header_size, word_at};
 ghost use Rattle.spa_format.specs.Writable.{IsWritable};
-ghost use Rattle.spa_typed_read.specs.Members.{ArrayReader, IsMadeOf, OpensArray, TakesElements, list_tree, single_tree};
+ghost use Rattle.spa_typed_read.specs.Members.{ArrayReader, Further, FurtherIn, IsMadeOf, ObjectReader, OpensArray, Reader, TakesElements, list_tree, single_tree};
 ghost use Rattle.spa_leaf.specs.Reading.{IsRead};
 
 use spa_fixed::{CanonicalFixedSizedPod, FixedSizedPod};
@@ -32,4 +35,20 @@ pub fn values_come_back<E: FixedSizedPod>()
     ensures pod { (input rest : List ℕ) (x : E) (c : E.CanonicalType) → E.of_canonical (E.to_canonical x) ≡ x → Begins input (single_tree E.CanonicalType.fixed E.to_canonical x) → IsRead input rest (λ v. v ≡ fixed (E.CanonicalType.fixed c)) → E.of_canonical c ≡ x }
     // and its encoding is such a pod.
     ensures encoding { (rest : List ℕ) (x : E) → IsTyped (single_tree E.CanonicalType.fixed E.to_canonical x) → Begins (encoding_of (single_tree E.CanonicalType.fixed E.to_canonical x) ++ rest) (single_tree E.CanonicalType.fixed E.to_canonical x) }
+{}
+
+/// A reader that is lent goes further by one call after another.
+pub fn readers_go_further()
+    ensures no_member { (r : Reader) → Further r r }
+    ensures members { (a b c : Reader) → Further a b → Further b c → Further a c }
+    ensures no_property { (r : ObjectReader) → FurtherIn r r }
+    ensures properties { (a b c : ObjectReader) → FurtherIn a b → FurtherIn b c → FurtherIn a c }
+{}
+
+/// Members are the pod of the first one and, behind it, those of the others. Of properties a key and flags come before each.
+pub fn members_are_fronts()
+    ensures parts { (b : List ℕ) (v : Tree) (vs : Trees) → AreMembers (member v vs) b → Begins b v × AreMembers vs (rest_of b) }
+    ensures whole { (b : List ℕ) (v : Tree) (vs : Trees) → Begins b v → AreMembers vs (rest_of b) → AreMembers (member v vs) b }
+    ensures property_parts { (b : List ℕ) (k f : ℕ) (v : Tree) (ps : Properties) → AreProperties (property k f v ps) b → (header_size ≤ length b) × (k ≡ word_at b 0) × (f ≡ word_at b 4) × Begins (drop header_size b) v × AreProperties ps (rest_of (drop header_size b)) }
+    ensures property_whole { (b : List ℕ) (k f : ℕ) (v : Tree) (ps : Properties) → header_size ≤ length b → k ≡ word_at b 0 → f ≡ word_at b 4 → Begins (drop header_size b) v → AreProperties ps (rest_of (drop header_size b)) → AreProperties (property k f v ps) b }
 {}

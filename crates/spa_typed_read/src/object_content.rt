@@ -1,13 +1,13 @@
 //! Objects whose properties are found by their keys, in any order.
-ghost use Rattle.std.specs.Prelude.{◌≡◌, ℕ, List, MatchOption, false, ⊤, IfErr, IfOk};
+ghost use Rattle.std.specs.Prelude.{◌≡◌, ◌⊎◌, ℕ, List, MatchOption, false, ⊤, IfErr, IfOk};
 ghost use Rattle.std.specs.Borrow.{Bor};
 ghost use Rattle.spa_fixed.specs.declared.fault.DeserializeError.{DeserializeError};
 ghost use Rattle.spa_format.specs.Pod.{AreProperties};
 ghost use Rattle.spa_format.specs.Tree.{Properties, Tree};
 ghost use Rattle.spa_typed_read.specs.Exactly.{RefusesExactly};
 ghost use Rattle.spa_typed_read.specs.ExactlyLaws.{made_exactly};
-ghost use Rattle.spa_typed_read.specs.Lookup.{HasFirst, LacksProperty, NoneRead, ReadsObject};
-ghost use Rattle.spa_leaf.specs.Reading.{OnFault};
+ghost use Rattle.spa_typed_read.specs.Lookup.{HasFirst, IsUnder, LacksProperty, NoneRead, ReadsObject, RefusesObjectOf, RefusesRequired, RefusesUnder, TakesIn};
+ghost use Rattle.spa_leaf.specs.Reading.{OnFault, OnMemory};
 
 use crate::deserializer::{DeserializeSuccess, PodDeserialize, PodDeserializer};
 use crate::exact::ExactDeserialize;
@@ -28,6 +28,12 @@ pub trait DeserializeProperties<'de>: Sized + Drop {
     /// Which results these properties may be read as.
     ghost reads_properties: { Properties → Self → Type 0 };
 
+    /// How they may be refused, in these bytes.
+    ghost refuses_properties: { List ℕ → DeserializeError (Bor (List ℕ)) → Type 0 };
+
+    /// Whether their reads take memory, in these bytes.
+    ghost takes_memory: { List ℕ → Type 0 };
+
     /// Finds them among the properties that are left.
     ///
     /// Refusals: `PropertyMissing` where one that has to be there isn't, else those of `find_property`.
@@ -35,12 +41,18 @@ pub trait DeserializeProperties<'de>: Sized + Drop {
         reader: &ObjectPodDeserializer<'de>,
     ) -> Result<Self, DeserializeError<&'de [u8]>>
         ensures found { reader.now.reader.failed ≡ false → IfOk result (λ x. (ps : Properties) → AreProperties ps reader.now.reader.left → reads_properties ps x) }
-        // Any refusal but one for lack of memory says that these bytes are no such properties.
-        ensures refused { reader.now.reader.failed ≡ false → IfErr result (λ e. OnFault (NoneRead reads_properties reader.now.reader.left) e) };
+        // A refusal is that of the property that isn't read. But for lack of memory it says that these bytes are no such properties.
+        ensures named { reader.now.reader.failed ≡ false → IfErr result (refuses_properties reader.now.reader.left) }
+        ensures refused { reader.now.reader.failed ≡ false → IfErr result (λ e. OnFault (NoneRead reads_properties reader.now.reader.left) e) }
+        ensures memory { reader.now.reader.failed ≡ false → IfErr result (OnMemory (takes_memory reader.now.reader.left)) };
 }
 
 impl<'de> DeserializeProperties<'de> for () {
     ghost reads_properties = { λ _ _. ⊤ };
+
+    ghost refuses_properties = { λ _ _. ⊥ };
+
+    ghost takes_memory = { λ _. ⊥ };
 
     fn find_properties(
         _reader: &ObjectPodDeserializer<'de>,
@@ -56,6 +68,10 @@ impl<
     R: DeserializeProperties<'de>,
 > DeserializeProperties<'de> for (Required<KEY, A>, R) {
     ghost reads_properties = { λ properties x. HasFirst KEY (λ value. A.reads value x.0.0) properties × R.reads_properties properties x.1 };
+
+    ghost refuses_properties = { λ b e. RefusesRequired A.refuses KEY b e ⊎ R.refuses_properties b e };
+
+    ghost takes_memory = { λ b. IsUnder KEY A.takes_memory b ⊎ R.takes_memory b };
 
     fn find_properties(
         reader: &ObjectPodDeserializer<'de>,
@@ -79,6 +95,10 @@ impl<
     R: DeserializeProperties<'de>,
 > DeserializeProperties<'de> for (Optional<KEY, A>, R) {
     ghost reads_properties = { λ properties x. MatchOption x.0.0 (LacksProperty KEY properties) (λ a. HasFirst KEY (λ value. A.reads value a) properties) × R.reads_properties properties x.1 };
+
+    ghost refuses_properties = { λ b e. RefusesUnder A.refuses KEY b e ⊎ R.refuses_properties b e };
+
+    ghost takes_memory = { λ b. IsUnder KEY A.takes_memory b ⊎ R.takes_memory b };
 
     fn find_properties(
         reader: &ObjectPodDeserializer<'de>,
@@ -105,7 +125,7 @@ impl<'de, const TYPE: u32, const ID: u32, P: DeserializeProperties<'de>> PodDese
     for ObjectOf<TYPE, ID, P> {
     ghost reads = { λ value it. ReadsObject TYPE ID P.reads_properties value it.0 };
 
-    ghost refuses = { λ input e. RefusesExactly (λ value (properties : P). ReadsObject TYPE ID P.reads_properties value properties) ⊤ input e };
+    ghost refuses = { λ input e. RefusesObjectOf TYPE ID P.refuses_properties input e × RefusesExactly (λ value (properties : P). ReadsObject TYPE ID P.reads_properties value properties) (TakesIn P.takes_memory input) input e };
 
     fn deserialize(
         deserializer: PodDeserializer<'de>,
@@ -133,5 +153,7 @@ impl<'de, const TYPE: u32, const ID: u32, P: DeserializeProperties<'de>> PodDese
 
 impl<'de, const TYPE: u32, const ID: u32, P: DeserializeProperties<'de>> ExactDeserialize<'de>
     for ObjectOf<TYPE, ID, P> {
-    ghost exactly = { λ b e r. made_exactly (λ value (properties : P). ReadsObject TYPE ID P.reads_properties value properties) ⊤ (λ it. it.0) b e r };
+    ghost takes_memory = { TakesIn P.takes_memory };
+
+    ghost exactly = { λ b e r. made_exactly (λ value (properties : P). ReadsObject TYPE ID P.reads_properties value properties) (TakesIn P.takes_memory b) (λ it. it.0) b e r.1 };
 }

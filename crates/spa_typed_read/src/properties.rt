@@ -3,17 +3,18 @@ ghost use Rattle.std.specs.Prelude.{◌≡◌, ◌≢◌, ℕ, ◌<◌, ◌≤�
 ghost use Rattle.spa_fixed.specs.declared.fault.DeserializeError.TheVariants as error;
 ghost use Rattle.spa_format.specs.Words.{header_size};
 ghost use Rattle.spa_typed_read.specs.Asking.{LacksObject};
-ghost use Rattle.spa_typed_read.specs.Lookup.{AreNoProperties, FindsFirst, RefusesFirst};
+ghost use Rattle.spa_typed_read.specs.Lookup.{FindsFirst, FindsIn, HoldsDeep, RefusesProperties, RefusesUnder};
 ghost use Rattle.spa_typed_read.specs.Members.{AtEnd, FurtherIn, OpensObject, RefusesEnd, RefusesKey, TakesProperty};
-ghost use Rattle.spa_leaf.specs.Reading.{IsShortAt, OnFault};
+ghost use Rattle.spa_leaf.specs.Reading.{IsShortAt, OnMemory};
 
 use crate::deserializer::{DeserializeSuccess, PodDeserialize, PodDeserializer};
+use crate::passing::Skipped;
 use crate::typed::open_as;
 use bitflags::Flags;
 use spa_bytes::{HEADER_LEN, SECOND_WORD, open, u32_at};
 use spa_fixed::{DeserializeError, Fault, FaultKind};
 use spa_utils::SpaTypes;
-use spa_value::{PropertyFlags, Value, discard};
+use spa_value::PropertyFlags;
 use std::alloc::Global;
 use std::marker::Model;
 
@@ -96,7 +97,6 @@ impl<'de> ObjectPodDeserializer<'de> {
     ) -> Result<Option<(P, u32, PropertyFlags)>, DeserializeError<&'de [u8]>>
         ensures property { IfOk result (λ read. MatchOption read ((self.new ≡ self.old) × AtEnd self.old.reader) (λ x. TakesProperty self.old self.new x.1 x.2.0 (λ value. P.reads value x.0))) }
         ensures same { FurtherIn self.old self.new }
-        ensures object { (self.new.type ≡ self.old.type) × (self.new.id ≡ self.old.id) }
         ensures failed { OnErr result (self.new.reader.failed ≡ true) }
         // A reader that has failed stays so,
         ensures stays { self.old.reader.failed ≡ true → IsErrAnd result (λ e. e ≡ error.FailedReader) }
@@ -167,11 +167,13 @@ impl<'de> ObjectPodDeserializer<'de> {
         &self,
         key: u32,
     ) -> Result<Option<P>, DeserializeError<&'de [u8]>>
+        // It is read behind whole properties under other keys, or there are none but these.
+        ensures found { self.now.reader.failed ≡ false → IfOk result (FindsIn P.reads key self.now.reader.left) }
         // Where properties are left, it is the first of them under the key, or there is none.
-        ensures found { self.now.reader.failed ≡ false → IfOk result (FindsFirst P.reads key self.now.reader.left) }
+        ensures first { self.now.reader.failed ≡ false → IfOk result (FindsFirst P.reads key self.now.reader.left) }
         ensures stays { self.now.reader.failed ≡ true → IsErrAnd result (λ e. e ≡ error.FailedReader) }
-        // It is refused where no properties are left, or as the type refuses the first one's value.
-        ensures refused { self.now.reader.failed ≡ false → IfErr result (RefusesFirst P.refuses key self.now.reader.left) }
+        // It is refused where a property isn't there, or as the type refuses the first one's value.
+        ensures refused { self.now.reader.failed ≡ false → IfErr result (RefusesUnder P.refuses key self.now.reader.left) }
     {
         if self.failed {
             return Err(DeserializeError::FailedReader);
@@ -199,17 +201,20 @@ impl<'de> ObjectPodDeserializer<'de> {
         Ok(None)
     }
 
-    /// Reads all properties that are left, whatever they are, and lets them go. Refusals are those of `deserialize_property`
-    /// into a `Value`.
+    /// Passes all properties that are left, whatever they are. Refusals are those of `deserialize_property` into a `Skipped`; after
+    /// one the reader has failed.
     pub fn skip_properties(&mut self) -> Result<(), DeserializeError<&'de [u8]>>
         ensures same { FurtherIn self.old self.new }
         ensures end { OnOk result (AtEnd self.new.reader) }
-        // Any refusal but one for lack of memory says that no properties were left.
-        ensures refused { self.old.reader.failed ≡ false → IfErr result (OnFault (AreNoProperties self.old.reader.left)) }
+        ensures failed { OnErr result (self.new.reader.failed ≡ true) }
+        // A reader that has failed stays so, and another one is refused where what was left is no properties.
+        ensures stays { self.old.reader.failed ≡ true → IsErrAnd result (λ e. e ≡ error.FailedReader) }
+        ensures refused { self.old.reader.failed ≡ false → IfErr result (RefusesProperties self.old.reader.left) }
+        ensures memory { self.old.reader.failed ≡ false → IfErr result (OnMemory (HoldsDeep self.old.reader.left)) }
     {
         loop {
-            match self.deserialize_property::<Value>() {
-                Ok(Some((value, _, _))) => discard(value),
+            match self.deserialize_property::<Skipped>() {
+                Ok(Some((value, _, _))) => drop(value),
                 Ok(None) => return Ok(()),
                 Err(e) => return Err(e),
             }

@@ -1,11 +1,10 @@
 -- What visitors decline.
-use Rattle.std.specs.Prelude.{◌≡◌, ◌≢◌, List, ℕ, false}
+use Rattle.std.specs.Prelude.{◌≡◌, ◌≢◌, List, ℕ, false, true}
 use Rattle.std.specs.Borrow.{Bor}
 use Rattle.spa_fixed.specs.declared.fault.DeserializeError.{DeserializeError}
 use Rattle.spa_fixed.specs.declared.fault.DeserializeError.TheVariants as error
-use Rattle.spa_leaf.specs.Reading.{OnFault}
-use Rattle.spa_typed_read.specs.Exactly.{AreNoMembers}
-use Rattle.spa_typed_read.specs.Lookup.{AreNoProperties}
+use Rattle.spa_typed_read.specs.Exactly.{RefusesMembers}
+use Rattle.spa_typed_read.specs.Lookup.{RefusesProperties}
 use Rattle.spa_typed_read.specs.Members.{ObjectReader, Reader}
 use Rattle.spa_typed_read.specs.declared.visitor.Visit.{Visit}
 use Rattle.spa_typed_read.specs.declared.visitor.Visit.TheVariants as visit
@@ -26,9 +25,12 @@ DeclinesValue (visit.Bitmap b) e = e ≡ error.OutOfMemory
 DeclinesValue (visit.Array xs) e = e ≡ error.UnsupportedType
 DeclinesValue _ e = ⊥
 
--- Of a struct it declines, but for memory, only what is no members, and of an object only what is no properties.
-abbrev pub DeclinesMembers : Reader → DeserializeError (Bor (List ℕ)) → Type 0
-DeclinesMembers lent e = lent.failed ≡ false → OnFault (AreNoMembers lent.left) e
+-- Of a struct it declines what is refused as members, and of an object what is refused as properties. Of a reader that has failed it
+-- declines all.
+pub record DeclinesMembers (lent : Reader) (e : DeserializeError (Bor (List ℕ))) : Type 0 where
+  pub stays : lent.failed ≡ true → e ≡ error.FailedReader
+  pub refused : lent.failed ≡ false → RefusesMembers lent.left e
 
-abbrev pub DeclinesProperties : ObjectReader → DeserializeError (Bor (List ℕ)) → Type 0
-DeclinesProperties lent e = lent.reader.failed ≡ false → OnFault (AreNoProperties lent.reader.left) e
+pub record DeclinesProperties (lent : ObjectReader) (e : DeserializeError (Bor (List ℕ))) : Type 0 where
+  pub stays : lent.reader.failed ≡ true → e ≡ error.FailedReader
+  pub refused : lent.reader.failed ≡ false → RefusesProperties lent.reader.left e

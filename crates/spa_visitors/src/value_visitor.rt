@@ -119,7 +119,6 @@ fn read_properties<'de>(
     reader: &mut ObjectPodDeserializer<'de>,
 ) -> Result<Vec<Property>, DeserializeError<&'de [u8]>>
     ensures same { FurtherIn reader.old reader.new }
-    ensures object { (reader.new.type ≡ reader.old.type) × (reader.new.id ≡ reader.old.id) }
     ensures read { IfOk result (λ properties. AllProperties reader.old (λ trees. trees ≡ property_views properties.items)) }
     ensures end { OnOk result (AtEnd reader.new.reader) }
     ensures refused { IfErr result (DeclinesProperties reader.old) }

@@ -2,7 +2,7 @@ use Rattle.std.proofs.Common.{◌≡◌, [], ◌∷◌, ◌++◌, rules, sym, ap
 use Rattle.spa_value.specs.View.{view}
 use Rattle.spa_value.specs.Views.{views}
 use Rattle.spa_value.proofs.ViewLaws.{views-push}
-use Rattle.spa_typed_read.proofs.Stepping.{Took, further_trans, none_further_on, took_all, took_field, took_further, took_none}
+use Rattle.spa_typed_read.proofs.Stepping.{Took, failed_further, further_trans, members_refused, no_room_for_member, took_field, took_further, took_none}
 use Rattle.spa_visitors.proofs.value_visitor.read_members.Goals as goal
 
 pub loop-member-init : goal.loop-member-init
@@ -33,6 +33,19 @@ returns-in-Err-clause-same c =
 pub returns-in-Err-clause-refused : goal.returns-in-Err-clause-refused
 returns-in-Err-clause-refused c =
     let i = c.loop-member.invariant in
-    λ good.
-    let r = c.in-Err.ensures.refused (i.good good) in
-    none_further_on _ _ _ (took_further _ _ _ i.took) (i.good good) r.0 r.1
+    let f = took_further _ _ _ i.took in
+    record {
+      stays = λ failed. c.in-Err.ensures.stays (failed_further _ _ f failed);
+      refused = λ good.
+          let r = c.in-Err.ensures.refused (i.good good) in
+          members_refused _ _ _ f (i.good good) r.0 r.1;
+    }
+
+pub returns-then-is_err-clause-refused : goal.returns-then-is_err-clause-refused
+returns-then-is_err-clause-refused c =
+    let field = rw c.in-Ok-Some.field-0-is at c.in-Ok-Some.ensures.field in
+    let f = took_further _ _ _ c.loop-member.invariant.took in
+    record {
+      stays = λ failed. absurd (cc (field.was_good, failed_further _ _ f failed));
+      refused = λ good. no_room_for_member _ _ _ _ f field;
+    }

@@ -1,15 +1,24 @@
-use Rattle.spa_typed_read.proofs.Exactly.{struct_unopened, struct_unread}
+use Rattle.std.proofs.Common.{subst}
+use Rattle.spa_leaf.specs.Reading.{OnMemory}
+use Rattle.spa_typed_read.specs.Exactly.{not_struct}
+use Rattle.spa_typed_read.proofs.Exactly.{members_of, struct_unopened, struct_unread}
 use Rattle.spa_typed_read.proofs.Fronts.{struct_read}
 use Rattle.spa_typed_read.proofs.content.StructOfPodDeserialize.deserialize.Goals as goal
 
 pub returns-in-Err-clause-refused : goal.returns-in-Err-clause-refused
-returns-in-Err-clause-refused g c = struct_unopened g.M.DeserializeMembers.reads_members _ _ _ c.in-Err.ensures.refused
+returns-in-Err-clause-refused g c = (
+  not_struct c.in-Err.ensures.refused,
+  struct_unopened g.M.DeserializeMembers.reads_members _ _ _ c.in-Err.ensures.refused,
+)
 
 pub returns-in-Err-read_members-clause-refused : goal.returns-in-Err-read_members-clause-refused
 returns-in-Err-read_members-clause-refused g c =
-    let o = c.in-Ok.ensures.opens in
-    struct_unread g.M.DeserializeMembers.reads_members _ _ _ _ o (c.in-Err-read_members.ensures.refused o.good)
-    (c.in-Err-read_members.ensures.memory o.good)
+    let o = c.in-Ok.ensures.opens in (
+      members_of g.M.DeserializeMembers.refuses_members _ _ _ o (c.in-Err-read_members.ensures.named o.good),
+      struct_unread g.M.DeserializeMembers.reads_members _ _ _ _ o (c.in-Err-read_members.ensures.refused o.good)
+          (subst (λ l. OnMemory (g.M.DeserializeMembers.takes_memory l) c.in-Err-read_members.e) o.opens.its_body
+          (c.in-Err-read_members.ensures.memory o.good)),
+    )
 
 pub returns-in-Ok-end-clause-read : goal.returns-in-Ok-end-clause-read
 returns-in-Ok-end-clause-read g c =

@@ -1,7 +1,7 @@
-use Rattle.std.proofs.Common.{rules, inl, inr}
+use Rattle.std.proofs.Common.{refl, rules, inl, inr, subst}
 use Rattle.std.specs.Prelude.{◌⊎◌}
-use Rattle.spa_typed_read.specs.Exactly.{AreUnread, IsUnread}
-use Rattle.spa_format.specs.Front.{HasFront}
+use Rattle.spa_typed_read.specs.Exactly.{AreUnread, IsUnread, behind, first, missing}
+use Rattle.spa_format.specs.Front.{HasFront, rest_of}
 use Rattle.spa_typed_read.specs.ExactlyLaws.{fault_to, memory_to}
 use Rattle.spa_typed_read.proofs.Exactly.{behind_unread, first_unread}
 use Rattle.spa_typed_read.proofs.Stepping.{all_as, all_field, further_trans}
@@ -17,6 +17,22 @@ returns-in-Err-clause-refused g c =
     fault_to (IsUnread a b) _ c.in-Err.e (first_unread a r b)
     ((g.met.A.ExactDeserialize c.lifetimes claim).exactly b c.in-Err.e (c.in-Err.ensures.refused good).1).unread
 
+pub returns-in-Err-clause-named : goal.returns-in-Err-clause-named
+returns-in-Err-clause-named g c =
+    λ good.
+    let r = c.in-Err.ensures.refused good in
+    first r.0 r.1
+
+pub returns-in-Ok-None-clause-named : goal.returns-in-Ok-None-clause-named
+returns-in-Ok-None-clause-named g c =
+    let end = rw c.in-Ok-None.field-0-is at c.in-Ok-None.ensures.field in
+    λ good. missing end.1.none_left refl
+
+pub returns-in-Err-read_members-clause-named : goal.returns-in-Err-read_members-clause-named
+returns-in-Err-read_members-clause-named g c =
+    let first = rw c.in-Ok-Some.field-0-is at c.in-Ok-Some.ensures.field in
+    λ good. behind c.in-Ok-Some.first _ first.field (c.in-Err-read_members.ensures.named first.good)
+
 pub returns-in-Err-clause-memory : goal.returns-in-Err-clause-memory
 returns-in-Err-clause-memory g c =
     let a = g.A.ExactDeserialize.takes_memory in
@@ -24,7 +40,7 @@ returns-in-Err-clause-memory g c =
     let b = c.args.reader.now.left in
     let claim : g.claim c.lifetimes = search rules in
     λ good.
-    memory_to (a × HasFront b) (a ⊎ r) c.in-Err.e (λ m. inl m.0)
+    memory_to (a b × HasFront b) (a b ⊎ r (rest_of b)) c.in-Err.e (λ m. inl m.0)
     ((g.met.A.ExactDeserialize c.lifetimes claim).exactly b c.in-Err.e (c.in-Err.ensures.refused good).1).memory
 
 pub returns-in-Ok-clause-same : goal.returns-in-Ok-clause-same
@@ -56,4 +72,8 @@ returns-in-Err-read_members-clause-memory g c =
     let first = rw c.in-Ok-Some.field-0-is at c.in-Ok-Some.ensures.field in
     let a = g.A.ExactDeserialize.takes_memory in
     let r = g.R.DeserializeMembers.takes_memory in
-    λ good. memory_to r (a ⊎ r) c.in-Err-read_members.e (λ m. inr m) (c.in-Err-read_members.ensures.memory first.good)
+    let b = c.args.reader.now.left in
+    let d = c.deserialize_field.new.self.left in
+    λ good.
+    memory_to (r d) (a b ⊎ r (rest_of b)) c.in-Err-read_members.e (λ m. inr (subst r first.field.follows m))
+    (c.in-Err-read_members.ensures.memory first.good)

@@ -1,5 +1,7 @@
-use Rattle.std.proofs.Common.{rules}
-use Rattle.spa_typed_read.proofs.Lookups.{optional_refused}
+use Rattle.std.proofs.Common.{inl, inr, rules}
+use Rattle.spa_typed_read.specs.ExactlyLaws.{memory_to}
+use Rattle.spa_typed_read.specs.Lookup.{IsUnder}
+use Rattle.spa_typed_read.proofs.Lookups.{optional_refused, under_memory}
 use Rattle.spa_typed_read.proofs.object_content.Tuple2OptionalDeserializeProperties.find_properties.Goals as goal
 
 pub returns-in-Err-clause-refused : goal.returns-in-Err-clause-refused
@@ -8,3 +10,24 @@ returns-in-Err-clause-refused g c =
     λ good.
     optional_refused g.A.PodDeserialize.reads g.A.PodDeserialize.refuses _ _ _ g.R.DeserializeProperties.reads_properties _ _
     (g.met.A.ExactDeserialize c.lifetimes claim).exactly (c.in-Err.ensures.refused good)
+
+pub returns-in-Err-clause-named : goal.returns-in-Err-clause-named
+returns-in-Err-clause-named g c = λ good. inl (c.in-Err.ensures.refused good)
+
+pub returns-in-Err-clause-memory : goal.returns-in-Err-clause-memory
+returns-in-Err-clause-memory g c =
+    let claim : g.claim c.lifetimes = search rules in
+    let takes = g.A.ExactDeserialize.takes_memory in
+    λ good.
+    memory_to (IsUnder g.row.KEY takes c.args.reader.now.reader.left) _ c.in-Err.e (λ m. inl m)
+    (under_memory g.A.PodDeserialize.reads g.A.PodDeserialize.refuses takes _ _ _
+    (g.met.A.ExactDeserialize c.lifetimes claim).exactly (c.in-Err.ensures.refused good))
+
+pub returns-in-Err-find_properties-clause-named : goal.returns-in-Err-find_properties-clause-named
+returns-in-Err-find_properties-clause-named g c = λ good. inr (c.in-Err-find_properties.ensures.named good)
+
+pub returns-in-Err-find_properties-clause-memory : goal.returns-in-Err-find_properties-clause-memory
+returns-in-Err-find_properties-clause-memory g c =
+    λ good.
+    memory_to (g.R.DeserializeProperties.takes_memory c.args.reader.now.reader.left) _ c.in-Err-find_properties.e (λ m. inr m)
+    (c.in-Err-find_properties.ensures.memory good)

@@ -17,4 +17,5 @@ returns-clause-same g c =
       its_flags = refl;
       value = rw (← c.rest-self-inside.ensures, c.split_at.ensures.back) at c.in_ok-value.ensures.read;
       after = refl;
+      object = record { type = refl; id = refl };
     }))

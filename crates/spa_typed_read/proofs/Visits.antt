@@ -1,0 +1,85 @@
+-- Visitors that state exactly what they decline and how they leave their readers.
+use Rattle.std.proofs.Common.{◌≡◌, ℕ, ◌≤◌, List, drop, length, refl, sym, subst}
+use Rattle.std.specs.Borrow.{Bor}
+use Rattle.spa_format.specs.Words.{header_size, word_at}
+use Rattle.spa_format.specs.Tree.{Tree, Trees, Properties, member, object, property}
+use Rattle.spa_format.specs.Pod.{AreMembers, AreProperties, IsPod}
+use Rattle.spa_format.specs.Front.{HasFront, Begins, front_of, rest_of}
+use Rattle.spa_format.proofs.Fronts.{front_of_whole}
+use Rattle.spa_fixed.specs.declared.fault.DeserializeError.{DeserializeError}
+use Rattle.spa_leaf.specs.Reading.{OnFault, OnMemory}
+use Rattle.spa_leaf.proofs.Steps.{parted}
+use Rattle.spa_typed_read.specs.Asking.{LacksObject}
+use Rattle.spa_typed_read.specs.Exactly.{AreUnread, IsUnread, ReadsStruct, RefusesExactly}
+use Rattle.spa_typed_read.specs.ExactlyLaws.{fault_there, fault_to, memory_to}
+use Rattle.spa_typed_read.specs.Lookup.{NoneRead, ReadsObjectBy}
+use Rattle.spa_typed_read.specs.Members.{ObjectReader, OpensObject}
+use Rattle.spa_typed_read.specs.Visiting.{DeclinesExactly, DeclinesExactlyIn, LeavesExactly, LeavesExactlyIn, RefusesObject, RefusesStruct, declined_object, declined_struct, failed_object, failed_struct, no_object, no_struct, unread_object, unread_struct}
+use Rattle.spa_typed_read.proofs.Exactly.{lacks_memory, lacks_short, none_opened, opened_object, struct_unopened, struct_unread}
+
+-- Members and properties as fronts.
+
+pub member_parts : (b : List ℕ) (v : Tree) (vs : Trees) → AreMembers (member v vs) b → Begins b v × AreMembers vs (rest_of b)
+member_parts b v vs m =
+    let a = front_of_whole b m.0 m.1 _ _ m.2 m.3 in
+    (record { there = a.0; pod = subst (λ l. IsPod l v) a.1 m.3 }, subst (AreMembers vs) a.2 m.4)
+
+pub member_whole : (b : List ℕ) (v : Tree) (vs : Trees) → Begins b v → AreMembers vs (rest_of b) → AreMembers (member v vs) b
+member_whole b v vs g m = (front_of b, rest_of b, parted b v (rest_of b) (record { begins = g; follows = refl }), g.pod, m)
+
+pub property_parts : (b : List ℕ) (k f : ℕ) (v : Tree) (ps : Properties) → AreProperties (property k f v ps) b →
+    (header_size ≤ length b) × (k ≡ word_at b 0) × (f ≡ word_at b 4) × Begins (drop header_size b) v
+    × AreProperties ps (rest_of (drop header_size b))
+property_parts b k f v ps m =
+    let a = front_of_whole (drop header_size b) m.3 m.4 _ _ m.5 m.6 in
+    (m.0, m.1, m.2, record { there = a.0; pod = subst (λ l. IsPod l v) a.1 m.6 }, subst (AreProperties ps) a.2 m.7)
+
+pub property_whole : (b : List ℕ) (k f : ℕ) (v : Tree) (ps : Properties) → header_size ≤ length b → k ≡ word_at b 0 → f ≡ word_at b 4 →
+    Begins (drop header_size b) v → AreProperties ps (rest_of (drop header_size b)) → AreProperties (property k f v ps) b
+property_whole b k f v ps l x y g m =
+    let here = drop header_size b in
+    (l, x, y, front_of here, rest_of here, parted here v (rest_of here) (record { begins = g; follows = refl }), g.pod, m)
+
+-- Exactly.
+
+pub struct_exactly : {X : Type 0} (reads : Trees → X → Type 0) (m : Type 0) (b : List ℕ) (e : DeserializeError (Bor (List ℕ))) →
+    RefusesStruct (DeclinesExactly reads m) (LeavesExactly reads) b e → RefusesExactly (λ v (x : X). ReadsStruct reads v x) m b e
+struct_exactly reads m b e (no_struct h) = struct_unopened reads b e m h
+struct_exactly reads m b e (declined_struct lent now o f d) = struct_unread reads b e lent m o (d.unread o.good) (d.memory o.good)
+struct_exactly reads m b e (failed_struct lent now o l f i) = absurd (cc (l.good o.good, f))
+struct_exactly reads m b e (unread_struct lent now o a l n i) =
+    struct_unread reads b e lent m o (fault_there (AreUnread reads lent.left) e (l.unread o.good n)) (subst (OnMemory m) (sym i) tt)
+
+object_unopened_by : {X : Type 0} (reads : ℕ → ℕ → Properties → X → Type 0) (m : Type 0) (b : List ℕ)
+    (e : DeserializeError (Bor (List ℕ))) → LacksObject b e → RefusesExactly (λ v (x : X). ReadsObjectBy reads v x) m b e
+object_unopened_by {X = X} reads m b e h = record {
+  unread =
+      fault_to ((t i : ℕ) (ps : Properties) → ¬ (Begins b (object t i ps))) (IsUnread (λ v (x : X). ReadsObjectBy reads v x) b) e
+      (λ n v x g s. n s.type s.id s.properties (subst (Begins b) s.is g)) (none_opened b e h);
+  short_first = lacks_short b e h;
+  memory = memory_to (⊥ × HasFront b) (m × HasFront b) e (λ k. absurd k.0) (lacks_memory b e h);
+}
+
+object_unread_by : {X : Type 0} (reads : ℕ → ℕ → Properties → X → Type 0) (m : Type 0) (b : List ℕ)
+    (e : DeserializeError (Bor (List ℕ))) (r : ObjectReader) → OpensObject b r →
+    OnFault (NoneRead (reads r.type r.id) r.reader.left) e → OnMemory m e → RefusesExactly (λ v (x : X). ReadsObjectBy reads v x) m b e
+object_unread_by {X = X} reads m b e r o h w = record {
+  unread =
+      fault_to (NoneRead (reads r.type r.id) r.reader.left) (IsUnread (λ v (x : X). ReadsObjectBy reads v x) b) e
+      (λ n v x g s.
+      let opened = opened_object b r s.type s.id s.properties o (subst (Begins b) s.is g) in
+      n s.properties x opened.2
+      (subst (λ t. reads t r.id s.properties x) opened.0 (subst (λ i. reads s.type i s.properties x) opened.1 s.are))) h;
+  short_first = λ n. absurd (n o.opens.there);
+  memory = memory_to m (m × HasFront b) e (λ t. (t, o.opens.there)) w;
+}
+
+pub object_exactly : {X : Type 0} (reads : ℕ → ℕ → Properties → X → Type 0) (m : Type 0) (b : List ℕ)
+    (e : DeserializeError (Bor (List ℕ))) → RefusesObject (DeclinesExactlyIn reads m) (LeavesExactlyIn reads) b e →
+    RefusesExactly (λ v (x : X). ReadsObjectBy reads v x) m b e
+object_exactly reads m b e (no_object h) = object_unopened_by reads m b e h
+object_exactly reads m b e (declined_object lent now o f d) = object_unread_by reads m b e lent o (d.unread o.good) (d.memory o.good)
+object_exactly reads m b e (failed_object lent now o l f i) = absurd (cc (l.good o.good, f))
+object_exactly reads m b e (unread_object lent now o a l n i) =
+    object_unread_by reads m b e lent o
+    (fault_there (NoneRead (reads lent.type lent.id) lent.reader.left) e (l.unread o.good n)) (subst (OnMemory m) (sym i) tt)

@@ -1,7 +1,7 @@
 //! Codes with their meanings, from outside, and each call once.
 use crate::compare::assert_same;
-use spa_utils::Errno;
 use spa_result::{AsyncSeq, SpaResult, SpaSuccess};
+use spa_utils::Errno;
 use std::alloc::{AllocError, Global};
 use std::process::Abort;
 

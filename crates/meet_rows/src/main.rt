@@ -60,7 +60,7 @@ const ROOM: usize = 200;
 fn print_answer(rt: &HostRuntime, label: &str, words: &str, given: &str) -> io::Result<()> {
     let bytes = bytes_of(rt.alloc(), given.trim_start_matches('-'))?;
     let mut input = if given == "-" {
-        Source::broken(&[], ErrorKind::UnexpectedEof, PIECE)
+        Source::broken(bytes.as_slice(), ErrorKind::UnexpectedEof, PIECE)
     } else {
         Source::whole(bytes.as_slice(), PIECE)
     };
@@ -70,8 +70,20 @@ fn print_answer(rt: &HostRuntime, label: &str, words: &str, given: &str) -> io::
     let words = words_of(rt.alloc(), words)?;
     let (answer, output) = run(rt.alloc(), words.as_slice(), &mut input, &Spelled, output);
     tell(&mut faults, &answer)?;
-    let (status, said) = (answer.status(), OneLine(faults.taken()));
-    println!(rt; "{label}: {status} {said} |{}", Words(output.taken()))
+    let status = answer.status();
+    print!(rt; "{label}: {status} ")?;
+    print_text(rt, faults.taken())?;
+    print!(rt; " |")?;
+    print_words(rt, output.taken())?;
+    println!(rt; "")
+}
+
+fn print_text(rt: &HostRuntime, text: &[u8]) -> io::Result<()> {
+    print!(rt; "{}", OneLine(text))
+}
+
+fn print_words(rt: &HostRuntime, bytes: &[u8]) -> io::Result<()> {
+    print!(rt; "{}", Words(bytes))
 }
 
 /// The words of a run.

@@ -36,7 +36,7 @@ const LINE_ROOM: usize = 100;
 fn print_answer(rt: &HostRuntime, label: &str, words: &str, given: &str) -> io::Result<()> {
     let bytes = bytes_of(rt.alloc(), given)?;
     let mut input = if given == "-" {
-        Source::broken(&[], ErrorKind::UnexpectedEof, PIECE)
+        Source::broken(bytes.as_slice(), ErrorKind::UnexpectedEof, PIECE)
     } else {
         Source::whole(bytes.as_slice(), PIECE)
     };
@@ -51,12 +51,23 @@ fn print_answer(rt: &HostRuntime, label: &str, words: &str, given: &str) -> io::
         &mut output,
         &mut faults,
     );
-    let said = OneLine(faults.taken());
+    print!(rt; "{label}: {status} ")?;
+    print_text(rt, faults.taken())?;
+    print!(rt; " |")?;
     if words == "show" {
-        println!(rt; "{label}: {status} {said} |{}", OneLine(output.taken()))
+        print_text(rt, output.taken())?;
     } else {
-        println!(rt; "{label}: {status} {said} |{}", Words(output.taken()))
+        print_words(rt, output.taken())?;
     }
+    println!(rt; "")
+}
+
+fn print_text(rt: &HostRuntime, text: &[u8]) -> io::Result<()> {
+    print!(rt; "{}", OneLine(text))
+}
+
+fn print_words(rt: &HostRuntime, bytes: &[u8]) -> io::Result<()> {
+    print!(rt; "{}", Words(bytes))
 }
 
 /// The words of a run.

@@ -1,4 +1,5 @@
-//! Laws of values of fixed size, and of arrays that are read element by element. Each function does nothing: its contract is the law.
+//! Laws of values of fixed size, of arrays that are read element by element, and of readers that are lent. Each function does
+//! nothing: its contract is the law.
 
 use crate::shims::prelude::*;
 use crate::parts::spa_fixed::{CanonicalFixedSizedPod, FixedSizedPod};
@@ -12,3 +13,9 @@ pub fn lists_come_back<E: FixedSizedPod>() {}
 
 /// A value is read back as itself from a pod of the value that stands for it, where the definitions of its type give it back.
 pub fn values_come_back<E: FixedSizedPod>() {}
+
+/// A reader that is lent goes further by one call after another.
+pub fn readers_go_further() {}
+
+/// Members are the pod of the first one and, behind it, those of the others. Of properties a key and flags come before each.
+pub fn members_are_fronts() {}

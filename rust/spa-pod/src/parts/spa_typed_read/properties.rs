@@ -2,12 +2,13 @@
 
 use crate::shims::prelude::*;
 use crate::parts::spa_typed_read::deserializer::{DeserializeSuccess, PodDeserialize, PodDeserializer};
+use crate::parts::spa_typed_read::passing::Skipped;
 use crate::parts::spa_typed_read::typed::open_as;
 use crate::shims::flags::Flags;
 use crate::parts::spa_bytes::{HEADER_LEN, SECOND_WORD, open, u32_at};
 use crate::parts::spa_fixed::{DeserializeError, Fault, FaultKind};
 use crate::parts::spa_utils::SpaTypes;
-use crate::parts::spa_value::{PropertyFlags, Value, discard};
+use crate::parts::spa_value::PropertyFlags;
 
 /// The input is short, at this place.
 fn short_at(place: &[u8]) -> DeserializeError<&[u8]> {
@@ -143,12 +144,12 @@ impl<'de> ObjectPodDeserializer<'de> {
         Ok(None)
     }
 
-    /// Reads all properties that are left, whatever they are, and lets them go. Refusals are those of `deserialize_property`
-    /// into a `Value`.
+    /// Passes all properties that are left, whatever they are. Refusals are those of `deserialize_property` into a `Skipped`; after
+    /// one the reader has failed.
     pub fn skip_properties(&mut self) -> Result<(), DeserializeError<&'de [u8]>> {
         loop {
-            match self.deserialize_property::<Value>() {
-                Ok(Some((value, _, _))) => discard(value),
+            match self.deserialize_property::<Skipped>() {
+                Ok(Some((value, _, _))) => drop(value),
                 Ok(None) => return Ok(()),
                 Err(e) => return Err(e),
             }

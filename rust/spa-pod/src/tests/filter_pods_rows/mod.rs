@@ -51,8 +51,12 @@ fn answer_formats(
     if ours.contains('|') || theirs.contains('|') {
         return Ok(());
     }
-    let (our_label, our_pod) = ours.rsplit_once(':').unwrap_or((ours, ""));
-    let (their_label, their_pod) = theirs.rsplit_once(':').unwrap_or((theirs, ""));
+    let Some((our_label, our_pod)) = ours.rsplit_once(':') else {
+        return Ok(());
+    };
+    let Some((their_label, their_pod)) = theirs.rsplit_once(':') else {
+        return Ok(());
+    };
     write!(answers, "{our_label}, {their_label}:")?;
     push_answer(answers, settled(our_pod, their_pod))?;
     answers.try_push_str("\n")

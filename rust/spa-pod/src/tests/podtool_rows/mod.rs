@@ -35,7 +35,7 @@ const LINE_ROOM: usize = 100;
 fn print_answer(label: &str, words: &str, given: &str) -> io::Result<()> {
     let bytes = bytes_of(given)?;
     let mut input = if given == "-" {
-        Source::broken(&[], ErrorKind::UnexpectedEof, PIECE)
+        Source::broken(bytes.as_slice(), ErrorKind::UnexpectedEof, PIECE)
     } else {
         Source::whole(bytes.as_slice(), PIECE)
     };
@@ -49,12 +49,23 @@ fn print_answer(label: &str, words: &str, given: &str) -> io::Result<()> {
         &mut output,
         &mut faults,
     );
-    let said = OneLine(faults.taken());
+    crate::shims::test::print!("{label}: {status} ")?;
+    print_text(faults.taken())?;
+    crate::shims::test::print!(" |")?;
     if words == "show" {
-        crate::shims::test::println!("{label}: {status} {said} |{}", OneLine(output.taken()))
+        print_text(output.taken())?;
     } else {
-        crate::shims::test::println!("{label}: {status} {said} |{}", Words(output.taken()))
+        print_words(output.taken())?;
     }
+    crate::shims::test::println!("")
+}
+
+fn print_text(text: &[u8]) -> io::Result<()> {
+    crate::shims::test::print!("{}", OneLine(text))
+}
+
+fn print_words(bytes: &[u8]) -> io::Result<()> {
+    crate::shims::test::print!("{}", Words(bytes))
 }
 
 /// The words of a run.

@@ -14,9 +14,11 @@ fn nested(head: &[u32], inner: [u32; 4]) -> Result<Vec<u8>, AllocError> {
     let inner = bytes_of(&inner)?;
     let mut bytes = Vec::new();
     for level in 0..DEEP {
-        let levels = u64::from(DEEP - level);
-        let left = levels * (4 + head.len() as u64) + inner.len() as u64;
-        bytes.try_extend_from_slice(&(left - 8).to_le_bytes()[..4])?;
+        let each = (head.len() as u64).saturating_add(4);
+        let left = u64::from(DEEP - level)
+            .saturating_mul(each)
+            .saturating_add(inner.len() as u64);
+        bytes.try_extend_from_slice(&left.saturating_sub(8).to_le_bytes()[..4])?;
         bytes.try_extend_from_slice(head.as_slice())?;
     }
     bytes.try_extend_from_slice(inner.as_slice())?;

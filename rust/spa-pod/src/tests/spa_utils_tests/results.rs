@@ -1,8 +1,8 @@
 //! Codes with their meanings, from outside, and each call once.
 use crate::shims::prelude::*;
 use crate::tests::spa_utils_tests::compare::assert_same;
-use crate::parts::spa_utils::Errno;
 use crate::parts::spa_result::{AsyncSeq, SpaResult, SpaSuccess};
+use crate::parts::spa_utils::Errno;
 use crate::shims::memory::AllocError;
 
 /// How many sequence numbers there are.

@@ -4,11 +4,11 @@ use crate::tests::spa_tests::answers::{after_of, assert_own_rewriting, value_of,
 use crate::tests::spa_tests::bytes::{assert_bytes, assert_holds};
 use crate::shims::flags::Flags;
 use crate::parts::spa_dict::{DictRef, Flags as DictFlags};
+use crate::parts::spa_result::{SpaResult, SpaSuccess};
 use crate::parts::spa_rewrite::rewrite_all;
 use crate::parts::spa_sink::GenError;
 use crate::tests::spa_spelling::bytes_spelled;
 use crate::parts::spa_utils::Id;
-use crate::parts::spa_result::{SpaResult, SpaSuccess};
 use crate::parts::spa_value::Value;
 use crate::parts::spa_view::{Pod, PodObject};
 use crate::shims::memory::AllocError;

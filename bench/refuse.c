@@ -5,6 +5,7 @@
 #define _GNU_SOURCE
 #include <dlfcn.h>
 #include <errno.h>
+#include <fcntl.h>
 #include <stdio.h>
 #include <stdlib.h>
 #include <string.h>
@@ -21,6 +22,9 @@ static void *(*real_aligned_alloc)(size_t, size_t);
 static long refused, requests;
 static int mark, refuses_each;
 
+// Where SAMPLE is a number above 0, only some requests are refused so: the first so many, as many of every other one, and so on.
+static long sample, next = 1, step = 1, count;
+
 static void start(void) {
   real_malloc = dlsym(RTLD_NEXT, "malloc");
   real_realloc = dlsym(RTLD_NEXT, "realloc");
@@ -29,6 +33,8 @@ static void start(void) {
   refuses_each = strcmp(given, "each") == 0;
   refused = atol(given);
   mark = atoi(getenv("MARK"));
+  const char *some = getenv("SAMPLE");
+  sample = some ? atol(some) : 0;
 }
 
 static void say(const char *bytes, size_t length) {
@@ -43,7 +49,7 @@ static void say(const char *bytes, size_t length) {
 
 // Tells how the copy ended that was refused this request, and what it wrote.
 static void tell(int wrote, int status) {
-  static char text[1 << 16];
+  static char text[1 << 20];
   off_t length = lseek(wrote, 0, SEEK_CUR);
   size_t told = length < (off_t)sizeof text ? (size_t)length : sizeof text;
   if (pread(wrote, text, told, 0) != (ssize_t)told)
@@ -65,6 +71,11 @@ static int is_copy(void) {
     alarm(SECONDS);
     if (dup2(wrote, STDOUT_FILENO) < 0 || dup2(wrote, STDERR_FILENO) < 0)
       abort();
+    // What the copy reads leaves the place where the process goes on reading.
+    int source = open("/proc/self/fd/0", O_RDONLY);
+    off_t at = lseek(STDIN_FILENO, 0, SEEK_CUR);
+    if (source >= 0 && at >= 0 && (lseek(source, at, SEEK_SET) < 0 || dup2(source, STDIN_FILENO) < 0))
+      abort();
     return 1;
   }
   int status;
@@ -75,11 +86,23 @@ static int is_copy(void) {
   return 0;
 }
 
+// Whether this request is one of those to be refused.
+static int is_chosen(void) {
+  if (!sample)
+    return 1;
+  if (requests < next)
+    return 0;
+  if (++count % sample == 0)
+    step *= 2;
+  next = requests + step;
+  return 1;
+}
+
 static int is_refused(void) {
   if (!real_malloc)
     start();
   ++requests;
-  if (refuses_each ? !is_copy() : requests != refused)
+  if (refuses_each ? !is_chosen() || !is_copy() : requests != refused)
     return 0;
   if (refused)
     say("x", 1);

@@ -1,13 +1,17 @@
 #!/usr/bin/env python3
-"""refuse.py [PROGRAM ..]: runs the built programs with each of their requests of memory refused in turn.
-refuse.py tests CRATE ..: does so with each test of these crates, as `rt test` has built them. CRATE/START: of those alone whose
-names begin so.
-refuse.py rows CRATE ..: does so with these programs of rows, as `rt run` has built them.
+"""refuse.py programs [PROGRAM ..]: runs the built programs with each of their requests of memory refused in turn.
+refuse.py tests [CRATE ..]: does so with each test of these crates, or of all, as `rt test` has built them. CRATE/START: of
+those alone whose names begin so.
+refuse.py rows [CRATE ..]: does so with these programs of rows, or all, as `rt run` has built them.
+refuse.py sample N: all three, as `rt ci` has built them, but of each run only some requests: the first N, then N of every
+other one, N of every fourth, and so on, and of a test as many as SAMPLE_SECONDS seconds hold.
 
-Each word of podtool runs on each pod of examples/, on all of them one after another, and on a list whose last pod is
-short; meet runs on pairs of objects, of which some meet and some don't. A run must end as it does with memory, or write
-nothing and say that it is out of memory. A test must pass, or end by an error that says so and by nothing else. Status 1
-where one doesn't, or where a test has more requests than could be refused in SECONDS seconds (from the environment, 600).
+Each word of podtool and of podtext runs on each pod of examples/, on all of them one after another, and on a list whose last
+pod is short, `podtext read` on what `print` makes of these; meet runs on pairs of objects, of which some meet and some don't,
+as one input and as two files. A run must end as it does with memory, or write nothing and say that it is out of memory;
+`podtext show`, which writes as it goes, may have written a beginning. A row of a program must have its answer or say so. A
+test must pass, or end by an error that says so and by nothing else. Status 1 where one doesn't, or where a test has more
+requests than could be refused in SECONDS seconds (from the environment, 600).
 """
 
 import os
@@ -19,8 +23,10 @@ import sys
 import tempfile
 
 HERE = pathlib.Path(__file__).resolve().parent
-PROGRAMS = ("podtool", "meet")
+PROGRAMS = ("podtool", "podtext", "meet")
 SECONDS = int(os.environ.get("SECONDS", "600"))
+# How long a test is tried of which only some requests are refused.
+SAMPLE_SECONDS = 10
 
 # An object of type 5 whose key 1 is a Range of Ints, and pods that follow it, by what they are.
 RANGE = (56, 15, 5, 3, 1, 0, 28, 19, 1, 0, 4, 4, 5, 2, 10, 0)
@@ -75,28 +81,56 @@ def run(command, given, library=None, refused=0):
         return (ran.returncode, ran.stdout, ran.stderr), it.read() != b""
 
 
-def runs_of(program):
-    """Each command of the program, with the name and the bytes of its input."""
+def runs_of(program, room):
+    """Each command of the program, with the name and the bytes of its input; files that it is given lie in the room."""
     built = HERE.parent / f"crates/{program}/out/{program}"
-    given, words = (pairs(), [()]) if program == "meet" else (inputs(), [("rewrite",), ("fixate",), ("show",)])
-    return [((built, *word), name, it) for name, it in given.items() for word in words]
+    if program == "podtool":
+        return [((built, word), name, it) for name, it in inputs().items() for word in ("rewrite", "fixate", "show")]
+    found = []
+    for number, (name, it) in enumerate((pairs() if program == "meet" else inputs()).items()):
+        files = [room / f"{number}.{part}" for part in ("a", "b")]
+        if program == "meet":
+            halves = (it[:64], it[64:]) if name.endswith("second") else (it[:-64], it[-64:])
+            words = [(), ("filter",), files, ("filter", *files)]
+        else:
+            halves = (it, inputs()["props.pod"])
+            words = [("print",), ("print", "--pretty"), ("show",), ("diff", *files)]
+        for file, part in zip(files, halves):
+            file.write_bytes(part)
+        found += [((built, *word), name, it) for word in words]
+        if program == "podtext":
+            text = subprocess.run([built, "print"], input=it, stdout=subprocess.PIPE).stdout
+            found += [((built, "read"), f"the text of {name}", text), ((built, "read"), f"a part of that of {name}", text[:-9])]
+    return found
 
 
-def refuse_in_programs(library, programs):
-    """Refuses each request of the programs, and returns how many there were and how many runs were wrong."""
+def numbers(sample):
+    """The numbers of the requests that are refused: all, or, of a sample, the first so many, as many of every other one, and so on."""
+    number, step, count = 1, 1, 0
+    while True:
+        yield number
+        count += 1
+        step *= 2 if sample and count % sample == 0 else 1
+        number += step
+
+
+def refuse_in_programs(library, programs, sample):
+    """Refuses requests of the programs, and returns how many there were and how many runs were wrong."""
     runs = wrong = 0
-    for program in programs:
-        out_of_memory = (1, b"", f"{program}: out of memory\n".encode())
-        for command, name, given in runs_of(program):
+    with tempfile.TemporaryDirectory() as room:
+        for command, name, given in (it for program in programs for it in runs_of(program, pathlib.Path(room))):
+            program = command[0].name
+            says, goes_on = f"{program}: out of memory\n".encode(), program == "podtext" and command[1] == "show"
             wanted, _ = run(command, given)
-            number, was_refused = 0, True
-            while was_refused:
-                number += 1
+            for number in numbers(sample):
                 found, was_refused = run(command, given, library, number)
                 runs += was_refused
-                if found != wanted and not (was_refused and found == out_of_memory):
+                is_begun = found[1] == b"" or goes_on and wanted[1].startswith(found[1])
+                if found != wanted and not (was_refused and found[::2] == (1, says) and is_begun):
                     wrong += 1
-                    print(f"{program} {' '.join(command[1:])} of {name}, request {number}: {found}")
+                    print(f"{program} {' '.join(map(str, command[1:]))} of {name}, request {number}: {found}")
+                if not was_refused:
+                    break
     return runs, wrong
 
 
@@ -109,18 +143,21 @@ def copies(told):
         yield number, (status, told[end + 1 : at])
 
 
-def refuse_each(library, command, given, passed, is_refused):
-    """Refuses each request of a command, which ends so with memory, and returns how many there were and what is wrong with it."""
-    with tempfile.TemporaryFile() as mark:
-        env = {**os.environ, "LD_PRELOAD": library, "REFUSED": "each", "MARK": str(mark.fileno())}
-        how = {"env": env, "stdout": subprocess.PIPE, "stderr": subprocess.STDOUT, "pass_fds": (mark.fileno(),)}
+def refuse_each(library, command, given, passed, is_refused, sample):
+    """Refuses requests of a command, which ends so with memory, and returns how many there were and what is wrong with it."""
+    with tempfile.TemporaryFile() as mark, tempfile.TemporaryFile() as source:
+        source.write(given)
+        source.seek(0)
+        env = {**os.environ, "LD_PRELOAD": library, "REFUSED": "each", "SAMPLE": str(sample), "MARK": str(mark.fileno())}
+        how = {"env": env, "stdin": source, "stdout": subprocess.PIPE, "stderr": subprocess.STDOUT, "pass_fds": (mark.fileno(),)}
         wrong = []
         try:
-            ran = subprocess.run(command, input=given, timeout=SECONDS, **how)
+            ran = subprocess.run(command, timeout=SAMPLE_SECONDS if sample else SECONDS, **how)
             if (ran.returncode, ran.stdout) != passed:
                 wrong.append(f"with memory: {(ran.returncode, ran.stdout)}")
         except subprocess.TimeoutExpired:
-            wrong.append(f"not all its requests were refused in {SECONDS} seconds")
+            if not sample:
+                wrong.append(f"not all its requests were refused in {SECONDS} seconds")
         mark.seek(0)
         ended = list(copies(mark.read()))
     for number, (status, wrote) in ended:
@@ -129,13 +166,13 @@ def refuse_each(library, command, given, passed, is_refused):
     return len(ended), wrong
 
 
-def refuse_in_test(library, program, test):
-    """Refuses each request of the test, and returns how many there were and what is wrong with it."""
+def refuse_in_test(library, program, test, sample):
+    """Refuses requests of the test, and returns how many there were and what is wrong with it."""
 
     def wants_memory(status, wrote):
         return status == 101 and WANTS_MEMORY.fullmatch(wrote)
 
-    return refuse_each(library, [program, test], b"", PASSED, wants_memory)
+    return refuse_each(library, [program, test], b"", PASSED, wants_memory, sample)
 
 
 def row_wants_memory(line, row):
@@ -144,8 +181,8 @@ def row_wants_memory(line, row):
     return label[0] == said[0] and RUN_WANTS_MEMORY.fullmatch(said[2])
 
 
-def refuse_in_rows(library, crates):
-    """Refuses each request of the programs of rows, and returns how many there were and how many ended wrongly."""
+def refuse_in_rows(library, crates, sample):
+    """Refuses requests of the programs of rows, and returns how many there were and how many ended wrongly."""
     runs = wrong = 0
     for crate in crates:
         home = HERE.parent / f"crates/{crate}"
@@ -160,7 +197,7 @@ def refuse_in_rows(library, crates):
             return len(lines) == len(rows) and all(alike)
 
         command = [home / f"out/{crate}"]
-        count, found = refuse_each(library, command, (home / "stdin").read_bytes(), (0, wanted), wants_memory)
+        count, found = refuse_each(library, command, (home / "stdin").read_bytes(), (0, wanted), wants_memory, sample)
         print(f"{crate}: {count} requests", flush=True)
         for it in found:
             print(f"  {it}", flush=True)
@@ -168,15 +205,15 @@ def refuse_in_rows(library, crates):
     return runs, wrong
 
 
-def refuse_in_tests(library, crates):
-    """Refuses each request of each test of the crates, and returns how many there were and how many ended wrongly."""
+def refuse_in_tests(library, crates, sample):
+    """Refuses requests of each test of the crates, and returns how many there were and how many ended wrongly."""
     runs = wrong = 0
     for given in crates:
         crate, _, start = given.partition("/")
         program = HERE.parent / f"crates/{crate}/out/{crate}_tests"
         listed = subprocess.run([program, "--list"], check=True, capture_output=True, text=True).stdout
         for test in re.findall(rf"^({re.escape(start)}.*): test$", listed, re.MULTILINE):
-            count, found = refuse_in_test(library, program, test)
+            count, found = refuse_in_test(library, program, test, sample)
             print(f"{crate} {test}: {count} requests", flush=True)
             for it in found:
                 print(f"  {it}", flush=True)
@@ -184,19 +221,29 @@ def refuse_in_tests(library, crates):
     return runs, wrong
 
 
+def built(ending):
+    """The crates whose names end so and that are built."""
+    found = sorted(it.parents[1].name for it in HERE.parent.glob(f"crates/*{ending}/out/*{ending}"))
+    return [it for it in found if (HERE.parent / f"crates/{it}/out/{it}{'_tests' if ending == '_tests' else ''}").is_file()]
+
+
 def main(words):
+    kinds = {
+        "programs": (refuse_in_programs, lambda: PROGRAMS),
+        "rows": (refuse_in_rows, lambda: built("_rows")),
+        "tests": (refuse_in_tests, lambda: built("_tests")),
+    }
+    sample = int(words[1]) if words[:1] == ["sample"] else 0
+    runs = wrong = 0
     with tempfile.TemporaryDirectory() as room:
         library = f"{room}/refuse.so"
         subprocess.run(["cc", "-O1", "-shared", "-fPIC", "-o", library, HERE / "refuse.c", "-ldl"], check=True)
-        of_tests = words[:1] == ["tests"]
-        if of_tests:
-            runs, wrong = refuse_in_tests(library, words[1:])
-        elif words[:1] == ["rows"]:
-            runs, wrong = refuse_in_rows(library, words[1:])
-        else:
-            runs, wrong = refuse_in_programs(library, words or PROGRAMS)
+        for kind in kinds if sample else words[:1]:
+            refuse, all_of = kinds[kind]
+            count, bad = refuse(library, words[1:] if not sample and words[1:] else all_of(), sample)
+            runs, wrong = runs + count, wrong + bad
     print(f"{runs} runs with a refused request, {wrong} of them wrong")
-    return 1 if wrong or not (runs or of_tests) else 0
+    return 1 if wrong or not runs else 0
 
 
 if __name__ == "__main__":

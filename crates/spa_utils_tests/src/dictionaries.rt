@@ -341,3 +341,25 @@ fn refusals_print_the_name_of_each_unsigned_type(rt: HostRuntime) -> Result<(), 
     check_name::<u128>(&rt, rt.alloc(), "'ten' cannot be parsed to u128")?;
     check_name::<usize>(&rt, rt.alloc(), "'ten' cannot be parsed to usize")
 }
+
+/// A type gives this name.
+fn check_type_name<T: ParsableValue>(rt: &impl Abort, wanted: &str) {
+    assert_same(rt, &T::TYPE_NAME, &wanted, "its name");
+}
+
+#[test]
+fn types_give_their_names(rt: HostRuntime) {
+    check_type_name::<bool>(&rt, "bool");
+    check_type_name::<i8>(&rt, "i8");
+    check_type_name::<i16>(&rt, "i16");
+    check_type_name::<i32>(&rt, "i32");
+    check_type_name::<i64>(&rt, "i64");
+    check_type_name::<i128>(&rt, "i128");
+    check_type_name::<isize>(&rt, "isize");
+    check_type_name::<u8>(&rt, "u8");
+    check_type_name::<u16>(&rt, "u16");
+    check_type_name::<u32>(&rt, "u32");
+    check_type_name::<u64>(&rt, "u64");
+    check_type_name::<u128>(&rt, "u128");
+    check_type_name::<usize>(&rt, "usize");
+}

@@ -338,3 +338,25 @@ fn refusals_print_the_name_of_each_unsigned_type() -> Result<(), AllocError> {
     check_name::<u128>("'ten' cannot be parsed to u128")?;
     check_name::<usize>("'ten' cannot be parsed to usize")
 }
+
+/// A type gives this name.
+fn check_type_name<T: ParsableValue>(wanted: &str) {
+    assert_same(&T::TYPE_NAME, &wanted, "its name");
+}
+
+#[test]
+fn types_give_their_names() {
+    check_type_name::<bool>("bool");
+    check_type_name::<i8>("i8");
+    check_type_name::<i16>("i16");
+    check_type_name::<i32>("i32");
+    check_type_name::<i64>("i64");
+    check_type_name::<i128>("i128");
+    check_type_name::<isize>("isize");
+    check_type_name::<u8>("u8");
+    check_type_name::<u16>("u16");
+    check_type_name::<u32>("u32");
+    check_type_name::<u64>("u64");
+    check_type_name::<u128>("u128");
+    check_type_name::<usize>("usize");
+}

@@ -14,7 +14,8 @@ compile_error!("spa-pod counts bytes in a usize of 64 bits");
 mod api;
 // The text follows its proofs. What lints say of style goes unheeded; those of correctness stand.
 #[allow(unused_imports, unused_variables, dead_code, non_upper_case_globals, missing_docs)]
-#[allow(clippy::style, clippy::complexity, clippy::perf)]
+// The proved text also drops what has nothing to drop in Rust.
+#[allow(clippy::style, clippy::complexity, clippy::perf, clippy::drop_non_drop)]
 mod parts;
 mod shims;
 #[cfg(all(test, feature = "std"))]

@@ -18,5 +18,5 @@ returns-clause-one c =
 pub returns-clause-refused : goal.returns-clause-refused
 returns-clause-refused c =
     IfErr-weaker c.deserialize_from.result _ _
-    (λ e r. no_mode _ c.args.input.now e (⊎_elim (⊎_elim absurd (⊎_elim absurd absurd)) (⊎_elim absurd absurd)) r)
+    (λ e r. no_mode _ c.args.input.now e (⊎_elim (⊎_elim absurd (⊎_elim absurd absurd)) (⊎_elim absurd absurd)) r.1)
     c.deserialize_from.ensures.refused

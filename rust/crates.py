@@ -4,7 +4,7 @@ import os
 # The crate that gives the libraries under libspa's paths.
 WHOLE = 'libspa'
 # The libraries that are public beside it; with these come those that they stand on.
-BESIDE = ['spa_names', 'spa_events', 'spa_negotiate_pods', 'spa_filter_pods']
+BESIDE = ['spa_names', 'spa_events', 'spa_negotiate', 'spa_filter_pods']
 # Crates of tests are those whose names end so, and programs that answer rows, each of which becomes a test. Those that stand on a crate of the kit without a shim, as what reads text does, are left out.
 TEST_SUFFIXES = ('_tests', '_rows')
 ROWS_SUFFIX = '_rows'

@@ -1,15 +1,10 @@
 //! Rows of negotiation. Each line of standard input is a label and the words of two inputs, `label: pod | pod`; two lines of standard
-//! output have what they meet in, in that order and in the other: as pods, and as the values of these pods.
+//! output have what they meet in, in that order and in the other: by `negotiate_pods`, and by way of values.
 #![tactic(auto)]
 
-use spa_fixed::Refusal;
-use spa_negotiate::negotiate;
-use spa_negotiate_pods::{NegotiateError, Side, negotiate_pods};
-use spa_read::read_value;
-use spa_sink::GenError;
+use spa_callers::negotiate_by_values;
+use spa_negotiate::{NegotiateError, negotiate_pods};
 use spa_spelling::{SpellingError, bytes_spelled};
-use spa_value::{Object, Value};
-use spa_write::write_value;
 use std::alloc::{AllocError, Global};
 use std::io;
 
@@ -66,11 +61,11 @@ fn by_pods(alloc: Global, ours: &str, theirs: &str) -> Result<Vec<u8>, Negotiate
     negotiate_pods(alloc, a.as_slice(), b.as_slice())
 }
 
-/// The encoding of what the objects of two inputs meet in.
+/// What two inputs meet in, by way of values.
 fn by_values(alloc: Global, ours: &str, theirs: &str) -> Result<Vec<u8>, NegotiateError> {
-    let a = object_spelled(alloc, ours, Side::First)?;
-    let b = object_spelled(alloc, theirs, Side::Second)?;
-    encoding(alloc, negotiate(alloc, &a, &b)?)
+    let a = spelled(alloc, ours)?;
+    let b = spelled(alloc, theirs)?;
+    negotiate_by_values(alloc, a.as_slice(), b.as_slice())
 }
 
 /// The bytes of the words. Where there is a slip in them, they are `TooLarge`, which no row expects.
@@ -79,46 +74,5 @@ fn spelled(alloc: Global, words: &str) -> Result<Vec<u8>, NegotiateError> {
         Ok(bytes) => Ok(bytes),
         Err(SpellingError::OutOfMemory) => Err(NegotiateError::OutOfMemory),
         Err(SpellingError::Misspelt) => Err(NegotiateError::TooLarge),
-    }
-}
-
-/// The object whose pod these words are.
-fn object_spelled(alloc: Global, words: &str, side: Side) -> Result<Object, NegotiateError> {
-    let bytes = spelled(alloc, words)?;
-    object_of(value_in(alloc, bytes.as_slice(), side)?, side)
-}
-
-/// The value at the front of a pod.
-fn value_in(alloc: Global, pod: &[u8], side: Side) -> Result<Value, NegotiateError> {
-    let mut opened = 0;
-    match read_value(alloc, pod, &mut opened) {
-        Ok((_rest, value)) => Ok(value),
-        Err(refused) => Err(refusal_of(refused.why, side)),
-    }
-}
-
-/// The refusal of a side whose front isn't read for this reason.
-fn refusal_of(why: Refusal, side: Side) -> NegotiateError {
-    match why {
-        Refusal::OutOfMemory => NegotiateError::OutOfMemory,
-        _ => NegotiateError::Unread(side),
-    }
-}
-
-/// The object that a value is.
-fn object_of(value: Value, side: Side) -> Result<Object, NegotiateError> {
-    match value {
-        Value::Object(object) => Ok(object),
-        _ => Err(NegotiateError::NotObject(side)),
-    }
-}
-
-/// The encoding of an object.
-fn encoding(alloc: Global, object: Object) -> Result<Vec<u8>, NegotiateError> {
-    let mut bytes = Vec::new(alloc);
-    match write_value(alloc, &mut bytes, &Value::Object(object)) {
-        Ok(_len) => Ok(bytes),
-        Err(GenError::OutOfMemory) => Err(NegotiateError::OutOfMemory),
-        Err(_) => Err(NegotiateError::TooLarge),
     }
 }

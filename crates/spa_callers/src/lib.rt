@@ -1,7 +1,9 @@
-//! What a program's author writes with the builder and the parser: a video format, made call by call and taken apart again.
-//! They are known by their contracts alone.
+//! What a program's author writes over the library, known by its contracts alone: a video format, made call by call by the builder and
+//! taken apart again by the parser; and negotiation from bytes to bytes.
 #![tactic(auto)]
 
+mod meeting;
 mod video;
 
+pub use meeting::negotiate_by_values;
 pub use video::{VideoFormat, format_pod, read_format, sent};

@@ -5,8 +5,8 @@ use Rattle.std.proofs.lemmas.List.{nil_from_length}
 use Rattle.spa_format.specs.Words.{extent, word_at}
 use Rattle.spa_format.specs.Front.{HasFront, rest_of}
 use Rattle.spa_negotiate_pods.specs.Fronts.{OnNoMeeting}
-use Rattle.spa_negotiate.specs.declared.error.NegotiateError.{NegotiateError}
-use Rattle.spa_negotiate.specs.declared.error.NegotiateError.TheVariants as refusal
+use Rattle.spa_negotiate_objects.specs.declared.error.NegotiateError.{NegotiateError}
+use Rattle.spa_negotiate_objects.specs.declared.error.NegotiateError.TheVariants as refusal
 use Rattle.spa_filter_pods.specs.Fronts.{OnNoFilter}
 use Rattle.spa_meet_commands.specs.Agreeing.{told_as}
 

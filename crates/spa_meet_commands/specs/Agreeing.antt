@@ -1,12 +1,12 @@
 -- When the work on two objects succeeds, and what it is refused for: docs/NEGOTIATION.md.
 use Rattle.std.specs.Prelude.{◌≡◌, ℕ, List}
-use Rattle.spa_negotiate.specs.Meeting.{CanMeet}
+use Rattle.spa_negotiate_objects.specs.Meeting.{CanMeet}
 use Rattle.spa_negotiate_pods.specs.Fronts.{MeetIn}
 use Rattle.spa_negotiate_pods.specs.Fronts as negotiation
-use Rattle.spa_negotiate.specs.declared.error.NegotiateError.{NegotiateError}
-use Rattle.spa_negotiate.specs.declared.error.NegotiateError.TheVariants as refusal
-use Rattle.spa_negotiate.specs.declared.error.Side as negotiation_side
-use Rattle.spa_negotiate.specs.declared.error.Side.TheVariants as side
+use Rattle.spa_negotiate_objects.specs.declared.error.NegotiateError.{NegotiateError}
+use Rattle.spa_negotiate_objects.specs.declared.error.NegotiateError.TheVariants as refusal
+use Rattle.spa_negotiate_objects.specs.declared.error.Side as negotiation_side
+use Rattle.spa_negotiate_objects.specs.declared.error.Side.TheVariants as side
 use Rattle.spa_filter.specs.Filtering.{CanFilter}
 use Rattle.spa_filter.specs.declared.error.FilterError.{FilterError}
 use Rattle.spa_filter.specs.declared.error.FilterError.TheVariants.{TypeMismatch, Unsupported, Disjoint, Unread, NotObject, TooLarge, OutOfMemory}

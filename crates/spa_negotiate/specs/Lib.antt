@@ -1,7 +1,10 @@
-pub mod Admits
-pub mod Keys
-pub mod Meeting
-pub mod Refusals
-pub mod Numbering
-pub mod Offers
-pub mod PropertyLists
+pub use Rattle.spa_negotiate_objects.specs.Admits
+pub use Rattle.spa_negotiate_objects.specs.Keys
+pub use Rattle.spa_negotiate_objects.specs.Meeting
+pub use Rattle.spa_negotiate_objects.specs.Refusals
+pub use Rattle.spa_negotiate_pods.specs.Fronts
+-- The types that clauses name, and what is named of each.
+pub use Rattle.spa_negotiate_objects.specs.declared.error.NegotiateError
+pub use Rattle.spa_negotiate_objects.specs.declared.error.NegotiateError.TheVariants as NegotiateErrors
+pub use Rattle.spa_negotiate_objects.specs.declared.error.Side
+pub use Rattle.spa_negotiate_objects.specs.declared.error.Side.TheVariants as Sides

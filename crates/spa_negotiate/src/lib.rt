@@ -1,14 +1,12 @@
-//! Negotiation: two objects meet in a third one, under each of whose keys stands a value that both admit.
+//! Negotiation: two objects meet in a third one, under each of whose keys stands a value that both admit; as values, and from bytes to
+//! bytes. The crate holds no function of its own.
 #![tactic(auto)]
 
-mod admission;
-mod element;
-mod error;
-mod keyed;
-mod negotiation;
-mod numbers;
-mod offer;
+/// Laws of negotiation.
+pub mod laws {
+    pub use spa_negotiate_objects::laws::meetings_are_plain;
+    pub use spa_negotiate_pods::laws::{meetings_need_no_fixation, refused_fronts_cannot_meet};
+}
 
-pub use error::{NegotiateError, Side};
-pub use negotiation::{common, negotiate};
-pub use offer::is_supported;
+pub use spa_negotiate_objects::{NegotiateError, Side, negotiate};
+pub use spa_negotiate_pods::negotiate_pods;

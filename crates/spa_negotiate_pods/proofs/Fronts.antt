@@ -5,17 +5,16 @@ use Rattle.spa_format.specs.Fixation.{all_settled, are_settled}
 use Rattle.spa_format.specs.Pod.{IsPod}
 use Rattle.spa_format.specs.Tree.{Tree, object, Properties}
 use Rattle.spa_format.specs.Walk.{ArePropertiesOf, property_walk, properties_of}
-use Rattle.spa_negotiate.specs.declared.error.Side.{Side}
-use Rattle.spa_negotiate.specs.declared.error.Side.TheVariants.{First, Second}
-use Rattle.spa_negotiate.specs.declared.error.NegotiateError.{NegotiateError}
-use Rattle.spa_negotiate.specs.declared.error.NegotiateError.TheVariants.{TypeMismatch, Unsupported, Disjoint, Unread, NotObject, TooLarge, OutOfMemory}
+use Rattle.spa_negotiate_objects.specs.declared.error.Side.{Side}
+use Rattle.spa_negotiate_objects.specs.declared.error.Side.TheVariants.{First, Second}
+use Rattle.spa_negotiate_objects.specs.declared.error.NegotiateError.{NegotiateError}
+use Rattle.spa_negotiate_objects.specs.declared.error.NegotiateError.TheVariants.{TypeMismatch, Unsupported, Disjoint, Unread, NotObject, TooLarge, OutOfMemory}
 use Rattle.spa_negotiate_pods.specs.Fronts.{MeetIn, OnNoMeeting, IsFrontRefused, AreFrontsRefused, AreViewsRefused}
-use Rattle.spa_negotiate.specs.Meeting.{CanMeet, Meet}
-use Rattle.spa_negotiate.specs.Refusals.{AreRefused, OnDisagreement}
-use Rattle.spa_negotiate.proofs.Refusing.{cannot_meet}
+use Rattle.spa_negotiate_objects.specs.Meeting.{CanMeet, Meet}
+use Rattle.spa_negotiate_objects.specs.Refusals.{AreRefused, OnDisagreement}
+use Rattle.spa_negotiate_objects.proofs.Refusing.{cannot_meet}
 use Rattle.spa_fronts.specs.Fronts.{BeginBoth, BeginsObject, IsObject}
 use Rattle.spa_fronts.proofs.Both.{never_both, other_first, other_second}
-use Rattle.spa_negotiate_pods.proofs.Values.{are_settled-met}
 
 -- the second side's refusal, behind a first side that is an object
 pub second_refused : (a b : List ℕ) → BeginsObject a → (e : NegotiateError) →
@@ -37,20 +36,24 @@ abbrev SettledAreSettled : Type 0
 SettledAreSettled =
     (ps : Properties) (bs : List (List ℕ)) → ArePropertiesOf ps bs → all_settled bs ≡ are_settled ps
 
+-- the law of objects in which two meet
+abbrev MeetingsAreSettled : Type 0
+MeetingsAreSettled = (v w : Tree) (t i : ℕ) (ps : Properties) → Meet v w (object t i ps) → are_settled ps ≡ true
+
 -- a pod of an object in which two meet needs no fixation
-settled-met : WalksFindProperties → SettledAreSettled → (v w x : Tree) (b : List ℕ) → Meet v w x →
+settled-met : MeetingsAreSettled → WalksFindProperties → SettledAreSettled → (v w x : Tree) (b : List ℕ) → Meet v w x →
     IsPod b x → all_settled (property_walk (properties_of b)) ≡ true
-settled-met walks settled (object t i ps) (object u j qs) (object c d rs) b h p =
-    settled rs _ (walks c d rs b p) ∙ are_settled-met ps qs rs h.3.values
-settled-met walks settled (object t i ps) (object u j qs) _ b h p = absurd h
-settled-met walks settled (object t i ps) _ x b h p = absurd h
-settled-met walks settled _ w x b h p = absurd h
+settled-met plain walks settled (object t i ps) (object u j qs) (object c d rs) b h p =
+    settled rs _ (walks c d rs b p) ∙ plain (object t i ps) (object u j qs) c d rs h
+settled-met plain walks settled (object t i ps) (object u j qs) _ b h p = absurd h
+settled-met plain walks settled (object t i ps) _ x b h p = absurd h
+settled-met plain walks settled _ w x b h p = absurd h
 
 -- bytes in which the objects at two fronts meet need none
-pub settled-both : (a b bytes : List ℕ) → WalksFindProperties → SettledAreSettled → BeginBoth a b (MeetIn bytes) →
-    IsTrue (all_settled (property_walk (properties_of bytes)))
-settled-both a b bytes walks settled m =
-    settled-met walks settled m.ours m.theirs m.holds.met bytes m.holds.meet m.holds.pod
+pub settled-both : (a b bytes : List ℕ) → MeetingsAreSettled → WalksFindProperties → SettledAreSettled →
+    BeginBoth a b (MeetIn bytes) → IsTrue (all_settled (property_walk (properties_of bytes)))
+settled-both a b bytes plain walks settled m =
+    settled-met plain walks settled m.ours m.theirs m.holds.met bytes m.holds.meet m.holds.pod
 
 -- the first side's refusal
 pub first_refused : (a b : List ℕ) (e : NegotiateError) → IsFrontRefused First a e → AreFrontsRefused a b e

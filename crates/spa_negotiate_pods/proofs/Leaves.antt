@@ -5,10 +5,10 @@ use Rattle.spa_format.specs.Tree.{Tree, struct, object, struct_type, object_type
 use Rattle.spa_format.proofs.Shapes.{object_only, struct_only}
 use Rattle.spa_bytes.specs.Opening.{Opens}
 use Rattle.spa_leaf.specs.Written.{IsLeaf}
-use Rattle.spa_negotiate.specs.Admits.{IsSupported}
-use Rattle.spa_negotiate.specs.Refusals.{IsKeyRefusal}
-use Rattle.spa_negotiate.specs.declared.error.NegotiateError.TheVariants.{Disjoint}
-use Rattle.spa_negotiate.proofs.Agreeing.{IsSupported-plain}
+use Rattle.spa_negotiate_objects.specs.Admits.{IsSupported}
+use Rattle.spa_negotiate_objects.specs.Refusals.{IsKeyRefusal}
+use Rattle.spa_negotiate_objects.specs.declared.error.NegotiateError.TheVariants.{Disjoint}
+use Rattle.spa_negotiate_objects.proofs.Agreeing.{IsSupported-plain}
 use Rattle.spa_negotiate_pods.proofs.Putting.{none_beside, plain_with_members}
 
 -- a pod of a struct's type, or of an object's, is of a value with members,

@@ -1,4 +1,3 @@
-pub mod Values
 pub mod OfferViews
 pub mod Putting
 pub mod Leaves

@@ -8,15 +8,15 @@ use Rattle.spa_fronts.specs.Written.{AreBehind, AreWritten, BeginsWritten, has_k
 use Rattle.spa_fronts.proofs.Both.{begin_both}
 use Rattle.spa_fronts.proofs.Joined.{behind_none, behind_on, object_large, object_written}
 use Rattle.spa_fronts.proofs.Sides.{IsNext}
-use Rattle.spa_negotiate.specs.Admits.{plain_of}
-use Rattle.spa_negotiate.specs.Keys.{value_at, key_list, keys_of}
-use Rattle.spa_negotiate.specs.Meeting.{AgreeAt, CanMeet, SettlesKeys}
-use Rattle.spa_negotiate.specs.PropertyLists.{contains}
-use Rattle.spa_negotiate.specs.Refusals.{AreRefused, IsKeyRefusal, IsRefusal}
-use Rattle.spa_negotiate.specs.declared.error.NegotiateError.{NegotiateError}
-use Rattle.spa_negotiate.specs.declared.error.NegotiateError.TheVariants.{Unsupported, Disjoint, OutOfMemory}
-use Rattle.spa_negotiate.proofs.Refusing.{AreRefused-properties, IsRefusal-first}
-use Rattle.spa_negotiate.proofs.Settling.{AgreeAt-settled, SettlesKeys-seen, SettlesKeys-first, SettlesKeys-other}
+use Rattle.spa_negotiate_objects.specs.Admits.{plain_of}
+use Rattle.spa_negotiate_objects.specs.Keys.{value_at, key_list, keys_of}
+use Rattle.spa_negotiate_objects.specs.Meeting.{AgreeAt, CanMeet, SettlesKeys}
+use Rattle.spa_negotiate_objects.specs.PropertyLists.{contains}
+use Rattle.spa_negotiate_objects.specs.Refusals.{AreRefused, IsKeyRefusal, IsRefusal}
+use Rattle.spa_negotiate_objects.specs.declared.error.NegotiateError.{NegotiateError}
+use Rattle.spa_negotiate_objects.specs.declared.error.NegotiateError.TheVariants.{Unsupported, Disjoint, OutOfMemory}
+use Rattle.spa_negotiate_objects.proofs.Refusing.{AreRefused-properties, IsRefusal-first}
+use Rattle.spa_negotiate_objects.proofs.Settling.{AgreeAt-settled, SettlesKeys-seen, SettlesKeys-first, SettlesKeys-other}
 use Rattle.spa_negotiate_pods.specs.Fronts.{AreViewsRefused, MeetIn, MeetTooLarge}
 use Rattle.spa_negotiate_pods.specs.Written.{IsMetBehind, IsPut, IsSettledBy}
 

@@ -14,7 +14,7 @@ use Rattle.spa_format.proofs.WordLemmas.{IsBytes-take, word_at-take, word_at-dro
 use Rattle.spa_bytes.specs.Opening.{Opens}
 use Rattle.spa_fronts.proofs.KeyOrders.{contains_later}
 use Rattle.spa_scan.proofs.Words.{word_there, wide_back, wide_of_take}
-use Rattle.spa_negotiate.specs.Admits.{Admits, IsAtMostFixed, IsOrderedKind, plain_of}
+use Rattle.spa_negotiate_objects.specs.Admits.{Admits, IsAtMostFixed, IsOrderedKind, plain_of}
 use Rattle.spa_negotiate_pods.specs.Offering.{AdmitsBy, AreAdmitting, IsElementType, IsOffer, IsShared, value_of}
 use Rattle.spa_negotiate_pods.specs.declared.offer_view.Rule.{Rule}
 use Rattle.spa_negotiate_pods.specs.declared.offer_view.Rule.TheVariants.{Only, Among, Between, Unsupported}

@@ -15,12 +15,12 @@ use Rattle.spa_format.proofs.FixedKinds.{kind_of_content, typed_content, same_ki
 use Rattle.spa_format.proofs.Unique.{one_value}
 use Rattle.spa_format.proofs.WordLemmas.{IsBytes-take, length-word_bytes, word_at-take}
 use Rattle.spa_scan.proofs.Words.{content_kept, word_there, wide_back, wide_of_take}
-use Rattle.spa_negotiate.specs.Admits.{Admits, IsAtMost, IsPlain, plain_of}
-use Rattle.spa_negotiate.specs.Refusals.{IsKeyRefusal}
-use Rattle.spa_negotiate.specs.declared.error.NegotiateError.{NegotiateError}
-use Rattle.spa_negotiate.specs.declared.error.NegotiateError.TheVariants.{Disjoint}
-use Rattle.spa_negotiate.proofs.Agreeing.{IsSupported-plain}
-use Rattle.spa_negotiate.specs.Keys.{value_at}
+use Rattle.spa_negotiate_objects.specs.Admits.{Admits, IsAtMost, IsPlain, plain_of}
+use Rattle.spa_negotiate_objects.specs.Refusals.{IsKeyRefusal}
+use Rattle.spa_negotiate_objects.specs.declared.error.NegotiateError.{NegotiateError}
+use Rattle.spa_negotiate_objects.specs.declared.error.NegotiateError.TheVariants.{Disjoint}
+use Rattle.spa_negotiate_objects.proofs.Agreeing.{IsSupported-plain}
+use Rattle.spa_negotiate_objects.specs.Keys.{value_at}
 use Rattle.spa_negotiate_pods.specs.Offering.{IsOffer, IsShared, value_of}
 use Rattle.spa_leaf.specs.Written.{IsLeaf}
 use Rattle.spa_fronts.specs.Written.{Found, IsFound, IsWritten, found_at}

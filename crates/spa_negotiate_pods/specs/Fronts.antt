@@ -7,12 +7,12 @@ use Rattle.spa_format.specs.Pod.{IsPod}
 use Rattle.spa_format.specs.Writable.{IsTooLarge}
 use Rattle.spa_leaf.specs.Reading.{MayLackMemory}
 pub use Rattle.spa_fronts.specs.Fronts.{BeginBoth, BeginsObject, BeginsOther, IsObject}
-use Rattle.spa_negotiate.specs.Meeting.{Meet}
-use Rattle.spa_negotiate.specs.Refusals.{AreRefused}
-use Rattle.spa_negotiate.specs.declared.error.Side.{Side}
-use Rattle.spa_negotiate.specs.declared.error.Side.TheVariants.{First, Second}
-use Rattle.spa_negotiate.specs.declared.error.NegotiateError.{NegotiateError}
-use Rattle.spa_negotiate.specs.declared.error.NegotiateError.TheVariants.{Unread, NotObject, TooLarge, OutOfMemory}
+use Rattle.spa_negotiate_objects.specs.Meeting.{Meet}
+use Rattle.spa_negotiate_objects.specs.Refusals.{AreRefused}
+use Rattle.spa_negotiate_objects.specs.declared.error.Side.{Side}
+use Rattle.spa_negotiate_objects.specs.declared.error.Side.TheVariants.{First, Second}
+use Rattle.spa_negotiate_objects.specs.declared.error.NegotiateError.{NegotiateError}
+use Rattle.spa_negotiate_objects.specs.declared.error.NegotiateError.TheVariants.{Unread, NotObject, TooLarge, OutOfMemory}
 
 -- the two values meet in one whose encoding these bytes are, which are a pod of it
 pub record MeetIn (bytes : List ℕ) (ours theirs : Tree) : Type 0 where

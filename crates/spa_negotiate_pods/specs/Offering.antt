@@ -3,7 +3,7 @@ use Rattle.std.specs.Prelude.{◌≡◌, ℕ, ◌<◌, ◌≤◌, List, ◌∷�
 use Rattle.spa_format.specs.Kind.{Kind, type_number, body_size, content, Fixed}
 use Rattle.spa_format.specs.Tree.{Tree, fixed}
 use Rattle.spa_format.specs.Pod.{AreElements}
-use Rattle.spa_negotiate.specs.Admits.{IsAtMost, Admits, IsCommon, plain_of}
+use Rattle.spa_negotiate_objects.specs.Admits.{IsAtMost, Admits, IsCommon, plain_of}
 use Rattle.spa_negotiate_pods.specs.declared.offer_view.OfferView.{OfferView}
 use Rattle.spa_negotiate_pods.specs.declared.offer_view.Rule.{Rule}
 use Rattle.spa_negotiate_pods.specs.declared.offer_view.Rule.TheVariants.{Only, Among, Between, Unsupported}

@@ -6,8 +6,8 @@ use Rattle.spa_format.specs.Words.{word_bytes}
 use Rattle.spa_format.specs.Writable.{IsWritable}
 use Rattle.spa_format.specs.Tree.{Tree, Properties}
 use Rattle.spa_fronts.specs.Written.{AreBehind, IsWritten}
-use Rattle.spa_negotiate.specs.Admits.{IsCommon, IsPlain}
-use Rattle.spa_negotiate.specs.Meeting.{Settles, SettlesKeys}
+use Rattle.spa_negotiate_objects.specs.Admits.{IsCommon, IsPlain}
+use Rattle.spa_negotiate_objects.specs.Meeting.{Settles, SettlesKeys}
 
 -- a property with this key, no flags and this plain value was appended, as it is written
 pub record IsPut (key : ℕ) (value : Tree) (old new : List ℕ) : Type 0 where

@@ -1,10 +1,11 @@
 //! Negotiation from bytes to bytes: the objects of two pods meet, and the answer is written.
 #![tactic(auto)]
 
+pub mod laws;
 mod offer_view;
 mod pods;
 mod settling;
 mod views;
 
 pub use pods::negotiate_pods;
-pub use spa_negotiate::{NegotiateError, Side};
+pub use spa_negotiate_objects::{NegotiateError, Side};

@@ -4,7 +4,7 @@ ghost use Rattle.spa_format.specs.Kind.{Fixed, Kind, body_size, type_number};
 ghost use Rattle.spa_format.specs.Pod.{AreElements, IsBody, IsPod};
 ghost use Rattle.spa_format.specs.Tree.{Tree, choice_type, fixed, type_of};
 ghost use Rattle.std.specs.List.{Contains};
-ghost use Rattle.spa_negotiate.specs.Admits.{Admits, IsAtMostFixed};
+ghost use Rattle.spa_negotiate_objects.specs.Admits.{Admits, IsAtMostFixed};
 ghost use Rattle.spa_negotiate_pods.specs.Offering.{AreAdmitting, HasValues, IsElementType, IsOffer, IsShared, value_of};
 ghost use Rattle.spa_negotiate_pods.specs.declared.offer_view.Rule.TheVariants.{Among, Between, Only};
 

@@ -3,14 +3,13 @@ ghost use Rattle.std.specs.Prelude.{IfErr, IfOk, IsTrue, OnOk};
 ghost use Rattle.spa_format.specs.Fixation.{all_settled};
 ghost use Rattle.spa_format.specs.Walk.{properties_of, property_walk};
 ghost use Rattle.spa_fronts.specs.Fronts.{BeginBoth, BeginsObjectIn, bytes_of};
-ghost use Rattle.spa_negotiate.specs.Meeting.{CanMeet};
+ghost use Rattle.spa_negotiate_objects.specs.Meeting.{CanMeet};
 ghost use Rattle.spa_negotiate_pods.specs.Fronts.{AreFrontsRefused, IsFrontRefused, MeetIn, OnNoMeeting};
 
+use crate::laws::{meetings_need_no_fixation, refused_fronts_cannot_meet};
 use crate::views::meet_objects;
-use spa_format::laws::pods_have_one_value;
-use spa_format::view_laws::{settled_properties_are_settled, walks_find_members};
 use spa_fronts::{NoObject, ObjectPod, object_in, object_pod};
-use spa_negotiate::{NegotiateError, Side};
+use spa_negotiate_objects::{NegotiateError, Side};
 use std::alloc::Global;
 
 /// The encoding of the object in which the objects at the fronts of two inputs meet, by the rules of `negotiate`. What follows
@@ -32,9 +31,8 @@ pub fn negotiate_pods(alloc: Global, a: &[u8], b: &[u8]) -> Result<Vec<u8>, Nego
     // and a refusal is one that stands.
     ensures cause { IfErr result (AreFrontsRefused a.now b.now) }
 {
-    pods_have_one_value();
-    walks_find_members();
-    settled_properties_are_settled();
+    refused_fronts_cannot_meet();
+    meetings_need_no_fixation();
     let first = object_at(alloc, a, Side::First)?;
     let second = object_at(alloc, b, Side::Second)?;
     let Some(ours) = object_in(first.bytes()) else {

@@ -5,16 +5,16 @@ ghost use Rattle.spa_format.specs.Words.{size_limit};
 ghost use Rattle.spa_fronts.specs.Fronts.{BeginBoth, BeginsView};
 ghost use Rattle.spa_fronts.specs.KeyOrder.{IsKeyed};
 ghost use Rattle.spa_fronts.specs.Written.{AreWritten, IsWritten, open_header};
-ghost use Rattle.spa_negotiate.specs.Keys.{value_at};
-ghost use Rattle.spa_negotiate.specs.Meeting.{CanMeet};
-ghost use Rattle.spa_negotiate.specs.Refusals.{IsKeyRefusal, IsRefusal};
-ghost use Rattle.spa_negotiate.specs.declared.error.NegotiateError.TheVariants.{OutOfMemory};
+ghost use Rattle.spa_negotiate_objects.specs.Keys.{value_at};
+ghost use Rattle.spa_negotiate_objects.specs.Meeting.{CanMeet};
+ghost use Rattle.spa_negotiate_objects.specs.Refusals.{IsKeyRefusal, IsRefusal};
+ghost use Rattle.spa_negotiate_objects.specs.declared.error.NegotiateError.TheVariants.{OutOfMemory};
 ghost use Rattle.spa_negotiate_pods.specs.Fronts.{AreViewsRefused, MeetIn};
 ghost use Rattle.spa_negotiate_pods.specs.Written.{IsMetBehind, IsSettledBy};
 
 use crate::settling::{put_common, put_default};
 use spa_fronts::{Keyed, ObjectView, PropertyView, finish, first_property, put_header, raised};
-use spa_negotiate::NegotiateError;
+use spa_negotiate_objects::NegotiateError;
 use std::alloc::Global;
 
 /// Where the properties of an object begin in its pod: behind its header, its type and its id.

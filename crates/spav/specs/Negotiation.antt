@@ -2,8 +2,8 @@
 use Rattle.std.specs.Prelude.{◌≡◌, ◌⊎◌, ℕ, List}
 use Rattle.spa_format.specs.Front.{IsRefused}
 use Rattle.spa_negotiate_pods.specs.Fronts.{BeginsObject, BeginsOther}
-use Rattle.spa_negotiate.specs.declared.error.Side.{Side}
-use Rattle.spa_negotiate.specs.declared.error.Side.TheVariants.{First, Second}
+use Rattle.spa_negotiate_objects.specs.declared.error.Side.{Side}
+use Rattle.spa_negotiate_objects.specs.declared.error.Side.TheVariants.{First, Second}
 
 -- the number of an input
 abbrev pub number_of : Side → ℕ

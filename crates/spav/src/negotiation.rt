@@ -1,9 +1,9 @@
 //! Negotiation in the caller's memory.
 ghost use Rattle.std.specs.Prelude.{◌≡◌, ◌<◌, List, length, ℕ};
 ghost use Rattle.spa_negotiate_pods.specs.Fronts.{AreFrontsRefused, BeginBoth, MeetIn, MeetTooLarge};
-ghost use Rattle.spa_negotiate.specs.Meeting.{CanMeet};
-ghost use Rattle.spa_negotiate.specs.Refusals.{AreRefused};
-ghost use Rattle.spa_negotiate.specs.declared.error.NegotiateError.TheVariants.{Disjoint, OutOfMemory, TypeMismatch, Unsupported};
+ghost use Rattle.spa_negotiate_objects.specs.Meeting.{CanMeet};
+ghost use Rattle.spa_negotiate_objects.specs.Refusals.{AreRefused};
+ghost use Rattle.spa_negotiate_objects.specs.declared.error.NegotiateError.TheVariants.{Disjoint, OutOfMemory, TypeMismatch, Unsupported};
 ghost use Rattle.spav.specs.Answers.{IsApart, IsDisjoint, IsDone, IsInvalid, IsMet, IsNoMemory, IsNoRoom, IsOther, IsPast, IsUnsupported};
 ghost use Rattle.spav.specs.Lists.{IsWritten};
 ghost use Rattle.spav.specs.Negotiation.{HasNoObject, number_of};

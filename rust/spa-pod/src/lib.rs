@@ -61,8 +61,8 @@ pub mod pod {
 /// # }
 /// ```
 pub mod negotiation {
-    pub use crate::parts::spa_negotiate::{NegotiateError, Side, is_supported, negotiate};
-    pub use crate::parts::spa_negotiate_pods::negotiate_pods;
+    pub use crate::parts::spa_negotiate::{NegotiateError, Side, negotiate, negotiate_pods};
+    pub use crate::parts::spa_negotiate_objects::is_supported;
 }
 
 /// Filtering: the object that admits exactly what two objects both admit.

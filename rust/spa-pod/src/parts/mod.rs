@@ -16,6 +16,7 @@ pub mod spa_leaf;
 pub mod spa_multiples;
 pub mod spa_names;
 pub mod spa_negotiate;
+pub mod spa_negotiate_objects;
 pub mod spa_negotiate_pods;
 pub mod spa_offers;
 pub mod spa_orders;

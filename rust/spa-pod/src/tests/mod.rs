@@ -8,6 +8,7 @@ pub mod negotiation_tests;
 pub mod podtool_rows;
 pub mod podtool_tests;
 pub mod spa_builder_tests;
+pub mod spa_callers;
 pub mod spa_fixed_tests;
 pub mod spa_parser_tests;
 pub mod spa_pod_commands;

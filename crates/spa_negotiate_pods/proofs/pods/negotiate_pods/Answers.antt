@@ -2,13 +2,13 @@ use Rattle.std.proofs.Common.{sym, subst}
 use Rattle.spa_fronts.specs.Fronts.{BeginsObjectIn}
 use Rattle.spa_fronts.proofs.ObjectPods.{begins_object}
 use Rattle.spa_fronts.proofs.Passing.{if_err, if_ok, on_ok, passed_on}
-use Rattle.spa_negotiate_pods.proofs.Fronts.{first_refused, no_meeting, second_refused, settled-both, views_refused}
+use Rattle.spa_negotiate_pods.proofs.Fronts.{first_refused, second_refused, views_refused}
 use Rattle.spa_negotiate_pods.proofs.pods.negotiate_pods.Goals as goal
 
 pub returns-in_err-first-clause-refused : goal.returns-in_err-first-clause-refused
 returns-in_err-first-clause-refused c =
     passed_on _ _ _ c.from_residual.ensures.1
-    (no_meeting c.pods_have_one_value.ensures c.args.a.now c.args.b.now _ (first_refused c.args.a.now c.args.b.now _ c.in_err-first.ensures.cause))
+    (c.refused_fronts_cannot_meet.ensures c.args.a.now c.args.b.now _ (first_refused c.args.a.now c.args.b.now _ c.in_err-first.ensures.cause))
 
 pub returns-in_err-first-clause-cause : goal.returns-in_err-first-clause-cause
 returns-in_err-first-clause-cause c =
@@ -17,7 +17,7 @@ returns-in_err-first-clause-cause c =
 pub returns-in_err-second-clause-refused : goal.returns-in_err-second-clause-refused
 returns-in_err-second-clause-refused c =
     passed_on _ _ _ c.from_residual-in_err-second.ensures.1
-    (no_meeting c.pods_have_one_value.ensures c.args.a.now c.args.b.now _
+    (c.refused_fronts_cannot_meet.ensures c.args.a.now c.args.b.now _
     (second_refused c.args.a.now c.args.b.now (begins_object _ _ c.in_ok-first.ensures.object) _ c.in_err-second.ensures.cause))
 
 pub returns-in_err-second-clause-cause : goal.returns-in_err-second-clause-cause
@@ -36,7 +36,7 @@ returns-clause-refused c =
     let first = c.in-Some.ensures.object c.args.a.now (subst (BeginsObjectIn c.args.a.now) (sym c.bytes.ensures) c.in_ok-first.ensures.object) in
     let second = c.in-Some-object_in.ensures.object c.args.b.now (subst (BeginsObjectIn c.args.b.now) (sym c.bytes-2.ensures) c.in_ok-second.ensures.object) in
     if_err c.meet_objects.result
-    (λ e f. no_meeting c.pods_have_one_value.ensures c.args.a.now c.args.b.now e (views_refused c.args.a.now c.args.b.now e (f _ _ first second)))
+    (λ e f. c.refused_fronts_cannot_meet.ensures c.args.a.now c.args.b.now e (views_refused c.args.a.now c.args.b.now e (f _ _ first second)))
     c.meet_objects.ensures.cause
 
 pub returns-clause-value : goal.returns-clause-value
@@ -50,8 +50,7 @@ returns-clause-fixated c =
     let first = c.in-Some.ensures.object c.args.a.now (subst (BeginsObjectIn c.args.a.now) (sym c.bytes.ensures) c.in_ok-first.ensures.object) in
     let second = c.in-Some-object_in.ensures.object c.args.b.now (subst (BeginsObjectIn c.args.b.now) (sym c.bytes-2.ensures) c.in_ok-second.ensures.object) in
     if_ok c.meet_objects.result
-    (λ bytes f.
-    settled-both c.args.a.now c.args.b.now bytes.items c.walks_find_members.ensures.of_object c.settled_properties_are_settled.ensures (f _ _ first second))
+    (λ bytes f. c.meetings_need_no_fixation.ensures c.args.a.now c.args.b.now bytes.items (f _ _ first second))
     c.meet_objects.ensures.value
 
 pub returns-clause-cause : goal.returns-clause-cause

@@ -1,5 +1,5 @@
 use Rattle.std.proofs.Common.{refl, sym, subst}
-use Rattle.spa_negotiate.specs.declared.error.NegotiateError.TheVariants.{OutOfMemory}
+use Rattle.spa_negotiate_objects.specs.declared.error.NegotiateError.TheVariants.{OutOfMemory}
 use Rattle.spa_fronts.specs.Written.{BeginsWritten}
 use Rattle.spa_fronts.proofs.Both.{begin_both}
 use Rattle.spa_negotiate_pods.proofs.Meetings.{are_large, are_met, lack_memory, refused_views}

@@ -1,9 +1,10 @@
 //! Negotiation from bytes to bytes: the objects of two pods meet, and the answer is written.
 use crate::shims::prelude::*;
+pub mod laws;
 mod offer_view;
 mod pods;
 mod settling;
 mod views;
 
 pub use pods::negotiate_pods;
-pub use crate::parts::spa_negotiate::{NegotiateError, Side};
+pub use crate::parts::spa_negotiate_objects::{NegotiateError, Side};

@@ -1,11 +1,10 @@
 //! The objects of two pods meet.
 
 use crate::shims::prelude::*;
+use crate::parts::spa_negotiate_pods::laws::{meetings_need_no_fixation, refused_fronts_cannot_meet};
 use crate::parts::spa_negotiate_pods::views::meet_objects;
-use crate::parts::spa_format::laws::pods_have_one_value;
-use crate::parts::spa_format::view_laws::{settled_properties_are_settled, walks_find_members};
 use crate::parts::spa_fronts::{NoObject, ObjectPod, object_in, object_pod};
-use crate::parts::spa_negotiate::{NegotiateError, Side};
+use crate::parts::spa_negotiate_objects::{NegotiateError, Side};
 
 /// The encoding of the object in which the objects at the fronts of two inputs meet, by the rules of `negotiate`. What follows
 /// the two fronts doesn't count.
@@ -15,9 +14,8 @@ use crate::parts::spa_negotiate::{NegotiateError, Side};
 ///
 /// The refusals: `Unread` and `NotObject`, of the first side before the second; then those of `negotiate`; then `TooLarge`.
 pub fn negotiate_pods(a: &[u8], b: &[u8]) -> Result<Vec<u8>, NegotiateError> {
-    pods_have_one_value();
-    walks_find_members();
-    settled_properties_are_settled();
+    refused_fronts_cannot_meet();
+    meetings_need_no_fixation();
     let first = object_at(a, Side::First)?;
     let second = object_at(b, Side::Second)?;
     let Some(ours) = object_in(first.bytes()) else {

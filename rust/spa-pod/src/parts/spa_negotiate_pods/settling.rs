@@ -5,7 +5,7 @@ use crate::parts::spa_negotiate_pods::offer_view::{first_common, offer_view};
 use crate::parts::spa_bytes::{joined, open, two_words, u32_at, u64_at, wide_body, word_body};
 use crate::parts::spa_format::laws::pods_have_one_value;
 use crate::parts::spa_fronts::{are_same, is_plain, put_key, put_pod};
-use crate::parts::spa_negotiate::{NegotiateError, common, is_supported};
+use crate::parts::spa_negotiate_objects::{NegotiateError, common, is_supported};
 use crate::parts::spa_read::read_leaf;
 use crate::parts::spa_utils::SpaTypes;
 use crate::parts::spa_value::{Held, Value};

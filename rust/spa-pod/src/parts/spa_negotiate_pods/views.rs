@@ -3,7 +3,7 @@
 use crate::shims::prelude::*;
 use crate::parts::spa_negotiate_pods::settling::{put_common, put_default};
 use crate::parts::spa_fronts::{Keyed, ObjectView, PropertyView, finish, first_property, put_header, raised};
-use crate::parts::spa_negotiate::NegotiateError;
+use crate::parts::spa_negotiate_objects::NegotiateError;
 
 /// Where the properties of an object begin in its pod: behind its header, its type and its id.
 const PROPERTIES_AT: usize = 16;

@@ -1,14 +1,9 @@
 //! Rows of negotiation. Each line of standard input is a label and the words of two inputs, `label: pod | pod`; two lines of standard
-//! output have what they meet in, in that order and in the other: as pods, and as the values of these pods.
+//! output have what they meet in, in that order and in the other: by `negotiate_pods`, and by way of values.
 use crate::shims::prelude::*;
-use crate::parts::spa_fixed::Refusal;
-use crate::parts::spa_negotiate::negotiate;
-use crate::parts::spa_negotiate_pods::{NegotiateError, Side, negotiate_pods};
-use crate::parts::spa_read::read_value;
-use crate::parts::spa_sink::GenError;
+use crate::tests::spa_callers::negotiate_by_values;
+use crate::parts::spa_negotiate::{NegotiateError, negotiate_pods};
 use crate::tests::spa_spelling::{SpellingError, bytes_spelled};
-use crate::parts::spa_value::{Object, Value};
-use crate::parts::spa_write::write_value;
 use crate::shims::memory::AllocError;
 use std::io;
 
@@ -65,11 +60,11 @@ fn by_pods(ours: &str, theirs: &str) -> Result<Vec<u8>, NegotiateError> {
     negotiate_pods(a.as_slice(), b.as_slice())
 }
 
-/// The encoding of what the objects of two inputs meet in.
+/// What two inputs meet in, by way of values.
 fn by_values(ours: &str, theirs: &str) -> Result<Vec<u8>, NegotiateError> {
-    let a = object_spelled(ours, Side::First)?;
-    let b = object_spelled(theirs, Side::Second)?;
-    encoding(negotiate(&a, &b)?)
+    let a = spelled(ours)?;
+    let b = spelled(theirs)?;
+    negotiate_by_values(a.as_slice(), b.as_slice())
 }
 
 /// The bytes of the words. Where there is a slip in them, they are `TooLarge`, which no row expects.
@@ -78,46 +73,5 @@ fn spelled(words: &str) -> Result<Vec<u8>, NegotiateError> {
         Ok(bytes) => Ok(bytes),
         Err(SpellingError::OutOfMemory) => Err(NegotiateError::OutOfMemory),
         Err(SpellingError::Misspelt) => Err(NegotiateError::TooLarge),
-    }
-}
-
-/// The object whose pod these words are.
-fn object_spelled(words: &str, side: Side) -> Result<Object, NegotiateError> {
-    let bytes = spelled(words)?;
-    object_of(value_in(bytes.as_slice(), side)?, side)
-}
-
-/// The value at the front of a pod.
-fn value_in(pod: &[u8], side: Side) -> Result<Value, NegotiateError> {
-    let mut opened = 0;
-    match read_value(pod, &mut opened) {
-        Ok((_rest, value)) => Ok(value),
-        Err(refused) => Err(refusal_of(refused.why, side)),
-    }
-}
-
-/// The refusal of a side whose front isn't read for this reason.
-fn refusal_of(why: Refusal, side: Side) -> NegotiateError {
-    match why {
-        Refusal::OutOfMemory => NegotiateError::OutOfMemory,
-        _ => NegotiateError::Unread(side),
-    }
-}
-
-/// The object that a value is.
-fn object_of(value: Value, side: Side) -> Result<Object, NegotiateError> {
-    match value {
-        Value::Object(object) => Ok(object),
-        _ => Err(NegotiateError::NotObject(side)),
-    }
-}
-
-/// The encoding of an object.
-fn encoding(object: Object) -> Result<Vec<u8>, NegotiateError> {
-    let mut bytes = Vec::new();
-    match write_value(&mut bytes, &Value::Object(object)) {
-        Ok(_len) => Ok(bytes),
-        Err(GenError::OutOfMemory) => Err(NegotiateError::OutOfMemory),
-        Err(_) => Err(NegotiateError::TooLarge),
     }
 }

@@ -1,0 +1,187 @@
+//! Two objects meet.
+ghost use Rattle.std.specs.Prelude.{◌≡◌, IfErr, IfOk, List, OnOk, Some};
+ghost use Rattle.spa_format.specs.Tree.{join_properties};
+ghost use Rattle.spa_value.specs.declared.object.Property.{Property};
+ghost use Rattle.spa_value.specs.View.{object_view, view};
+ghost use Rattle.spa_value.specs.Views.{property_views};
+ghost use Rattle.spa_negotiate_objects.specs.Admits.{IsCommon, IsPlain};
+ghost use Rattle.spa_negotiate_objects.specs.Meeting.{CanMeet, Meet, Settles};
+ghost use Rattle.spa_negotiate_objects.specs.Offers.{BothAdmit, IsIndexed, IsOfferRefusal};
+ghost use Rattle.spa_negotiate_objects.specs.PropertyLists.{HasPlaces, IsPushed, IsSettled, SettlesListed, found_at};
+ghost use Rattle.spa_negotiate_objects.specs.Refusals.{AreRefused, IsKeyRefusal, IsRefusal, OnDisagreement};
+
+use crate::admission::first_common;
+use crate::error::NegotiateError;
+use crate::keyed::{Keyed, add_key};
+use crate::offer::{Offer, offer_of, settled};
+use spa_value::laws::{objects_are_their_fields, property_lists_are_in_order};
+use spa_value::{Object, Property, Value, discard};
+use std::alloc::{AllocError, Global};
+use std::collections::BTreeSet;
+
+/// The object in which two objects meet.
+///
+/// It has their type, the id of `a`, and each key of either once, with empty flags and a plain value: first the keys of
+/// `a` in the order of their first places, then those that `b` alone has, in the same way. On each side the first
+/// property with a key counts, and flags of properties don't.
+///
+/// A key of one side keeps its plain value, or gets the default of its choice, of whatever shape. A key of both gets
+/// the first of these that both values admit: a's default, b's default, a's alternatives, b's alternatives, a's minimum,
+/// b's minimum. A plain value is its own default.
+///
+/// The refusals: `TypeMismatch`, before any other; then, at the first of a's keys under which the two don't agree,
+/// `Unsupported`, before `Disjoint`. `OutOfMemory` is answered only for two objects of one type.
+///
+/// Keys and alternatives are looked for in trees, so the time grows with n log n for n properties and alternatives, other
+/// values aside.
+pub fn negotiate(alloc: Global, a: &Object, b: &Object) -> Result<Object, NegotiateError>
+    // Unless memory runs out, this succeeds exactly where the two can meet,
+    ensures accepted { OnOk result (CanMeet (object_view a.now) (object_view b.now)) }
+    ensures refused { IfErr result (OnDisagreement (¬ (CanMeet (object_view a.now) (object_view b.now)))) }
+    // in an object that settles each key of either,
+    ensures value { IfOk result (λ met. Meet (object_view a.now) (object_view b.now) (object_view met)) }
+    // and a refusal is one that stands.
+    ensures cause { IfErr result (AreRefused (object_view a.now) (object_view b.now)) }
+{
+    objects_are_their_fields();
+    if a.type_ != b.type_ {
+        return Err(NegotiateError::TypeMismatch);
+    }
+    let ours = a.properties.as_slice();
+    let theirs = b.properties.as_slice();
+    let others = Keyed::new(alloc, theirs)?;
+    let first = settle_first(alloc, ours, &others)?;
+    let properties = settle_rest(first, theirs)?;
+    Ok(Object {
+        type_: a.type_,
+        id: a.id,
+        properties,
+    })
+}
+
+/// Settled properties. Their values may be nested deep, so they are taken apart by a loop.
+struct Met {
+    properties: Vec<Property>,
+}
+
+impl Met {
+    /// The properties themselves.
+    fn into_properties(self) -> Vec<Property>
+        ensures { result ≡ self.properties }
+    {
+        let Met { properties } = self;
+        properties
+    }
+}
+
+impl Drop for Met {
+    fn drop(self) {
+        let Met { properties } = self;
+        discard(Value::Object(Object {
+            type_: 0,
+            id: 0,
+            properties,
+        }));
+    }
+}
+
+/// Settled properties, and the keys that were settled.
+#[derive(Drop)]
+struct Settled {
+    met: Met,
+    keys: BTreeSet<u32>,
+}
+
+/// The settled properties of the first side.
+fn settle_first(alloc: Global, a: &[Property], b: &Keyed<'_>) -> Result<Settled, NegotiateError>
+    requires { HasPlaces b.now.places b.now.properties.now }
+    ensures settled { IfOk result (IsSettled a.now b.now.properties.now (property_views a.now)) }
+    ensures cause { IfErr result (IsRefusal (property_views a.now) (property_views b.now.properties.now)) }
+{
+    property_lists_are_in_order();
+    let mut met = Met {
+        properties: Vec::new(alloc),
+    };
+    let mut keys = BTreeSet::new(alloc);
+    for property in a {
+        if add_key(&mut keys, property.key)? {
+            let value = settle(alloc, property, b)?;
+            push(&mut met, property.key, value)?;
+        }
+    }
+    Ok(Settled { met, keys })
+}
+
+/// The settled properties of the first side, and behind them those that the second side alone has.
+fn settle_rest(first: Settled, b: &[Property]) -> Result<Vec<Property>, AllocError>
+    ensures { IfOk result (λ met. (a : List Property) → IsSettled a b.now (property_views a) first → SettlesListed a b.now (join_properties (property_views a) (property_views b.now)) met.items) }
+{
+    property_lists_are_in_order();
+    let Settled { mut met, mut keys } = first;
+    for property in b {
+        if add_key(&mut keys, property.key)? {
+            let value = settled(&property.value)?;
+            push(&mut met, property.key, value)?;
+        }
+    }
+    Ok(met.into_properties())
+}
+
+/// A plain value that settles the key of a property of the first side, where the second side has these.
+fn settle(alloc: Global, property: &Property, others: &Keyed<'_>) -> Result<Value, NegotiateError>
+    requires { HasPlaces others.now.places others.now.properties.now }
+    ensures plain { IfOk result (λ x. IsPlain (view x)) }
+    ensures settles { IfOk result (λ x. Settles (Some (view property.now.value)) (found_at property.now.key others.now.properties.now) (view x)) }
+    ensures cause { IfErr result (IsKeyRefusal property.now.key (Some (view property.now.value)) (found_at property.now.key others.now.properties.now)) }
+{
+    match others.find(property.key) {
+        Some(other) => common(alloc, property.key, &property.value, other),
+        None => Ok(settled(&property.value)?),
+    }
+}
+
+/// A plain value that both admit: of a key that two objects have, the value of that in which they meet.
+///
+/// The refusals: `Unsupported` of this key, before `Disjoint` of it.
+pub fn common(alloc: Global, key: u32, a: &Value, b: &Value) -> Result<Value, NegotiateError>
+    ensures plain { IfOk result (λ x. IsPlain (view x)) }
+    ensures common { IfOk result (λ x. IsCommon (view a.now) (view b.now) (view x)) }
+    ensures cause { IfErr result (IsKeyRefusal key (Some (view a.now)) (Some (view b.now))) }
+{
+    let first = offer_of(alloc, a)?;
+    let second = offer_of(alloc, b)?;
+    common_of(alloc, key, &first, &second)
+}
+
+/// A value that both offers admit.
+fn common_of(
+    alloc: Global,
+    key: u32,
+    first: &Offer,
+    second: &Offer,
+) -> Result<Value, NegotiateError>
+    requires { IsIndexed first.now × IsIndexed second.now }
+    ensures common { IfOk result (λ x. BothAdmit first.now second.now (view x)) }
+    ensures cause { IfErr result (IsOfferRefusal key first.now second.now) }
+{
+    if !first.rule.is_supported() || !second.rule.is_supported() {
+        return Err(NegotiateError::Unsupported(key));
+    }
+    match first_common(alloc, first, second)? {
+        Some(value) => Ok(value.clone()?),
+        None => Err(NegotiateError::Disjoint(key)),
+    }
+}
+
+/// Appends a property with empty flags.
+fn push(met: &mut Met, key: u32, value: Value) -> Result<(), AllocError>
+    ensures { OnOk result (IsPushed met.old.properties.items key (view value) met.new.properties.items) }
+{
+    property_lists_are_in_order();
+    if let Err(error) = met.properties.reserve(1) {
+        discard(value);
+        return Err(error);
+    }
+    met.properties.push_reserved(Property::new(key, value));
+    Ok(())
+}

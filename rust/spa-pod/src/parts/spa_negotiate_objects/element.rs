@@ -1,0 +1,146 @@
+//! The nine types over which there are choices: their elements as values and as numbers.
+
+use crate::shims::prelude::*;
+use crate::parts::spa_negotiate_objects::numbers::Numbers;
+use crate::parts::spa_negotiate_objects::offer::Rule;
+use crate::parts::spa_fixed::CanonicalFixedSizedPod;
+use crate::parts::spa_utils::{Fd, Float32, Float64, Fraction, Id, Rectangle};
+use crate::parts::spa_value::Value;
+
+/// One of the nine types over which there are choices.
+pub(crate) trait Element: CanonicalFixedSizedPod {
+    /// The rule of a range over this type.
+    fn range_rule() -> Rule;
+
+    /// This element as a value.
+    fn value(&self) -> Value;
+
+    /// The numbers by which this element is told from all others.
+    fn numbers(&self) -> Numbers;
+}
+
+impl Element for bool {
+    fn range_rule() -> Rule {
+        Rule::Unsupported
+    }
+
+    fn value(&self) -> Value {
+        Value::Bool(*self)
+    }
+
+    fn numbers(&self) -> Numbers {
+        Numbers::unsigned(Self::TYPE, u64::from(*self), 0)
+    }
+}
+
+impl Element for Id {
+    fn range_rule() -> Rule {
+        Rule::Between
+    }
+
+    fn value(&self) -> Value {
+        Value::Id(*self)
+    }
+
+    fn numbers(&self) -> Numbers {
+        Numbers::unsigned(Self::TYPE, u64::from(self.0), 0)
+    }
+}
+
+impl Element for i32 {
+    fn range_rule() -> Rule {
+        Rule::Between
+    }
+
+    fn value(&self) -> Value {
+        Value::Int(*self)
+    }
+
+    fn numbers(&self) -> Numbers {
+        Numbers::signed(Self::TYPE, i64::from(*self))
+    }
+}
+
+impl Element for i64 {
+    fn range_rule() -> Rule {
+        Rule::Between
+    }
+
+    fn value(&self) -> Value {
+        Value::Long(*self)
+    }
+
+    fn numbers(&self) -> Numbers {
+        Numbers::signed(Self::TYPE, *self)
+    }
+}
+
+impl Element for Float32 {
+    fn range_rule() -> Rule {
+        Rule::Unsupported
+    }
+
+    fn value(&self) -> Value {
+        Value::Float(*self)
+    }
+
+    fn numbers(&self) -> Numbers {
+        Numbers::unsigned(Self::TYPE, u64::from(self.0), 0)
+    }
+}
+
+impl Element for Float64 {
+    fn range_rule() -> Rule {
+        Rule::Unsupported
+    }
+
+    fn value(&self) -> Value {
+        Value::Double(*self)
+    }
+
+    fn numbers(&self) -> Numbers {
+        Numbers::unsigned(Self::TYPE, self.0, 0)
+    }
+}
+
+impl Element for Rectangle {
+    fn range_rule() -> Rule {
+        Rule::Unsupported
+    }
+
+    fn value(&self) -> Value {
+        Value::Rectangle(*self)
+    }
+
+    fn numbers(&self) -> Numbers {
+        Numbers::unsigned(Self::TYPE, u64::from(self.width), u64::from(self.height))
+    }
+}
+
+impl Element for Fraction {
+    fn range_rule() -> Rule {
+        Rule::Unsupported
+    }
+
+    fn value(&self) -> Value {
+        Value::Fraction(*self)
+    }
+
+    fn numbers(&self) -> Numbers {
+        Numbers::unsigned(Self::TYPE, u64::from(self.num), u64::from(self.denom))
+    }
+}
+
+impl Element for Fd {
+    fn range_rule() -> Rule {
+        Rule::Unsupported
+    }
+
+    fn value(&self) -> Value {
+        Value::Fd(*self)
+    }
+
+    fn numbers(&self) -> Numbers {
+        Numbers::signed(Self::TYPE, self.0)
+    }
+}

@@ -79,9 +79,20 @@ fn answer_run(
     let mut said = [0; ROOM];
     let mut faults = Device::new(&mut said, ALL);
     tell(&mut faults, &answer)?;
-    let (status, said) = (answer.status(), OneLine(faults.taken()));
+    write!(answers, "{} ", answer.status())?;
+    add_text(answers, faults.taken())?;
+    write!(answers, " |")?;
     match words.first() {
-        Some(&"read") => writeln!(answers, "{status} {said} |{}", Words(device.taken())),
-        _ => writeln!(answers, "{status} {said} |{}", OneLine(device.taken())),
+        Some(&"read") => add_words(answers, device.taken())?,
+        _ => add_text(answers, device.taken())?,
     }
+    writeln!(answers)
+}
+
+fn add_text(answers: &mut Vec<u8>, text: &[u8]) -> io::Result<()> {
+    write!(answers, "{}", OneLine(text))
+}
+
+fn add_words(answers: &mut Vec<u8>, bytes: &[u8]) -> io::Result<()> {
+    write!(answers, "{}", Words(bytes))
 }

@@ -17,7 +17,24 @@ import sys
 ROOT = pathlib.Path(__file__).resolve().parent.parent
 
 # Where the tests of crates that were cut up are now: the beginning of a path, and the crates.
-MOVED = {}
+MOVED = {
+    "crates/spa_command_tests/src/pods": ("podtool_rows", "podtool_tests"),
+    "crates/spa_command_tests/src/meetings": ("meet_rows", "meet_tests"),
+    "crates/spa_command_tests/src/texts": ("podtext_rows", "podtext_tests"),
+    "crates/spa_command_tests/src/text": ("text_rows", "text_tests"),
+    "crates/spa_command_tests/src/names": ("text_rows",),
+    "crates/spa_command_tests": ("podtool_tests", "meet_tests", "podtext_tests"),
+    "crates/spa_filter_tests/src/pods": ("filter_pods_rows",),
+    "crates/spa_filter_tests/src/multiples": ("multiples_tests",),
+    "crates/spa_filter_tests": ("filter_rows",),
+    "crates/libspa_tests/src/negotiation": ("negotiate_rows", "negotiation_tests"),
+    "crates/libspa_tests/src/builder": ("spa_builder_tests",),
+    "crates/libspa_tests/src/parser": ("spa_parser_tests",),
+    "crates/spa_part_tests/src/values": ("spa_fixed_tests", "spa_value_tests"),
+    "crates/spa_part_tests/src/viewing": ("spa_view_tests",),
+    "crates/spa_part_tests": ("spa_read_tests", "spa_write_tests"),
+    "crates/spa_negotiate/": ("spa_negotiate_objects",),
+}
 
 
 def crates():

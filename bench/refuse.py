@@ -51,7 +51,7 @@ WANTS_MEMORY = re.compile(
 
 # How a program of rows ends by such an error, and what a row's run says behind its label.
 PROGRAM_WANTS_MEMORY = re.compile(rb"Error: .*(AllocError|OutOfMemory).*\n")
-RUN_WANTS_MEMORY = re.compile(rb"1 \w+: out of memory\xe2\x8f\x8e \|.*")
+RUN_WANTS_MEMORY = re.compile(rb"(.*: )?1 \w+: out of memory\xe2\x8f\x8e \|.*")
 
 
 def pairs():
@@ -176,9 +176,9 @@ def refuse_in_test(library, program, test, sample):
 
 
 def row_wants_memory(line, row):
-    """Whether a line has the label of this row, and says that its run is out of memory."""
-    label, said = (it.partition(b": ") for it in (row, line))
-    return label[0] == said[0] and RUN_WANTS_MEMORY.fullmatch(said[2])
+    """Whether a line has the label of this row, or the end of it, and says that its run is out of memory."""
+    said = RUN_WANTS_MEMORY.fullmatch(line)
+    return said and (said[1] or b"") in row
 
 
 def refuse_in_rows(library, crates, sample):

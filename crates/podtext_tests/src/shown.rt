@@ -8,23 +8,33 @@ use test_streams::{ALL, Device, PIECE, Source};
 /// What is wanted of a run: the end of what it writes, what it says, and its status.
 type Wanted<'a> = (&'a [u8], &'a [u8], u8);
 
-/// Whether `show` answers so over this input, with this room for what it writes.
-fn shows(rt: &HostRuntime, mut source: Source<'_>, room: &mut [u8], wanted: Wanted<'_>) -> bool {
+/// Whether `show` answers so over this input, with this room for what it writes, unless it says that memory is wanting.
+fn shows(
+    rt: &HostRuntime,
+    mut source: Source<'_>,
+    room: &mut [u8],
+    wanted: Wanted<'_>,
+) -> Result<bool, AllocError> {
     let device = Device::new(room, ALL);
     let (answer, device) = run(rt.alloc(), &["show"], &mut source, rt, device);
     let mut line = [0; 100];
     let mut faults = Device::new(&mut line, PIECE);
     let is_told = tell(&mut faults, &answer).is_ok();
+    if faults.taken() == b"podtext: out of memory\n".as_slice() {
+        return Err(AllocError);
+    }
     let (end, said, status) = wanted;
-    is_told && device.taken().ends_with(end) && faults.taken() == said && answer.status() == status
+    let is_said = is_told && faults.taken() == said && answer.status() == status;
+    Ok(is_said && device.taken().ends_with(end))
 }
 
 #[test]
-fn an_input_that_breaks_off_is_refused(rt: HostRuntime) {
+fn an_input_that_breaks_off_is_refused(rt: HostRuntime) -> Result<(), AllocError> {
     let source = Source::broken(&[0, 0, 0, 0, 1, 0, 0, 0], ErrorKind::Other, PIECE);
     // Without room, a write would fail.
-    let holds = shows(&rt, source, &mut [], (b"", b"podtext: read failed\n", 1));
+    let holds = shows(&rt, source, &mut [], (b"", b"podtext: read failed\n", 1))?;
     assert!(rt; holds);
+    Ok(())
 }
 
 /// Structs in one another.
@@ -49,7 +59,7 @@ fn is_deep_shown(rt: &HostRuntime) -> Result<bool, AllocError> {
     let mut room = vec![in rt.alloc(); 0; ROOM]?;
     let source = Source::whole(bytes.as_slice(), ALL);
     let wanted: Wanted<'_> = (b"(99999) Struct: size 0\n", b"", 0);
-    Ok(shows(rt, source, room.as_mut_slice(), wanted))
+    shows(rt, source, room.as_mut_slice(), wanted)
 }
 
 #[test]

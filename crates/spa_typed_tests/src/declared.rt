@@ -98,6 +98,9 @@ fn assert_again(
 ) -> Result<(), Fail> {
     match found {
         Ok((0, Ok(written))) => assert_words(rt, alloc, written.as_slice(), wanted),
+        Ok((0, Err(GenError::OutOfMemory))) | Err(DeserializeError::OutOfMemory) => {
+            Err(Fail::from(AllocError))
+        }
         Ok((_, written)) => {
             drop(written);
             Err(Fail::new("bytes follow, or it isn't written"))
@@ -126,13 +129,26 @@ fn properties_stand_in_any_order(rt: HostRuntime) -> Result<(), Fail> {
     assert_again(&rt, alloc, found, FORMAT)
 }
 
-/// Compares the refusal of these words.
-fn assert_refusal(rt: &impl Abort, found: Again<'_>, wanted: &str, at: usize) {
-    let Err(e) = found else {
-        assert!(rt; false, "read at {at}");
-        return;
-    };
-    assert_eq!(rt; e.kind(), wanted, "at {at}");
+fn assert_kind(rt: &impl Abort, found: &str, wanted: &str, at: usize) {
+    assert_eq!(rt; found, wanted, "at {at}");
+}
+
+/// Compares the refusal of these words, unless memory is wanting.
+fn assert_refusal(
+    rt: &impl Abort,
+    found: Again<'_>,
+    wanted: &str,
+    at: usize,
+) -> Result<(), AllocError> {
+    match found {
+        Err(DeserializeError::OutOfMemory) => return Err(AllocError),
+        Err(e) => assert_kind(rt, e.kind(), wanted, at),
+        Ok(again) => {
+            drop(again);
+            assert_kind(rt, "read", wanted, at);
+        }
+    }
+    Ok(())
 }
 
 #[test]
@@ -140,11 +156,11 @@ fn cut_pods_are_refused(rt: HostRuntime) -> Result<(), Fail> {
     let alloc = rt.alloc();
     let curve = bytes_spelled(alloc, CURVE)?;
     for len in 0..curve.len() {
-        assert_refusal(&rt, curve_again(alloc, &curve[..len]), "Short", len);
+        assert_refusal(&rt, curve_again(alloc, &curve[..len]), "Short", len)?;
     }
     let format = bytes_spelled(alloc, FORMAT)?;
     for len in 0..format.len() {
-        assert_refusal(&rt, format_again(alloc, &format[..len]), "Short", len);
+        assert_refusal(&rt, format_again(alloc, &format[..len]), "Short", len)?;
     }
     Ok(())
 }
@@ -168,7 +184,7 @@ const NO_FORMATS: &[(&str, &str)] = &[
 
 fn assert_no_curve(rt: &impl Abort, alloc: Global, row: (&str, &str)) -> Result<(), Fail> {
     let input = bytes_spelled(alloc, row.0)?;
-    assert_refusal(rt, curve_again(alloc, input.as_slice()), row.1, input.len());
+    assert_refusal(rt, curve_again(alloc, input.as_slice()), row.1, input.len())?;
     Ok(())
 }
 
@@ -179,7 +195,7 @@ fn assert_no_format(rt: &impl Abort, alloc: Global, row: (&str, &str)) -> Result
         format_again(alloc, input.as_slice()),
         row.1,
         input.len(),
-    );
+    )?;
     Ok(())
 }
 

@@ -41,6 +41,7 @@ fn answers<'de, P: PodDeserialize<'de>>(
 fn comes_back(alloc: Global, input: &[u8]) -> Result<bool, Fail> {
     match PodDeserializer::deserialize_from::<Numbered>(alloc, input) {
         Ok((_, StructOf((held, (number, ()))))) => is_written(alloc, &held, number, input),
+        Err(DeserializeError::OutOfMemory) => Err(Fail::from(AllocError)),
         Err(_) => Ok(false),
     }
 }

@@ -232,12 +232,13 @@ fn rewrites_answers() -> Result<(), Fail> {
     Ok(())
 }
 
+/// Whether two pods say the same. None of these is refused, so that there is an answer, unless memory is wanting.
 fn are_same(one: &str, other: &str) -> Result<bool, Fail> {
     let one = bytes_spelled(one)?;
     let other = bytes_spelled(other)?;
     match say_the_same(one.as_slice(), other.as_slice()) {
         Some(are_same) => Ok(are_same),
-        None => Err(Fail::from("a pod is refused")),
+        None => Err(Fail::from(AllocError)),
     }
 }
 

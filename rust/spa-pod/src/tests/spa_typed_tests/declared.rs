@@ -98,6 +98,9 @@ fn assert_again(
 ) -> Result<(), Fail> {
     match found {
         Ok((0, Ok(written))) => assert_words(written.as_slice(), wanted),
+        Ok((0, Err(GenError::OutOfMemory))) | Err(DeserializeError::OutOfMemory) => {
+            Err(Fail::from(AllocError))
+        }
         Ok((_, written)) => {
             drop(written);
             Err(Fail::new("bytes follow, or it isn't written"))
@@ -132,13 +135,25 @@ fn properties_stand_in_any_order_answers() -> Result<(), Fail> {
     assert_again(found, FORMAT)
 }
 
-/// Compares the refusal of these words.
-fn assert_refusal(found: Again<'_>, wanted: &str, at: usize) {
-    let Err(e) = found else {
-        assert!(false, "read at {at}");
-        return;
-    };
-    assert_eq!(e.kind(), wanted, "at {at}");
+fn assert_kind(found: &str, wanted: &str, at: usize) {
+    assert_eq!(found, wanted, "at {at}");
+}
+
+/// Compares the refusal of these words, unless memory is wanting.
+fn assert_refusal(
+    found: Again<'_>,
+    wanted: &str,
+    at: usize,
+) -> Result<(), AllocError> {
+    match found {
+        Err(DeserializeError::OutOfMemory) => return Err(AllocError),
+        Err(e) => assert_kind(e.kind(), wanted, at),
+        Ok(again) => {
+            drop(again);
+            assert_kind("read", wanted, at);
+        }
+    }
+    Ok(())
 }
 
 #[test]
@@ -149,11 +164,11 @@ fn cut_pods_are_refused() {
 fn cut_pods_are_refused_answers() -> Result<(), Fail> {
     let curve = bytes_spelled(CURVE)?;
     for len in 0..curve.len() {
-        assert_refusal(curve_again(&curve[..len]), "Short", len);
+        assert_refusal(curve_again(&curve[..len]), "Short", len)?;
     }
     let format = bytes_spelled(FORMAT)?;
     for len in 0..format.len() {
-        assert_refusal(format_again(&format[..len]), "Short", len);
+        assert_refusal(format_again(&format[..len]), "Short", len)?;
     }
     Ok(())
 }
@@ -177,7 +192,7 @@ const NO_FORMATS: &[(&str, &str)] = &[
 
 fn assert_no_curve(row: (&str, &str)) -> Result<(), Fail> {
     let input = bytes_spelled(row.0)?;
-    assert_refusal(curve_again(input.as_slice()), row.1, input.len());
+    assert_refusal(curve_again(input.as_slice()), row.1, input.len())?;
     Ok(())
 }
 
@@ -187,7 +202,7 @@ fn assert_no_format(row: (&str, &str)) -> Result<(), Fail> {
         format_again(input.as_slice()),
         row.1,
         input.len(),
-    );
+    )?;
     Ok(())
 }
 

@@ -40,6 +40,7 @@ fn answers<'de, P: PodDeserialize<'de>>(
 fn comes_back(input: &[u8]) -> Result<bool, Fail> {
     match PodDeserializer::deserialize_from::<Numbered>(input) {
         Ok((_, StructOf((held, (number, ()))))) => is_written(&held, number, input),
+        Err(DeserializeError::OutOfMemory) => Err(Fail::from(AllocError)),
         Err(_) => Ok(false),
     }
 }

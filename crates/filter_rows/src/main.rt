@@ -6,7 +6,7 @@ use spa_filter::{FilterError, Side, filter, settle};
 use spa_fixed::Refusal;
 use spa_read::read_value;
 use spa_sink::GenError;
-use spa_spelling::{SpellingError, bytes_spelled};
+use spa_spelling::{SpellingError, bytes_spelled, push_spelling};
 use spa_value::{Object, Value};
 use spa_write::write_value;
 use std::alloc::{AllocError, Global};
@@ -44,19 +44,10 @@ fn push_answer(
     answer: Result<Vec<u8>, FilterError>,
 ) -> Result<(), AllocError> {
     match answer {
-        Ok(bytes) => push_words(answers, bytes.as_slice()),
+        Ok(bytes) => push_spelling(answers, bytes.as_slice()),
         Err(FilterError::OutOfMemory) => Err(AllocError),
         Err(refusal) => write!(answers, " {refusal:?}"),
     }
-}
-
-/// Appends the words of a pod.
-fn push_words(answers: &mut String, pod: &[u8]) -> Result<(), AllocError> {
-    for word in pod.as_chunks::<4>().0 {
-        let number = u32::from_le_bytes(*word);
-        write!(answers, " {number}")?;
-    }
-    Ok(())
 }
 
 /// The encoding of what two objects are filtered to.

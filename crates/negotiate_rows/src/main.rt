@@ -4,7 +4,7 @@
 
 use spa_callers::negotiate_by_values;
 use spa_negotiate::{NegotiateError, negotiate_pods};
-use spa_spelling::{SpellingError, bytes_spelled};
+use spa_spelling::{SpellingError, bytes_spelled, push_spelling};
 use std::alloc::{AllocError, Global};
 use std::io;
 
@@ -39,19 +39,10 @@ fn push_answer(
     answer: Result<Vec<u8>, NegotiateError>,
 ) -> Result<(), AllocError> {
     match answer {
-        Ok(bytes) => push_words(answers, bytes.as_slice()),
+        Ok(bytes) => push_spelling(answers, bytes.as_slice()),
         Err(NegotiateError::OutOfMemory) => Err(AllocError),
         Err(refusal) => write!(answers, " {refusal:?}"),
     }
-}
-
-/// Appends the words of a pod.
-fn push_words(answers: &mut String, pod: &[u8]) -> Result<(), AllocError> {
-    for word in pod.as_chunks::<4>().0 {
-        let number = u32::from_le_bytes(*word);
-        write!(answers, " {number}")?;
-    }
-    Ok(())
 }
 
 /// What two inputs meet in.

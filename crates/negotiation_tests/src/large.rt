@@ -1,6 +1,6 @@
 //! Objects of many keys, of Enums of many alternatives, and of values that stand deep in one another.
 use crate::answers::assert_meet;
-use spa_spelling::bytes_of;
+use spa_spelling::{bytes_of, push_words};
 use std::alloc::{AllocError, Global};
 use std::process::Abort;
 use std::test::Fail;
@@ -10,13 +10,6 @@ const COUNT: u32 = 2000;
 
 /// Few levels, and more than a stack of 8 MB holds of a function that calls itself for each of them.
 const DEPTHS: &[u32] = &[300, 100_000];
-
-fn push_words(bytes: &mut Vec<u8>, words: &[u32]) -> Result<(), AllocError> {
-    for word in words {
-        bytes.extend_from_slice(&word.to_le_bytes())?;
-    }
-    Ok(())
-}
 
 /// An object of all keys, each an Int that is the key: upwards.
 fn rising(alloc: Global) -> Result<Vec<u8>, AllocError> {

@@ -1,4 +1,5 @@
 //! Inputs shown.
+use spa_spelling::nested_structs;
 use spa_text_commands::answer::tell;
 use spa_text_commands::run::run;
 use std::alloc::{AllocError, Global};
@@ -37,16 +38,6 @@ fn an_input_that_breaks_off_is_refused(rt: HostRuntime) -> Result<(), AllocError
     Ok(())
 }
 
-/// Structs in one another.
-fn nested(alloc: Global, count: u32) -> Result<Vec<u8>, AllocError> {
-    let mut bytes = Vec::new(alloc);
-    for outer in 0..count {
-        bytes.extend_from_slice(&(8 * (count - 1 - outer) as u64).to_le_bytes()[..4])?;
-        bytes.extend_from_slice(&[14, 0, 0, 0])?;
-    }
-    Ok(bytes)
-}
-
 /// How many levels the deepest pod has.
 const LEVELS: u32 = 100_000;
 
@@ -55,7 +46,7 @@ const ROOM: usize = LEVELS as usize * 120;
 
 /// Whether `show` shows so many levels.
 fn is_deep_shown(rt: &HostRuntime) -> Result<bool, AllocError> {
-    let bytes = nested(rt.alloc(), LEVELS)?;
+    let bytes = nested_structs(rt.alloc(), LEVELS - 1, &[0, 14])?;
     let mut room = vec![in rt.alloc(); 0; ROOM]?;
     let source = Source::whole(bytes.as_slice(), ALL);
     let wanted: Wanted<'_> = (b"(99999) Struct: size 0\n", b"", 0);

@@ -1,6 +1,7 @@
 //! Structs that stand deep in one another, built call by call.
 use crate::bytes::assert_holds;
 use spa_builder::Builder;
+use spa_spelling::nested_structs;
 use spa_utils::{Errno, Frame};
 use std::alloc::{AllocError, Global};
 
@@ -19,21 +20,9 @@ fn build(builder: &mut Builder, depth: u32) -> Result<(), Errno> {
     Ok(())
 }
 
-/// The bytes of so many structs, each holding the next one, and the last one a None.
-fn nested(alloc: Global, depth: u32) -> Result<Vec<u8>, AllocError> {
-    let mut bytes = Vec::new(alloc);
-    for level in 0..depth {
-        let size = depth.wrapping_sub(level).wrapping_mul(8);
-        bytes.extend_from_slice(&size.to_le_bytes())?;
-        bytes.extend_from_slice(&14u32.to_le_bytes())?;
-    }
-    bytes.extend_from_slice(&[0, 0, 0, 0, 1, 0, 0, 0])?;
-    Ok(bytes)
-}
-
 /// Whether so many structs are built as these bytes.
 fn is_built(alloc: Global, depth: u32) -> Result<bool, AllocError> {
-    let wanted = nested(alloc, depth)?;
+    let wanted = nested_structs(alloc, depth, &[0, 1])?;
     let mut builder = Builder::new(Vec::new(alloc));
     match build(&mut builder, depth) {
         Ok(()) => Ok(builder.as_bytes() == wanted.as_slice()),

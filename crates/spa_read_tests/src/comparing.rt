@@ -1,6 +1,7 @@
 //! Values that stand deep in one another, compared and let go.
 use crate::compare::assert_holds;
-use crate::counting::{nested, nested_objects, read};
+use crate::counting::read;
+use spa_spelling::{nested_objects, nested_structs};
 use spa_value::{Held, same};
 use std::alloc::{AllocError, Global};
 use std::process::Abort;
@@ -60,8 +61,8 @@ const INNERMOST: ([u32; 2], [u32; 2]) = ([0, 1], [0, 14]);
 
 #[test]
 fn depth_ends_no_comparison_of_structs(rt: HostRuntime) -> Result<(), Fail> {
-    let one = nested(rt.alloc(), DEPTH, &INNERMOST.0)?;
-    let other = nested(rt.alloc(), DEPTH, &INNERMOST.1)?;
+    let one = nested_structs(rt.alloc(), DEPTH, &INNERMOST.0)?;
+    let other = nested_structs(rt.alloc(), DEPTH, &INNERMOST.1)?;
     assert_compared(&rt, rt.alloc(), (one.as_slice(), other.as_slice()))
 }
 
@@ -81,7 +82,7 @@ fn depth_ends_no_comparison_of_what_others_follow(rt: HostRuntime) -> Result<(),
 
 /// Whether what a `Held` was made of is lent and handed back.
 fn is_handed_back(alloc: Global) -> Result<bool, Fail> {
-    let input = nested(alloc, 2, &INNERMOST.0)?;
+    let input = nested_structs(alloc, 2, &INNERMOST.0)?;
     let held = Held::from(read(alloc, input.as_slice())?);
     let twin = read(alloc, input.as_slice())?;
     let is_lent = *held == twin;

@@ -1,7 +1,7 @@
 //! How many pod headers a read opens, and pods that stand deep in one another.
 use crate::compare::assert_holds;
 use spa_fixed::DeserializeError;
-use spa_spelling::bytes_of;
+use spa_spelling::{bytes_of, nested_objects, nested_structs};
 use spa_typed_read::PodDeserializer;
 use spa_value::{Value, discard};
 use std::alloc::{AllocError, Global};
@@ -82,43 +82,6 @@ fn headers_are_counted(rt: HostRuntime) -> Result<(), Fail> {
     assert_counted(&rt, rt.alloc(), &[0; 7], ("Short", 0))
 }
 
-/// The bytes of structs, so many, each holding the next one, and the last one the pod of these words.
-pub(crate) fn nested(alloc: Global, depth: u32, inner: &[u32; 2]) -> Result<Vec<u8>, AllocError> {
-    let mut input = Vec::new(alloc);
-    for level in 0..depth {
-        let size = depth.saturating_sub(level).saturating_mul(8);
-        push_words(&mut input, &[size, 14])?;
-    }
-    push_words(&mut input, inner)?;
-    Ok(input)
-}
-
-/// The bytes of objects, so many, each with one property that holds the next one, and the last one the pod of these words.
-pub(crate) fn nested_objects(
-    alloc: Global,
-    depth: u32,
-    inner: &[u32; 2],
-) -> Result<Vec<u8>, AllocError> {
-    let mut input = Vec::new(alloc);
-    for level in 0..depth {
-        let size = depth.saturating_sub(level).saturating_mul(24);
-        input.extend_from_slice(&size.to_le_bytes())?;
-        push_words(&mut input, HEAD)?;
-    }
-    push_words(&mut input, inner)?;
-    Ok(input)
-}
-
-/// What stands in an object of one property between its size and the property's value.
-const HEAD: &[u32] = &[15, 5, 3, 1, 0];
-
-fn push_words(input: &mut Vec<u8>, words: &[u32]) -> Result<(), AllocError> {
-    for word in words {
-        input.extend_from_slice(&word.to_le_bytes())?;
-    }
-    Ok(())
-}
-
 /// Depths, of which the second is more than a stack holds that grows with each level.
 const DEPTHS: &[u32] = &[299, 20_000];
 
@@ -128,7 +91,7 @@ const INNERMOST: &[([u32; 2], &str)] = &[([0, 1], "accepted"), ([0, 21], "Invali
 fn assert_nested(rt: &impl Abort, alloc: Global, depth: u32) -> Result<(), Fail> {
     let count = u64::from(depth) + 1;
     for (inner, verdict) in INNERMOST {
-        let structs = nested(alloc, depth, inner)?;
+        let structs = nested_structs(alloc, depth, inner)?;
         assert_counted(rt, alloc, structs.as_slice(), (verdict, count))?;
         let objects = nested_objects(alloc, depth, inner)?;
         assert_counted(rt, alloc, objects.as_slice(), (verdict, count))?;
@@ -147,7 +110,7 @@ fn depth_ends_no_read(rt: HostRuntime) -> Result<(), Fail> {
 /// 300 structs, each but the innermost holding one: 2400 bytes, a header for each 8 of them.
 #[test]
 fn a_header_for_each_eight_bytes(rt: HostRuntime) -> Result<(), Fail> {
-    let input = nested(rt.alloc(), 299, &[0, 14])?;
+    let input = nested_structs(rt.alloc(), 299, &[0, 14])?;
     assert_len(&rt, input.len());
     assert_counted(&rt, rt.alloc(), input.as_slice(), ("accepted", 300))
 }
@@ -202,7 +165,7 @@ fn clone_nests(alloc: Global, input: &[u8], depth: u32) -> Result<bool, Fail> {
 
 /// Compares how deep clones nest with how deep their sources do.
 fn assert_clones(rt: &impl Abort, alloc: Global, depth: u32) -> Result<(), Fail> {
-    let structs = nested(alloc, depth, &[0, 1])?;
+    let structs = nested_structs(alloc, depth, &[0, 1])?;
     let is_struct = clone_nests(alloc, structs.as_slice(), depth)?;
     assert_holds(rt, is_struct, "structs");
     let objects = nested_objects(alloc, depth, &[0, 1])?;

@@ -198,16 +198,6 @@ fn worked_examples(rt: HostRuntime) -> Result<(), Fail> {
     Ok(())
 }
 
-/// Structs, each the one member of the one around it.
-fn nested(alloc: Global) -> Result<Vec<u8>, AllocError> {
-    let mut input = Vec::new(alloc);
-    for level in 0..DEPTH {
-        input.extend_from_slice(&((DEPTH - 1 - level) * 8).to_le_bytes())?;
-        input.extend_from_slice(&14u32.to_le_bytes())?;
-    }
-    Ok(input)
-}
-
 /// What their read answers.
 fn nested_said(alloc: Global) -> Result<String, AllocError> {
     let mut wanted = String::new(alloc);
@@ -224,7 +214,7 @@ fn nested_said(alloc: Global) -> Result<String, AllocError> {
 #[test]
 fn nested_structs(rt: HostRuntime) -> Result<(), Fail> {
     let alloc = rt.alloc();
-    let input = nested(alloc)?;
+    let input = spa_spelling::nested_structs(alloc, DEPTH - 1, &[0, 14])?;
     let wanted = nested_said(alloc)?;
     let found = any_said(alloc, input.as_slice())?;
     assert_said(&rt, found.as_str(), wanted.as_str(), "nested structs");

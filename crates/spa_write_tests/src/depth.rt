@@ -1,9 +1,10 @@
 //! Structs and objects that stand deep in one another, through each call that writes or copies them.
 use crate::compare::assert_holds;
-use crate::nested::{nested, nested_objects, read};
+use crate::nested::read;
 use arrayvec::ArrayVec;
 use spa_device::IoSink;
 use spa_sink::GenError;
+use spa_spelling::{nested_objects, nested_structs};
 use spa_typed_write::PodSerializer;
 use spa_value::{Held, Value, same};
 use spa_write::{write_sized, write_value};
@@ -70,7 +71,7 @@ fn assert_level(rt: &impl Abort, alloc: Global, input: &[u8]) -> Result<(), Fail
 #[test]
 fn depth_ends_no_write(rt: HostRuntime) -> Result<(), Fail> {
     for depth in DEPTHS {
-        let structs = nested(rt.alloc(), *depth, &INNERMOST)?;
+        let structs = nested_structs(rt.alloc(), *depth, &INNERMOST)?;
         assert_level(&rt, rt.alloc(), structs.as_slice())?;
         let objects = nested_objects(rt.alloc(), *depth, &INNERMOST)?;
         assert_level(&rt, rt.alloc(), objects.as_slice())?;
@@ -102,7 +103,7 @@ fn assert_fixed(
 #[test]
 fn as_many_levels_as_there_is_room_for(rt: HostRuntime) -> Result<(), Fail> {
     // 511 structs and a None, eight bytes each, fill the room.
-    let input = nested(rt.alloc(), 511, &INNERMOST)?;
+    let input = nested_structs(rt.alloc(), 511, &INNERMOST)?;
     assert_holds(&rt, input.len() == 4096, "the room");
     assert_fixed(&rt, rt.alloc(), input.as_slice(), Ok(4096))
 }
@@ -113,7 +114,7 @@ const TOO_DEEP: &[u32] = &[512, 100_000, 1_000_000];
 #[test]
 fn a_fixed_output_is_full_at_any_depth(rt: HostRuntime) -> Result<(), Fail> {
     for depth in TOO_DEEP {
-        let input = nested(rt.alloc(), *depth, &INNERMOST)?;
+        let input = nested_structs(rt.alloc(), *depth, &INNERMOST)?;
         assert_fixed(&rt, rt.alloc(), input.as_slice(), Err(GenError::Full))?;
     }
     let input = nested_objects(rt.alloc(), 100_000, &INNERMOST)?;

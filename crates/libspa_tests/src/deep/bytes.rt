@@ -1,6 +1,7 @@
 //! Bytes of structs that stand in one another, and values read from them.
 use libspa::pod::Held;
 use libspa::pod::deserialize::{DeserializeError, PodDeserializer};
+use spa_spelling::push_words;
 use std::alloc::{AllocError, Global};
 use std::process::Abort;
 use std::test::Fail;
@@ -35,13 +36,6 @@ pub(crate) fn between(
     push_words(&mut bytes, &inner)?;
     push_words(&mut bytes, behind)?;
     Ok(bytes)
-}
-
-pub(crate) fn push_words(bytes: &mut Vec<u8>, words: &[u32]) -> Result<(), AllocError> {
-    for word in words {
-        bytes.extend_from_slice(&word.to_le_bytes())?;
-    }
-    Ok(())
 }
 
 /// The value at the front.

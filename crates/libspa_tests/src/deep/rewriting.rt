@@ -1,6 +1,7 @@
 //! A choice that gets shorter, deep in structs or objects that end where it does, rewritten where it lies.
-use crate::deep::bytes::{DEPTHS, assert_holds, push_words};
+use crate::deep::bytes::{DEPTHS, assert_holds};
 use libspa::pod::rewrite_in_place;
+use spa_spelling::push_words;
 use std::alloc::{AllocError, Global};
 use std::test::Fail;
 

@@ -4,7 +4,7 @@ use crate::tables::{lines_of, lines_of_built};
 use spa_fixed::DeserializeError;
 use spa_rewrite::{is_canonical, rewrite};
 use spa_scan::nests_within;
-use spa_spelling::bytes_spelled;
+use spa_spelling::{bytes_spelled, nested_pods};
 use std::alloc::{AllocError, Global};
 use std::process::Abort;
 use std::test::Fail;
@@ -114,31 +114,9 @@ fn answers_as_the_rewriting_shows(rt: HostRuntime) -> Result<(), Fail> {
     Ok(())
 }
 
-/// Structs in one another, or objects, and in the innermost one a Bool of this number.
-fn nested(alloc: Global, levels: u32, type_: u32, truth: u32) -> Result<Vec<u8>, AllocError> {
-    let mut bytes = Vec::new(alloc);
-    let head: u32 = if type_ == 15 { 24 } else { 8 };
-    for level in 0..levels {
-        let size = (levels - level).wrapping_mul(head).wrapping_add(8);
-        push_words(&mut bytes, &[size, type_])?;
-        if type_ == 15 {
-            push_words(&mut bytes, &[262147, 3, 1, 0])?;
-        }
-    }
-    push_words(&mut bytes, &[4, 2, truth, 0])?;
-    Ok(bytes)
-}
-
-fn push_words(bytes: &mut Vec<u8>, words: &[u32]) -> Result<(), AllocError> {
-    for word in words {
-        bytes.extend_from_slice(&word.to_le_bytes())?;
-    }
-    Ok(())
-}
-
 /// The pods that stand so deep are found to be their own rewriting or not, and each level is counted.
-fn compare_deep(rt: &impl Abort, alloc: Global, type_: u32, truth: u32) -> Result<(), Fail> {
-    let input = nested(alloc, DEEP, type_, truth)?;
+fn compare_deep(rt: &impl Abort, alloc: Global, head: &[u32], truth: u32) -> Result<(), Fail> {
+    let input = nested_pods(alloc, DEEP, head, &[4, 2, truth, 0])?;
     let is_own = is_canonical(alloc, input.as_slice())?;
     assert_holds(rt, is_own == (truth < 2), "deep pods");
     compare_depth(rt, input.as_slice(), DEEP, "deep pods");
@@ -153,13 +131,18 @@ fn compare_depth(rt: &impl Abort, input: &[u8], levels: u32, at: &str) {
     }
 }
 
-/// What is nested, structs or objects, and the number of the Bool in the innermost.
-const DEEP_PODS: &[(u32, u32)] = &[(14, 0), (14, 1), (14, 7), (15, 0), (15, 1), (15, 7)];
+/// The words behind the size of a struct, and of an object with one property.
+const HEADS: &[&[u32]] = &[&[14], &[15, 262147, 3, 1, 0]];
+
+/// The number of the Bool in the innermost.
+const TRUTHS: &[u32] = &[0, 1, 7];
 
 #[test]
 fn looks_into_any_depth(rt: HostRuntime) -> Result<(), Fail> {
-    for (type_, truth) in DEEP_PODS {
-        compare_deep(&rt, rt.alloc(), *type_, *truth)?;
+    for head in HEADS {
+        for truth in TRUTHS {
+            compare_deep(&rt, rt.alloc(), head, *truth)?;
+        }
     }
     Ok(())
 }

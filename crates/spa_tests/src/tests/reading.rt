@@ -6,7 +6,7 @@ use crate::answers::{
 use crate::bytes::{assert_holds_at, assert_number, assert_number_at, assert_text};
 use crate::tables::c_bytes::C_BYTES;
 use crate::tables::{lines_of, lines_of_built, lines_of_read_rows};
-use spa_spelling::bytes_spelled;
+use spa_spelling::{bytes_spelled, nested_structs};
 use spa_typed_read::PodDeserializer;
 use spa_value::Value;
 use std::alloc::{AllocError, Global};
@@ -164,17 +164,6 @@ fn writes_back_the_bytes_of_c(rt: HostRuntime) -> Result<(), Fail> {
     Ok(())
 }
 
-/// Structs that nest, so many, with nothing in the innermost one.
-fn nested(alloc: Global) -> Result<Vec<u8>, AllocError> {
-    let mut input = Vec::new(alloc);
-    for level in 0..DEPTH {
-        let size = 8 * (DEPTH - 1 - level);
-        input.extend_from_slice(&size.to_le_bytes())?;
-        input.extend_from_slice(&14u32.to_le_bytes())?;
-    }
-    Ok(input)
-}
-
 /// What structs that nest say.
 fn nested_said(alloc: Global) -> Result<String, AllocError> {
     let mut said = "{\"t\":\"Struct\",\"v\":[".repeat(alloc, DEPTH as usize)?;
@@ -193,6 +182,6 @@ fn compare_nested(rt: &impl Abort, alloc: Global, input: &[u8]) -> Result<(), Fa
 
 #[test]
 fn reads_three_hundred_levels(rt: HostRuntime) -> Result<(), Fail> {
-    let input = nested(rt.alloc())?;
+    let input = nested_structs(rt.alloc(), DEPTH - 1, &[0, 14])?;
     compare_nested(&rt, rt.alloc(), input.as_slice())
 }

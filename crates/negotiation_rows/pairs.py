@@ -1,5 +1,6 @@
 #!/usr/bin/env python3
-"""pairs.py: makes the rows of pairs drawn at random anew, behind the rows of stdin and stdout that were made by hand.
+"""pairs.py: makes the rows of pairs drawn at random anew, behind the rows of stdin that were made otherwise, and their answers where they
+stand in stdout, before those of formats.
 
 What two values are filtered to is found here by the rules of docs/NEGOTIATION.md, "To filter", with what a value admits as a set
 of a small domain: a second implementation of them. Ints go from -5 to 10, both numbers of a rectangle or a fraction from 0 to 3.
@@ -124,7 +125,7 @@ def rows():
         it = seeds(seed)
         for number in range(1, count + 1):
             a, b = drawn(domain, it), drawn(domain, it)
-            label = f"random {kind} {number}"
+            label = f"filter random {kind} {number}"
             yield (
                 f"{label}: {pod_of(kind, a, 3)} | {pod_of(kind, b, 7)}",
                 f"{label}: {answer(kind, domain, a, b, 3)} | {answer(kind, domain, b, a, 7)}",
@@ -134,8 +135,9 @@ def rows():
 def main():
     for name, made in zip(("stdin", "stdout"), zip(*rows())):
         file = HERE / name
-        kept = [row for row in file.read_text().splitlines() if not row.startswith("random ")]
-        file.write_text("\n".join((*kept, *made)) + "\n")
+        kept = [row for row in file.read_text().splitlines() if not row.startswith("filter random ")]
+        behind = [row for row in kept if name == "stdout" and row.startswith("format ")]
+        file.write_text("\n".join((*kept[: len(kept) - len(behind)], *made, *behind)) + "\n")
 
 
 if __name__ == "__main__":

@@ -68,12 +68,12 @@ never_both v w b child e h r c =
     let h' : ConveysBody (choice i.0 i.1 i.2 i.3 i.4) b = subst (λ t. ConveysBody t b) i.5 h in
     ⊎_elim
     (λ m.
-        let t = same_child (type_number i.2) (type_of w) m.3.child child b m.3.there c in
-        let j = fixed_only w i.2 (sym t.0) in
-        let none : body_size (kind_of j.0) ≡ 0 = subst ReplacesNoneChoice j.2 r in
-        let same = ap body_size j.1 in
-        let sized = m.3.sized in
-        omega arith)
+    let t = same_child (type_number i.2) (type_of w) m.3.child child b m.3.there c in
+    let j = fixed_only w i.2 (sym t.0) in
+    let none : body_size (kind_of j.0) ≡ 0 = subst ReplacesNoneChoice j.2 r in
+    let same = ap body_size j.1 in
+    let sized = m.3.sized in
+    omega arith)
     (λ m. let p = c.shape in let q = m.1.shape in let l = m.0 in omega arith)
     (by_shape i.0 i.1 i.2 i.3 i.4 b h')
 

@@ -85,8 +85,8 @@ choice_exact : (s : Shape) (g : ℕ) (k : Kind) (x : Fixed) (xs : List Fixed) (b
 choice_exact s g k x xs b f h =
     ⊎_elim
     (λ m. let e0 = m.0 in let e1 = m.1 in let e2 = m.2 in
-        let e : choice none_choice 0 k x [] ≡ choice s g k x xs = cc in
-        subst (λ v. HasExact v b) e (none_choice_exact k x b f m.3))
+    let e : choice none_choice 0 k x [] ≡ choice s g k x xs = cc in
+    subst (λ v. HasExact v b) e (none_choice_exact k x b f m.3))
     (λ m. itself (choice s g k x xs) b f m.1)
     (by_shape s g k x xs b h)
 
@@ -116,8 +116,8 @@ exact_in v b f inner h =
     ⊎_elim
     (λ m. framed_exact v (body_of b) b n l fits h.whole (inner (body_of b) y m.1))
     (λ m. let c = length_of_child _ m.2 (body_of b) m.3 in
-        let c0 = c.1 in
-        framed_exact v m.2 b n (omega arith) fits h.whole (inner m.2 (bytes_of_child _ m.2 (body_of b) y m.3) m.4))
+    let c0 = c.1 in
+    framed_exact v m.2 b n (omega arith) fits h.whole (inner m.2 (bytes_of_child _ m.2 (body_of b) y m.3) m.4))
     h.content
 
 -- two words, and what is behind them

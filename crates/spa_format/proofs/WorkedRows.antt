@@ -186,10 +186,16 @@ none_choice_over_array_conveys : Conveys (words (48 ∷ 19 ∷ 0 ∷ 0 ∷ 16 �
 unfolding words ids word_at word_bytes
 none_choice_over_array_conveys = record {
   whole = refl;
-  content = inr (refl, tt, words (4 ∷ 3 ∷ 3 ∷ 4 ∷ []), record { headers = lit≤ tt; shape = refl; its_type = refl; whole = lit≤ tt; body = refl }, record {
-    header = lit≤ tt;
-    child_size = refl;
-    child_type = refl;
-    elements = (lit≤ tt, record { whole = refl; says = refl }, (lit≤ tt, record { whole = refl; says = refl }, refl));
-  });
+  content = inr (
+    refl,
+    tt,
+    words (4 ∷ 3 ∷ 3 ∷ 4 ∷ []),
+    record { headers = lit≤ tt; shape = refl; its_type = refl; whole = lit≤ tt; body = refl },
+    record {
+      header = lit≤ tt;
+      child_size = refl;
+      child_type = refl;
+      elements = (lit≤ tt, record { whole = refl; says = refl }, (lit≤ tt, record { whole = refl; says = refl }, refl));
+    },
+  );
 }

@@ -20,3 +20,5 @@ pub mod FixatedValues
 pub mod FixatedObjects
 pub mod FixatedPlaces
 pub mod Encodings
+pub mod Conveyed
+pub mod Exacted

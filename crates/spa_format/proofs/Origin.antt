@@ -45,13 +45,13 @@ mutual
       let e1 = normal_props ps h.4 h.7 in
       cc
 
-IsBytes-body_of : (b : List ℕ) → IsBytes b → IsBytes (body_of b)
+pub IsBytes-body_of : (b : List ℕ) → IsBytes b → IsBytes (body_of b)
 IsBytes-body_of b h = IsBytes-take (word_at b 0) (drop 8 b) (IsBytes-drop 8 b h)
 
-IsBytes-first : (b first others : List ℕ) → b ≡ first ++ others → IsBytes b → IsBytes first
+pub IsBytes-first : (b first others : List ℕ) → b ≡ first ++ others → IsBytes b → IsBytes first
 IsBytes-first b first others e h = subst IsBytes (ap (take (length first)) e ∙ take_at first others (length first) refl) (IsBytes-take (length first) b h)
 
-IsBytes-others : (b first others : List ℕ) → b ≡ first ++ others → IsBytes b → IsBytes others
+pub IsBytes-others : (b first others : List ℕ) → b ≡ first ++ others → IsBytes b → IsBytes others
 IsBytes-others b first others e h = subst IsBytes (ap (drop (length first)) e ∙ drop_at first others (length first) refl) (IsBytes-drop (length first) b h)
 
 IsUtf8-from_text : (s : List ℕ) → IsText s → IsUtf8 s

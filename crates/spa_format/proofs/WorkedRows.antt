@@ -1,11 +1,13 @@
 -- The worked examples of docs/FORMAT.md, computed from the definitions.
-use Rattle.std.proofs.Common.{◌≡◌, ℕ, List, [], ◌∷◌, ◌++◌, refl, arith, lit≤, inl}
-use Rattle.std.specs.Prelude.{true, pos}
+use Rattle.std.proofs.Common.{◌≡◌, ℕ, zero, suc, ◌<◌, List, [], ◌∷◌, ◌++◌, refl, arith, lit≤, inl, inr}
+use Rattle.std.specs.Prelude.{true, pos, slice_index_or}
+use lib.Utf8.{encode}
 use Rattle.spa_format.specs.Words.{word_at, word_bytes, wide_bytes}
-use Rattle.spa_format.specs.Kind.{int_kind, none_kind, none, bool, int, rectangle, Fixed}
+use Rattle.spa_format.specs.Kind.{id_kind, int_kind, none_kind, none, bool, id, int, rectangle, Fixed}
 use Rattle.spa_format.specs.Tree.{none_choice, range_choice, Tree, fixed, string, bitmap, array, choice, pointer, struct, object, no_trees, member, no_properties, property, node_count}
 use Rattle.spa_format.specs.Normal.{normal_of}
 use Rattle.spa_format.specs.Pod.{IsPod}
+use Rattle.spa_format.specs.Lenient.{Conveys}
 use Rattle.spa_format.specs.Encoding.{encoding_of}
 use Rattle.spa_format.specs.Front.{HasFront, rest_of}
 
@@ -158,3 +160,42 @@ int_is_short h = absurd (let w = h.whole in omega arith)
 rest_is_left : rest_of (words (0 ∷ 1 ∷ 4 ∷ 4 ∷ [])) ≡ words (4 ∷ 4 ∷ [])
 unfolding words word_at word_bytes
 rest_is_left = refl
+
+jk : List ℕ
+jk = 106 ∷ 107 ∷ []
+
+no_nul_inside : (k : ℕ) → k < 2 → slice_index_or jk k 0 ≡ 0 → ⊥
+unfolding jk
+no_nul_inside zero l e = absurd (omega arith)
+no_nul_inside (suc zero) l e = absurd (omega arith)
+no_nul_inside (suc (suc k)) l e = absurd (omega arith)
+
+-- what is behind the first NUL of a text means nothing, where NUL is last
+padded_text_conveys : Conveys (words (6 ∷ 8 ∷ []) ++ (106 ∷ 107 ∷ 0 ∷ 108 ∷ 109 ∷ 0 ∷ 0 ∷ 0 ∷ [])) (string (106 ∷ 107 ∷ []))
+unfolding words word_at word_bytes encode jk
+padded_text_conveys = record {
+  whole = refl;
+  content = inl (refl, record { text = record { utf8 = (106 ∷ 107 ∷ [], (refl, refl)); no_nul = λ c. no_nul_inside c.0 c.1 c.2 }; surplus = 108 ∷ 109 ∷ 0 ∷ []; parts = refl; before = 106 ∷ 107 ∷ 0 ∷ 108 ∷ 109 ∷ []; last = refl });
+}
+
+ids : List Fixed
+ids = id 3 ∷ id 4 ∷ []
+
+-- a None choice over an array conveys the array, and what is behind its child means nothing
+none_choice_over_array_conveys : Conveys (words (48 ∷ 19 ∷ 0 ∷ 0 ∷ 16 ∷ 13 ∷ 4 ∷ 3 ∷ 3 ∷ 4 ∷ 4 ∷ 3 ∷ 7 ∷ 8 ∷ [])) (array id_kind ids)
+unfolding words ids word_at word_bytes
+none_choice_over_array_conveys = record {
+  whole = refl;
+  content = inr (
+    refl,
+    tt,
+    words (4 ∷ 3 ∷ 3 ∷ 4 ∷ []),
+    record { headers = lit≤ tt; shape = refl; its_type = refl; whole = lit≤ tt; body = refl },
+    record {
+      header = lit≤ tt;
+      child_size = refl;
+      child_type = refl;
+      elements = (lit≤ tt, record { whole = refl; says = refl }, (lit≤ tt, record { whole = refl; says = refl }, refl));
+    },
+  );
+}

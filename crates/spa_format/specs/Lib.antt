@@ -12,3 +12,4 @@ pub mod Faults
 pub mod Opened
 pub mod Walk
 pub mod Fixation
+pub mod Lenient

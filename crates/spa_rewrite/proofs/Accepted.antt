@@ -113,7 +113,7 @@ pub front_stops : (input : List ℕ) (why : Refusal) → Says (λ k. StandsAtFro
 front_stops input why f = says_through (λ k. StandsAtFront k input) (λ k. Stands k input input) ⊥ ⊥ (λ k x. at_front input refl x) (λ n. n) why f
 
 -- what is rejected is a pod of no value, or of one with more levels
-fault_refuses : (input place : List ℕ) (why : Refusal) → Says (λ k. Stands k place input) ⊥ why → IsRefused input
+pub fault_refuses : (input place : List ℕ) (why : Refusal) → Says (λ k. Stands k place input) ⊥ why → IsRefused input
 fault_refuses input place refusal.Short s = format.refused Short place input s
 fault_refuses input place refusal.Text s = format.refused Text place input s
 fault_refuses input place refusal.InvalidType s = format.refused InvalidType place input s

@@ -106,13 +106,8 @@ pub fn look_at_pods(pods: &[u8]) -> Result<AcceptedPods, (&[u8], Rejected<'_>)>
             Ok(pod) => pod,
             Err(why) => return Err((left, why)),
         };
-        let before = pods.len() - left.len();
-        canonical = canonical_len(
-            canonical,
-            before,
-            pod.canonical,
-            pods.len() - pod.rest.len(),
-        );
+        let (begin, end) = (pods.len() - left.len(), pods.len() - pod.rest.len());
+        canonical = canonical_len(canonical, begin, pod.canonical, end);
         surplus += pod.surplus;
         left = pod.rest;
     }
@@ -249,9 +244,26 @@ fn look_inside<'a>(are_keyed: bool, pods: &'a [u8], frames: &mut [Inside<'a>]) -
 }
 
 /// What follows the first accepted pods that hold no others: where `canonical` is set those that are canonical, and else those of one or two
-/// words. A key and flags stand before each where `keyed` is set.
+/// words. A key and flags stand before each where `keyed` is set. There is a loop of its own for each of the four.
 #[inline(always)]
 fn behind_leaves(keyed: bool, canonical: bool, pods: &[u8]) -> &[u8]
+    ensures { Passes keyed canonical pods.now result.now 0 }
+{
+    if keyed {
+        if canonical {
+            return behind_alike(true, true, pods);
+        }
+        return behind_alike(true, false, pods);
+    }
+    if canonical {
+        return behind_alike(false, true, pods);
+    }
+    behind_alike(false, false, pods)
+}
+
+/// The loop.
+#[inline(always)]
+fn behind_alike(keyed: bool, canonical: bool, pods: &[u8]) -> &[u8]
     ensures { Passes keyed canonical pods.now result.now 0 }
 {
     let mut left = pods;

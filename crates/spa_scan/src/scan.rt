@@ -85,7 +85,7 @@ fn leaf_body_front(input: &[u8]) -> Option<&[u8]>
     let Some(front) = padded_front(input) else {
         return None;
     };
-    if is_body(front.type_, front.body, 0) {
+    if is_any_body(front.type_, front.body, 0) {
         Some(front.rest)
     } else {
         None

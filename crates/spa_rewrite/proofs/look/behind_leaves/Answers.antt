@@ -1,9 +1,8 @@
-use Rattle.std.proofs.Common.{arith}
-use Rattle.spa_rewrite.proofs.Looks.{passes_more, passes_none}
+use Rattle.spa_rewrite.proofs.Looks.{passes_as}
 use Rattle.spa_rewrite.proofs.look.behind_leaves.Goals as goal
 
-pub loop-rest-init : goal.loop-rest-init
-loop-rest-init c = passes_none _ _ _ (λ i. omega (arith, c.type_inv.pods i))
+pub returns-then-canonical : goal.returns-then-canonical
+returns-then-canonical c = passes_as _ _ _ _ _ _ 0 c.if-keyed.true c.if-canonical.true c.behind_alike.ensures
 
-pub loop-rest-preserved : goal.loop-rest-preserved
-loop-rest-preserved c = passes_more _ _ _ _ _ c.loop-rest.invariant c.in-Some.ensures.passed
+pub returns-then-keyed : goal.returns-then-keyed
+returns-then-keyed c = passes_as _ _ _ _ _ _ 0 c.if-keyed.true c.if-canonical.false c.behind_alike-then-keyed.ensures

@@ -1,6 +1,6 @@
 use Rattle.std.proofs.Common.{length}
 use Rattle.spa_rewrite.specs.Look.{Passes}
-use Rattle.spa_rewrite.proofs.look.behind_leaves.Given as goal
+use Rattle.spa_rewrite.proofs.look.behind_alike.Given as goal
 
 abbrev pub invariant-loop-rest : goal.invariant-loop-rest
 invariant-loop-rest l = Passes l.keyed l.canonical l.pods l.left 0

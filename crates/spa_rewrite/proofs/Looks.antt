@@ -141,10 +141,6 @@ passes_none keyed canonical left h = record {
   room = omega arith;
 }
 
--- such that the flags are known
-pub passes_as : (keyed canonical a b : Bool) (left rest : List ℕ) (n : ℕ) → keyed ≡ a → canonical ≡ b → Passes a b left rest n → Passes keyed canonical left rest n
-passes_as keyed canonical a b left rest n e f p = subst (λ k. Passes k canonical left rest n) (sym e) (subst (λ c. Passes a c left rest n) (sym f) p)
-
 -- and some more
 pub passes_more : (keyed canonical : Bool) (pods left rest : List ℕ) → Passes keyed canonical pods left 0 → Passes keyed canonical left rest 0 →
     Passes keyed canonical pods rest 0

@@ -64,7 +64,7 @@ enum Found<'a> {
 }
 
 /// How many lists can wait in the short array.
-const FEW: usize = 16;
+const FEW: usize = 8;
 
 /// How many can wait in the long one, which is taken where the short one is full.
 const MANY: usize = 1000;
@@ -199,7 +199,7 @@ fn look_inside<'a>(are_keyed: bool, pods: &'a [u8], frames: &mut [Inside<'a>]) -
     let mut canonical = true;
     let mut surplus = 0;
     loop {
-        let behind = behind_leaves(keyed, canonical, left);
+        let behind = behind_first(keyed, canonical, left);
         if behind.is_empty() {
             if waiting == 0 {
                 return Found::Fits(canonical, surplus);
@@ -243,25 +243,47 @@ fn look_inside<'a>(are_keyed: bool, pods: &'a [u8], frames: &mut [Inside<'a>]) -
     }
 }
 
-/// What follows the first accepted pods that hold no others: where `canonical` is set those that are canonical, and else those of one or two
-/// words. A key and flags stand before each where `keyed` is set. There is a loop of its own for each of the four.
+/// What follows the first accepted pods that hold no others, as far as they are found: where `canonical` is set those that are canonical, and else
+/// those of one or two words. A key and flags stand before each where `keyed` is set.
 #[inline(always)]
-fn behind_leaves(keyed: bool, canonical: bool, pods: &[u8]) -> &[u8]
+fn behind_first(keyed: bool, canonical: bool, pods: &[u8]) -> &[u8]
     ensures { Passes keyed canonical pods.now result.now 0 }
 {
-    if keyed {
-        if canonical {
-            return behind_alike(true, true, pods);
-        }
-        return behind_alike(true, false, pods);
+    if !canonical {
+        return behind_alike(keyed, false, pods);
     }
-    if canonical {
-        return behind_alike(false, true, pods);
+    if is_inside_first(keyed, pods) {
+        return pods;
     }
-    behind_alike(false, false, pods)
+    behind_canonical(keyed, pods)
 }
 
-/// The loop.
+/// Whether a struct or an object is first, or less than a pod of one word is left.
+#[inline(always)]
+fn is_inside_first(keyed: bool, pods: &[u8]) -> bool {
+    if pods.len() < 2 * HEADER_LEN {
+        return true;
+    }
+    let type_ = if keyed {
+        u32_at(pods, HEADER_LEN + SECOND_WORD)
+    } else {
+        u32_at(pods, SECOND_WORD)
+    };
+    type_ == SpaTypes::Struct.0 || type_ == SpaTypes::Object.0
+}
+
+/// The same of canonical ones, with a loop for each kind of list.
+#[inline(never)]
+fn behind_canonical(keyed: bool, pods: &[u8]) -> &[u8]
+    ensures { Passes keyed true pods.now result.now 0 }
+{
+    if keyed {
+        return behind_alike(true, true, pods);
+    }
+    behind_alike(false, true, pods)
+}
+
+/// The loop over these.
 #[inline(always)]
 fn behind_alike(keyed: bool, canonical: bool, pods: &[u8]) -> &[u8]
     ensures { Passes keyed canonical pods.now result.now 0 }

@@ -78,6 +78,7 @@ fn is_looked_into(type_: u32) -> bool {
 }
 
 /// The same as `leaf_front`, of a pod that isn't of fixed size.
+#[inline(always)]
 fn leaf_body_front(input: &[u8]) -> Option<&[u8]>
     ensures taken { IfSome result (λ rest. BeginsCanonical input.now rest.now) }
     ensures shorter { IfSome result (λ rest. length rest.now + 8 ≤ length input.now) }

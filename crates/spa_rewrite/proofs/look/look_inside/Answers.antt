@@ -17,14 +17,14 @@ loop-behind-init c =
 
 pub returns-then-waiting-eq0 : goal.returns-then-waiting-eq0
 returns-then-waiting-eq0 c =
-    let passed = goes_on_alike _ _ _ _ _ _ _ _ _ c.loop-behind.invariant.0 c.behind_leaves-behind.ensures in
+    let passed = goes_on_alike _ _ _ _ _ _ _ _ _ c.loop-behind.invariant.0 c.behind_first-behind.ensures in
     let frames = c.loop-behind.frames in
     subst (λ w. Onward c.args.are_keyed c.args.pods.now (reverse (take w frames)) c.loop-behind.canonical c.loop-behind.surplus)
     c.if-waiting-eq0.true (list_ends _ _ _ _ _ _ _ _ passed (eqb-true _ _ (sym c.is_empty.ensures ∙ c.if-is_empty.true)))
 
 pub loop-behind-preserved-then-is_empty : goal.loop-behind-preserved-then-is_empty
 loop-behind-preserved-then-is_empty c =
-    let passed = goes_on_alike _ _ _ _ _ _ _ _ _ c.loop-behind.invariant.0 c.behind_leaves-behind.ensures in
+    let passed = goes_on_alike _ _ _ _ _ _ _ _ _ c.loop-behind.invariant.0 c.behind_first-behind.ensures in
     let frames = c.loop-behind.frames in
     let w = c.loop-behind.waiting in
     let some = c.if-waiting-eq0.false in
@@ -33,26 +33,26 @@ loop-behind-preserved-then-is_empty c =
     let e = popped frames w (w - 1) none (omega arith) (omega arith) in
     let ended = list_ends _ _ _ _ _ _ _ _ passed (eqb-true _ _ (sym c.is_empty.ensures ∙ c.if-is_empty.true)) in
     let l = ap left_waiting e in
-    let r = c.behind_leaves-behind.ensures.room in
+    let r = c.behind_first-behind.ensures.room in
     let room = c.loop-behind.invariant.2 in
     (subst (λ o. Onward c.args.are_keyed c.args.pods.now o c.loop-behind.canonical c.loop-behind.surplus) e ended, omega arith, omega arith)
 
 pub returns-in_default : goal.returns-in_default
 returns-in_default c =
-    let passed = goes_on_alike _ _ _ _ _ _ _ _ _ c.loop-behind.invariant.0 c.behind_leaves-behind.ensures in
+    let passed = goes_on_alike _ _ _ _ _ _ _ _ _ c.loop-behind.invariant.0 c.behind_first-behind.ensures in
     let some = eqb-false _ 0 (sym c.is_empty.ensures ∙ c.if-is_empty.false) in
     let short = c.in_default.ensures.short in
     stops_in _ _ _ _ _ passed.stands (stops_key _ _ short.0 short.1 (omega (arith, some)))
 
 pub returns-in_default-open : goal.returns-in_default-open
 returns-in_default-open c =
-    let passed = goes_on_alike _ _ _ _ _ _ _ _ _ c.loop-behind.invariant.0 c.behind_leaves-behind.ensures in
+    let passed = goes_on_alike _ _ _ _ _ _ _ _ _ c.loop-behind.invariant.0 c.behind_first-behind.ensures in
     let some = eqb-false _ 0 (sym c.is_empty.ensures ∙ c.if-is_empty.false) in
     stops_in _ _ _ _ _ passed.stands (stops_first _ _ _ c.in-Some.ensures.there (omega (arith, some)) (short_there _ c.in_default-open.ensures.short))
 
 pub returns-in_default-leaf_surplus : goal.returns-in_default-leaf_surplus
 returns-in_default-leaf_surplus c =
-    let passed = goes_on_alike _ _ _ _ _ _ _ _ _ c.loop-behind.invariant.0 c.behind_leaves-behind.ensures in
+    let passed = goes_on_alike _ _ _ _ _ _ _ _ _ c.loop-behind.invariant.0 c.behind_first-behind.ensures in
     let some = eqb-false _ 0 (sym c.is_empty.ensures ∙ c.if-is_empty.false) in
     let other = c.in_default-inside_of.ensures in
     stops_in _ _ _ _ _ passed.stands
@@ -62,19 +62,19 @@ returns-in_default-leaf_surplus c =
 pub loop-behind-smaller-in_default-inside_of : goal.loop-behind-smaller-in_default-inside_of
 loop-behind-smaller-in_default-inside_of c =
     let e = left_shorter _ _ _ _ _ _ c.in-Some.ensures.there c.in-Some-open.ensures.there in
-    let r = c.behind_leaves-behind.ensures.room in
+    let r = c.behind_first-behind.ensures.room in
     omega arith
 
 pub loop-behind-preserved-in_default-inside_of : goal.loop-behind-preserved-in_default-inside_of
 loop-behind-preserved-in_default-inside_of c =
-    let passed = goes_on_alike _ _ _ _ _ _ _ _ _ c.loop-behind.invariant.0 c.behind_leaves-behind.ensures in
+    let passed = goes_on_alike _ _ _ _ _ _ _ _ _ c.loop-behind.invariant.0 c.behind_first-behind.ensures in
     let other = c.in_default-inside_of.ensures in
     let stays = c.stays_canonical-canonical.ensures in
     let over =
     goes_over _ _ _ _ _ _ _ _ _ _ _ _ _ _ passed c.in-Some.ensures.there c.in-Some-open.ensures.there other.other other.short
     c.in-Some-leaf_surplus.ensures.there stays.so_far stays.own stays.differs in
     let fewer = over.1 in
-    let r = c.behind_leaves-behind.ensures.room in
+    let r = c.behind_first-behind.ensures.room in
     let room = c.loop-behind.invariant.2 in
     (over.0, c.loop-behind.invariant.1, omega arith)
 
@@ -82,22 +82,22 @@ pub loop-behind-smaller-then-is_empty-2 : goal.loop-behind-smaller-then-is_empty
 loop-behind-smaller-then-is_empty-2 c =
     let x = opens_inside _ _ _ _ _ _ _ _ c.in-Some.ensures.there c.in-Some-open.ensures.there c.in-Some-inside_of.ensures.there in
     let e = opened_shorter _ _ _ _ _ x in
-    let r = c.behind_leaves-behind.ensures.room in
+    let r = c.behind_first-behind.ensures.room in
     omega arith
 
 pub loop-behind-preserved-then-is_empty-2 : goal.loop-behind-preserved-then-is_empty-2
 loop-behind-preserved-then-is_empty-2 c =
-    let passed = goes_on_alike _ _ _ _ _ _ _ _ _ c.loop-behind.invariant.0 c.behind_leaves-behind.ensures in
+    let passed = goes_on_alike _ _ _ _ _ _ _ _ _ c.loop-behind.invariant.0 c.behind_first-behind.ensures in
     let x = opens_inside _ _ _ _ _ _ _ _ c.in-Some.ensures.there c.in-Some-open.ensures.there c.in-Some-inside_of.ensures.there in
     let e = opened_shorter _ _ _ _ _ x in
-    let r = c.behind_leaves-behind.ensures.room in
+    let r = c.behind_first-behind.ensures.room in
     let room = c.loop-behind.invariant.2 in
     let none = eqb-true _ _ (sym c.is_empty-in-loop-behind.ensures ∙ c.if-is_empty-2.true) in
     (goes_in_last _ _ _ _ _ _ _ _ _ _ _ passed x none, c.loop-behind.invariant.1, omega arith)
 
 pub returns-then-waiting-frames : goal.returns-then-waiting-frames
 returns-then-waiting-frames c =
-    let passed = goes_on_alike _ _ _ _ _ _ _ _ _ c.loop-behind.invariant.0 c.behind_leaves-behind.ensures in
+    let passed = goes_on_alike _ _ _ _ _ _ _ _ _ c.loop-behind.invariant.0 c.behind_first-behind.ensures in
     let x = opens_inside _ _ _ _ _ _ _ _ c.in-Some.ensures.there c.in-Some-open.ensures.there c.in-Some-inside_of.ensures.there in
     let some = eqb-false _ 0 (sym c.is_empty-in-loop-behind.ensures ∙ c.if-is_empty-2.false) in
     let frames = c.loop-behind.frames in
@@ -114,7 +114,7 @@ pub loop-behind-smaller : goal.loop-behind-smaller
 loop-behind-smaller c =
     let x = opens_inside _ _ _ _ _ _ _ _ c.in-Some.ensures.there c.in-Some-open.ensures.there c.in-Some-inside_of.ensures.there in
     let e = opened_shorter _ _ _ _ _ x in
-    let r = c.behind_leaves-behind.ensures.room in
+    let r = c.behind_first-behind.ensures.room in
     let frames = c.loop-behind.frames in
     let w = c.loop-behind.waiting in
     let next : Inside = record { keyed = c.loop-behind.keyed; pods = c.in-Some-open.front.rest } in
@@ -123,11 +123,11 @@ loop-behind-smaller c =
 
 pub loop-behind-preserved : goal.loop-behind-preserved
 loop-behind-preserved c =
-    let passed = goes_on_alike _ _ _ _ _ _ _ _ _ c.loop-behind.invariant.0 c.behind_leaves-behind.ensures in
+    let passed = goes_on_alike _ _ _ _ _ _ _ _ _ c.loop-behind.invariant.0 c.behind_first-behind.ensures in
     let x = opens_inside _ _ _ _ _ _ _ _ c.in-Some.ensures.there c.in-Some-open.ensures.there c.in-Some-inside_of.ensures.there in
     let some = eqb-false _ 0 (sym c.is_empty-in-loop-behind.ensures ∙ c.if-is_empty-2.false) in
     let e = opened_shorter _ _ _ _ _ x in
-    let r = c.behind_leaves-behind.ensures.room in
+    let r = c.behind_first-behind.ensures.room in
     let room = c.loop-behind.invariant.2 in
     let frames = c.loop-behind.frames in
     let w = c.loop-behind.waiting in

@@ -89,7 +89,7 @@ first_elements k (suc n) (x ∷ xs) b h =
       subst (AreElements k (take n xs)) (sym inside) (first_elements k n xs (drop s b) h.2),
     )
 
-fewer : (m n s : ℕ) → m * s ≤ n * s → 0 < s → m ≤ n
+pub fewer : (m n s : ℕ) → m * s ≤ n * s → 0 < s → m ≤ n
 fewer m n s l p = grind arith
 
 -- the values behind the default that such a choice takes are so many first ones

@@ -17,3 +17,7 @@ pub mod PatchedBodies
 pub mod ShorterLemmas
 pub mod FirstPods
 pub mod Counts
+pub mod Levels
+pub mod Looks
+pub mod Faulted
+pub mod Accepted

@@ -3,17 +3,18 @@ ghost use Rattle.std.specs.Prelude.{◌≡◌, ◌++◌, [], IfErr, IfNone, IfOk
 ghost use Rattle.spa_format.specs.Faults.{Stands};
 ghost use Rattle.spa_format.specs.Front.{HasFront, IsRefused, rest_of};
 ghost use Rattle.spa_format.specs.Pod.{AreMembers};
-ghost use Rattle.spa_format.specs.Tree.{Trees};
-ghost use Rattle.spa_leaf.specs.Reading.{IsShortAt, Names, OnFault, OnMemory};
+ghost use Rattle.spa_format.specs.Tree.{Tree, Trees};
+ghost use Rattle.spa_leaf.specs.Reading.{BeginsWith, IsShortAt, Names, OnFault, OnMemory};
+ghost use Rattle.spa_rewrite.specs.Look.{IsTooDeep};
 ghost use Rattle.spa_rewrite.specs.Rewriting.{AreRewritten, AreRewrittenInParts, IsLeft, IsRewriting, RefusesFront, RefusesList, TakesMembers, TakesStretch};
 ghost use Rattle.spa_rewrite.specs.Shorter.{ArePodsWithin};
 ghost use Rattle.spa_rewrite.specs.Steady.{TakesSteady};
 ghost use Rattle.spa_rewrite.specs.Tails.{KeepsStart};
 ghost use Rattle.spa_scan.specs.Depth.{levels_looked_into};
 
+use crate::look::{Rejected, look_at_pods};
 use crate::pod::rewrite_pod;
 use crate::steady::steady_stretch;
-use crate::surplus::surplus_of_all;
 use crate::tail::Tail;
 use spa_fixed::{DeserializeError, Refusal};
 use spa_leaf::error_at;
@@ -110,46 +111,42 @@ pub fn rewrite_in_parts(
 
 /// Tells whether `rewrite_all` would accept the input, and else refuses it as that call does.
 ///
-/// It makes no rewriting of the whole: it takes memory only where structs and objects stand more than `LEVELS` deep in one another, not
-/// counting those that end where the one around them does, and then for one pod at a time.
+/// It takes memory only for a pod in which more than 1000 structs and objects stand in one another, not counting those that end where the one
+/// around them does: such a pod is rewritten, and its rewriting dropped.
 pub fn accept_all(alloc: Global, input: &[u8]) -> Result<(), (&[u8], DeserializeError<&[u8]>)>
     ensures accepted { OnOk result ((vs : Trees) × AreMembers vs input.now) }
     ensures refused { IfErr result (λ refusal. RefusesList input.now refusal.0.now refusal.1) }
-    // Pods that nest in 1000 levels at most are never refused: for these memory can't run out.
+    // Pods that nest in 1000 levels at most are never refused,
     ensures missed { IfErr result (λ _. ¬ (ArePodsWithin levels_looked_into input.now)) }
+    // and memory runs out only for a pod, malformed or not, in which more than 1000 structs and objects stand in one another.
+    ensures memory { IfErr result (λ refusal. OnMemory (IsTooDeep refusal.0.now) refusal.1) }
 {
-    let (_, rest) = canonical_stretch(input);
-    let (_, others) = steady_stretch(rest);
-    if let Some(_) = surplus_of_all(others) {
-        return Ok(());
-    }
-    match accept_each(alloc, others) {
-        Ok(()) => Ok(()),
-        Err(refusal) => Err(refusal),
+    let mut left = input;
+    loop {
+        let Err((pod, rejected)) = look_at_pods(left) else {
+            return Ok(());
+        };
+        if let Rejected::Fault(place, why) = rejected {
+            return Err((pod, error_at(place, why)));
+        }
+        match behind_deep(alloc, pod) {
+            Ok(rest) => left = rest,
+            Err(error) => return Err((pod, error)),
+        }
     }
 }
 
-/// The same of any pods, by a rewriting of each that gets shorter or nests deeper.
-fn accept_each(alloc: Global, input: &[u8]) -> Result<(), (&[u8], DeserializeError<&[u8]>)>
-    ensures accepted { OnOk result ((vs : Trees) × AreMembers vs input.now) }
-    ensures refused { IfErr result (λ refusal. RefusesList input.now refusal.0.now refusal.1) }
+/// What follows the pod at the front, which is rewritten to see whether it is accepted.
+fn behind_deep(alloc: Global, pod: &[u8]) -> Result<&[u8], DeserializeError<&[u8]>>
+    ensures accepted { IfOk result (λ rest. (v : Tree) × BeginsWith pod.now v rest.now) }
+    ensures refused { IfErr result (RefusesFront pod.now) }
 {
-    let mut left = input;
-    let mut outer = Vec::new(alloc);
+    let mut left = pod;
     let mut tail = Tail::behind(Vec::new(alloc));
-    loop {
-        let (_, behind) = canonical_stretch(left);
-        let (_, others) = steady_stretch(behind);
-        if others.is_empty() {
-            return Ok(());
-        }
-        let mut place = others;
-        if let Err(why) = rewrite_pod(alloc, &mut outer, &mut place, &mut tail) {
-            return Err((others, error_at(place, why)));
-        }
-        tail.clear();
-        left = place;
+    if let Err(why) = rewrite_pod(alloc, &mut Vec::new(alloc), &mut left, &mut tail) {
+        return Err(error_at(left, why));
     }
+    Ok(left)
 }
 
 /// Appends the rewritings of all pods that the input consists of, behind the bytes that stay.

@@ -142,7 +142,7 @@ fn body_surplus(type_: u32, body: &[u8], levels: u32) -> Option<usize>
 
 /// The same of a pod that holds no others.
 #[inline(always)]
-fn leaf_surplus(type_: u32, body: &[u8]) -> Option<usize>
+pub(crate) fn leaf_surplus(type_: u32, body: &[u8]) -> Option<usize>
     ensures there { IfSome result (λ surplus. IsShorterBody type_ body.now surplus) }
     ensures missed { IfNone result ((v : Tree) → type_of v ≡ type_ → depth_of v ≡ 0 → ¬ (IsBody v body.now)) }
 {

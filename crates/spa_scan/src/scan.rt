@@ -78,6 +78,7 @@ fn is_looked_into(type_: u32) -> bool {
 }
 
 /// The same as `leaf_front`, of a pod that isn't of fixed size.
+#[inline(always)]
 fn leaf_body_front(input: &[u8]) -> Option<&[u8]>
     ensures taken { IfSome result (λ rest. BeginsCanonical input.now rest.now) }
     ensures shorter { IfSome result (λ rest. length rest.now + 8 ≤ length input.now) }
@@ -85,7 +86,7 @@ fn leaf_body_front(input: &[u8]) -> Option<&[u8]>
     let Some(front) = padded_front(input) else {
         return None;
     };
-    if is_body(front.type_, front.body, 0) {
+    if is_any_body(front.type_, front.body, 0) {
         Some(front.rest)
     } else {
         None

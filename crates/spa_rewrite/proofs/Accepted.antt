@@ -1,0 +1,289 @@
+-- Pods that a look accepts or refuses.
+use Rattle.std.proofs.Common.{◌≡◌, ◌≢◌, ℕ, ◌+◌, ◌-◌, ◌<◌, ◌≤◌, inl, inr, List, ◌++◌, length, take, drop, refl, sym, ap, ◌∙◌, subst, arith, append_assoc, length-append}
+use Rattle.std.specs.Borrow.{Bor}
+use Rattle.std.specs.Prelude.{◌⊎◌, Bool, true, false, Decides}
+use Rattle.std.proofs.lemmas.Bool.{true_from_ne_false}
+use Rattle.std.proofs.lemmas.List.{drop_all, drop_at, length-take-le}
+use Rattle.spa_format.specs.Words.{extent, header_size, word_at}
+use Rattle.spa_format.specs.Tree.{Tree, Trees, no_trees, member, join_members, object_type, struct_type, type_of}
+use Rattle.spa_format.specs.Pod.{AreMembers, IsBody}
+use Rattle.spa_format.specs.Encoding.{member_encodings}
+use Rattle.spa_format.specs.Front.{Begins, HasFront, IsRefused, front_of, rest_of}
+use Rattle.spa_format.specs.Faults.{Fault, Short, Text, InvalidType, InvalidChoiceType, MissingChoiceValues, WrongSize, Stands, StandsAtFront, at_front}
+use Rattle.spa_format.specs.Typed.{IsBytes}
+use Rattle.spa_format.proofs.Refused.{begun}
+use Rattle.spa_format.proofs.Refused as format
+use Rattle.spa_format.proofs.Sequences.{members_push}
+use Rattle.spa_bytes.specs.Opening.{Opens}
+use Rattle.spa_fixed.specs.declared.fault.DeserializeError.{DeserializeError}
+use Rattle.spa_fixed.specs.declared.fault.DeserializeError.TheVariants as error
+use Rattle.spa_fixed.specs.declared.fault.Refusal.{Refusal}
+use Rattle.spa_fixed.specs.declared.fault.Refusal.TheVariants as refusal
+use Rattle.spa_leaf.specs.Reading.{BeginsWith, OnMemory}
+use Rattle.spa_leaf.specs.Refusing.{Says, error_of}
+use Rattle.spa_leaf.proofs.Refusals.{says_through}
+use Rattle.spa_scan.specs.Canonical.{AreCanonical, BeginsCanonical, IsStretch}
+use Rattle.spa_scan.specs.Depth.{depth_of, levels_looked_into}
+use Rattle.spa_scan.proofs.Frames.{no_stretch, stretch_parts}
+use Rattle.spa_rewrite.specs.Look.{AreAccepted, AreLooked, IsAccepted, IsRejected, StopsAt}
+use Rattle.spa_rewrite.specs.Rewriting.{IsLeft, RefusesFront, RefusesList}
+use Rattle.spa_rewrite.specs.Nesting.{AreCanonicalInside}
+use Rattle.spa_rewrite.specs.Shorter.{ArePodsWithin, BeginsShorter, IsShorterBody}
+use Rattle.spa_rewrite.specs.Steady.{IsBehindKey, IsInside}
+use Rattle.spa_rewrite.specs.declared.look.AcceptedPod.{AcceptedPod}
+use Rattle.spa_rewrite.specs.declared.look.Rejected.{Rejected}
+use Rattle.spa_rewrite.specs.declared.look.Rejected.TheVariants as rejected
+use Rattle.spa_rewrite.proofs.FirstPods.{accepted_behind, left_behind_pods}
+use Rattle.spa_rewrite.proofs.Levels.{deep_begun}
+use Rattle.spa_rewrite.proofs.Looks.{Awaits, first_own, goes_on, inside_own, own_opened, passes_pod, some_left, stands_opened}
+use Rattle.spa_rewrite.proofs.Refusals.{front_refused}
+use Rattle.spa_rewrite.proofs.Rewritten.{member_encodings-push}
+use Rattle.spa_rewrite.proofs.ShorterLemmas.{CountsOn, counts_all, counts_more, counts_none, first_within, shorter_inside, shorter_opened, within_behind}
+use Rattle.spa_rewrite.proofs.Stretches.{FirstMembers, list_refused, no_first_member}
+use Rattle.spa_rewrite.proofs.SteadyFound.{leaf_depth}
+use Rattle.spa_rewrite.proofs.Steps.{parted}
+
+-- no struct or object begins there
+pub leaf_shallow : (here body rest : List ℕ) (type : ℕ) → Opens here type body rest → type ≢ struct_type → (type ≡ object_type → length body < header_size) →
+    (r : List ℕ) (c : BeginsCanonical here r) → depth_of c.value ≡ 0
+leaf_shallow here body rest type o s l r c =
+    let v = c.value in
+    let q = begun here v c.begins.begins in
+    let t : type_of v ≡ type = sym q.0 ∙ sym o.its_type in
+    leaf_depth v body (λ e. s (sym t ∙ e)) (λ e. l (sym t ∙ e)) (subst (IsBody v) (sym o.its_body) q.1)
+
+-- so it is no canonical pod, where none is found of so many levels
+pub leaf_differs : (here body rest : List ℕ) (type : ℕ) → Opens here type body rest → type ≢ struct_type → (type ≡ object_type → length body < header_size) →
+    ((r : List ℕ) (c : BeginsCanonical here r) → levels_looked_into < depth_of c.value) → (r : List ℕ) → ¬ (BeginsCanonical here r)
+leaf_differs here body rest type o s l f r c =
+    let z = leaf_shallow here body rest type o s l r c in
+    let d = f r c in
+    omega arith
+
+pub own_rest : (here rest : List ℕ) → rest ≡ rest_of here → BeginsCanonical here (rest_of here) → BeginsCanonical here rest
+own_rest here rest e c = subst (BeginsCanonical here) (sym e) c
+
+-- a pod without members is passed
+pub goes_over : (all keyed canonical now : Bool) (pods left here body rest : List ℕ) (type : ℕ) (Then : Bool → ℕ → Type 0) (waiting surplus n : ℕ) →
+    Awaits all pods Then waiting keyed left canonical surplus → IsBehindKey keyed left here → Opens here type body rest → type ≢ struct_type →
+    (type ≡ object_type → length body < header_size) → IsShorterBody type body n → (now ≡ true → canonical ≡ true) →
+    (now ≡ true → BeginsCanonical here (rest_of here)) →
+    (now ≡ false → (canonical ≡ false) ⊎ ((r : List ℕ) (c : BeginsCanonical here r) → levels_looked_into < depth_of c.value)) →
+    Awaits all pods Then waiting keyed rest now (surplus + n) × (n + length rest ≤ length left)
+goes_over all keyed canonical now pods left here body rest type Then waiting surplus n w k o s l b c own differs =
+    let some = some_left keyed left here k o.there in
+    let p =
+    passes_pod keyed now left here rest n w.bytes some k (shorter_opened here body rest type n o b) (λ e. own_rest here rest o.its_rest (own e)) in
+    let d : now ≡ false → ¬ (AreCanonicalInside all pods) = λ e.
+    elim (differs e) [
+      | inl f ↦ w.differs f
+      | inr f ↦ λ k'. leaf_differs here body rest type o s l f rest (first_own keyed left here rest w.bytes some k o.its_rest (w.kept k')).first
+    ] in
+    (goes_on all keyed canonical now now pods left rest Then waiting surplus n w p c (λ e. e) d, p.room)
+
+-- a pod without members is accepted
+pub leaf_exactly : (input rest : List ℕ) (result : Bool) → rest ≡ rest_of input → (result ≡ true → BeginsCanonical input (rest_of input)) →
+    (result ≡ false → (true ≡ false) ⊎ ((r : List ℕ) (c : BeginsCanonical input r) → levels_looked_into < depth_of c.value)) →
+    (((r : List ℕ) (c : BeginsCanonical input r) → levels_looked_into < depth_of c.value) → (r : List ℕ) → ¬ (BeginsCanonical input r)) →
+    Decides result (BeginsCanonical input rest)
+leaf_exactly input rest result e own differs never = (
+  λ t. own_rest input rest e (own t),
+  λ c.
+      true_from_ne_false result (λ f.
+      elim (differs f) [
+        | inl n ↦ cc
+        | inr d ↦ never d rest c
+      ]),
+)
+
+-- what is found in a struct or an object is found of it
+pub inside_exactly : (type : ℕ) (input body rest inside : List ℕ) (inner canonical : Bool) (n : ℕ) → IsBytes input → Opens input type body rest →
+    IsInside type body inner inside → AreLooked inner inside canonical n → BeginsShorter input rest n × Decides canonical (BeginsCanonical input rest)
+inside_exactly type input body rest inside inner canonical n h o i l = (
+  shorter_opened input body rest type n o (shorter_inside type body inside inner n i l.shorter),
+  (λ e. own_opened type input body rest inside inner h o i (l.exactly.0 e), λ c. l.exactly.1 (inside_own type input body rest rest inside inner h o i c)),
+)
+
+pub inside_stops : (type : ℕ) (input body rest inside place : List ℕ) (inner : Bool) (why : Refusal) → Opens input type body rest → IsInside type body inner inside →
+    StopsAt inner inside place → Says (λ k. StandsAtFront k place) ⊥ why → Says (λ k. Stands k place input) ⊥ why
+inside_stops type input body rest inside place inner why o i s f =
+    says_through (λ k. StandsAtFront k place) (λ k. Stands k place input) ⊥ ⊥ (λ k x. stands_opened type input body rest inside inner k place o i (s.stands k x)) (λ n. n) why f
+
+pub front_stops : (input : List ℕ) (why : Refusal) → Says (λ k. StandsAtFront k input) ⊥ why → Says (λ k. Stands k input input) ⊥ why
+front_stops input why f = says_through (λ k. StandsAtFront k input) (λ k. Stands k input input) ⊥ ⊥ (λ k x. at_front input refl x) (λ n. n) why f
+
+-- what is rejected is a pod of no value, or of one with more levels
+pub fault_refuses : (input place : List ℕ) (why : Refusal) → Says (λ k. Stands k place input) ⊥ why → IsRefused input
+fault_refuses input place refusal.Short s = format.refused Short place input s
+fault_refuses input place refusal.Text s = format.refused Text place input s
+fault_refuses input place refusal.InvalidType s = format.refused InvalidType place input s
+fault_refuses input place refusal.InvalidChoiceType s = format.refused InvalidChoiceType place input s
+fault_refuses input place refusal.MissingChoiceValues s = format.refused MissingChoiceValues place input s
+fault_refuses input place refusal.WrongSize s = format.refused WrongSize place input s
+fault_refuses input place refusal.OutOfMemory s = absurd s
+
+pub rejected_value : (input : List ℕ) (r : Rejected) → IsRejected input r → (v : Tree) → Begins input v → levels_looked_into < depth_of v
+rejected_value input (rejected.Fault place why) s v b = absurd (fault_refuses input place.now why s v b)
+rejected_value input rejected.TooDeep s v b = deep_begun levels_looked_into input v s.nests b
+
+-- so it isn't the first of pods of so many levels
+pub rejected_first : (left : List ℕ) (r : Rejected) → 0 < length left → IsRejected left r → ¬ (ArePodsWithin levels_looked_into left)
+rejected_first left r l s w =
+    let f = first_within levels_looked_into false left left refl l w in
+    let d = rejected_value left r s f.value (record { there = f.there; pod = f.pod }) in
+    let shallow = f.shallow in
+    omega arith
+
+-- how many first bytes are canonical pods
+pub data OwnBytes (pods left : List ℕ) (canonical : ℕ) : Type 0 where
+  own_all : canonical + length left ≡ length pods → IsStretch pods left → OwnBytes pods left canonical
+  own_some : canonical + length left < length pods → AreCanonical (take canonical pods) → ((rest : List ℕ) → ¬ (BeginsCanonical (drop canonical pods) rest)) →
+      OwnBytes pods left canonical
+
+-- so much is found of the first pods, and this is left
+pub record IsLookedAt (pods left : List ℕ) (canonical surplus : ℕ) : Type 0 where
+  pub counts : CountsOn false levels_looked_into pods left surplus
+  pub first : FirstMembers pods left
+  pub own : OwnBytes pods left canonical
+
+pub none_looked_at : (pods : List ℕ) → IsLookedAt pods pods 0 0
+none_looked_at pods = record {
+  counts = counts_none false levels_looked_into pods;
+  first = no_first_member pods;
+  own = own_all (omega arith) (no_stretch pods);
+}
+
+-- less is left behind an accepted pod
+pub fewer_left : (pod rest : List ℕ) (v : Tree) → BeginsWith pod v rest → length rest < length pod
+fewer_left pod rest v b =
+    let d = ap length (parted pod v rest b) ∙ length-append (front_of pod) rest in
+    let h = b.begins.there.whole in
+    let f = length-take-le (extent (word_at pod 0)) pod h in
+    omega arith
+
+pub accepted_fewer : (left : List ℕ) (pod : AcceptedPod) → IsAccepted left pod → length pod.rest.now < length left
+accepted_fewer left pod a = fewer_left left pod.rest.now a.shorter.value a.shorter.begins
+
+-- one more of the canonical ones
+stretch_more : (pods left rest : List ℕ) → IsStretch pods left → BeginsCanonical left rest → IsStretch pods rest
+stretch_more pods left rest s c =
+    let v = c.value in
+    let k = s.2 in (
+      s.0 ++ front_of left,
+      s.1 ∙ ap (λ l. s.0 ++ l) (parted left v rest c.begins) ∙ sym (append_assoc s.0 (front_of left) rest),
+      record {
+        values = join_members k.values (member v no_trees);
+        members = members_push k.values v s.0 (front_of left) k.members c.begins.begins.pod;
+        same = ap (λ l. l ++ front_of left) k.same ∙ ap (λ l. member_encodings k.values ++ l) c.same ∙ sym (member_encodings-push k.values v);
+      },
+    )
+
+own_more : (pods left rest : List ℕ) (canonical begin end result : ℕ) (is : Bool) → OwnBytes pods left canonical → begin ≡ length pods - length left →
+    end ≡ length pods - length rest → length rest < length left → length left ≤ length pods → rest ≡ rest_of left → Decides is (BeginsCanonical left rest) →
+    (is ≡ true → canonical ≡ begin → result ≡ end) → (is ≡ false → result ≡ canonical) → (canonical ≢ begin → result ≡ canonical) →
+    OwnBytes pods rest result
+own_more pods left rest canonical begin end result true (own_all e s) b d l r f x more differs behind =
+    let same = more refl (omega arith) in
+    own_all (omega arith) (stretch_more pods left rest s (x.0 refl))
+own_more pods left rest canonical begin end result false (own_all e s) b d l r f x more differs behind =
+    let same = differs refl in
+    let n : canonical ≡ length pods - length left = omega arith in
+    let long = ap length s.1 ∙ length-append s.0 left in
+    let here : drop canonical pods ≡ left = ap (drop canonical) s.1 ∙ drop_at s.0 left canonical (omega arith) in
+    let none : (t : List ℕ) → ¬ (BeginsCanonical (drop canonical pods) t) = λ t c.
+    let k : BeginsCanonical left t = subst (λ y. BeginsCanonical y t) here c in
+    let e : false ≡ true = x.1 (subst (BeginsCanonical left) (k.begins.follows ∙ sym f) k) in
+    cc in
+    subst (OwnBytes pods rest) (sym same) (own_some (omega arith) (stretch_parts pods left canonical s n).1 none)
+own_more pods left rest canonical begin end result is (own_some e c n) b d l r f x more differs behind =
+    let same = behind (omega arith) in
+    subst (OwnBytes pods rest) (sym same) (own_some (omega arith) c n)
+
+-- the next pod is accepted
+pub more_looked_at : (pods left : List ℕ) (pod : AcceptedPod) (canonical surplus begin end result : ℕ) → IsLookedAt pods left canonical surplus → 0 < length left →
+    IsAccepted left pod → length pod.rest.now < length left → begin ≡ length pods - length left → end ≡ length pods - length pod.rest.now →
+    (pod.canonical ≡ true → canonical ≡ begin → result ≡ end) → (pod.canonical ≡ false → result ≡ canonical) → (canonical ≢ begin → result ≡ canonical) →
+    IsLookedAt pods pod.rest.now result (surplus + pod.surplus)
+more_looked_at pods left pod canonical surplus begin end result w l a s b d more differs behind =
+    let p = a.shorter in
+    let v = p.value in
+    let rest = pod.rest.now in
+    let h = w.first in
+    let long = ap length h.parts ∙ length-append h.first left in
+    record {
+      counts = counts_more false levels_looked_into pods left left rest surplus pod.surplus w.counts l refl p.begins.follows p;
+      first = record {
+        values = join_members h.values (member v no_trees);
+        first = h.first ++ front_of left;
+        parts = h.parts ∙ ap (λ y. h.first ++ y) (parted left v rest p.begins) ∙ sym (append_assoc h.first (front_of left) rest);
+        members = members_push h.values v h.first (front_of left) h.members p.begins.begins.pod;
+      };
+      own = own_more pods left rest canonical begin end result pod.canonical w.own b d s (omega arith) p.begins.follows a.exactly more differs behind;
+    }
+
+pub all_looked_at : (pods left : List ℕ) (canonical surplus : ℕ) → IsLookedAt pods left canonical surplus → length left ≡ 0 →
+    AreAccepted pods (record { canonical = canonical; surplus = surplus })
+all_looked_at pods left canonical surplus w z = of_own w.own
+  where
+    of_own : OwnBytes pods left canonical → AreAccepted pods (record { canonical = canonical; surplus = surplus })
+    of_own (own_all e s) = record {
+      shorter = counts_all false levels_looked_into pods left surplus w.counts z;
+      within = omega arith;
+      first = (stretch_parts pods left canonical s (omega arith)).1;
+      most = λ rest c.
+          let none = ap length (drop_all canonical pods (omega arith)) in
+          let h = c.begins.begins.there.header in
+          absurd (omega arith);
+    }
+    of_own (own_some e c n) = record {
+      shorter = counts_all false levels_looked_into pods left surplus w.counts z;
+      within = omega arith;
+      first = c;
+      most = n;
+    }
+
+pub rejected_behind : (pods left : List ℕ) (canonical surplus : ℕ) (r : Rejected) → IsLookedAt pods left canonical surplus → 0 < length left → IsRejected left r →
+    ¬ (ArePodsWithin levels_looked_into pods)
+rejected_behind pods left canonical surplus r w l s a = rejected_first left r l s (w.counts.within a)
+
+-- The public refusal of a fault.
+pub fault_front : (input : List ℕ) (place : Bor (List ℕ)) (why : Refusal) → Says (λ k. Stands k place.now input) ⊥ why → RefusesFront input (error_of place why)
+fault_front input place why s =
+    front_refused input place why (says_through (λ k. Stands k place.now input) (λ k. Stands k place.now input) ⊥ (HasFront input) (λ k x. x) (λ n. absurd n) why s)
+
+pub fault_memory : (stands : Fault → Type 0) (fact : Type 0) (place : Bor (List ℕ)) (why : Refusal) → Says stands ⊥ why → OnMemory fact (error_of place why)
+fault_memory stands fact place refusal.OutOfMemory s = absurd s
+fault_memory stands fact place _ s = tt
+
+pub on_memory : (fact : Type 0) (e : DeserializeError (Bor (List ℕ))) → fact → OnMemory fact e
+on_memory fact error.OutOfMemory f = f
+on_memory fact _ f = tt
+
+-- what is left is refused behind first pods
+pub refused_behind : (input left pod : List ℕ) (e : DeserializeError (Bor (List ℕ))) → FirstMembers input left → IsLeft left pod → RefusesFront pod e →
+    RefusesList input pod e
+refused_behind input left pod e h l r = list_refused input pod e (left_behind_pods input h.first left pod h.values h.parts h.members l) r
+
+pub missed_behind : (input left : List ℕ) → FirstMembers input left → ¬ (ArePodsWithin levels_looked_into left) → ¬ (ArePodsWithin levels_looked_into input)
+missed_behind input left h n w = n (within_behind h.values h.first left levels_looked_into h.members (subst (ArePodsWithin levels_looked_into) h.parts w))
+
+pub accepted_all : (input left : List ℕ) → FirstMembers input left → (vs : Trees) × AreMembers vs left → (vs : Trees) × AreMembers vs input
+accepted_all input left h m = accepted_behind input h.first left h.values h.parts h.members m
+
+-- behind the pod that is left of them
+pub behind_left : (input left pod rest : List ℕ) (v : Tree) → FirstMembers input left → IsLeft left pod → BeginsWith pod v rest → FirstMembers input rest
+behind_left input left pod rest v h l b =
+    let i = left_behind_pods input h.first left pod h.values h.parts h.members l in
+    record {
+      values = join_members i.0 (member v no_trees);
+      first = i.1 ++ front_of pod;
+      parts = i.2 ∙ ap (λ y. i.1 ++ y) (parted pod v rest b) ∙ sym (append_assoc i.1 (front_of pod) rest);
+      members = members_push i.0 v i.1 (front_of pod) i.3 b.begins.pod;
+    }
+
+-- and it is shorter
+pub shorter_left : (left pod rest : List ℕ) (v : Tree) → IsLeft left pod → BeginsWith pod v rest → length rest < length left
+shorter_left left pod rest v l b =
+    let a = ap length l.2 ∙ length-append l.1 pod in
+    let f = fewer_left pod rest v b in
+    omega arith

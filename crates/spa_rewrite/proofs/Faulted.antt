@@ -1,0 +1,243 @@
+-- Where a look stops, and which fault stands there.
+use Rattle.std.proofs.Common.{◌≡◌, ◌≢◌, ℕ, suc, zero, ◌+◌, ◌*◌, ◌/◌, ◌-◌, ◌<◌, ◌≤◌, ◌%◌, inl, inr, List, [], ◌∷◌, length, drop, refl, sym, ap, ◌∙◌, subst, arith, length-drop}
+use Rattle.std.specs.Prelude.{◌⊎◌, Bool, true, false}
+use Rattle.std.proofs.lemmas.Bool.{cases_eq, cases_lt}
+use Rattle.std.proofs.lemmas.List.{drop-drop}
+use Rattle.std.proofs.Math.Nat.{mul-mod_left}
+use Rattle.spa_format.specs.Words.{body_of, header_size, word_at, wide_at}
+use Rattle.spa_format.specs.Kind.{Fixed, IsFixedBody, Kind, body_size, content, type_number}
+use Rattle.spa_format.specs.Tree.{Shape, none_choice, range_choice, step_choice, enum_choice, flags_choice, shape_number, Tree, choice, fixed, pointer, no_properties, array_type, choice_type, object_type, pointer_type, struct_type, type_of}
+use Rattle.spa_format.specs.Normal.{kept_flags}
+use Rattle.spa_format.specs.Pod.{AreElements, IsArray, IsBody, least_count, values_taken}
+use Rattle.spa_format.specs.Front.{HasFront, IsRefused}
+use Rattle.spa_format.specs.Faults.{Fault, Short, Text, InvalidType, InvalidChoiceType, MissingChoiceValues, WrongSize, IsInvalidType, of_elements, of_values, IsWrongArray, IsWrongSize, of_fixed, of_choice, of_pointer, LacksValues, StandsAtFront, at_front, choice_header_size}
+use Rattle.spa_format.specs.Opened.{OpensHeaderAlone, no_front, no_parts, short_object}
+use Rattle.spa_format.proofs.FixedKinds.{kind_of_content, size_fits}
+use Rattle.spa_format.proofs.Refused.{begun}
+use Rattle.spa_format.proofs.WordLemmas.{word_at-drop}
+use Rattle.spa_bytes.specs.Opening.{Opens}
+use Rattle.spa_fixed.specs.Reading.{AreWhole}
+use Rattle.spa_fixed.specs.declared.fault.Refusal.{Refusal}
+use Rattle.spa_leaf.specs.Refusing.{Says, StandsInBody}
+use Rattle.spa_leaf.proofs.Refusals.{at_front_of, says_through}
+use Rattle.spa_leaf.proofs.Steps.{pod_read}
+use Rattle.spa_scan.specs.Depth.{depth_of}
+use Rattle.spa_rewrite.specs.Look.{StandsInside, StopsAt}
+use Rattle.spa_rewrite.specs.Steady.{IsBehindKey}
+use Rattle.spa_rewrite.proofs.Bodies.{fewer, listed}
+use Rattle.spa_rewrite.proofs.Looks.{stands_first}
+use Rattle.spa_rewrite.proofs.SteadyFound.{leaf_depth}
+use Rattle.spa_rewrite.proofs.SteadyLemmas.{steady_array}
+
+-- no pod begins there, and not for what is inside it
+pub record IsFaulted (here : List ℕ) : Type 0 where
+  pub refused : IsRefused here
+  pub alone : OpensHeaderAlone here
+
+-- the front isn't there
+pub short_there : (here : List ℕ) → ¬ (HasFront here) → IsFaulted here
+short_there here n = record { refused = λ v b. n b.there; alone = no_front n }
+
+-- it is no pod without members, and no struct or object
+pub leaf_there : (here body rest : List ℕ) (type : ℕ) → Opens here type body rest → type ≢ struct_type → (type ≡ object_type → length body < header_size) →
+    ((v : Tree) → type_of v ≡ type → depth_of v ≡ 0 → ¬ (IsBody v body)) → IsFaulted here
+leaf_there here body rest type o s l n = record {
+  refused = λ v b.
+      let q = begun here v b in
+      let t : type_of v ≡ type = sym q.0 ∙ sym o.its_type in
+      let c : IsBody v body = subst (IsBody v) (sym o.its_body) q.1 in
+      n v t (leaf_depth v body (λ e. s (sym t ∙ e)) (λ e. l (sym t ∙ e)) c) c;
+  alone = elim (cases_eq type object_type) [
+    | inl e ↦ short_object (sym o.its_type ∙ e) (subst (λ b. length b < header_size) o.its_body (l e))
+    | inr e ↦ no_parts (λ t. s (o.its_type ∙ t)) (λ t. e (o.its_type ∙ t))
+  ];
+}
+
+-- where a look stops
+pub stops_first : (keyed : Bool) (left here : List ℕ) → IsBehindKey keyed left here → 0 < length left → IsFaulted here → StopsAt keyed left here
+stops_first keyed left here k l f = record {
+  refused = f.refused;
+  alone = f.alone;
+  stands = λ c s. stands_first keyed left here c here k l (at_front here refl s);
+}
+
+only_short : (b : List ℕ) (k : Fault) → length b < header_size → StandsAtFront k b → k ≡ Short
+only_short b Short l s = refl
+only_short b Text l s = absurd (let h = s.0.header in omega arith)
+only_short b InvalidType l s = absurd (let h = s.0.header in omega arith)
+only_short b InvalidChoiceType l s = absurd (let h = s.0.header in omega arith)
+only_short b MissingChoiceValues l s = absurd (let h = s.0.header in omega arith)
+only_short b WrongSize l s = absurd (let h = s.0.header in omega arith)
+
+pub stops_key : (keyed : Bool) (left : List ℕ) → keyed ≡ true → length left < header_size → 0 < length left → StopsAt keyed left left
+stops_key false left e l some = absurd (let t : false ≡ true = e in cc)
+stops_key true left e l some =
+    let f = short_there left (λ h. let k = h.header in omega arith) in
+    record {
+      refused = f.refused;
+      alone = f.alone;
+      stands = λ c s. (no_properties, [], left, refl, refl, inl (only_short left c l s, refl, (λ n. let z = ap length n in omega arith), l));
+    }
+
+pub stops_in : (keyed all : Bool) (left pods place : List ℕ) → ((k : Fault) (at : List ℕ) → StandsInside keyed left at k → StandsInside all pods at k) →
+    StopsAt keyed left place → StopsAt all pods place
+stops_in keyed all left pods place f s = record { refused = s.refused; alone = s.alone; stands = λ k a. f k place (s.stands k a) }
+
+-- what is known of the body at such a place
+pub record IsFaultyBody (type : ℕ) (body : List ℕ) : Type 0 where
+  pub refused : (v : Tree) → type_of v ≡ type → ¬ (IsBody v body)
+  pub no_struct : type ≢ struct_type
+  pub short : type ≡ object_type → length body < header_size
+
+pub faulty_body : (place body rest : List ℕ) (type : ℕ) → Opens place type body rest → IsRefused place → OpensHeaderAlone place → IsFaultyBody type body
+faulty_body place body rest type o r a = record {
+  refused = λ v t b. r v (pod_read place body rest type v o t b).begins;
+  no_struct = λ e. struct_there a (sym o.its_type ∙ e);
+  short = λ e. subst (λ b. length b < header_size) (sym o.its_body) (object_there a (sym o.its_type ∙ e));
+}
+  where
+    struct_there : OpensHeaderAlone place → word_at place 4 ≢ struct_type
+    struct_there (no_front n) e = n o.there
+    struct_there (no_parts s b) e = s e
+    struct_there (short_object t l) e = absurd (omega (arith, t, e))
+
+    object_there : OpensHeaderAlone place → word_at place 4 ≡ object_type → length (body_of place) < header_size
+    object_there (no_front n) e = absurd (n o.there)
+    object_there (no_parts s b) e = absurd (b e)
+    object_there (short_object t l) e = l
+
+-- a fault of that body stands at the front
+pub fault_at_front : (place body rest : List ℕ) (type : ℕ) (why : Refusal) → Opens place type body rest → Says (StandsInBody type body) ⊥ why →
+    Says (λ k. StandsAtFront k place) ⊥ why
+fault_at_front place body rest type why o s =
+    let stands : (k : Fault) → StandsInBody type body k → StandsAtFront k place = λ k i.
+    at_front_of place k o.there
+    (subst (λ b. StandsInBody (word_at place 4) b k) o.its_body (subst (λ t. StandsInBody t body k) o.its_type i)) in
+    says_through (StandsInBody type body) (λ k. StandsAtFront k place) ⊥ ⊥ stands (λ n. n) why s
+
+-- a body of a type of fixed size
+pub wrong_fixed : (type : ℕ) (body : List ℕ) (k : Kind) → type ≡ type_number k → ((v : Tree) → type_of v ≡ type → ¬ (IsBody v body)) → IsWrongSize type body
+wrong_fixed type body k e n =
+    let x = content k body in
+    let same = kind_of_content k body in
+    of_fixed k e
+    (λ l. n (fixed x) (ap type_number same ∙ sym e) (subst (λ j. IsFixedBody j body x) (sym same) (record { whole = l; says = refl })))
+
+pub wrong_pointer : (type : ℕ) (body : List ℕ) → type ≡ pointer_type → ((v : Tree) → type_of v ≡ type → ¬ (IsBody v body)) → IsWrongSize type body
+wrong_pointer type body e n =
+    of_pointer e
+    (λ l. n (pointer (word_at body 0) (word_at body 8)) (sym e) (refl, inl (l, refl)))
+    (λ l. n (pointer (word_at body 0) (wide_at body 8)) (sym e) (refl, inr (l, refl)))
+
+-- the body of an array over a type that there is
+pub wrong_array : (body : List ℕ) (k : Kind) → header_size ≤ length body → word_at body 4 ≡ type_number k →
+    ((v : Tree) → type_of v ≡ array_type → ¬ (IsBody v body)) → IsWrongArray k body
+wrong_array body k h t n = record {
+  header = h;
+  child_type = t;
+  wrong = elim (cases_eq (word_at body 0) (body_size k)) [
+    | inr e ↦ inl e
+    | inl e ↦ inr (λ many l.
+        let d = length-drop 8 body in
+        let w : AreWhole (body_size k) (drop 8 body) = record { many = many; count = omega arith } in
+        let s = steady_array body (drop 8 body) (record { header = h; its = record { kind = k; its_number = t; whole = w }; child_size = e; behind = refl }) in
+        n s.value s.its_type s.its_body)
+  ];
+}
+
+-- of no type
+pub no_elements : (body : List ℕ) (number len : ℕ) → number ≡ word_at body 4 → ((k : Kind) → number ≡ type_number k → len ≡ body_size k) → 8 < len →
+    header_size ≤ length body → IsInvalidType array_type body
+no_elements body number len e f l h = of_elements refl h (λ k t. let a = f k (e ∙ t) in let b = size_fits k in omega arith)
+
+pub no_values : (body : List ℕ) (number len : ℕ) → number ≡ word_at body 12 → ((k : Kind) → number ≡ type_number k → len ≡ body_size k) →
+    (len ≡ 0) ⊎ (8 < len) → choice_header_size ≤ length body → IsInvalidType choice_type body
+no_values body number len e f l h =
+    of_values refl h (λ k some t. let a = f k (e ∙ t) in let b = size_fits k in elim l [
+      | inl z ↦ omega arith
+      | inr z ↦ omega arith
+    ])
+
+-- the sizes of a choice's body aren't right
+pub wrong_choice : (body : List ℕ) (k : Kind) → choice_header_size ≤ length body → word_at body 12 ≡ type_number k → 0 < body_size k →
+    (word_at body 8 ≢ body_size k) ⊎ ((length body - 16) % body_size k ≢ 0) → IsWrongSize choice_type body
+wrong_choice body k h t some w =
+    let d = length-drop 8 body in
+    of_choice k refl some (record {
+      header = omega arith;
+      child_type = word_at-drop 8 4 body ∙ t;
+      wrong = elim w [
+        | inl n ↦ inl (λ e. n (sym (word_at-drop 8 0 body) ∙ e))
+        | inr n ↦ inr (λ many l. n (no_remainder (length body - 16) many (body_size k) some (omega arith)))
+      ];
+    })
+  where
+    no_remainder : (n many s : ℕ) → 0 < s → n ≡ many * s → n % s ≡ 0
+    no_remainder n many s p e = ap (λ m. m % s) e ∙ mul-mod_left many s
+
+-- a shape that there is
+pub shape_of : (n : ℕ) → n < 5 → (s : Shape) × (n ≡ shape_number s)
+shape_of zero l = (none_choice, refl)
+shape_of (suc zero) l = (range_choice, refl)
+shape_of (suc (suc zero)) l = (step_choice, refl)
+shape_of (suc (suc (suc zero))) l = (enum_choice, refl)
+shape_of (suc (suc (suc (suc zero)))) l = (flags_choice, refl)
+shape_of (suc (suc (suc (suc (suc n))))) l = absurd (omega arith)
+
+some_least : (s : Shape) → 0 < least_count s
+some_least none_choice = omega arith
+some_least range_choice = omega arith
+some_least step_choice = omega arith
+some_least enum_choice = omega arith
+some_least flags_choice = omega arith
+
+-- the body of a choice with enough values
+choice_there : (body : List ℕ) (s : Shape) (k : Kind) (many : ℕ) → choice_header_size ≤ length body → word_at body 0 ≡ shape_number s →
+    word_at body 8 ≡ body_size k → word_at body 12 ≡ type_number k → 0 < body_size k → length body - 16 ≡ many * body_size k → least_count s ≤ many →
+    (v : Tree) × (type_of v ≡ choice_type) × IsBody v body
+choice_there body s k many h w c t some e enough =
+    let d = length-drop 16 body in
+    let l = listed k many (drop 16 body) some (d ∙ e) in
+    of_values l.values l.its_values l.count
+  where
+    of_values : (xs : List Fixed) → AreElements k xs (drop 16 body) → length xs ≡ many → (v : Tree) × (type_of v ≡ choice_type) × IsBody v body
+    of_values [] a n = absurd (let p = some_least s in omega arith)
+    of_values (x ∷ xs) a n =
+        let d = length-drop 8 body in
+        let array : IsArray k (x ∷ xs) (drop 8 body) = record {
+          header = omega arith;
+          child_size = word_at-drop 8 0 body ∙ c;
+          child_type = word_at-drop 8 4 body ∙ t;
+          elements = subst (AreElements k (x ∷ xs)) (sym (drop-drop 8 8 body)) a;
+        } in (
+          choice s (kept_flags s (word_at body 4)) k x (values_taken s xs),
+          refl,
+          record { header = omega arith; shape = w; flags = refl; all = xs; values = array; enough = omega arith; first = refl },
+        )
+
+-- too few of them
+pub few_values : (body : List ℕ) (k : Kind) → choice_header_size ≤ length body → word_at body 0 < 5 → word_at body 8 ≡ body_size k →
+    word_at body 12 ≡ type_number k → 0 < body_size k → (length body - 16) % body_size k ≡ 0 →
+    ((v : Tree) → type_of v ≡ choice_type → ¬ (IsBody v body)) → LacksValues body
+few_values body k h w c t some m n =
+    let s = shape_of (word_at body 0) w in
+    let many = (length body - 16) / body_size k in
+    let all : length body - 16 ≡ many * body_size k = whole (length body - 16) (body_size k) m in
+    record {
+      header = h;
+      shape = s.0;
+      kind = k;
+      its_shape = s.1;
+      child_size = c;
+      child_type = t;
+      few = elim (cases_lt (length body) (16 + least_count s.0 * body_size k)) [
+        | inl l ↦ l
+        | inr l ↦
+            let room : least_count s.0 * body_size k ≤ many * body_size k = omega arith in
+            let v = choice_there body s.0 k many h s.1 c t some all (fewer (least_count s.0) many (body_size k) room some) in
+            absurd (n v.0 v.1 v.2)
+      ];
+    }
+  where
+    whole : (n s : ℕ) → n % s ≡ 0 → n ≡ n / s * s
+    whole n s e = grind arith

@@ -1,0 +1,93 @@
+-- What a look at pods finds: docs/FORMAT.md, "The encoding of a value", "Faults" and "Values".
+use Rattle.std.specs.Prelude.{◌≡◌, ◌≢◌, ◌+◌, ◌≤◌, ℕ, suc, List, [], length, drop, take, Bool, true, false, Decides}
+use Rattle.spa_format.specs.Front.{HasFront, IsRefused, rest_of}
+use Rattle.spa_format.specs.Faults.{Fault, Stands, StandsAtFront}
+use Rattle.spa_format.specs.Opened.{OpensHeaderAlone}
+use Rattle.spa_format.specs.Typed.{IsBytes}
+use Rattle.spa_bytes.specs.Opening.{Opens}
+use Rattle.spa_leaf.specs.Refusing.{Says, StandsInMembers, StandsInProperties}
+use Rattle.spa_scan.specs.Canonical.{AreCanonical, BeginsCanonical}
+use Rattle.spa_scan.specs.Depth.{NestsDeeper, levels_looked_into}
+use Rattle.spa_rewrite.specs.Nesting.{AreCanonicalInside}
+use Rattle.spa_rewrite.specs.Shorter.{AreShorter, AreShorterInside, BeginsShorter}
+use Rattle.spa_rewrite.specs.Steady.{IsBehindKey, IsInside}
+use Rattle.spa_rewrite.specs.declared.look.AcceptedPod.{AcceptedPod}
+use Rattle.spa_rewrite.specs.declared.look.AcceptedPods.{AcceptedPods}
+use Rattle.spa_rewrite.specs.declared.look.Found.{Found}
+use Rattle.spa_rewrite.specs.declared.look.Found.TheVariants as found
+use Rattle.spa_rewrite.specs.declared.look.Rejected.{Rejected}
+use Rattle.spa_rewrite.specs.declared.look.Rejected.TheVariants as rejected
+
+-- the fault stands at this place in one of the properties, or of the members
+abbrev pub StandsInside : Bool → List ℕ → List ℕ → Fault → Type 0
+StandsInside true pods = StandsInProperties pods
+StandsInside false pods = StandsInMembers pods
+
+-- The first of them is a struct or an object: what stands inside, and what follows it.
+pub record OpensInside (keyed : Bool) (left : List ℕ) (inner : Bool) (inside rest : List ℕ) : Type 0 where
+  pub here : List ℕ
+  pub type : ℕ
+  pub body : List ℕ
+  pub its_key : IsBehindKey keyed left here
+  pub opens : Opens here type body rest
+  pub its_inside : IsInside type body inner inside
+
+-- More than so many structs and objects stand in one another in one of them, not counting those that nothing follows in the one around them.
+pub data NestMore : ℕ → Bool → List ℕ → Type 0 where
+  nest_here : (keyed inner : Bool) (left inside rest : List ℕ) → OpensInside keyed left inner inside rest → rest ≢ [] → NestMore 0 keyed left
+  nest_inside : (n : ℕ) (keyed inner : Bool) (left inside rest : List ℕ) → OpensInside keyed left inner inside rest → rest ≢ [] → NestMore n inner inside → NestMore (suc n) keyed left
+  nest_last : (n : ℕ) (keyed inner : Bool) (left inside rest : List ℕ) → OpensInside keyed left inner inside rest → rest ≡ [] → NestMore n inner inside → NestMore n keyed left
+  nest_behind : (n : ℕ) (keyed : Bool) (left at : List ℕ) → IsBehindKey keyed left at → HasFront at → NestMore n keyed (rest_of at) → NestMore n keyed left
+
+-- The pod at the front nests in more levels than are looked into, also where those that nothing follows don't count.
+pub record IsTooDeep (input : List ℕ) : Type 0 where
+  pub nests : NestsDeeper levels_looked_into input
+  pub inner : Bool
+  pub inside : List ℕ
+  pub rest : List ℕ
+  pub opens : OpensInside false input inner inside rest
+  pub more : NestMore levels_looked_into inner inside
+
+-- They are accepted, and their encodings are so many bytes shorter; whether they are canonical.
+pub record AreLooked (keyed : Bool) (pods : List ℕ) (canonical : Bool) (surplus : ℕ) : Type 0 where
+  pub shorter : AreShorterInside keyed pods surplus
+  pub exactly : Decides canonical (AreCanonicalInside keyed pods)
+
+-- No pod begins there, for a fault that is in no member or property of it: a fault that stands at its front stands in them.
+pub record StopsAt (keyed : Bool) (pods place : List ℕ) : Type 0 where
+  pub refused : IsRefused place
+  pub alone : OpensHeaderAlone place
+  pub stands : (k : Fault) → StandsAtFront k place → StandsInside keyed pods place k
+
+-- what is found in members or properties, where so many lists can wait
+abbrev pub IsFound : ℕ → Bool → List ℕ → Found → Type 0
+IsFound waiting keyed pods (found.Fits canonical surplus) = AreLooked keyed pods canonical surplus
+IsFound waiting keyed pods (found.Stops place) = StopsAt keyed pods place.now
+IsFound waiting keyed pods found.TooDeep = NestMore waiting keyed pods
+
+-- The first members or properties are accepted and were passed, and this follows them: what is found of it holds of all.
+pub record Passes (keyed canonical : Bool) (left rest : List ℕ) (surplus : ℕ) : Type 0 where
+  pub shorter : (m : ℕ) → AreShorterInside keyed rest m → AreShorterInside keyed left (surplus + m)
+  pub own : canonical ≡ true → AreCanonicalInside keyed rest → AreCanonicalInside keyed left
+  pub kept : AreCanonicalInside keyed left → AreCanonicalInside keyed rest
+  pub stands : (k : Fault) (place : List ℕ) → StandsInside keyed rest place k → StandsInside keyed left place k
+  pub deep : (n : ℕ) → NestMore n keyed rest → NestMore n keyed left
+  pub bytes : IsBytes rest
+  pub room : surplus + length rest ≤ length left
+
+-- the pod at the front is accepted: what follows it, whether it is canonical, and by how much its encoding is shorter
+pub record IsAccepted (input : List ℕ) (pod : AcceptedPod) : Type 0 where
+  pub shorter : BeginsShorter input pod.rest.now pod.surplus
+  pub exactly : Decides pod.canonical (BeginsCanonical input pod.rest.now)
+
+-- why it isn't: a fault that stands, or too many levels
+abbrev pub IsRejected : List ℕ → Rejected → Type 0
+IsRejected input (rejected.Fault place why) = Says (λ k. Stands k place.now input) ⊥ why
+IsRejected input rejected.TooDeep = IsTooDeep input
+
+-- all pods are accepted: so many first bytes are canonical pods, behind which no canonical pod begins, and the encodings are so much shorter
+pub record AreAccepted (pods : List ℕ) (all : AcceptedPods) : Type 0 where
+  pub shorter : AreShorter pods all.surplus
+  pub within : all.canonical ≤ length pods
+  pub first : AreCanonical (take all.canonical pods)
+  pub most : (rest : List ℕ) → ¬ (BeginsCanonical (drop all.canonical pods) rest)

@@ -95,7 +95,8 @@ object_unread_by {X = X} reads m b e r o h w = record {
   memory = memory_to m (m × HasFront b) e (λ t. (t, o.opens.there)) w;
 }
 
--- the same of an object, by its type, its id and its properties
+-- A visitor that declines an object, and leaves properties unread, only where by type, id and properties it isn't read so makes a read
+-- that is refused exactly.
 pub object_exactly : {X : Type 0} (reads : Tree → X → Type 0) (by : ℕ → ℕ → Properties → X → Type 0) (m : Type 0)
     (declines : ObjectReader → ObjectReader → DeserializeError (Bor (List ℕ)) → Type 0) (leaves : ObjectReader → ObjectReader → Type 0)
     (b : List ℕ) (e : DeserializeError (Bor (List ℕ))) → ((v : Tree) (x : X) → reads v x → ReadsObjectBy by v x) →

@@ -13,7 +13,7 @@ use Rattle.spa_typed_read.specs.Asking.{LacksObject}
 use Rattle.spa_typed_read.specs.Exactly.{AreUnread, IsUnread, ReadsStruct, RefusesExactly}
 use Rattle.spa_typed_read.specs.ExactlyLaws.{fault_there, fault_to, memory_to}
 use Rattle.spa_typed_read.specs.Lookup.{NoneRead, ReadsObjectBy}
-use Rattle.spa_typed_read.specs.Members.{ObjectReader, OpensObject}
+use Rattle.spa_typed_read.specs.Members.{ObjectReader, OpensObject, Reader}
 use Rattle.spa_typed_read.specs.Visiting.{DeclinesExactly, DeclinesExactlyIn, LeavesExactly, LeavesExactlyIn, RefusesObject, RefusesStruct, declined_object, declined_struct, failed_object, failed_struct, no_object, no_struct, unread_object, unread_struct}
 use Rattle.spa_typed_read.proofs.Exactly.{lacks_memory, lacks_short, none_opened, opened_object, struct_unopened, struct_unread}
 
@@ -42,13 +42,34 @@ property_whole b k f v ps l x y g m =
 
 -- Exactly.
 
-pub struct_exactly : {X : Type 0} (reads : Trees → X → Type 0) (m : Type 0) (b : List ℕ) (e : DeserializeError (Bor (List ℕ))) →
-    RefusesStruct (DeclinesExactly reads m) (LeavesExactly reads) b e → RefusesExactly (λ v (x : X). ReadsStruct reads v x) m b e
-struct_exactly reads m b e (no_struct h) = struct_unopened reads b e m h
-struct_exactly reads m b e (declined_struct lent now o f d) = struct_unread reads b e lent m o (d.unread o.good) (d.memory o.good)
-struct_exactly reads m b e (failed_struct lent now o l f i) = absurd (cc (l.good o.good, f))
-struct_exactly reads m b e (unread_struct lent now o a l n i) =
-    struct_unread reads b e lent m o (fault_there (AreUnread reads lent.left) e (l.unread o.good n)) (subst (OnMemory m) (sym i) tt)
+-- what isn't read so isn't read as something that says more
+exactly_as : {X : Type 0} (reads others : Tree → X → Type 0) (m : Type 0) (b : List ℕ) (e : DeserializeError (Bor (List ℕ))) →
+    ((v : Tree) (x : X) → others v x → reads v x) → RefusesExactly reads m b e → RefusesExactly others m b e
+exactly_as reads others m b e to r = record {
+  unread = fault_to (IsUnread reads b) (IsUnread others b) e (λ n v x g h. n v x g (to v x h)) r.unread;
+  short_first = r.short_first;
+  memory = r.memory;
+}
+
+-- A visitor that declines a struct, and leaves members unread, only where its members aren't read so makes a read that is refused
+-- exactly.
+pub struct_exactly : {X : Type 0} (reads : Tree → X → Type 0) (members : Trees → X → Type 0) (m : Type 0)
+    (declines : Reader → Reader → DeserializeError (Bor (List ℕ)) → Type 0) (leaves : Reader → Reader → Type 0) (b : List ℕ)
+    (e : DeserializeError (Bor (List ℕ))) → ((v : Tree) (x : X) → reads v x → ReadsStruct members v x) →
+    ((lent now : Reader) → declines lent now e → DeclinesExactly members m lent now e) →
+    ((lent now : Reader) → leaves lent now → LeavesExactly members lent now) → RefusesStruct declines leaves b e →
+    RefusesExactly reads m b e
+struct_exactly {X = X} reads members m declines leaves b e to d l r = exactly_as (λ v (x : X). ReadsStruct members v x) reads m b e to (by r)
+  where
+    by : RefusesStruct declines leaves b e → RefusesExactly (λ v (x : X). ReadsStruct members v x) m b e
+    by (no_struct h) = struct_unopened members b e m h
+    by (declined_struct lent now o f h) =
+        let k = d lent now h in
+        struct_unread members b e lent m o (k.unread o.good) (k.memory o.good)
+    by (failed_struct lent now o h f i) = absurd (cc ((l lent now h).good o.good, f))
+    by (unread_struct lent now o a h n i) =
+        struct_unread members b e lent m o (fault_there (AreUnread members lent.left) e ((l lent now h).unread o.good n))
+        (subst (OnMemory m) (sym i) tt)
 
 object_unopened_by : {X : Type 0} (reads : ℕ → ℕ → Properties → X → Type 0) (m : Type 0) (b : List ℕ)
     (e : DeserializeError (Bor (List ℕ))) → LacksObject b e → RefusesExactly (λ v (x : X). ReadsObjectBy reads v x) m b e
@@ -74,12 +95,22 @@ object_unread_by {X = X} reads m b e r o h w = record {
   memory = memory_to m (m × HasFront b) e (λ t. (t, o.opens.there)) w;
 }
 
-pub object_exactly : {X : Type 0} (reads : ℕ → ℕ → Properties → X → Type 0) (m : Type 0) (b : List ℕ)
-    (e : DeserializeError (Bor (List ℕ))) → RefusesObject (DeclinesExactlyIn reads m) (LeavesExactlyIn reads) b e →
-    RefusesExactly (λ v (x : X). ReadsObjectBy reads v x) m b e
-object_exactly reads m b e (no_object h) = object_unopened_by reads m b e h
-object_exactly reads m b e (declined_object lent now o f d) = object_unread_by reads m b e lent o (d.unread o.good) (d.memory o.good)
-object_exactly reads m b e (failed_object lent now o l f i) = absurd (cc (l.good o.good, f))
-object_exactly reads m b e (unread_object lent now o a l n i) =
-    object_unread_by reads m b e lent o
-    (fault_there (NoneRead (reads lent.type lent.id) lent.reader.left) e (l.unread o.good n)) (subst (OnMemory m) (sym i) tt)
+-- A visitor that declines an object, and leaves properties unread, only where by type, id and properties it isn't read so makes a read
+-- that is refused exactly.
+pub object_exactly : {X : Type 0} (reads : Tree → X → Type 0) (by : ℕ → ℕ → Properties → X → Type 0) (m : Type 0)
+    (declines : ObjectReader → ObjectReader → DeserializeError (Bor (List ℕ)) → Type 0) (leaves : ObjectReader → ObjectReader → Type 0)
+    (b : List ℕ) (e : DeserializeError (Bor (List ℕ))) → ((v : Tree) (x : X) → reads v x → ReadsObjectBy by v x) →
+    ((lent now : ObjectReader) → declines lent now e → DeclinesExactlyIn by m lent now e) →
+    ((lent now : ObjectReader) → leaves lent now → LeavesExactlyIn by lent now) → RefusesObject declines leaves b e →
+    RefusesExactly reads m b e
+object_exactly {X = X} reads by m declines leaves b e to d l r = exactly_as (λ v (x : X). ReadsObjectBy by v x) reads m b e to (refused r)
+  where
+    refused : RefusesObject declines leaves b e → RefusesExactly (λ v (x : X). ReadsObjectBy by v x) m b e
+    refused (no_object h) = object_unopened_by by m b e h
+    refused (declined_object lent now o f h) =
+        let k = d lent now h in
+        object_unread_by by m b e lent o (k.unread o.good) (k.memory o.good)
+    refused (failed_object lent now o h f i) = absurd (cc ((l lent now h).good o.good, f))
+    refused (unread_object lent now o a h n i) =
+        object_unread_by by m b e lent o
+        (fault_there (NoneRead (by lent.type lent.id) lent.reader.left) e ((l lent now h).unread o.good n)) (subst (OnMemory m) (sym i) tt)

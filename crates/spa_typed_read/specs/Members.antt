@@ -1,5 +1,5 @@
 -- Readers of a struct's members and of an object's properties: what they have left, and what their calls take.
-use Rattle.std.specs.Prelude.{◌≡◌, ◌≢◌, ℕ, ◌+◌, ◌*◌, ◌≤◌, ◌⊎◌, Bool, true, false, List, [], ◌∷◌, ◌++◌, length, drop, map, take}
+use Rattle.std.specs.Prelude.{◌≡◌, ◌≢◌, ℕ, ◌+◌, ◌*◌, ◌<◌, ◌≤◌, ◌⊎◌, Bool, true, false, List, [], ◌∷◌, ◌++◌, length, drop, map, take}
 use Rattle.spa_format.specs.Words.{word_at, header_size}
 use Rattle.spa_format.specs.Kind.{Kind, Fixed, IsFixedBody, body_size, type_number}
 use Rattle.spa_format.specs.Tree.{Tree, Trees, Properties, array, array_type, object_type, struct_type}
@@ -9,7 +9,7 @@ use Rattle.spa_bytes.specs.Opening.{Opens}
 use Rattle.std.specs.Borrow.{Bor}
 use Rattle.spa_fixed.specs.declared.fault.DeserializeError.{DeserializeError}
 use Rattle.spa_fixed.specs.declared.fault.DeserializeError.TheVariants as error
-use Rattle.spa_leaf.specs.Reading.{IsRead}
+use Rattle.spa_leaf.specs.Reading.{IsRead, IsShortAt}
 
 -- what a reader has left of its body, what follows the pod, and whether the reader has failed
 pub record Reader : Type 0 where
@@ -118,6 +118,13 @@ pub data RefusesKey (Takes : ℕ → ℕ → Type 0) (key : ℕ) (old new : Obje
   fails : new.reader.failed ≡ true → RefusesKey Takes key old new e
   missing : e ≡ error.PropertyMissing → AtEnd old.reader → new ≡ old → RefusesKey Takes key old new e
   wrong_key : (found flags : ℕ) → e ≡ error.PropertyWrongKey found → found ≢ key → Takes found flags → RefusesKey Takes key old new e
+
+-- Why the next property isn't read under a key: none is left; its key is short, or another one; or its value is refused.
+pub data RefusesNext (refuses : List ℕ → DeserializeError (Bor (List ℕ)) → Type 0) (key : ℕ) (b : List ℕ) (e : DeserializeError (Bor (List ℕ))) : Type 0 where
+  key_missing : b ≡ [] → e ≡ error.PropertyMissing → RefusesNext refuses key b e
+  key_short : b ≢ [] → length b < header_size → IsShortAt b e → RefusesNext refuses key b e
+  key_other : header_size ≤ length b → word_at b 0 ≢ key → e ≡ error.PropertyWrongKey (word_at b 0) → RefusesNext refuses key b e
+  value_refused : header_size ≤ length b → refuses (drop header_size b) e → RefusesNext refuses key b e
 
 -- an array's reader: how many elements are left, what has them, and what follows the array
 pub record ArrayReader : Type 0 where

@@ -4,7 +4,7 @@ ghost use Rattle.spa_fixed.specs.declared.fault.DeserializeError.TheVariants as 
 ghost use Rattle.spa_format.specs.Words.{header_size};
 ghost use Rattle.spa_typed_read.specs.Asking.{LacksObject};
 ghost use Rattle.spa_typed_read.specs.Lookup.{FindsFirst, FindsIn, HoldsDeep, RefusesProperties, RefusesUnder};
-ghost use Rattle.spa_typed_read.specs.Members.{AtEnd, FurtherIn, OpensObject, RefusesEnd, RefusesKey, TakesProperty};
+ghost use Rattle.spa_typed_read.specs.Members.{AtEnd, FurtherIn, OpensObject, RefusesEnd, RefusesKey, RefusesNext, TakesProperty};
 ghost use Rattle.spa_leaf.specs.Reading.{IsShortAt, OnMemory};
 
 use crate::deserializer::{DeserializeSuccess, PodDeserialize, PodDeserializer};
@@ -144,6 +144,8 @@ impl<'de> ObjectPodDeserializer<'de> {
         ensures refused { IfErr result (RefusesKey (λ found flags. (x : P) × TakesProperty self.old self.new found flags (λ value. P.reads value x)) key self.old self.new) }
         ensures short { self.old.reader.failed ≡ false → self.old.reader.left ≢ [] → length self.old.reader.left < header_size → IsErrAnd result (IsShortAt self.old.reader.left) }
         ensures value { self.old.reader.failed ≡ false → header_size ≤ length self.old.reader.left → IfErr result (λ e. self.new.reader.failed ≡ true → P.refuses (drop header_size self.old.reader.left) e) }
+        // So a reader that hadn't failed is refused for the next property's cause.
+        ensures cause { self.old.reader.failed ≡ false → IfErr result (RefusesNext P.refuses key self.old.reader.left) }
     {
         match self.deserialize_property::<P>() {
             Ok(Some((value, found, flags))) => {

@@ -2,3 +2,5 @@ pub mod Lists
 pub mod Modes
 pub mod Values
 pub mod Controls
+pub mod Captures
+pub mod Gains

@@ -1,1 +1,3 @@
+pub mod Capture
 pub mod Control
+pub mod Gain

@@ -19,7 +19,7 @@ use libspa::utils::Float32;
 use std::alloc::{AllocError, Global};
 
 /// The key of a volume, which PipeWire calls `SPA_PROP_volume`.
-const VOLUME: u32 = 65539;
+pub(crate) const VOLUME: u32 = 65539;
 
 /// Properties that are kept as they are. What they hold may be nested deep, so they are let go by a loop.
 pub struct Kept {

@@ -1,18 +1,22 @@
 //! Types of a program's own, written as pods. They know the library by its contracts alone.
 #![tactic(auto)]
 
+mod capture;
 mod control;
 mod curve;
 mod format;
+mod gain;
 mod level;
 mod mode;
 mod screen;
 mod song;
 mod tagged;
 
+pub use capture::Capture;
 pub use control::{Control, with_volume};
 pub use curve::{Curve, put_curve};
 pub use format::{AudioFormat, put_format};
+pub use gain::Gain;
 pub use level::{Level, Pair};
 pub use mode::{Mode, Size, put_mode, read_mode, sent};
 pub use screen::{Device, Screen};

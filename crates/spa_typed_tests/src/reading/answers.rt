@@ -8,7 +8,8 @@ use crate::reading::structs::{Idle, Stubborn, screen_said};
 use crate::reading::visitors::called;
 use spa_fixed::DeserializeError;
 use spa_spelling::bytes_spelled;
-use spa_typed_read::{PodDeserialize, PodDeserializer};
+use spa_typed_read::{PodDeserialize, PodDeserializer, StructOf};
+use spa_uses::{Capture, Gain};
 use spa_utils::{Choice, Fd, Float32, Float64, Fraction, Id, Rectangle};
 use spa_value::Bitmap;
 use std::alloc::{AllocError, Global};
@@ -29,10 +30,11 @@ fn answer<'de, P: PodDeserialize<'de> + Debug>(
     }
 }
 
-/// The name of a refusal.
+/// The name of a refusal, or the key that is another one.
 pub(crate) fn refused(alloc: Global, error: DeserializeError<&[u8]>) -> Result<String, AllocError> {
     match error {
         DeserializeError::OutOfMemory => Err(AllocError),
+        DeserializeError::PropertyWrongKey(key) => format!(in alloc; "not {key}"),
         error => String::from_str(alloc, error.kind()),
     }
 }
@@ -112,6 +114,9 @@ fn own(alloc: Global, name: &str, input: &[u8]) -> Result<String, AllocError> {
         "steps" => steps_said(alloc, input),
         "marks" => marks_said(alloc, input),
         "first mark" => verdict::<First>(alloc, input),
+        "capture" => answer::<Capture>(alloc, input),
+        "gain" => answer::<Gain>(alloc, input),
+        "capture and gain" => verdict::<StructOf<(Capture, (Gain, ()))>>(alloc, input),
         _ => call_said(alloc, name, input),
     }
 }
@@ -246,7 +251,33 @@ steps | 20 13 4 4 10 15 19 0 | [10, 15, 19]
 marks | 8 13 0 1 | 0
 first mark | 8 13 0 1 | NoElementLeft"#;
 
-const TABLES: &[&str] = &[READ, CALLS, OWN, BUILT];
+/// A struct and an object that visitors of their own read: whole, without what may be missing, and with each cause for which they are
+/// refused; and both as the members of a declared struct.
+const VISITED: &str =
+    r#"capture | 32 14 8 10 640 480 8 11 25 1 | Capture { size: Rectangle { width: 640, height: 480 }, rate: Some(Fraction { num: 25, denom: 1 }) }
+capture | 16 14 8 10 640 480 | Capture { size: Rectangle { width: 640, height: 480 }, rate: None }
+capture | 0 14 | PropertyMissing
+capture | 16 14 4 4 3 0 | Tag
+capture | 16 14 4 10 640 0 | WrongSize
+capture | 32 14 8 10 640 480 4 4 25 0 | Tag
+capture | 24 14 8 10 640 480 8 11 | Short
+capture | 48 14 8 10 640 480 8 11 25 1 8 11 25 1 | UnreadMembers
+capture | 8 15 262146 2 | Tag
+gain | 32 15 262146 2 65539 16 4 6 1036831949 0 | Gain { id: 2, volume: Float32(1036831949), flags: PropertyFlags(16) }
+gain | 32 15 262146 7 65539 0 4 6 0 0 | Gain { id: 7, volume: Float32(0), flags: PropertyFlags(0) }
+gain | 32 15 5 2 65539 0 4 6 1036831949 0 | UnsupportedType
+gain | 8 15 262146 2 | PropertyMissing
+gain | 12 15 262146 2 65539 0 | Short
+gain | 32 15 262146 2 65540 0 4 6 1036831949 0 | not 65540
+gain | 32 15 262146 2 65540 0 4 2 1 0 | Tag
+gain | 24 15 262146 2 65539 0 4 6 | Short
+gain | 56 15 262146 2 65539 0 4 6 1036831949 0 65540 0 4 2 1 0 | UnreadMembers
+gain | 4 15 262146 0 | WrongSize
+gain | 16 14 4 4 3 0 | Tag
+capture and gain | 64 14 16 14 8 10 640 480 32 15 262146 2 65539 16 4 6 1036831949 0 | accepted
+capture and gain | 64 14 16 14 8 10 640 480 32 15 262146 2 65540 16 4 6 1036831949 0 | not 65540"#;
+
+const TABLES: &[&str] = &[READ, CALLS, OWN, VISITED, BUILT];
 
 /// The tables: they are named here alone, as a function that names a long table is proved with all of it.
 fn tables() -> &'static [&'static str] {

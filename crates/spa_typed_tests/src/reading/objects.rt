@@ -83,7 +83,6 @@ pub(crate) fn device_said(alloc: Global, input: &[u8]) -> Result<String, AllocEr
     );
     match read {
         Ok((_, device)) => told(alloc, device.name, device.volume),
-        Err(DeserializeError::PropertyWrongKey(key)) => format!(in alloc; "not {key}"),
         Err(error) => refused(alloc, error),
     }
 }

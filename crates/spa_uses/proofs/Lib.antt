@@ -2,3 +2,4 @@ pub mod Lists
 pub mod Modes
 pub mod Values
 pub mod Controls
+pub mod Latencies

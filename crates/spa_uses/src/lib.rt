@@ -4,6 +4,7 @@
 mod control;
 mod curve;
 mod format;
+mod latency;
 mod level;
 mod mode;
 mod screen;
@@ -13,6 +14,7 @@ mod tagged;
 pub use control::{Control, with_volume};
 pub use curve::{Curve, put_curve};
 pub use format::{AudioFormat, put_format};
+pub use latency::{Latency, latencies_come_back, read_latency};
 pub use level::{Level, Pair};
 pub use mode::{Mode, Size, put_mode, read_mode, sent};
 pub use screen::{Device, Screen};

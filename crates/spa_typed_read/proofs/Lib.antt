@@ -3,7 +3,9 @@ pub mod Causes
 pub mod Elements
 pub mod Exactly
 pub mod Fronts
+pub mod Looked
 pub mod Lookups
 pub mod Placed
 pub mod Stepping
 pub mod Visits
+pub mod Written

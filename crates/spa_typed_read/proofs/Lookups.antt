@@ -1,6 +1,8 @@
 -- Properties that are looked up by their keys, and those that are skipped.
-use Rattle.std.proofs.Common.{◌≡◌, ◌≢◌, ℕ, ◌<◌, ◌≤◌, inl, inr, List, [], length, drop, refl, sym, ap, ◌∙◌, subst, arith, ⊎_elim, Some, None, false}
-use Rattle.std.specs.Prelude.{Option, MatchOption, ◌⊎◌}
+use Rattle.std.proofs.Common.{◌≡◌, ◌≢◌, ℕ, ◌<◌, ◌≤◌, List, [], length, drop, refl, sym, ap, ◌∙◌, subst, arith, ⊎_elim, Some, None, false}
+use Rattle.std.specs.Prelude.{Bool, IfNone, Option, MatchOption, ◌==◌, if◌then◌else◌, true}
+use Rattle.std.specs.Option.{unwrap_or}
+use Rattle.std.specs.Cmp.{unsigned_Decides}
 use Rattle.std.specs.Borrow.{Bor}
 use Rattle.std.proofs.lemmas.Bool.{cases_lt}
 use Rattle.spa_format.specs.Words.{header_size, word_at}
@@ -10,70 +12,51 @@ use Rattle.spa_format.specs.Front.{HasFront, Begins, IsRefused, front_of, rest_o
 use Rattle.spa_format.proofs.Fronts.{front_of_whole}
 use Rattle.spa_format.proofs.Sequences.{props_left}
 use Rattle.spa_format.proofs.Unique.{one_value}
-use Rattle.spa_fixed.specs.declared.fault.DeserializeError.TheVariants as error
 use Rattle.spa_fixed.specs.declared.fault.DeserializeError.{DeserializeError}
 use Rattle.spa_typed_read.specs.ExactlyLaws.{fault_there, fault_to, memory_to}
 use Rattle.spa_typed_read.proofs.Causes.{short_no_memory}
 use Rattle.spa_typed_read.specs.Exactly.{IsUnread, RefusesExactly}
-use Rattle.spa_typed_read.specs.Lookup.{AreNoProperties, HasFirst, IsUnder, LacksProperty, LeadsTo, NoneRead, RefusesUnder, arrived, behind_another, short_key, short_pod, under_key}
+use Rattle.spa_typed_read.specs.Lookup.{AreNoProperties, FindsFirst, FindsIn, HasFirst, IsUnder, LacksProperty, LeadsTo, LeadsToAll, NoneRead, RefusesUnder, arrived, behind_another, place_or, short_key, short_pod, under_key, value_under}
 use Rattle.spa_typed_read.specs.Members.{FurtherIn, ObjectReader}
 use Rattle.spa_leaf.specs.Reading.{IsRead, OnFault, OnMemory, RefusesInput}
 
--- these properties, behind some first ones that aren't under the key, are those
-abbrev pub IsBehind : ℕ → Properties → Properties → Type 0
-IsBehind key no_properties qs = qs ≡ no_properties
-IsBehind key (property k flags v ps) qs = (qs ≡ property k flags v ps) ⊎ ((k ≢ key) × IsBehind key ps qs)
+-- The first one is under the key, or another is.
 
-behind_same : (key : ℕ) (ps : Properties) → IsBehind key ps ps
-behind_same key no_properties = refl
-behind_same key (property k flags v ps) = inl refl
+is_under : (key k : ℕ) (v : Tree) (o : Option Tree) (b : Bool) → (k ≡ key → b ≡ true) → k ≡ key → (if b then Some v else o) ≡ Some v
+is_under key k v o true is e = refl
+is_under key k v o false is e = absurd (cc (is e))
 
-behind_more : (key k flags : ℕ) (v : Tree) (ps qs : Properties) → IsBehind key ps (property k flags v qs) → k ≢ key → IsBehind key ps qs
-behind_more key k flags v no_properties qs b n = absurd (cc b)
-behind_more key k flags v (property j g w ps) qs b n =
-    ⊎_elim
-    (λ e.
-    let same_key : k ≡ j = cc e in
-    let same_rest : qs ≡ ps = cc e in
-    inr ((λ i. n (same_key ∙ i)), subst (λ rs. IsBehind key ps rs) (sym same_rest) (behind_same key ps)))
-    (λ h. inr (h.0, behind_more key k flags v ps qs h.1 n)) b
+is_another : (key k : ℕ) (v : Tree) (o : Option Tree) (b : Bool) → (b ≡ true → k ≡ key) → k ≢ key → (if b then Some v else o) ≡ o
+is_another key k v o true is n = absurd (n (is refl))
+is_another key k v o false is n = refl
 
-behind_first : (key k flags : ℕ) (v : Tree) (P : Tree → Type 0) (ps qs : Properties) → IsBehind key ps (property k flags v qs) →
-    k ≡ key → P v → HasFirst key P ps
-behind_first key k flags v P no_properties qs b e p = absurd (cc b)
-behind_first key k flags v P (property j g w ps) qs b e p =
-    ⊎_elim
-    (λ i.
-    let same_key : k ≡ j = cc i in
-    let same_value : v ≡ w = cc i in
-    inl (sym same_key ∙ e, subst P same_value p))
-    (λ h. inr (h.0, behind_first key k flags v P ps qs h.1 e p)) b
+first_under : (key k flags : ℕ) (v : Tree) (ps : Properties) → k ≡ key → value_under key (property k flags v ps) ≡ Some v
+first_under key k flags v ps e = is_under key k v (value_under key ps) (k == key) (unsigned_Decides k key).1 e
 
-behind_none : (key : ℕ) (ps : Properties) → IsBehind key ps no_properties → LacksProperty key ps
-behind_none key no_properties b = tt
-behind_none key (property j g w ps) b = ⊎_elim (λ e. absurd (cc e)) (λ h. (h.0, behind_none key ps h.1)) b
+behind_first : (key k flags : ℕ) (v : Tree) (ps : Properties) → k ≢ key → value_under key (property k flags v ps) ≡ value_under key ps
+behind_first key k flags v ps n = is_another key k v (value_under key ps) (k == key) (unsigned_Decides k key).0 n
 
 -- from here to there no property is under the key
 pub record Passes (key : ℕ) (b c : List ℕ) : Type 0 where
-  pub each : (ps : Properties) → AreProperties ps b → (qs : Properties) × AreProperties qs c × IsBehind key ps qs
+  pub each : (ps : Properties) → AreProperties ps b → (qs : Properties) × AreProperties qs c × (value_under key ps ≡ value_under key qs)
 
 pub passes_none : (key : ℕ) (b : List ℕ) → Passes key b b
-passes_none key b = record { each = λ ps m. (ps, m, behind_same key ps) }
+passes_none key b = record { each = λ ps m. (ps, m, refl) }
 
 -- the first property of what is left: its key, its flags, the pod of its value, and what follows it
-record First (c : List ℕ) (qs : Properties) : Type 0 where
-  key : ℕ
-  flags : ℕ
-  value : Tree
-  others : Properties
-  is : qs ≡ property key flags value others
-  long : header_size ≤ length c
-  its_key : key ≡ word_at c 0
-  its_flags : flags ≡ word_at c 4
-  begins : Begins (drop header_size c) value
-  are : AreProperties others (rest_of (drop header_size c))
+pub record First (c : List ℕ) (qs : Properties) : Type 0 where
+  pub key : ℕ
+  pub flags : ℕ
+  pub value : Tree
+  pub others : Properties
+  pub is : qs ≡ property key flags value others
+  pub long : header_size ≤ length c
+  pub its_key : key ≡ word_at c 0
+  pub its_flags : flags ≡ word_at c 4
+  pub begins : Begins (drop header_size c) value
+  pub are : AreProperties others (rest_of (drop header_size c))
 
-first_of_all : (c : List ℕ) (qs : Properties) → c ≢ [] → AreProperties qs c → First c qs
+pub first_of_all : (c : List ℕ) (qs : Properties) → c ≢ [] → AreProperties qs c → First c qs
 first_of_all c no_properties n m = absurd (n m)
 first_of_all c (property k f v qs) n m =
     let a = front_of_whole (drop header_size c) m.3 m.4 _ _ m.5 m.6 in
@@ -99,7 +82,7 @@ passes_one key b c rest p n other e = record {
       let f = first_of_all c h.0 n h.1 in (
         f.others,
         subst (AreProperties f.others) (sym e) f.are,
-        behind_more key f.key f.flags f.value ps f.others (subst (IsBehind key ps) f.is h.2) (λ i. other (sym f.its_key ∙ i)),
+        h.2 ∙ ap (value_under key) f.is ∙ behind_first key f.key f.flags f.value f.others (λ i. other (sym f.its_key ∙ i)),
       );
 }
 
@@ -109,14 +92,14 @@ pub found_first : (key : ℕ) (b c : List ℕ) (P : Tree → Type 0) → Passes 
 found_first key b c P p n same holds ps m =
     let h = p.each ps m in
     let f = first_of_all c h.0 n h.1 in
-    behind_first key f.key f.flags f.value P ps f.others (subst (IsBehind key ps) f.is h.2) (f.its_key ∙ same)
-    (holds f.value f.begins)
+    let found = h.2 ∙ ap (value_under key) f.is ∙ first_under key f.key f.flags f.value f.others (f.its_key ∙ same) in
+    subst (λ o. MatchOption o ⊥ P) (sym found) (holds f.value f.begins)
 
 -- there is none
 pub found_none : (key : ℕ) (b c : List ℕ) → Passes key b c → c ≡ [] → (ps : Properties) → AreProperties ps b → LacksProperty key ps
 found_none key b c p e ps m =
     let h = p.each ps m in
-    behind_none key ps (subst (IsBehind key ps) (nothing c h.0 e h.1) h.2)
+    h.2 ∙ ap (value_under key) (nothing c h.0 e h.1)
   where
     nothing : (c : List ℕ) (qs : Properties) → c ≡ [] → AreProperties qs c → qs ≡ no_properties
     nothing c no_properties e m = refl
@@ -138,20 +121,15 @@ cut_pod key b c p n short ps m =
 
 -- Where a walk over whole properties leads to.
 
-some_long : (c : List ℕ) → header_size ≤ length c → c ≢ []
+pub some_long : (c : List ℕ) → header_size ≤ length c → c ≢ []
 some_long c l none = absurd (let e = ap length none in omega (arith, l, e))
-
-behind_trans : (key : ℕ) (ps qs rs : Properties) → IsBehind key ps qs → IsBehind key qs rs → IsBehind key ps rs
-behind_trans key no_properties qs rs b c = subst (λ q. IsBehind key q rs) b c
-behind_trans key (property k f v ps) qs rs b c =
-    ⊎_elim (λ e. subst (λ q. IsBehind key q rs) e c) (λ h. inr (h.0, behind_trans key ps qs rs h.1 c)) b
 
 passes_trans : (key : ℕ) (b c d : List ℕ) → Passes key b c → Passes key c d → Passes key b d
 passes_trans key b c d p q = record {
   each = λ ps m.
       let h = p.each ps m in
       let k = q.each h.0 h.1 in
-      (k.0, k.1, behind_trans key ps h.0 k.0 h.2 k.2);
+      (k.0, k.1, h.2 ∙ k.2);
 }
 
 -- of properties it leads past those that aren't under the key
@@ -161,13 +139,47 @@ leads_passes key left b (behind_another _ l n h more) =
     passes_trans key b (rest_of (drop header_size b)) left (passes_one key b b _ (passes_none key b) (some_long b l) n refl)
     (leads_passes key left _ more)
 
--- and it leads on over one more
+-- and on from where another one led
+pub leads_from : (key : ℕ) (c d b : List ℕ) → LeadsTo key c b → LeadsTo key d c → LeadsTo key d b
+leads_from key c d b (arrived _ e) more = subst (LeadsTo key d) (sym e) more
+leads_from key c d b (behind_another _ l n h on) more = behind_another b l n h (leads_from key c d _ on more)
+
+-- and over one more
 pub leads_on : (key : ℕ) (c d b : List ℕ) → LeadsTo key c b → header_size ≤ length c → word_at c 0 ≢ key →
     HasFront (drop header_size c) → d ≡ rest_of (drop header_size c) → LeadsTo key d b
-leads_on key c d b (arrived _ e) l n h r =
-    behind_another b (subst (λ x. header_size ≤ length x) (sym e) l) (subst (λ x. word_at x 0 ≢ key) (sym e) n)
-    (subst (λ x. HasFront (drop header_size x)) (sym e) h) (arrived _ (ap (λ x. rest_of (drop header_size x)) e ∙ sym r))
-leads_on key c d b (behind_another _ m o i more) l n h r = behind_another b m o i (leads_on key c d _ more l n h r)
+leads_on key c d b led l n h r = leads_from key c d b led (behind_another c l n h (arrived _ (sym r)))
+
+-- Where the search for several keys is led to.
+
+pub all_from : (asks others : ℕ → Type 0) (c d b : List ℕ) → ((key : ℕ) → others key → asks key) → LeadsToAll asks c b →
+    LeadsToAll others d c → LeadsToAll others d b
+all_from asks others c d b to led more = record { each = λ key a. leads_from key c d b (led.each key (to key a)) (more.each key a) }
+
+-- from the place that was met, or from what is left behind one more that is under none of them
+pub all_on : (asks : ℕ → Type 0) (met : Option (Bor (List ℕ))) (c d b : List ℕ) → LeadsToAll asks (place_or met c) b →
+    IfNone met (¬ (asks (word_at c 0))) → header_size ≤ length c → HasFront (drop header_size c) →
+    d ≡ rest_of (drop header_size c) → LeadsToAll asks (place_or met d) b
+all_on asks None c d b led none l h e =
+    record { each = λ key a. leads_on key c d b (led.each key a) l (λ i. none (subst asks (sym i) a)) h e }
+all_on asks (Some p) c d b led none l h e = led
+
+pub unwrapped : (met : Option (Bor (List ℕ))) (left : Bor (List ℕ)) → place_or met left.now ≡ (unwrap_or met left).now
+unwrapped None left = refl
+unwrapped (Some p) left = refl
+
+-- What is found from there on is found from the front on.
+
+pub finds_from : {X : Type 0} (reads : Tree → X → Type 0) (key : ℕ) (c b : List ℕ) (read : Option X) → LeadsTo key c b →
+    FindsIn reads key c read → FindsIn reads key b read
+finds_from reads key c b None led f = leads_from key c [] b led f
+finds_from reads key c b (Some x) led f =
+    record { left = f.left; leads = leads_from key c f.left b led f.leads; header = f.header; its_key = f.its_key; rest = f.rest; value = f.value }
+
+pub refused_from : (refuses : List ℕ → DeserializeError (Bor (List ℕ)) → Type 0) (key : ℕ) (c b : List ℕ)
+    (e : DeserializeError (Bor (List ℕ))) → LeadsTo key c b → RefusesUnder refuses key c e → RefusesUnder refuses key b e
+refused_from refuses key c b e led (short_key left l n s i) = short_key left (leads_from key c left b led l) n s i
+refused_from refuses key c b e led (short_pod left l long s i) = short_pod left (leads_from key c left b led l) long s i
+refused_from refuses key c b e led (under_key left l long k r) = under_key left (leads_from key c left b led l) long k r
 
 -- What is skipped.
 
@@ -190,27 +202,27 @@ none_refused c n refused ps m = (let f = first_of_all c ps n m in refused f.valu
 -- facts of a first one that can't hold together
 pub no_first : (key : ℕ) (P Q : Tree → Type 0) (ps : Properties) → HasFirst key P ps → HasFirst key Q ps →
     ((v : Tree) → P v → ¬ (Q v)) → ⊥
-no_first key P Q no_properties p q n = p
-no_first key P Q (property k f v ps) p q n =
-    ⊎_elim
-    (λ x. ⊎_elim (λ y. n v x.1 y.1) (λ y. y.0 x.0) q)
-    (λ x. ⊎_elim (λ y. x.0 y.0) (λ y. no_first key P Q ps x.1 y.1 n) q) p
+no_first key P Q ps p q n = by (value_under key ps) p q
+  where
+    by : (o : Option Tree) → MatchOption o ⊥ P → ¬ (MatchOption o ⊥ Q)
+    by None p q = p
+    by (Some v) p q = n v p q
 
 -- there is one and there is none
 pub no_none : (key : ℕ) (P : Tree → Type 0) (ps : Properties) → HasFirst key P ps → ¬ (LacksProperty key ps)
-no_none key P no_properties p l = p
-no_none key P (property k f v ps) p l = ⊎_elim (λ x. l.0 x.0) (λ x. no_none key P ps x.1 l.1) p
-
--- the first one with less said of it
-pub first_to : (key : ℕ) (P Q : Tree → Type 0) (ps : Properties) → ((v : Tree) → P v → Q v) →
-    HasFirst key P ps → HasFirst key Q ps
-first_to key P Q no_properties to p = p
-first_to key P Q (property k f v ps) to p =
-    ⊎_elim (λ x. inl (x.0, to v x.1)) (λ x. inr (x.0, first_to key P Q ps to x.1)) p
+no_none key P ps p l = subst (λ o. MatchOption o ⊥ P) l p
 
 -- what was read of a front is read of the value that it is a pod of
 pub read_first : (input rest : List ℕ) (P : Tree → Type 0) (v : Tree) → IsRead input rest P → Begins input v → P v
 read_first input rest P v r b = subst P (one_value (front_of input) r.value v r.begins.pod b.pod) r.holds
+
+-- what is found is the first one
+pub finds_first : {X : Type 0} (reads : Tree → X → Type 0) (key : ℕ) (b : List ℕ) (read : Option X) → FindsIn reads key b read →
+    FindsFirst reads key b read
+finds_first reads key b None f = λ ps m. found_none key b [] (leads_passes key [] b f) refl ps m
+finds_first reads key b (Some x) f = λ ps m.
+    found_first key b f.left (λ v. reads v x) (leads_passes key f.left b f.leads) (some_long f.left f.header) f.its_key
+    (λ v g. read_first _ _ (λ w. reads w x) v f.value g) ps m
 
 -- skipping is refused at a property that isn't there, or whose value is refused
 pub none_behind : (a b : ObjectReader) (e : DeserializeError (Bor (List ℕ))) → FurtherIn a b → b.reader.failed ≡ false →

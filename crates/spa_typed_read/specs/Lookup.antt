@@ -1,28 +1,30 @@
 -- Properties that are looked up by their keys: docs/FORMAT.md, "A pod".
-use Rattle.std.specs.Prelude.{◌≡◌, ◌≢◌, ℕ, ◌≤◌, ◌<◌, ◌⊎◌, List, [], ◌++◌, length, drop, Option, Some, None, MatchOption, ⊤}
+use Rattle.std.specs.Prelude.{◌≡◌, ◌≢◌, ◌==◌, if◌then◌else◌, ℕ, ◌≤◌, ◌<◌, ◌⊎◌, List, [], ◌++◌, length, drop, Option, Some, None, MatchOption}
 use Rattle.std.specs.Borrow.{Bor}
 use Rattle.spa_format.specs.Tree.{Tree, Properties, no_properties, property, object}
 use Rattle.spa_format.specs.Pod.{AreProperties}
 use Rattle.spa_format.specs.Words.{body_of, header_size, word_at}
-use Rattle.spa_format.specs.Front.{HasFront, rest_of}
+use Rattle.spa_format.specs.Front.{Begins, HasFront, rest_of}
 use Rattle.spa_fixed.specs.declared.fault.DeserializeError.{DeserializeError}
 use Rattle.spa_leaf.specs.Reading.{IsRead, IsShortAt, Names, OnFault, OnMemory}
 use Rattle.spa_leaf.specs.Refusing.{StandsInProperties}
-use Rattle.spa_scan.specs.Canonical.{BeginsCanonical}
 use Rattle.spa_scan.specs.Depth.{depth_of, levels_looked_into}
 use Rattle.spa_fixed.specs.declared.fault.DeserializeError.TheVariants as error
 use Rattle.spa_typed_read.specs.Asking.{LacksObject}
 use Rattle.spa_typed_read.specs.Members.{ObjectReader, OpensObject}
 
--- the fact holds of the value of the first property under this key
+-- the value of the first property under this key
+abbrev pub value_under : ℕ → Properties → Option Tree
+value_under key no_properties = None
+value_under key (property k flags v ps) = if k == key then Some v else value_under key ps
+
+-- there is one, and the fact holds of it
 abbrev pub HasFirst : ℕ → (Tree → Type 0) → Properties → Type 0
-HasFirst key P no_properties = ⊥
-HasFirst key P (property k flags v ps) = ((k ≡ key) × P v) ⊎ ((k ≢ key) × HasFirst key P ps)
+HasFirst key P ps = MatchOption (value_under key ps) ⊥ P
 
 -- no property is under this key
 abbrev pub LacksProperty : ℕ → Properties → Type 0
-LacksProperty key no_properties = ⊤
-LacksProperty key (property k flags v ps) = (k ≢ key) × LacksProperty key ps
+LacksProperty key ps = value_under key ps ≡ None
 
 -- these properties behind one without flags under this key, where there is a value for it
 abbrev pub optional_property : {X : Type 0} → ℕ → (X → Tree) → Option X → Properties → Properties
@@ -40,11 +42,11 @@ pub record RefusesProperties (b : List ℕ) (e : DeserializeError (Bor (List ℕ
   pub named : Names (λ k place. StandsInProperties b place k) e
   pub memory : OnMemory (b ≢ []) e
 
--- the input begins with no pod that is its value's encoding and nests in so many levels at most
+-- the input begins with no pod that nests in so many levels at most
 abbrev pub IsNoneWithin : ℕ → List ℕ → Type 0
-IsNoneWithin levels b = (rest : List ℕ) (c : BeginsCanonical b rest) → levels < depth_of c.value
+IsNoneWithin levels b = (v : Tree) → Begins b v → levels < depth_of v
 
--- behind some first properties stands a key with flags, and behind those no encoding that nests in 1000 levels at most
+-- behind some first properties stands a key with flags, and behind those no pod that nests in 1000 levels at most
 pub record HoldsDeep (b : List ℕ) : Type 0 where
   pub properties : Properties
   pub first : List ℕ
@@ -58,6 +60,15 @@ pub record HoldsDeep (b : List ℕ) : Type 0 where
 pub data LeadsTo (key : ℕ) (left : List ℕ) : List ℕ → Type 0 where
   arrived : (b : List ℕ) → b ≡ left → LeadsTo key left b
   behind_another : (b : List ℕ) → header_size ≤ length b → word_at b 0 ≢ key → HasFront (drop header_size b) → LeadsTo key left (rest_of (drop header_size b)) → LeadsTo key left b
+
+-- before this place none of these properties is under any of the keys that are asked for
+pub record LeadsToAll (asks : ℕ → Type 0) (left b : List ℕ) : Type 0 where
+  pub each : (key : ℕ) → asks key → LeadsTo key left b
+
+-- the place that was met, or else this one
+abbrev pub place_or : Option (Bor (List ℕ)) → List ℕ → List ℕ
+place_or None left = left
+place_or (Some place) left = place.now
 
 -- the fact holds of where the value of the first property under the key begins
 pub record IsUnder (key : ℕ) (P : List ℕ → Type 0) (b : List ℕ) : Type 0 where

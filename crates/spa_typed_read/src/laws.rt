@@ -1,16 +1,25 @@
-//! Laws of values of fixed size, of arrays that are read element by element, and of readers that are lent. Each function does
-//! nothing: its contract is the law.
+//! Laws of what is written and read back, of refusals, of arrays that are read element by element, and of readers that are lent. Each
+//! function does nothing: its contract is the law.
 ghost use Rattle.std.specs.Prelude.{◌≡◌, ◌<◌, ◌≤◌, ◌++◌, [], List, drop, length, ℕ};
+ghost use Rattle.std.specs.Borrow.{Bor};
+ghost use Rattle.spa_fixed.specs.declared.fault.DeserializeError.{DeserializeError};
+ghost use Rattle.spa_fixed.specs.declared.fault.DeserializeError.TheVariants as error;
 ghost use Rattle.spa_format.specs.Encoding.{encoding_of};
+ghost use Rattle.spa_format.specs.Normal.{normal_of};
 ghost use Rattle.spa_format.specs.Front.{Begins, rest_of};
 ghost use Rattle.spa_format.specs.Pod.{AreMembers, AreProperties};
-ghost use Rattle.spa_format.specs.Tree.{Properties, Tree, Trees, fixed, member, property};
+ghost use Rattle.spa_format.specs.Tree.{Properties, Tree, Trees, fixed, member, object, property};
 ghost use Rattle.spa_format.specs.Typed.{IsTyped};
-ghost use Rattle.spa_format.specs.Words.{header_size, word_at};
+ghost use Rattle.spa_format.specs.Words.{body_of, header_size, word_at};
 ghost use Rattle.spa_format.specs.Writable.{IsWritable};
+ghost use Rattle.spa_scan.specs.Depth.{levels_looked_into, property_depth};
+ghost use Rattle.spa_typed_read.specs.Exactly.{RefusesExactly};
+ghost use Rattle.spa_typed_read.specs.Lookup.{TakesIn};
 ghost use Rattle.spa_typed_read.specs.Members.{ArrayReader, Further, FurtherIn, IsMadeOf, ObjectReader, OpensArray, Reader, TakesElements, list_tree, single_tree};
 ghost use Rattle.spa_leaf.specs.Reading.{IsRead};
 
+use crate::exact::ExactDeserialize;
+use crate::object_content::DeserializeProperties;
 use spa_fixed::{CanonicalFixedSizedPod, FixedSizedPod};
 
 /// What is taken of an array, up to where no element is left, is made of its elements, of all of them in their order.
@@ -35,6 +44,21 @@ pub fn values_come_back<E: FixedSizedPod>()
     ensures pod { (input rest : List ℕ) (x : E) (c : E.CanonicalType) → E.of_canonical (E.to_canonical x) ≡ x → Begins input (single_tree E.CanonicalType.fixed E.to_canonical x) → IsRead input rest (λ v. v ≡ fixed (E.CanonicalType.fixed c)) → E.of_canonical c ≡ x }
     // and its encoding is such a pod.
     ensures encoding { (rest : List ℕ) (x : E) → IsTyped (single_tree E.CanonicalType.fixed E.to_canonical x) → Begins (encoding_of (single_tree E.CanonicalType.fixed E.to_canonical x) ++ rest) (single_tree E.CanonicalType.fixed E.to_canonical x) }
+{}
+
+/// A type that is refused exactly comes back from what its value is written as, whatever follows that.
+pub fn exact_types_come_back<'de, P: ExactDeserialize<'de>>()
+    // A refusal, but for lack of memory, says that the input begins with no value that is read so.
+    ensures exactly { (b : List ℕ) (e : DeserializeError (Bor (List ℕ))) → P.refuses b e → RefusesExactly P.reads (P.takes_memory b) b e }
+    // What a value is written as is read as its normal form is, and what follows is left.
+    ensures read { (v : Tree) (rest left : List ℕ) (x : P) → IsTyped v → IsWritable v → IsRead (encoding_of v ++ rest) left (λ w. P.reads w x) → P.reads (normal_of v) x × (left ≡ rest) }
+    // Where that is read as something, nothing but memory can be wanting, and only where such a read takes some.
+    ensures refused { (v : Tree) (rest : List ℕ) (x : P) (e : DeserializeError (Bor (List ℕ))) → IsTyped v → IsWritable v → P.reads (normal_of v) x → P.refuses (encoding_of v ++ rest) e → (e ≡ error.OutOfMemory) × P.takes_memory (encoding_of v ++ rest) }
+{}
+
+/// Of an object that is accepted, and whose properties nest in 1000 levels at most, a read takes memory only for what is asked for.
+pub fn passing_takes_no_memory<'de, P: DeserializeProperties<'de>>()
+    ensures { (b : List ℕ) (type id : ℕ) (ps : Properties) → Begins b (object type id ps) → property_depth ps ≤ levels_looked_into → TakesIn P.takes_memory b → P.takes_memory (drop header_size (body_of b)) }
 {}
 
 /// A reader that is lent goes further by one call after another.

@@ -1,12 +1,12 @@
 //! Objects whose properties are found by their keys, in any order.
-ghost use Rattle.std.specs.Prelude.{◌≡◌, ◌⊎◌, ℕ, List, MatchOption, false, ⊤, IfErr, IfOk};
+ghost use Rattle.std.specs.Prelude.{◌≡◌, ◌⊎◌, ℕ, List, MatchOption, false, true, ⊤, IfErr, IfOk};
 ghost use Rattle.std.specs.Borrow.{Bor};
 ghost use Rattle.spa_fixed.specs.declared.fault.DeserializeError.{DeserializeError};
 ghost use Rattle.spa_format.specs.Pod.{AreProperties};
 ghost use Rattle.spa_format.specs.Tree.{Properties, Tree};
 ghost use Rattle.spa_typed_read.specs.Exactly.{RefusesExactly};
 ghost use Rattle.spa_typed_read.specs.ExactlyLaws.{made_exactly};
-ghost use Rattle.spa_typed_read.specs.Lookup.{HasFirst, IsUnder, LacksProperty, NoneRead, ReadsObject, RefusesObjectOf, RefusesRequired, RefusesUnder, TakesIn};
+ghost use Rattle.spa_typed_read.specs.Lookup.{HasFirst, IsUnder, LacksProperty, LeadsToAll, NoneRead, ReadsObject, RefusesObjectOf, RefusesRequired, RefusesUnder, TakesIn};
 ghost use Rattle.spa_leaf.specs.Reading.{OnFault, OnMemory};
 
 use crate::deserializer::{DeserializeSuccess, PodDeserialize, PodDeserializer};
@@ -34,17 +34,26 @@ pub trait DeserializeProperties<'de>: Sized + Drop {
     /// Whether their reads take memory, in these bytes.
     ghost takes_memory: { List ℕ → Type 0 };
 
-    /// Finds them among the properties that are left.
+    /// The keys under which they are looked for.
+    ghost asks: { ℕ → Type 0 };
+
+    /// Is this one of these keys?
+    fn asks_for(key: u32) -> bool
+        ensures yes { result ≡ true → asks key }
+        ensures no { result ≡ false → ¬ (asks key) };
+
+    /// Finds them among properties of which none before this place is under one of their keys.
     ///
     /// Refusals: `PropertyMissing` where one that has to be there isn't, else those of `find_property`.
-    fn find_properties(
+    fn find_from(
         reader: &ObjectPodDeserializer<'de>,
+        from: &'de [u8],
     ) -> Result<Self, DeserializeError<&'de [u8]>>
-        ensures found { reader.now.reader.failed ≡ false → IfOk result (λ x. (ps : Properties) → AreProperties ps reader.now.reader.left → reads_properties ps x) }
+        ensures found { reader.now.reader.failed ≡ false → (b : List ℕ) → LeadsToAll asks from.now b → IfOk result (λ x. (ps : Properties) → AreProperties ps b → reads_properties ps x) }
         // A refusal is that of the property that isn't read. But for lack of memory it says that these bytes are no such properties.
-        ensures named { reader.now.reader.failed ≡ false → IfErr result (refuses_properties reader.now.reader.left) }
-        ensures refused { reader.now.reader.failed ≡ false → IfErr result (λ e. OnFault (NoneRead reads_properties reader.now.reader.left) e) }
-        ensures memory { reader.now.reader.failed ≡ false → IfErr result (OnMemory (takes_memory reader.now.reader.left)) };
+        ensures named { reader.now.reader.failed ≡ false → (b : List ℕ) → LeadsToAll asks from.now b → IfErr result (refuses_properties b) }
+        ensures refused { reader.now.reader.failed ≡ false → (b : List ℕ) → LeadsToAll asks from.now b → IfErr result (λ e. OnFault (NoneRead reads_properties b) e) }
+        ensures memory { reader.now.reader.failed ≡ false → (b : List ℕ) → LeadsToAll asks from.now b → IfErr result (OnMemory (takes_memory b)) };
 }
 
 impl<'de> DeserializeProperties<'de> for () {
@@ -54,8 +63,17 @@ impl<'de> DeserializeProperties<'de> for () {
 
     ghost takes_memory = { λ _. ⊥ };
 
-    fn find_properties(
+    ghost asks = { λ _. ⊥ };
+
+    #[inline(always)]
+    fn asks_for(_key: u32) -> bool {
+        false
+    }
+
+    #[inline(always)]
+    fn find_from(
         _reader: &ObjectPodDeserializer<'de>,
+        _from: &'de [u8],
     ) -> Result<(), DeserializeError<&'de [u8]>> {
         Ok(())
     }
@@ -73,15 +91,26 @@ impl<
 
     ghost takes_memory = { λ b. IsUnder KEY A.takes_memory b ⊎ R.takes_memory b };
 
-    fn find_properties(
+    ghost asks = { λ key. (key ≡ KEY) ⊎ R.asks key };
+
+    #[inline(always)]
+    fn asks_for(key: u32) -> bool {
+        key == KEY || R::asks_for(key)
+    }
+
+    #[inline(always)]
+    fn find_from(
         reader: &ObjectPodDeserializer<'de>,
+        from: &'de [u8],
     ) -> Result<(Required<KEY, A>, R), DeserializeError<&'de [u8]>> {
-        let first = match reader.find_property::<A>(KEY) {
-            Ok(Some(first)) => first,
-            Ok(None) => return Err(DeserializeError::PropertyMissing),
+        let (found, next) = match reader.find_from::<A, R>(KEY, from) {
+            Ok(found) => found,
             Err(e) => return Err(e),
         };
-        match R::find_properties(reader) {
+        let Some(first) = found else {
+            return Err(DeserializeError::PropertyMissing);
+        };
+        match R::find_from(reader, next) {
             Ok(others) => Ok((Required(first), others)),
             Err(e) => Err(e),
         }
@@ -100,14 +129,23 @@ impl<
 
     ghost takes_memory = { λ b. IsUnder KEY A.takes_memory b ⊎ R.takes_memory b };
 
-    fn find_properties(
+    ghost asks = { λ key. (key ≡ KEY) ⊎ R.asks key };
+
+    #[inline(always)]
+    fn asks_for(key: u32) -> bool {
+        key == KEY || R::asks_for(key)
+    }
+
+    #[inline(always)]
+    fn find_from(
         reader: &ObjectPodDeserializer<'de>,
+        from: &'de [u8],
     ) -> Result<(Optional<KEY, A>, R), DeserializeError<&'de [u8]>> {
-        let first = match reader.find_property::<A>(KEY) {
-            Ok(first) => first,
+        let (first, next) = match reader.find_from::<A, R>(KEY, from) {
+            Ok(found) => found,
             Err(e) => return Err(e),
         };
-        match R::find_properties(reader) {
+        match R::find_from(reader, next) {
             Ok(others) => Ok((Optional(first), others)),
             Err(e) => Err(e),
         }
@@ -137,7 +175,7 @@ impl<'de, const TYPE: u32, const ID: u32, P: DeserializeProperties<'de>> PodDese
         if reader.type_() != TYPE || reader.id() != ID {
             return Err(DeserializeError::UnsupportedType);
         }
-        let properties = match P::find_properties(&reader) {
+        let properties = match reader.find_properties::<P>() {
             Ok(properties) => properties,
             Err(e) => return Err(e),
         };

@@ -1,13 +1,16 @@
 //! The properties of an object, read one by one.
-ghost use Rattle.std.specs.Prelude.{◌≡◌, ◌≢◌, ℕ, ◌<◌, ◌≤◌, ◌⊎◌, [], drop, false, length, true, IfErr, IfOk, IsErrAnd, IsOk, MatchOption, OnErr, OnOk};
+ghost use Rattle.std.specs.Prelude.{◌≡◌, ◌≢◌, ℕ, ◌<◌, ◌≤◌, ◌⊎◌, [], drop, false, length, true, IfErr, IfNone, IfOk, IsErrAnd, IsOk, MatchOption, OnErr, OnOk};
 ghost use Rattle.spa_fixed.specs.declared.fault.DeserializeError.TheVariants as error;
+ghost use Rattle.spa_format.specs.Pod.{AreProperties};
+ghost use Rattle.spa_format.specs.Tree.{Properties};
 ghost use Rattle.spa_format.specs.Words.{header_size};
 ghost use Rattle.spa_typed_read.specs.Asking.{LacksObject};
-ghost use Rattle.spa_typed_read.specs.Lookup.{FindsFirst, FindsIn, HoldsDeep, RefusesProperties, RefusesUnder};
+ghost use Rattle.spa_typed_read.specs.Lookup.{FindsFirst, FindsIn, HoldsDeep, LeadsToAll, NoneRead, RefusesProperties, RefusesUnder, place_or};
 ghost use Rattle.spa_typed_read.specs.Members.{AtEnd, FurtherIn, OpensObject, RefusesEnd, RefusesKey, RefusesNext, TakesProperty};
-ghost use Rattle.spa_leaf.specs.Reading.{IsShortAt, OnMemory};
+ghost use Rattle.spa_leaf.specs.Reading.{IsShortAt, OnFault, OnMemory};
 
 use crate::deserializer::{DeserializeSuccess, PodDeserialize, PodDeserializer};
+use crate::object_content::DeserializeProperties;
 use crate::passing::Skipped;
 use crate::typed::open_as;
 use bitflags::Flags;
@@ -26,6 +29,22 @@ fn short_at(place: &[u8]) -> DeserializeError<&[u8]>
         input: place,
         kind: FaultKind::Short,
     })
+}
+
+/// The first place whose key is asked for: the one that was met before, or else this one, if its key is.
+#[inline(always)]
+fn first_asked<'de, R: DeserializeProperties<'de>>(
+    before: Option<&'de [u8]>,
+    left: &'de [u8],
+    key: u32,
+) -> Option<&'de [u8]>
+    ensures same { place_or result left.now ≡ place_or before.entry left.now }
+    ensures none { IfNone result (¬ (R.asks key)) }
+{
+    match before {
+        Some(place) => Some(place),
+        None => { if R::asks_for(key) { Some(left) } else { None } }
+    }
 }
 
 /// Reads an object's properties one by one. Once a property was refused, every call answers `FailedReader`.
@@ -177,21 +196,59 @@ impl<'de> ObjectPodDeserializer<'de> {
         // It is refused where a property isn't there, or as the type refuses the first one's value.
         ensures refused { self.now.reader.failed ≡ false → IfErr result (RefusesUnder P.refuses key self.now.reader.left) }
     {
+        match self.find_from::<P, ()>(key, self.left) {
+            Ok((found, _)) => Ok(found),
+            Err(e) => Err(e),
+        }
+    }
+
+    /// Finds these properties among those that are left, each the first one under its key, and leaves the reader where it is. Where they
+    /// stand in the order in which they are asked for, one walk over the properties finds them all; a search that finds nothing is one more.
+    ///
+    /// Refusals: `PropertyMissing` where one that has to be there isn't, else those of `find_property`.
+    pub fn find_properties<P: DeserializeProperties<'de>>(
+        &self,
+    ) -> Result<P, DeserializeError<&'de [u8]>>
+        ensures found { self.now.reader.failed ≡ false → IfOk result (λ x. (ps : Properties) → AreProperties ps self.now.reader.left → P.reads_properties ps x) }
+        // A refusal is that of the property that isn't read. But for lack of memory it says that these bytes are no such properties.
+        ensures named { self.now.reader.failed ≡ false → IfErr result (P.refuses_properties self.now.reader.left) }
+        ensures refused { self.now.reader.failed ≡ false → IfErr result (λ e. OnFault (NoneRead P.reads_properties self.now.reader.left) e) }
+        ensures memory { self.now.reader.failed ≡ false → IfErr result (OnMemory (P.takes_memory self.now.reader.left)) }
+    {
+        P::find_from(self, self.left)
+    }
+
+    /// Looks for the first property under this key from a place on, as `find_property` does. It also answers the place from which those
+    /// that `R` asks for are to be looked for: at the first of them that it met, or else behind what it looked at.
+    #[inline(always)]
+    pub(crate) fn find_from<P: PodDeserialize<'de>, R: DeserializeProperties<'de>>(
+        &self,
+        key: u32,
+        from: &'de [u8],
+    ) -> Result<(Option<P>, &'de [u8]), DeserializeError<&'de [u8]>>
+        ensures found { self.now.reader.failed ≡ false → IfOk result (λ found. FindsIn P.reads key from.now found.0) }
+        ensures next { self.now.reader.failed ≡ false → IfOk result (λ found. LeadsToAll R.asks found.1.now from.now) }
+        ensures stays { self.now.reader.failed ≡ true → IsErrAnd result (λ e. e ≡ error.FailedReader) }
+        ensures refused { self.now.reader.failed ≡ false → IfErr result (RefusesUnder P.refuses key from.now) }
+    {
         if self.failed {
             return Err(DeserializeError::FailedReader);
         }
-        let mut left = self.left;
+        let mut left = from;
+        let mut next = None;
         while !left.is_empty() {
             if left.len() < HEADER_LEN {
                 return Err(short_at(left));
             }
             let (_, behind) = left.split_at(HEADER_LEN);
-            if u32_at(left, 0) == key {
+            let found = u32_at(left, 0);
+            next = first_asked::<R>(next, left, found);
+            if found == key {
                 return match P::deserialize(PodDeserializer {
                     input: behind,
                     alloc: self.alloc,
                 }) {
-                    Ok((value, _)) => Ok(Some(value)),
+                    Ok((value, success)) => Ok((Some(value), next.unwrap_or(success.rest()))),
                     Err(e) => Err(e),
                 };
             }
@@ -200,7 +257,7 @@ impl<'de> ObjectPodDeserializer<'de> {
             };
             left = front.rest;
         }
-        Ok(None)
+        Ok((None, next.unwrap_or(left)))
     }
 
     /// Passes all properties that are left, whatever they are. Refusals are those of `deserialize_property` into a `Skipped`; after

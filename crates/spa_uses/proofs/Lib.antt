@@ -4,3 +4,4 @@ pub mod Values
 pub mod Controls
 pub mod Captures
 pub mod Gains
+pub mod Latencies

@@ -5,10 +5,7 @@ use Rattle.spa_typed_read.specs.Lookup.{IsNoneWithin}
 use Rattle.spa_typed_read.proofs.passing.SkippedPodDeserialize.deserialize.Goals as goal
 
 pub returns-in-Some-clause-read : goal.returns-in-Some-clause-read
-returns-in-Some-clause-read c =
-    let taken = c.in-Some.ensures.taken in
-    rw (← c.deserializer.view_is, c.after.ensures)
-    (record { value = taken.value; begins = taken.begins.begins; follows = taken.begins.follows; holds = tt })
+returns-in-Some-clause-read c = rw (← c.deserializer.view_is, c.after.ensures) c.in-Some.ensures.there
 
 pub returns-in-Ok-clause-read : goal.returns-in-Ok-clause-read
 returns-in-Ok-clause-read c =

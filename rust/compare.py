@@ -44,6 +44,7 @@ RULES = [
     ('fallible copies', r'1\.clone \( \)', r'1.try_clone ( )'),
     ('fallible copies', r'fn clone \( & self \)', r'fn try_clone ( & self )'),
     ('names of fallible calls', r'Vec : : reserve', r'VecRoom : : make_room'),
+    ('search for NUL', r'contains \( & 0 \)', r'has_nul ( )'),
     ('Drop', r'# \[ derive \( Drop \) \]', r''),
     ('Drop', r', Drop|Drop ,|\+ Drop|: Drop|Drop \+|: Drop \+', r''),
     ('drop(self)', r'fn drop \( self \)', r'fn drop ( & mut self )'),

@@ -160,6 +160,8 @@ def name_calls(text):
     text = re.sub(r'\bVec::reserve\b', 'VecRoom::make_room', text)
     text = re.sub(r'\b(\w+)::reserve\b', r'\1::make_room', text)
     text = re.sub(r'\.(?:collect|to_vec)\(\)', '.try_to_vec()', text)
+    # A search for NUL.
+    text = re.sub(r'\.contains\(&0\)', '.has_nul()', text)
     # Copies that may be refused.
     text = re.sub(r'\bClone for (?=\w)', 'TryClone for ', text)
     text = re.sub(r'fn clone\(&self\)', 'fn try_clone(&self)', text)

@@ -88,9 +88,11 @@ impl<T> VecRoom<T> for Vec<T> {
         }
     }
 
+    /// The first room is what is asked for, and not Rust's least of four elements: who makes room has counted what comes.
     #[inline(always)]
     fn make_room(&mut self, more: usize) -> Result<(), AllocError> {
-        self.try_reserve(more).map_err(|_| AllocError)
+        let answer = if self.capacity() == 0 { self.try_reserve_exact(more) } else { self.try_reserve(more) };
+        answer.map_err(|_| AllocError)
     }
 
     #[inline(always)]

@@ -19,7 +19,7 @@ pub fn text_of(body: &[u8]) -> Option<&str> {
     let Some((last, text)) = body.split_last() else {
         return None;
     };
-    if *last != 0 || text.contains(&0) {
+    if *last != 0 || text.has_nul() {
         return None;
     }
     match str::from_utf8(text) {

@@ -69,6 +69,7 @@ RULES = [
     ('tests', r'rt \. stdout', r'crate : : shims : : test : : stdout'),
     ('features', r'', r'# [ cfg ( feature = "std" ) ]'),
     ('asserted', r'', r'assert ! \( [^;]* \) ;'),
+    ('inlined', r'', r'# [ inline ( always ) ]'),
 ] + [('names of fallible calls', r'([.]|: :|fn) %s' % a, r'\1 %s' % b) for a, b in RENAMED]
 # A type with a drop is taken apart by its fields: `let T { a, b: _ } = self;`.
 TAKEN = re.compile(r'let \w+ \{ ((?:\w+ (?:: _ )?,? ?)+)\} = self ; ')

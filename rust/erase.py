@@ -244,6 +244,18 @@ ASSERTED = {
 }
 
 
+# Functions of a file whose calls cost as much as what they do.
+INLINED = [('leaves', 'read_string'), ('bodies', 'text_of')]
+
+
+def inline(text, file):
+    """With the attribute that has rustc put these functions in place of their calls."""
+    for where, name in INLINED:
+        if where == os.path.basename(file):
+            text = re.sub(r'^( *)((?:pub )?fn %s\()' % name, r'\1#[inline(always)]\n\1\2', text, flags=re.M)
+    return text
+
+
 def assert_required(text, file):
     """With the assertions in place of `requires` that a call from outside can break."""
     for (where, name), assertion in ASSERTED.items():
@@ -344,7 +356,7 @@ def generate(crates):
         for name in names:
             for path, text in sources(os.path.join(crates, name, 'src')):
                 file = '%s/%s/%s.rs' % (home, name, 'mod' if path in ('lib', 'main') else path)
-                made[file] = patched(file, assert_required(erase(text, name, home, macros, parts, tests, of_std), path))
+                made[file] = patched(file, inline(assert_required(erase(text, name, home, macros, parts, tests, of_std), path), path))
             if name.endswith(ROWS_SUFFIX):
                 for stream in ('stdin', 'stdout'):
                     with open(os.path.join(crates, name, stream), encoding='utf-8') as f:

@@ -6,29 +6,34 @@ pub trait Bytes {
     fn has_nul(&self) -> bool;
 }
 
-/// In each byte the lowest bit.
-const LOWEST: u64 = u64::from_ne_bytes([1; 8]);
-
-/// In each byte the highest bit.
-const HIGHEST: u64 = LOWEST << 7;
-
-/// Whether one of eight bytes is 0: where none is, no subtraction borrows from the next byte, and it sets a highest bit only where
-/// that is set before.
+/// Whether one of so many bytes is NUL. Of a few at once this is one comparison of words.
 #[inline(always)]
-fn has_zero(bytes: &[u8; 8]) -> bool {
-    let word = u64::from_ne_bytes(*bytes);
-    word.wrapping_sub(LOWEST) & !word & HIGHEST != 0
+fn is_in<const N: usize>(bytes: &[u8; N]) -> bool {
+    bytes.iter().fold(false, |found, byte| found | (*byte == 0))
 }
 
 impl Bytes for [u8] {
-    /// Eight bytes at a time, the last of which may be among those before them. Rust's `contains` goes byte by byte up to an aligned
+    /// Sixteen bytes at a time, the last of which may be among those before them. Rust's `contains` goes byte by byte up to an aligned
     /// place and behind the last one.
     #[inline(always)]
     fn has_nul(&self) -> bool {
-        match self.last_chunk::<8>() {
-            Some(last) => has_zero(last) || self.as_chunks::<8>().0.iter().any(has_zero),
-            None => self.iter().any(|byte| *byte == 0),
+        if let Some(last) = self.last_chunk::<16>() {
+            let mut left = self;
+            while let Some((first, rest)) = left.split_first_chunk::<16>() {
+                if is_in(first) {
+                    return true;
+                }
+                left = rest;
+            }
+            return is_in(last);
         }
+        if let (Some(first), Some(last)) = (self.first_chunk::<8>(), self.last_chunk::<8>()) {
+            return is_in(first) | is_in(last);
+        }
+        if let (Some(first), Some(last)) = (self.first_chunk::<4>(), self.last_chunk::<4>()) {
+            return is_in(first) | is_in(last);
+        }
+        self.contains(&0)
     }
 }
 

@@ -137,6 +137,7 @@ pub trait Text: Sized {
 }
 
 impl Text for String {
+    #[inline(always)]
     fn try_from_str(text: &str) -> Result<String, AllocError> {
         let mut made = String::new();
         match made.try_reserve_exact(text.len()) {

@@ -109,7 +109,7 @@ impl<T> VecRoom<T> for Vec<T> {
     where
         T: Copy,
     {
-        self.make_room(xs.len())?;
+        self.try_reserve(xs.len()).map_err(|_| AllocError)?;
         self.extend_from_slice(xs);
         Ok(())
     }

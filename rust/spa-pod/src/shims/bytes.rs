@@ -6,7 +6,7 @@ pub trait Bytes {
     fn has_nul(&self) -> bool;
 }
 
-/// Whether one of so many bytes is NUL. Of a few at once this is one comparison of words.
+/// Whether one of so many bytes is NUL, without a branch: the compiler compares them all at once.
 #[inline(always)]
 fn is_in<const N: usize>(bytes: &[u8; N]) -> bool {
     bytes.iter().fold(false, |found, byte| found | (*byte == 0))

@@ -44,6 +44,7 @@ RULES = [
     ('fallible copies', r'1\.clone \( \)', r'1.try_clone ( )'),
     ('fallible copies', r'fn clone \( & self \)', r'fn try_clone ( & self )'),
     ('names of fallible calls', r'Vec : : reserve', r'VecRoom : : make_room'),
+    ('search for NUL', r'contains \( & 0 \)', r'has_nul ( )'),
     ('Drop', r'# \[ derive \( Drop \) \]', r''),
     ('Drop', r', Drop|Drop ,|\+ Drop|: Drop|Drop \+|: Drop \+', r''),
     ('drop(self)', r'fn drop \( self \)', r'fn drop ( & mut self )'),
@@ -68,6 +69,7 @@ RULES = [
     ('tests', r'rt \. stdout', r'crate : : shims : : test : : stdout'),
     ('features', r'', r'# [ cfg ( feature = "std" ) ]'),
     ('asserted', r'', r'assert ! \( [^;]* \) ;'),
+    ('inlined', r'', r'# [ inline ( always ) ]'),
 ] + [('names of fallible calls', r'([.]|: :|fn) %s' % a, r'\1 %s' % b) for a, b in RENAMED]
 # A type with a drop is taken apart by its fields: `let T { a, b: _ } = self;`.
 TAKEN = re.compile(r'let \w+ \{ ((?:\w+ (?:: _ )?,? ?)+)\} = self ; ')

@@ -160,6 +160,8 @@ def name_calls(text):
     text = re.sub(r'\bVec::reserve\b', 'VecRoom::make_room', text)
     text = re.sub(r'\b(\w+)::reserve\b', r'\1::make_room', text)
     text = re.sub(r'\.(?:collect|to_vec)\(\)', '.try_to_vec()', text)
+    # A search for NUL.
+    text = re.sub(r'\.contains\(&0\)', '.has_nul()', text)
     # Copies that may be refused.
     text = re.sub(r'\bClone for (?=\w)', 'TryClone for ', text)
     text = re.sub(r'fn clone\(&self\)', 'fn try_clone(&self)', text)
@@ -240,6 +242,18 @@ ASSERTED = {
     ('code', 'into_sync_result'): 'assert!(!self.is_async(), "the code is asynchronous");',
     ('code', 'into_async_result'): 'assert!(self.0 < 0 || self.is_async(), "the code is neither an error nor asynchronous");',
 }
+
+
+# Functions of a file whose calls cost as much as what they do.
+INLINED = [('leaves', 'read_string'), ('bodies', 'text_of')]
+
+
+def inline(text, file):
+    """With the attribute that has rustc put these functions in place of their calls."""
+    for where, name in INLINED:
+        if where == os.path.basename(file):
+            text = re.sub(r'^( *)((?:pub )?fn %s\()' % name, r'\1#[inline(always)]\n\1\2', text, flags=re.M)
+    return text
 
 
 def assert_required(text, file):
@@ -342,7 +356,7 @@ def generate(crates):
         for name in names:
             for path, text in sources(os.path.join(crates, name, 'src')):
                 file = '%s/%s/%s.rs' % (home, name, 'mod' if path in ('lib', 'main') else path)
-                made[file] = patched(file, assert_required(erase(text, name, home, macros, parts, tests, of_std), path))
+                made[file] = patched(file, inline(assert_required(erase(text, name, home, macros, parts, tests, of_std), path), path))
             if name.endswith(ROWS_SUFFIX):
                 for stream in ('stdin', 'stdout'):
                     with open(os.path.join(crates, name, stream), encoding='utf-8') as f:

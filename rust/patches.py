@@ -2,24 +2,7 @@
 
 LEVELS = 'a look calls itself for a level of nesting, and a thread of Rust has 2 MiB of stack: 100 levels, not 1000'
 
-WORDS_AT = 'an index is checked when it runs, where a proof checked it before: one check for a word, not one for each byte'
-
 PATCHES = {
-    'parts/spa_bytes/words.rs': [
-        (WORDS_AT, 'u32::from_le_bytes([bytes[at], bytes[at + 1], bytes[at + 2], bytes[at + 3]])',
-         'let word = &bytes[at..at + 4];\n    u32::from_le_bytes([word[0], word[1], word[2], word[3]])'),
-        (WORDS_AT, '''    u64::from_le_bytes([
-        bytes[at],
-        bytes[at + 1],
-        bytes[at + 2],
-        bytes[at + 3],
-        bytes[at + 4],
-        bytes[at + 5],
-        bytes[at + 6],
-        bytes[at + 7],
-    ])''', '''    let word = &bytes[at..at + 8];
-    u64::from_le_bytes([word[0], word[1], word[2], word[3], word[4], word[5], word[6], word[7]])'''),
-    ],
     'parts/spa_scan/scan.rs': [(LEVELS, 'LEVELS: u32 = 1000', 'LEVELS: u32 = 100')],
 }
 

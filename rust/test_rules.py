@@ -41,6 +41,10 @@ impl Counts {
         let more = small(alloc, &self.items, Vec::new(alloc))?;
         Ok(Counts { alloc, items: more })
     }
+
+    fn is_clean(text: &[u8]) -> bool {
+        !text.contains(&0)
+    }
 }
 
 impl fmt::Display for Counts {
@@ -76,6 +80,10 @@ impl Counts {
         self.items.try_push(count)?;
         let more = small(&self.items, Vec::new())?;
         Ok(Counts { items: more })
+    }
+
+    fn is_clean(text: &[u8]) -> bool {
+        !text.has_nul()
     }
 }
 
@@ -117,13 +125,13 @@ class Rules(unittest.TestCase):
                          ('discard(items);', ''), ('"{}"', '"{:?}"'), ('(mut self, count', '(self, count'), ('more })', 'more, x })'),
                          ('core::mem::take', 'core::mem::replace'), ('other::Thing', 'another::Thing'), ('pub items', 'items'),
                          ('small(&self.items, Vec::new())', 'small(Vec::new(), &self.items)'), ('u32>', 'u64>'),
-                         ('use core::fmt;\n', 'use core::fmt;\nuse core::mem;\n'), ('#[derive(Debug)]', '#[derive(Debug, Clone)]')]:
+                         ('use core::fmt;\n', 'use core::fmt;\nuse core::mem;\n'), ('#[derive(Debug)]', '#[derive(Debug, Clone)]'), ('!text.has_nul()', 'text.has_nul()')]:
             self.assertIn(old, RUST)
             self.assertNotEqual(faults(RUST.replace(old, new, 1)), [], (old, new))
 
     def test_each_change_of_the_source_is_seen(self):
         for old, new in [('self.items.push(count)?;', 'self.items.push_reserved(count);'), ('Ok(Counts', 'Err(Counts'),
-                         ('discard(items)', 'keep(items)'), ('alloc: _, items }', 'alloc: _, items: _ }')]:
+                         ('discard(items)', 'keep(items)'), ('alloc: _, items }', 'alloc: _, items: _ }'), ('contains(&0)', 'contains(&1)')]:
             self.assertIn(old, SOURCE)
             self.assertNotEqual(faults(RUST, SOURCE.replace(old, new, 1)), [], (old, new))
 
@@ -133,6 +141,16 @@ class Rules(unittest.TestCase):
             self.assertRaises(ValueError, erase.patched, 'x.rs', 'text')
         finally:
             del erase.PATCHES['x.rs']
+
+    def test_a_function_is_put_in_line(self):
+        source = 'fn is_clean(text: &[u8]) -> bool {\n    f(text)\n}\n'
+        erase.INLINED.append(('counts', 'is_clean'))
+        try:
+            self.assertEqual(erase.inline(source, 'src/counts'), '#[inline(always)]\n' + source)
+            self.assertEqual(erase.inline(source, 'src/other'), source)
+        finally:
+            erase.INLINED.pop()
+        self.assertEqual(faults('#[inline(always)]\n' + source, source), [])
 
     def test_a_kit_crate_without_a_shim_is_an_error(self):
         from crates import with_those_below

@@ -1,6 +1,7 @@
 #!/usr/bin/env bash
-# measure.sh: instructions a byte of the Rust crate, counted by callgrind, on the corpora of bench/make.py at a twentieth of their sizes. A count
-# is half of the difference of one round and three. Without the tunables valgrind counts long copies by their bytes.
+# measure.sh: instructions a byte of the Rust crate, counted by callgrind, on the corpora of bench/make.py at a twentieth of their sizes, of strings
+# on the whole, whose texts begin with their numbers. A count is half of the difference of one round and three. Without the tunables valgrind
+# counts long copies by their bytes.
 set -eu
 here=$(dirname "$(readlink -f "${BASH_SOURCE[0]}")")
 room=$(mktemp -d)
@@ -14,7 +15,7 @@ sys.path.insert(0, sys.argv[1])
 import make
 room = pathlib.Path(sys.argv[2])
 for name, pods in [("mixed", make.examples(3000)), ("struct-of-ints", make.pod(make.STRUCT, make.ints(50_000))),
-                   ("struct-of-strings", make.pod(make.STRUCT, make.strings(10_000))), ("array-of-ints", make.array_of_ints(50_000)),
+                   ("struct-of-strings", make.pod(make.STRUCT, make.strings(200_000))), ("array-of-ints", make.array_of_ints(50_000)),
                    ("object-of-ints", make.object_of_ints(10_000)), ("nested", make.nested(300) * 100)]:
     (room / name).write_bytes(pods)
 PY

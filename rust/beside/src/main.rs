@@ -2,8 +2,9 @@
 //! files, and where it was built with SPAV_LIB, with the proved library libspav, for so many seconds. It ends with a panic at the first
 //! difference, and writes the input to `difference.pod`.
 //!
-//! `beside podtool PODTOOL FILE..` compares the crate's rewriting and fixation of the files with what the program podtool writes.
-use spa_pod::pod::deserialize::{DeserializeError, PodDeserializer};
+//! `beside podtool PODTOOL FILE..` compares what the crate rewrites, fixates and finds in the files with what the program podtool writes, byte
+//! by byte, its refusals and its status included. `beside rows PODTOOL ROWS` does so on rows in the form of crates/podtool_rows/stdin.
+use spa_pod::pod::deserialize::PodDeserializer;
 use spa_pod::pod::serialize::PodSerializer;
 use spa_pod::pod::{Held, Pod, PodObject, accept_all, is_canonical, nests_within, rewrite, rewrite_all, rewrite_in_place};
 use std::env::args;
@@ -11,6 +12,7 @@ use std::fs;
 use std::io::Write;
 use std::panic::{AssertUnwindSafe, catch_unwind, resume_unwind};
 use std::process::{Command, Stdio};
+use std::thread::spawn;
 use std::time::{Duration, Instant};
 
 #[cfg(spav)]
@@ -149,43 +151,83 @@ fn changes(seconds: u64, seed: u64, seeds: &[Vec<u8>]) {
     println!("{count} inputs, {accepted} of them accepted, beside {beside}: no difference");
 }
 
-/// The program's status, output and error output.
-fn podtool(program: &str, word: &str, input: &[u8]) -> (i32, Vec<u8>, String) {
-    let mut child = Command::new(program).arg(word).stdin(Stdio::piped()).stdout(Stdio::piped()).stderr(Stdio::piped()).spawn().expect("it starts");
-    let _ = child.stdin.take().expect("its input").write_all(input);
+/// A status, what is written, and what is said.
+type Answer = (i32, Vec<u8>, String);
+
+fn podtool(program: &str, words: &[&str], input: &[u8]) -> Answer {
+    let mut child = Command::new(program).args(words).stdin(Stdio::piped()).stdout(Stdio::piped()).stderr(Stdio::piped()).spawn().expect("it starts");
+    let mut stdin = child.stdin.take().expect("its input");
+    let given = input.to_vec();
+    let giver = spawn(move || stdin.write_all(&given));
     let done = child.wait_with_output().expect("it ends");
+    // A program that is misused reads nothing.
+    let _ = giver.join().expect("the input is given");
     (done.status.code().expect("a status"), done.stdout, String::from_utf8(done.stderr).expect("words"))
 }
 
-/// The place and the cause of a refusal, as podtool says them.
-fn refusal(input: &[u8], left: &[u8], why: &DeserializeError<&[u8]>) -> String {
-    let place = match why {
-        DeserializeError::Nom(fault) => fault.input,
-        _ => left,
-    };
-    format!("podtool: byte {}: {}\n", input.len() - place.len(), why.kind())
+/// What the crate answers to podtool's words.
+fn answer(words: &[&str], input: &[u8]) -> Answer {
+    let refused = |at: usize, kind: &str| (1, Vec::new(), format!("podtool: byte {at}: {kind}\n"));
+    let mut out = input.to_vec();
+    match words {
+        ["rewrite"] => match rewrite_in_place(&mut out) {
+            Ok(len) => out.truncate(len),
+            Err((at, why)) => return refused(at, why.kind()),
+        },
+        ["fixate"] => {
+            if let Err((left, why)) = accept_all(input) {
+                return refused(input.len() - left.len(), why.kind());
+            }
+            let mut at = 0;
+            while let Some(extent) = Pod::from_bytes(&out[at..]).map(|pod| pod.extent()) {
+                // A pod that isn't an object stays as it is.
+                let _ = PodObject::fixate(&mut out[at..at + extent]);
+                at += extent;
+            }
+        }
+        ["show"] => {
+            out.clear();
+            let mut left = input;
+            while let Some(pod) = Pod::from_bytes(left) {
+                list(pod, 0, &mut out);
+                left = &left[pod.extent()..];
+            }
+            if !left.is_empty() {
+                return refused(input.len() - left.len(), "Short");
+            }
+        }
+        _ => return (2, Vec::new(), "usage: podtool rewrite|fixate|show\n".into()),
+    }
+    (0, out, String::new())
 }
 
-fn beside_podtool(program: &str, input: &[u8]) -> bool {
-    let mut out = Vec::new();
-    let answer = rewrite_all(input, &mut out);
-    let (status, written, said) = podtool(program, "rewrite", input);
-    match answer {
-        Ok(()) => assert_eq!((status, &written, said.as_str()), (0, &out, "")),
-        Err((left, why)) => {
-            assert_ne!(status, 0);
-            assert_eq!((written.len(), said), (0, refusal(input, left, &why)));
-            return false;
-        }
+/// A line for the pod and for each inside it: the depth, the type number and the size.
+fn list(pod: Pod<'_>, depth: usize, out: &mut Vec<u8>) {
+    writeln!(out, "{depth} {} {}", pod.type_().as_raw(), pod.size()).expect("a vector takes it");
+    if let Ok(it) = pod.as_struct() {
+        it.fields().for_each(|field| list(field, depth + 1, out));
+    } else if let Ok(it) = pod.as_object() {
+        it.props().for_each(|property| list(property.value(), depth + 1, out));
     }
-    let (mut fixated, mut at) = (input.to_vec(), 0);
-    while let Some(pod) = Pod::from_bytes(&fixated[at..]) {
-        let len = 8 + (pod.size() as usize).next_multiple_of(8);
-        let _ = PodObject::fixate(&mut fixated[at..at + len]);
-        at += len;
-    }
-    assert_eq!(podtool(program, "fixate", input), (0, fixated, String::new()));
-    true
+}
+
+/// Compares the crate's answer with the program's. Whether it was accepted.
+fn beside_podtool(program: &str, words: &[&str], input: &[u8]) -> bool {
+    let wanted = podtool(program, words, input);
+    assert_eq!(answer(words, input), wanted, "{words:?}");
+    wanted.0 == 0
+}
+
+/// The bytes of decimal words; `-` is an input that nobody reads.
+fn spelled(given: &str) -> Vec<u8> {
+    given.split_whitespace().filter(|word| *word != "-").flat_map(|word| word.parse::<u32>().expect("a word").to_le_bytes()).collect()
+}
+
+/// The words and the input of a row.
+fn row_of(row: &str) -> (Vec<&str>, Vec<u8>) {
+    let mut parts = row.splitn(3, '|').skip(1);
+    let words = parts.next().expect("words").split_whitespace();
+    (words.map(|word| word.trim_matches('"')).collect(), spelled(parts.next().expect("an input")))
 }
 
 fn main() {
@@ -193,8 +235,15 @@ fn main() {
     let read = |files: &[String]| files.iter().map(|file| fs::read(file).expect(file)).collect::<Vec<_>>();
     match words.split_first() {
         Some((first, [program, files @ ..])) if first == "podtool" => {
-            let accepted = read(files).iter().filter(|input| beside_podtool(program, input)).count();
-            println!("{} files, {accepted} of them accepted, beside podtool: no difference", files.len());
+            let files = read(files);
+            let runs = files.iter().flat_map(|file| ["rewrite", "fixate", "show"].map(|word| (word, file)));
+            let accepted = runs.filter(|(word, input)| beside_podtool(program, &[*word], input)).count();
+            println!("{} runs, {accepted} of them accepted, beside podtool: no difference", 3 * files.len());
+        }
+        Some((first, [program, file])) if first == "rows" => {
+            let text = fs::read_to_string(file).expect(file);
+            let accepted = text.lines().map(row_of).filter(|(words, input)| beside_podtool(program, words, input)).count();
+            println!("{} rows, {accepted} of them accepted, beside podtool: no difference", text.lines().count());
         }
         Some((seconds, [seed, files @ ..])) => {
             let seeds = read(files);
@@ -203,6 +252,6 @@ fn main() {
             }
             changes(seconds.parse().expect("seconds"), seed.parse().expect("a seed"), &seeds);
         }
-        _ => panic!("beside SECONDS SEED FILE.., or beside podtool PODTOOL FILE.."),
+        _ => panic!("beside SECONDS SEED FILE.., beside podtool PODTOOL FILE.., or beside rows PODTOOL ROWS"),
     }
 }

@@ -88,9 +88,11 @@ impl<T> VecRoom<T> for Vec<T> {
         }
     }
 
+    /// The first room is what is asked for, and not Rust's least of four elements: who makes room has counted what comes.
     #[inline(always)]
     fn make_room(&mut self, more: usize) -> Result<(), AllocError> {
-        self.try_reserve(more).map_err(|_| AllocError)
+        let answer = if self.capacity() == 0 { self.try_reserve_exact(more) } else { self.try_reserve(more) };
+        answer.map_err(|_| AllocError)
     }
 
     #[inline(always)]
@@ -107,7 +109,7 @@ impl<T> VecRoom<T> for Vec<T> {
     where
         T: Copy,
     {
-        self.make_room(xs.len())?;
+        self.try_reserve(xs.len()).map_err(|_| AllocError)?;
         self.extend_from_slice(xs);
         Ok(())
     }
@@ -135,6 +137,7 @@ pub trait Text: Sized {
 }
 
 impl Text for String {
+    #[inline(always)]
     fn try_from_str(text: &str) -> Result<String, AllocError> {
         let mut made = String::new();
         match made.try_reserve_exact(text.len()) {

@@ -2,6 +2,7 @@
 //!
 //! This is written by hand. It is trusted where those calls were proved.
 pub mod array;
+pub mod bytes;
 pub mod flags;
 pub mod memory;
 pub mod sorted;
@@ -13,6 +14,7 @@ pub mod test;
 pub mod prelude {
     #[cfg(test)]
     pub use super::memory::tests::{Repeat, SliceToVec, SplitOff, StringRoom};
+    pub use super::bytes::Bytes;
     pub use super::memory::{Text, ToVec, TryClone, VecRoom};
     pub use alloc::string::String;
     pub use alloc::vec::Vec;

@@ -104,7 +104,7 @@ impl Builder {
     #[inline(always)]
     pub fn add_string(&mut self, value: &str) -> Result<(), Errno> {
         let text = value.as_bytes();
-        if text.contains(&0) {
+        if text.has_nul() {
             return Err(Errno::INVAL);
         }
         add_body(

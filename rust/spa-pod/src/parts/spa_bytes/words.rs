@@ -24,7 +24,9 @@ pub fn u32_at(bytes: &[u8], at: usize) -> u32 {
 /// The number in the eight bytes at this place, least byte first.
 pub fn u64_at(bytes: &[u8], at: usize) -> u64 {
     let word = &bytes[at..at + 8];
-    u64::from_le_bytes([word[0], word[1], word[2], word[3], word[4], word[5], word[6], word[7]])
+    u64::from_le_bytes([
+        word[0], word[1], word[2], word[3], word[4], word[5], word[6], word[7],
+    ])
 }
 
 /// Two words as bytes.

@@ -9,7 +9,7 @@ use crate::parts::spa_utils::SpaTypes;
 /// of its own, and as `TooLarge` where text and NUL are 4294967296 bytes or more; nothing is appended then.
 pub fn put_text<S: PodSink>(sink: &mut S, text: &str) -> Result<(), GenError> {
     let bytes = text.as_bytes();
-    if bytes.contains(&0) {
+    if bytes.has_nul() {
         return Err(GenError::NulInText);
     }
     if u32::try_from(bytes.len() + 1).is_err() {

@@ -9,6 +9,7 @@ use crate::parts::spa_utils::{Fd, Float32, Float64, Fraction, Id, Rectangle, Spa
 use crate::parts::spa_value::{Takes, Value};
 
 /// A text as a `String`.
+#[inline(always)]
 fn read_string(body: &[u8]) -> Result<String, Refusal> {
     let Some(text) = text_of(body) else {
         return Err(Refusal::Text);

@@ -129,7 +129,7 @@ fn framed_len(size: usize) -> Result<u64, GenError> {
 /// The length of the pod of a text.
 fn text_len(text: &str) -> Result<u64, GenError> {
     let bytes = text.as_bytes();
-    if bytes.contains(&0) {
+    if bytes.has_nul() {
         return Err(GenError::NulInText);
     }
     framed_len(bytes.len() + 1)

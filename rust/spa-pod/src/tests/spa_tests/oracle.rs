@@ -164,7 +164,7 @@ fn say_string<'a>(
     body: &[u8],
 ) -> Result<(), Refusal<'a>> {
     let text = match body.split_last() {
-        Some((0, before)) if !before.contains(&0) => before,
+        Some((0, before)) if !before.has_nul() => before,
         _ => return Err(refused(place, Fault::Text)),
     };
     match core::str::from_utf8(text) {

@@ -64,7 +64,7 @@ enum Found<'a> {
 }
 
 /// How many lists can wait in the short array.
-const FEW: usize = 8;
+const FEW: usize = 16;
 
 /// How many can wait in the long one, which is taken where the short one is full.
 const MANY: usize = 1000;

@@ -84,8 +84,8 @@ fn json<'a>(alloc: Global) -> Result<Command<'a>, AllocError>
 }
 
 /// The program without its words.
-fn bare<'a>(alloc: Global) -> Command<'a>
-    ensures { app_of result ≡ spec.bare }
+fn bare<'a>(alloc: Global) -> Result<Command<'a>, AllocError>
+    ensures { IfOk result (λ it. app_of it ≡ spec.bare) }
 {
     Command::new(alloc, "pod")
         .about(ABOUT)
@@ -94,6 +94,7 @@ fn bare<'a>(alloc: Global) -> Command<'a>
         .version(VERSION)
         .subcommand_required(true)
         .arg_required_else_help(true)
+        .bin_name("pod")
 }
 
 /// A command with one more word.
@@ -114,9 +115,10 @@ fn with_word<'a>(
 pub(crate) fn program<'a>(alloc: Global) -> Result<Command<'a>, AllocError>
     ensures { IfOk result (λ it. app_of it ≡ spec.program) }
 {
+    let bare = bare(alloc)?;
     let first = with_word(
         alloc,
-        bare(alloc),
+        bare,
         "show",
         "Shows pods, refused ones too, with names and what is inside them",
         "Example: pod show recording.pods",

@@ -103,8 +103,9 @@ fn answer_run(
     write!(answers, "{} ", answer.status())?;
     add_text(answers, faults.taken())?;
     write!(answers, " |")?;
+    let is_help = words.last() == Some(&"--help");
     match words.first() {
-        Some(&"read" | &"rewrite" | &"fixate" | &"meet" | &"filter") => {
+        Some(&"read" | &"rewrite" | &"fixate" | &"meet" | &"filter") if !is_help => {
             add_words(answers, device.taken())?
         }
         _ => add_text(answers, device.taken())?,

@@ -64,20 +64,20 @@ cause_text cause.OutOfMemory = codes "out of memory"
 
 -- what is said of a refusal
 abbrev pub failure_text : Failure → List ℕ
-failure_text (Apart e) = codes "meet: " ++ cause_text e
-failure_text More = codes "meet: more follows the second object"
-failure_text NoPair = codes "meet: no two of the objects agree"
-failure_text (NoPod side place) = codes "meet: " ++ (side_text side ++ (codes " file, byte " ++ (decimal place ++ codes ": no pod")))
-failure_text (NoObject side place) = codes "meet: " ++ (side_text side ++ (codes " file, byte " ++ (decimal place ++ codes ": no object")))
-failure_text (FileFailed side) = codes "meet: " ++ (side_text side ++ codes " file: read failed")
-failure_text OutOfMemory = codes "meet: out of memory"
-failure_text ReadFailed = codes "meet: read failed"
-failure_text WriteFailed = codes "meet: write failed"
+failure_text (Apart e) = cause_text e
+failure_text More = codes "more follows the second object"
+failure_text NoPair = codes "no two of the objects agree"
+failure_text (NoPod side place) = side_text side ++ (codes " file, byte " ++ (decimal place ++ codes ": no pod"))
+failure_text (NoObject side place) = side_text side ++ (codes " file, byte " ++ (decimal place ++ codes ": no object"))
+failure_text (FileFailed side) = side_text side ++ codes " file: read failed"
+failure_text OutOfMemory = codes "out of memory"
+failure_text ReadFailed = codes "read failed"
+failure_text WriteFailed = codes "write failed"
 
 -- the line that is written of an answer: none where the work was done
 abbrev pub line_of : Answer → List ℕ
 line_of Done = []
-line_of (answer.Refused why) = failure_text why ++ 10 ∷ []
+line_of (answer.Refused why) = codes "meet: " ++ (failure_text why ++ 10 ∷ [])
 line_of Misused = codes "usage: meet [filter] [FILE FILE]" ++ 10 ∷ []
 
 -- what was made is written

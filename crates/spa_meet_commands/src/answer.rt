@@ -105,19 +105,19 @@ impl fmt::Display for Failure {
 
     fn fmt<W: fmt::Write>(&self, f: &mut fmt::Formatter<W>) -> fmt::Result {
         match self {
-            Failure::Apart(cause) => write!(f, "meet: {}", Cause(*cause)),
-            Failure::More => write!(f, "meet: more follows the second object"),
-            Failure::NoPair => write!(f, "meet: no two of the objects agree"),
+            Failure::Apart(cause) => write!(f, "{}", Cause(*cause)),
+            Failure::More => write!(f, "more follows the second object"),
+            Failure::NoPair => write!(f, "no two of the objects agree"),
             Failure::NoPod { side, place } => {
-                write!(f, "meet: {} file, byte {place}: no pod", word_of(*side))
+                write!(f, "{} file, byte {place}: no pod", word_of(*side))
             }
             Failure::NoObject { side, place } => {
-                write!(f, "meet: {} file, byte {place}: no object", word_of(*side))
+                write!(f, "{} file, byte {place}: no object", word_of(*side))
             }
-            Failure::FileFailed(side) => write!(f, "meet: {} file: read failed", word_of(*side)),
-            Failure::OutOfMemory => write!(f, "meet: out of memory"),
-            Failure::ReadFailed => write!(f, "meet: read failed"),
-            Failure::WriteFailed => write!(f, "meet: write failed"),
+            Failure::FileFailed(side) => write!(f, "{} file: read failed", word_of(*side)),
+            Failure::OutOfMemory => write!(f, "out of memory"),
+            Failure::ReadFailed => write!(f, "read failed"),
+            Failure::WriteFailed => write!(f, "write failed"),
         }
     }
 }
@@ -143,7 +143,7 @@ pub fn tell<E: Write>(faults: &mut E, answer: &Answer) -> io::Result<()>
 {
     match answer {
         Answer::Done => Ok(()),
-        Answer::Refused(why) => writeln!(faults, "{why}"),
+        Answer::Refused(why) => writeln!(faults, "meet: {why}"),
         Answer::Misused => writeln!(faults, "usage: meet [filter] [FILE FILE]"),
     }
 }

@@ -3,8 +3,8 @@
 
 pub mod answer;
 pub mod files;
-mod lists;
+pub mod lists;
 mod output;
-mod pair;
+pub mod pair;
 mod request;
 pub mod run;

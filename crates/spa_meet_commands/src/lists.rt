@@ -16,7 +16,7 @@ use std::alloc::Global;
 
 /// The encoding of the object on which the first pair of two lists agrees: the first object of `a` that agrees with one of `b`,
 /// and the first of `b` with which it does.
-pub(crate) fn of_lists(alloc: Global, work: Work, a: &[u8], b: &[u8]) -> Result<Vec<u8>, Failure>
+pub fn of_lists(alloc: Global, work: Work, a: &[u8], b: &[u8]) -> Result<Vec<u8>, Failure>
     ensures pair { IfOk result (λ met. ListsGive work (Ok met.items) a.now b.now) }
     ensures cause { IfErr result (λ why. AreListsRefused work why a.now b.now) }
 {

@@ -20,7 +20,7 @@ pub enum Work {
 }
 
 /// The encoding of the object on which the two agree that the input consists of.
-pub(crate) fn of_pair(alloc: Global, work: Work, input: &[u8]) -> Result<Vec<u8>, Failure>
+pub fn of_pair(alloc: Global, work: Work, input: &[u8]) -> Result<Vec<u8>, Failure>
     ensures pair { IfOk result (λ met. PairIn work met.items input.now) }
     ensures cause { IfErr result (λ why. IsPairRefused work why input.now) }
 {

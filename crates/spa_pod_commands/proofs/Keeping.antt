@@ -13,7 +13,7 @@ use Rattle.spa_fixed.specs.declared.fault.DeserializeError.{DeserializeError}
 use Rattle.spa_fixed.specs.declared.fault.DeserializeError.TheVariants as error
 use Rattle.spa_rewrite.specs.Rewriting.{IsLeft, RefusesFront}
 use Rattle.spa_device.specs.Whole.{IsAllOf}
-use Rattle.spa_pod_commands.specs.Answers.{Answers, BeginsToWrite, IsCutOff, IsNotListed, IsRefusalAt, IsTold, IsUndone, OnAnswer, Writes}
+use Rattle.spa_pod_commands.specs.Answers.{Answers, BeginsToWrite, IsCutOff, IsNotListed, IsRefusalAt, IsTold, IsUndone, IsUnmade, OnAnswer, Writes}
 use Rattle.spa_pod_commands.specs.declared.answer.Answer.{Answer}
 use Rattle.spa_pod_commands.specs.declared.answer.Failure.{Failure}
 use Rattle.spa_pod_commands.specs.declared.answer.Failure.TheVariants.{Pod, OutOfMemory, ReadFailed, WriteFailed}
@@ -51,58 +51,62 @@ some_left input place h =
 pub left_fits : (input left : List ℕ) → IsLeft input left → length left ≤ length input
 left_fits input left h = let e = ap length h.2 in let l = length-append h.1 left in omega (arith, e, l)
 
--- where the input isn't pods one after another, its refusal is told, and nothing is written
-at_place : (Makes : List ℕ → List ℕ → Type 0) (remaining old : Option (List ℕ)) (input left : List ℕ) (place : ℕ) (name : List ℕ)
-    (told : DeserializeError (Bor (List ℕ))) (why : Failure) → IsAllOf remaining input → IsLeft input left → place + length left ≡ length input →
-    ((vs : Trees) → ¬ (AreMembers vs input)) → RefusesFront left told → name ≡ kind_text told → IsRefusalAt place name why →
-    IsUndone Makes remaining old old why
-at_place Makes remaining old input left place name told (Pod p kind) all behind eq refuses front named t = (
+-- where the input isn't pods one after another, its refusal is told
+at_place : (input left : List ℕ) (place : ℕ) (name : List ℕ) (told : DeserializeError (Bor (List ℕ))) (why : Failure) → IsLeft input left →
+    place + length left ≡ length input → ((vs : Trees) → ¬ (AreMembers vs input)) → RefusesFront left told → name ≡ kind_text told →
+    IsRefusalAt place name why → IsUnmade input why
+at_place input left place name told (Pod p kind) behind eq refuses front named t = record {
+  input = input;
+  read = refl;
+  left = left;
+  behind = behind;
+  its_place = subst (λ n. n + length left ≡ length input) (sym t.0) eq;
+  refused = refuses;
+  told = told;
+  front = front;
+  its_kind = t.1 ∙ named;
+}
+at_place input left place name told OutOfMemory behind eq refuses front named t = absurd t
+at_place input left place name told ReadFailed behind eq refuses front named t = absurd t
+at_place input left place name told WriteFailed behind eq refuses front named t = absurd t
+
+-- the same of any error that may be told, memory's among them
+pub unmade : {I : Type 0} (input left : List ℕ) (place : ℕ) (e : DeserializeError I) (told : DeserializeError (Bor (List ℕ))) (why : Failure) →
+    IsLeft input left → place + length left ≡ length input → OnFault ((vs : Trees) → ¬ (AreMembers vs input)) e → RefusesFront left told →
+    kind_text e ≡ kind_text told → IsTold place e why → IsUnmade input why
+unmade input left place error.OutOfMemory told why behind eq refuses front named t = subst (IsUnmade input) (sym t.told) tt
+unmade input left place (error.Nom f) told why behind eq refuses front named t = at_place input left place _ told why behind eq refuses front named t.told
+unmade input left place (error.PropertyWrongKey k) told why behind eq refuses front named t = at_place input left place _ told why behind eq refuses front named t.told
+unmade input left place error.UnsupportedType told why behind eq refuses front named t = at_place input left place _ told why behind eq refuses front named t.told
+unmade input left place error.InvalidType told why behind eq refuses front named t = at_place input left place _ told why behind eq refuses front named t.told
+unmade input left place error.PropertyMissing told why behind eq refuses front named t = at_place input left place _ told why behind eq refuses front named t.told
+unmade input left place error.InvalidChoiceType told why behind eq refuses front named t = at_place input left place _ told why behind eq refuses front named t.told
+unmade input left place error.MissingChoiceValues told why behind eq refuses front named t = at_place input left place _ told why behind eq refuses front named t.told
+unmade input left place error.WrongSize told why behind eq refuses front named t = at_place input left place _ told why behind eq refuses front named t.told
+unmade input left place error.UnreadMembers told why behind eq refuses front named t = at_place input left place _ told why behind eq refuses front named t.told
+unmade input left place error.NoElementLeft told why behind eq refuses front named t = at_place input left place _ told why behind eq refuses front named t.told
+unmade input left place error.FailedReader told why behind eq refuses front named t = at_place input left place _ told why behind eq refuses front named t.told
+
+-- so the work on an input that was read whole isn't done, and nothing is written
+pub unmade_undone : (Makes : List ℕ → List ℕ → Type 0) (remaining old : Option (List ℕ)) (input : List ℕ) (why : Failure) → IsAllOf remaining input →
+    IsUnmade input why → IsUndone Makes remaining old old why
+unmade_undone Makes remaining old input (Pod place kind) all u = (
   record {
-    input = input;
-    read = all;
-    left = left;
-    behind = behind;
-    its_place = subst (λ n. n + length left ≡ length input) (sym t.0) eq;
-    refused = refuses;
-    told = told;
-    front = front;
-    its_kind = t.1 ∙ named;
+    input = u.input;
+    read = subst (IsAllOf remaining) (sym u.read) all;
+    left = u.left;
+    behind = u.behind;
+    its_place = u.its_place;
+    refused = u.refused;
+    told = u.told;
+    front = u.front;
+    its_kind = u.its_kind;
   },
   keeps_first old,
 )
-at_place Makes remaining old input left place name told OutOfMemory all behind eq refuses front named t = absurd t
-at_place Makes remaining old input left place name told ReadFailed all behind eq refuses front named t = absurd t
-at_place Makes remaining old input left place name told WriteFailed all behind eq refuses front named t = absurd t
-
--- the same of any error that may be told, memory's among them
-pub refusal_undone : {I : Type 0} (Makes : List ℕ → List ℕ → Type 0) (remaining old : Option (List ℕ)) (input left : List ℕ) (place : ℕ)
-    (e : DeserializeError I) (told : DeserializeError (Bor (List ℕ))) (why : Failure) → IsAllOf remaining input → IsLeft input left →
-    place + length left ≡ length input → OnFault ((vs : Trees) → ¬ (AreMembers vs input)) e → RefusesFront left told →
-    kind_text e ≡ kind_text told → IsTold place e why → IsUndone Makes remaining old old why
-refusal_undone Makes remaining old input left place error.OutOfMemory told why all behind eq refuses front named t =
-    subst (λ w. IsUndone Makes remaining old old w) (sym t.told) (keeps_first old)
-refusal_undone Makes remaining old input left place (error.Nom f) told why all behind eq refuses front named t =
-    at_place Makes remaining old input left place _ told why all behind eq refuses front named t.told
-refusal_undone Makes remaining old input left place (error.PropertyWrongKey k) told why all behind eq refuses front named t =
-    at_place Makes remaining old input left place _ told why all behind eq refuses front named t.told
-refusal_undone Makes remaining old input left place error.UnsupportedType told why all behind eq refuses front named t =
-    at_place Makes remaining old input left place _ told why all behind eq refuses front named t.told
-refusal_undone Makes remaining old input left place error.InvalidType told why all behind eq refuses front named t =
-    at_place Makes remaining old input left place _ told why all behind eq refuses front named t.told
-refusal_undone Makes remaining old input left place error.PropertyMissing told why all behind eq refuses front named t =
-    at_place Makes remaining old input left place _ told why all behind eq refuses front named t.told
-refusal_undone Makes remaining old input left place error.InvalidChoiceType told why all behind eq refuses front named t =
-    at_place Makes remaining old input left place _ told why all behind eq refuses front named t.told
-refusal_undone Makes remaining old input left place error.MissingChoiceValues told why all behind eq refuses front named t =
-    at_place Makes remaining old input left place _ told why all behind eq refuses front named t.told
-refusal_undone Makes remaining old input left place error.WrongSize told why all behind eq refuses front named t =
-    at_place Makes remaining old input left place _ told why all behind eq refuses front named t.told
-refusal_undone Makes remaining old input left place error.UnreadMembers told why all behind eq refuses front named t =
-    at_place Makes remaining old input left place _ told why all behind eq refuses front named t.told
-refusal_undone Makes remaining old input left place error.NoElementLeft told why all behind eq refuses front named t =
-    at_place Makes remaining old input left place _ told why all behind eq refuses front named t.told
-refusal_undone Makes remaining old input left place error.FailedReader told why all behind eq refuses front named t =
-    at_place Makes remaining old input left place _ told why all behind eq refuses front named t.told
+unmade_undone Makes remaining old input OutOfMemory all u = keeps_first old
+unmade_undone Makes remaining old input ReadFailed all u = absurd u
+unmade_undone Makes remaining old input WriteFailed all u = absurd u
 
 -- what stays after a write was written
 pub writes_kept : (Makes : List ℕ → List ℕ → Type 0) (remaining old mid new : Option (List ℕ)) → Writes Makes remaining old mid → Keeps mid new →

@@ -1,5 +1,5 @@
 -- What a run writes, and what it says of that: docs/PROVED.md, "The programs".
-use Rattle.std.specs.Prelude.{◌≡◌, ◌<◌, ◌+◌, ◌⊎◌, ⊤, ℕ, codes, List, [], ◌∷◌, ◌++◌, Option, Result, Ok, Err, length, take}
+use Rattle.std.specs.Prelude.{◌≡◌, ◌<◌, ◌+◌, ◌⊎◌, ⊤, ℕ, codes, List, [], ◌∷◌, ◌++◌, Option, Some, Result, Ok, Err, length, take}
 use Rattle.std.specs.Borrow.{Bor}
 use Rattle.std.specs.Fmt.{decimal}
 use Rattle.std.specs.Io.KnownBytes.{Appends, Keeps}
@@ -46,15 +46,15 @@ status_of Misused = 2
 
 -- what is said of a refusal
 abbrev pub failure_text : Failure → List ℕ
-failure_text (Pod place kind) = codes "podtool: byte " ++ (decimal place ++ (codes ": " ++ kind.now))
-failure_text OutOfMemory = codes "podtool: out of memory"
-failure_text ReadFailed = codes "podtool: read failed"
-failure_text WriteFailed = codes "podtool: write failed"
+failure_text (Pod place kind) = codes "byte " ++ (decimal place ++ (codes ": " ++ kind.now))
+failure_text OutOfMemory = codes "out of memory"
+failure_text ReadFailed = codes "read failed"
+failure_text WriteFailed = codes "write failed"
 
 -- the line that is written of an answer: none where the work was done
 abbrev pub line_of : Answer → List ℕ
 line_of Done = []
-line_of (Refused why) = failure_text why ++ 10 ∷ []
+line_of (Refused why) = codes "podtool: " ++ (failure_text why ++ 10 ∷ [])
 line_of Misused = codes "usage: podtool rewrite|fixate|show" ++ 10 ∷ []
 
 -- the rewritings of the pods that the input consists of
@@ -104,6 +104,13 @@ pub record RefusesInput (remaining : Option (List ℕ)) (place : ℕ) (kind : Li
   pub told : DeserializeError (Bor (List ℕ))
   pub front : RefusesFront left told
   pub its_kind : kind ≡ kind_text told
+
+-- Why nothing is made of bytes that have to consist of pods: they don't, or memory runs out.
+abbrev pub IsUnmade : List ℕ → Failure → Type 0
+IsUnmade input (Pod place kind) = RefusesInput (Some input) place kind.now
+IsUnmade input OutOfMemory = ⊤
+IsUnmade input ReadFailed = ⊥
+IsUnmade input WriteFailed = ⊥
 
 -- Why the work on an input that has to consist of pods wasn't done, and what was written: nothing, unless a write failed.
 abbrev pub IsUndone : (List ℕ → List ℕ → Type 0) → Option (List ℕ) → Option (List ℕ) → Option (List ℕ) → Failure → Type 0

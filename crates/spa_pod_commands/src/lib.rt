@@ -3,6 +3,7 @@
 
 pub mod answer;
 mod listing;
+pub mod making;
 mod output;
 mod pods;
 pub mod run;

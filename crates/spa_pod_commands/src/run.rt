@@ -1,19 +1,17 @@
 //! The program's work, over a reader and two writers.
 ghost use Rattle.std.specs.Prelude.{◌≡◌, codes, IfErr, OnOk};
 ghost use Rattle.std.specs.Io.KnownBytes.{Keeps};
-ghost use Rattle.spa_pod_commands.specs.Answers.{Fixates, IsNotListed, IsOneWord, IsTold, IsUndone, IsUse, OnAnswer, Rewrites, Writes};
+ghost use Rattle.spa_pod_commands.specs.Answers.{Fixates, IsNotListed, IsOneWord, IsUndone, IsUse, OnAnswer, Rewrites, Writes};
 ghost use Rattle.spa_pod_commands.specs.Lines.{Lists};
 ghost use Rattle.spa_pod_commands.specs.Runs.{EndsBy, IsAnswer};
 ghost use Rattle.spa_pod_commands.specs.declared.answer.Answer.TheVariants.{Misused};
 
 use crate::answer::{Answer, Failure, tell};
 use crate::listing::list;
+use crate::making::{fixated, rewritten};
 use crate::output::{answered, write};
-use crate::pods::{first_short, fixate_all};
+use crate::pods::first_short;
 use spa_device::read_whole;
-use spa_fixed::DeserializeError;
-use spa_in_place::rewrite_in_place;
-use spa_rewrite::accept_all;
 use std::alloc::Global;
 use std::io::{Read, Write};
 
@@ -75,31 +73,26 @@ pub fn answer<R: Read, W: Write>(
     }
 }
 
-/// Writes the rewritings of the pods that the input consists of, which are made where these lie.
+/// Writes the rewritings of the pods that the input consists of.
+#[tactic(auto, using(crate::proofs::Keeping::unmade_undone))]
 fn rewrite<R: Read, W: Write>(alloc: Global, input: &mut R, output: &mut W) -> Result<(), Failure>
     ensures done { OnOk result (Writes Rewrites (R.remaining input.old) (W.contents output.old) (W.contents output.new)) }
     ensures undone { IfErr result (IsUndone Rewrites (R.remaining input.old) (W.contents output.old) (W.contents output.new)) }
 {
-    let mut bytes = read_whole(alloc, input)?;
-    match rewrite_in_place(alloc, bytes.as_mut_slice()) {
-        Ok(len) => write(output, &bytes.as_slice()[..len]),
-        Err((place, error)) => Err(refused(place, &error)),
-    }
+    let bytes = read_whole(alloc, input)?;
+    let made = rewritten(alloc, bytes)?;
+    write(output, made.as_slice())
 }
 
-/// Writes the input with each top-level object fixated in place, and the other pods as they came. It is accepted exactly
-/// where it could be rewritten.
+/// Writes the input with each top-level object fixated.
+#[tactic(auto, using(crate::proofs::Keeping::unmade_undone))]
 fn fixate<R: Read, W: Write>(alloc: Global, input: &mut R, output: &mut W) -> Result<(), Failure>
     ensures done { OnOk result (Writes Fixates (R.remaining input.old) (W.contents output.old) (W.contents output.new)) }
     ensures undone { IfErr result (IsUndone Fixates (R.remaining input.old) (W.contents output.old) (W.contents output.new)) }
 {
-    let mut bytes = read_whole(alloc, input)?;
-    let whole = bytes.as_slice();
-    if let Err((left, error)) = accept_all(alloc, whole) {
-        return Err(refused(whole.len() - left.len(), &error));
-    }
-    fixate_all(bytes.as_mut_slice());
-    write(output, bytes.as_slice())
+    let bytes = read_whole(alloc, input)?;
+    let made = fixated(alloc, bytes)?;
+    write(output, made.as_slice())
 }
 
 /// Lists the pods that the input consists of, and the pods inside them.
@@ -118,17 +111,4 @@ fn show<R: Read, W: Write>(alloc: Global, input: &mut R, output: &mut W) -> Resu
     let mut lines = String::new(alloc);
     list(alloc, bytes.as_slice(), &mut lines, output)?;
     write(output, lines.as_bytes())
-}
-
-/// The refusal of the top-level pod at this byte.
-fn refused<I>(place: usize, error: &DeserializeError<I>) -> Failure
-    ensures { IsTold place error.now result }
-{
-    match error {
-        DeserializeError::OutOfMemory => Failure::OutOfMemory,
-        _ => Failure::Pod {
-            place,
-            kind: error.kind(),
-        },
-    }
 }

@@ -9,9 +9,11 @@ use Rattle.spa_format.specs.Walk.{walk}
 use Rattle.spa_format.specs.Fixation.{walk_size}
 use Rattle.spa_format.proofs.WalkLemmas.{walk-end, walk-there}
 use Rattle.spa_device.specs.Whole.{IsAllOf}
-use Rattle.spa_text_commands.specs.Answers.{IsCutOff, IsNotShown, ShowsAll, ShowsBegin, ShowsTo, path_text}
+use Rattle.spa_text_commands.specs.Answers.{IsCutOff, IsNotShown, OnAnswer, ShowsAll, ShowsBegin, ShowsTo, path_text}
 use Rattle.spa_text_commands.specs.declared.answer.Failure.{Failure}
-use Rattle.spa_text_commands.specs.declared.answer.Failure.TheVariants.{OutOfMemory, ReadFailed}
+use Rattle.spa_text_commands.specs.declared.answer.Failure.TheVariants.{Pod, Line, OutOfMemory, ReadFailed, WriteFailed}
+use Rattle.spa_text_commands.specs.declared.answer.Answer.{Answer}
+use Rattle.spa_text_commands.specs.declared.answer.Answer.TheVariants.{Done, Differs, Refused, Misused}
 use Rattle.spa_text_commands.specs.declared.answer.Origin.TheVariants.{Input}
 use Rattle.spa_text_commands.specs.Lines.{Adds, AreLines, Lists, MayAdd, Says, Shows}
 
@@ -200,6 +202,30 @@ ok_may (Err e) a b c l m n s t = tt
 pub not_read : (remaining old : Option (List ℕ)) (why : Failure) → (why ≡ OutOfMemory) ⊎ (why ≡ ReadFailed Input) → IsNotShown remaining old old why
 not_read remaining old why (inl e) = subst (IsNotShown remaining old old) (sym e) tt
 not_read remaining old why (inr e) = subst (IsNotShown remaining old old) (sym e) (refl, keeps_itself old)
+
+-- what is said of bytes is said of the input that they are all of
+shown_as_read : (remaining old new : Option (List ℕ)) (bytes : List ℕ) (place : ℕ) (input : List ℕ) → IsAllOf remaining bytes →
+    ShowsTo (Some bytes) old new place input → ShowsTo remaining old new place input
+shown_as_read remaining old new bytes place input all s = record {
+  read = subst (IsAllOf remaining) (sym s.read) all;
+  behind = s.behind;
+  out = s.out;
+  lines = s.lines;
+  written = s.written;
+}
+
+pub as_read : (remaining old new : Option (List ℕ)) (bytes : List ℕ) (answer : Answer) → IsAllOf remaining bytes →
+    OnAnswer answer (ShowsAll (Some bytes) old new) (IsNotShown (Some bytes) old new) →
+    OnAnswer answer (ShowsAll remaining old new) (IsNotShown remaining old new)
+as_read remaining old new bytes Done all s = (s.0, shown_as_read remaining old new bytes _ s.0 all s.1)
+as_read remaining old new bytes Differs all s = s
+as_read remaining old new bytes Misused all s = s
+as_read remaining old new bytes (Refused (Pod origin place kind)) all s =
+    (s.0, s.1, (s.2.0, s.2.1, shown_as_read remaining old new bytes _ s.2.0 all s.2.2))
+as_read remaining old new bytes (Refused (Line line column kind path)) all s = s
+as_read remaining old new bytes (Refused OutOfMemory) all s = s
+as_read remaining old new bytes (Refused (ReadFailed origin)) all s = s
+as_read remaining old new bytes (Refused WriteFailed) all s = s
 
 pub cut_off : (remaining old new : Option (List ℕ)) (why : Failure) → IsCutOff why → IsNotShown remaining old new why
 cut_off remaining old new why (inl e) = subst (IsNotShown remaining old new) (sym e) tt

@@ -69,18 +69,18 @@ path_text (x ∷ xs) = codes " at " ++ x ∷ xs
 
 -- what is said of a refusal
 abbrev pub failure_text : Failure → List ℕ
-failure_text (Pod origin place kind) = codes "podtext: " ++ (file_text origin ++ (codes "byte " ++ (decimal place ++ (codes ": " ++ kind.now))))
+failure_text (Pod origin place kind) = file_text origin ++ (codes "byte " ++ (decimal place ++ (codes ": " ++ kind.now)))
 failure_text (Line line column kind path) =
-    codes "podtext: line " ++ (decimal line ++ (codes ", column " ++ (decimal column ++ (codes ": " ++ (kind.now ++ path_text (string_bytes path))))))
-failure_text OutOfMemory = codes "podtext: out of memory"
-failure_text (ReadFailed origin) = codes "podtext: " ++ (file_text origin ++ codes "read failed")
-failure_text WriteFailed = codes "podtext: write failed"
+    codes "line " ++ (decimal line ++ (codes ", column " ++ (decimal column ++ (codes ": " ++ (kind.now ++ path_text (string_bytes path))))))
+failure_text OutOfMemory = codes "out of memory"
+failure_text (ReadFailed origin) = file_text origin ++ codes "read failed"
+failure_text WriteFailed = codes "write failed"
 
 -- the line that is written of an answer: none where nothing was refused
 abbrev pub line_of : Answer → List ℕ
 line_of Done = []
 line_of Differs = []
-line_of (Refused why) = failure_text why ++ 10 ∷ []
+line_of (Refused why) = codes "podtext: " ++ (failure_text why ++ 10 ∷ [])
 line_of Misused = codes "usage: podtext print [--pretty]|read|show, podtext diff FILE FILE" ++ 10 ∷ []
 
 -- the input was read whole, its whole pods end at this place, and their lines were written

@@ -114,7 +114,7 @@ impl fmt::Display for Failure {
                 origin,
                 place,
                 kind,
-            } => write!(f, "podtext: {}byte {place}: {kind}", file_of(*origin)),
+            } => write!(f, "{}byte {place}: {kind}", file_of(*origin)),
             Failure::Line {
                 line,
                 column,
@@ -122,12 +122,12 @@ impl fmt::Display for Failure {
                 path,
             } => write!(
                 f,
-                "podtext: line {line}, column {column}: {kind}{}",
+                "line {line}, column {column}: {kind}{}",
                 At(path.as_str())
             ),
-            Failure::OutOfMemory => write!(f, "podtext: out of memory"),
-            Failure::ReadFailed(origin) => write!(f, "podtext: {}read failed", file_of(*origin)),
-            Failure::WriteFailed => write!(f, "podtext: write failed"),
+            Failure::OutOfMemory => write!(f, "out of memory"),
+            Failure::ReadFailed(origin) => write!(f, "{}read failed", file_of(*origin)),
+            Failure::WriteFailed => write!(f, "write failed"),
         }
     }
 }
@@ -165,7 +165,7 @@ pub fn tell<E: Write>(faults: &mut E, answer: &Answer) -> io::Result<()>
     match answer {
         Answer::Done => Ok(()),
         Answer::Differs => Ok(()),
-        Answer::Refused(why) => writeln!(faults, "{why}"),
+        Answer::Refused(why) => writeln!(faults, "podtext: {why}"),
         Answer::Misused => writeln!(
             faults,
             "usage: podtext print [--pretty]|read|show, podtext diff FILE FILE"

@@ -3,15 +3,15 @@
 #![tactic(auto)]
 
 pub mod answer;
-mod comparing;
+pub mod comparing;
 mod extent;
 pub mod files;
 mod inside;
 mod lines;
 mod listing;
-mod output;
+pub mod output;
 mod page;
 mod parts;
-mod printing;
-mod reading;
+pub mod printing;
+pub mod reading;
 pub mod run;

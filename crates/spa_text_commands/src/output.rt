@@ -36,7 +36,7 @@ impl<W: Write> Write for Persistent<W> {
 
 /// Writes these bytes, and flushes the device. Where that fails, the device has taken a beginning of them.
 #[tactic(auto, using(crate::proofs::Saying::appends_keeps, crate::proofs::Saying::all_begun))]
-pub(crate) fn write_whole<W: Write + Drop>(device: W, bytes: &[u8]) -> (Result<(), Failure>, W)
+pub fn write_whole<W: Write + Drop>(device: W, bytes: &[u8]) -> (Result<(), Failure>, W)
     ensures taken { OnOk result.0 (Appends (W.contents device) (W.contents result.1) bytes.now) }
     ensures begun { OnErr result.0 ((n : ℕ) × Appends (W.contents device) (W.contents result.1) (take n bytes.now)) }
     ensures cause { IfErr result.0 (λ failure. failure ≡ Failure.WriteFailed) }

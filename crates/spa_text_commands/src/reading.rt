@@ -28,7 +28,7 @@ enum Unread {
 
 /// The pods of the values of which the bytes are texts.
 #[tactic(auto, using(crate::proofs::ReadTexts::ends, crate::proofs::ReadTexts::counted, crate::proofs::ReadTexts::not_read))]
-pub(crate) fn read_all(alloc: Global, bytes: &[u8]) -> Result<Vec<u8>, Failure>
+pub fn read_all(alloc: Global, bytes: &[u8]) -> Result<Vec<u8>, Failure>
     ensures read { IfOk result (λ pods. Reads bytes.now pods.items) }
     ensures refused { IfErr result (RefusesTexts bytes.now) }
 {

@@ -1,5 +1,5 @@
 //! The program's work, over a reader, files and a writer.
-ghost use Rattle.std.specs.Prelude.{◌≡◌, ◌≤◌, ℕ, codes, IfErr, IfOk, List, OnOk, string_bytes};
+ghost use Rattle.std.specs.Prelude.{◌≡◌, ◌≤◌, ℕ, codes, IfErr, IfOk, List, OnOk, Some, string_bytes};
 ghost use Rattle.std.specs.Io.KnownBytes.{Keeps};
 ghost use Rattle.spa_text_commands.specs.Answers.{AreFilesRefused, AreTwoWords, AsksDiff, IsCompared, IsCutOff, IsInputRefused, IsNotShown, IsOneWord, IsRun, IsUse, OfInput, OnAnswer, ShowsAll};
 ghost use Rattle.spa_text_commands.specs.declared.answer.Answer.TheVariants.{Misused};
@@ -11,7 +11,7 @@ ghost use Rattle.spa_text_commands.specs.Texts.{Prints, Reads, RefusesPods, Refu
 ghost use Rattle.spa_text_commands.specs.Unread.{ComparesFiles, IsWritten};
 
 use crate::answer::{Answer, Failure, Origin};
-use crate::comparing::differences;
+use crate::comparing::compared;
 use crate::files::{Sources, read_named};
 use crate::listing::list;
 use crate::output::write_whole;
@@ -97,7 +97,8 @@ fn do_work<R: Read, S: Sources, W: Write + Drop>(
     }
 }
 
-/// Shows the pods that the input begins with, refused ones too. What follows them is refused.
+/// Shows the pods that the input begins with.
+#[tactic(auto, using(crate::proofs::Saying::as_read, crate::proofs::Saying::not_read))]
 fn show<R: Read, W: Write + Drop>(alloc: Global, input: &mut R, device: W) -> (Answer, W)
     ensures { OnAnswer result.0
         (ShowsAll (R.remaining input.old) (W.contents device) (W.contents result.1))
@@ -107,8 +108,17 @@ fn show<R: Read, W: Write + Drop>(alloc: Global, input: &mut R, device: W) -> (A
         Ok(bytes) => bytes,
         Err(why) => return (Answer::Refused(Failure::from(why)), device),
     };
+    show_pods(alloc, bytes.as_slice(), device)
+}
+
+/// Writes the lines of the whole pods that the bytes begin with, refused ones too. What follows these pods is refused.
+pub fn show_pods<W: Write + Drop>(alloc: Global, bytes: &[u8], device: W) -> (Answer, W)
+    ensures { OnAnswer result.0
+        (ShowsAll (Some bytes.now) (W.contents device) (W.contents result.1))
+        (IsNotShown (Some bytes.now) (W.contents device) (W.contents result.1)) }
+{
     let mut page = Page::new(alloc, device);
-    let left = match list_all(alloc, bytes.as_slice(), &mut page) {
+    let left = match list_all(alloc, bytes, &mut page) {
         Ok(left) => left,
         Err(why) => return (Answer::Refused(why), page.device),
     };
@@ -215,7 +225,7 @@ fn compare<S: Sources>(
 {
     let first = read_named(alloc, files, Origin::First, ours)?;
     let second = read_named(alloc, files, Origin::Second, theirs)?;
-    differences(alloc, first.as_slice(), second.as_slice())
+    compared(alloc, first.as_slice(), second.as_slice())
 }
 
 /// Writes what was made, and answers this, unless the write fails.

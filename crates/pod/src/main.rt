@@ -1,0 +1,56 @@
+//! `pod WORD [-o FILE] [FILE ..]`: pods are shown, printed as JSON, read from it, rewritten, fixated, checked, compared, or sought to agree.
+#![tactic(auto)]
+
+use pod_commands::answer::{Answer, Failure, tell};
+use pod_commands::files::SystemFiles;
+use pod_commands::run::run;
+use std::alloc::AllocError;
+use std::env;
+use std::io::{self, ErrorKind};
+use std::process::ExitCode;
+
+/// Hands the words behind the program's name, the standard streams and the system's files to `run`, tells what became of that, and
+/// answers its status. Where that can't be told, nothing changes.
+fn main(rt: HostRuntime) -> ExitCode {
+    ExitCode::from(status(&rt).unwrap_or_else(|| refused(&rt)))
+}
+
+/// The status of the run, unless memory for the words is refused.
+fn status(rt: &HostRuntime) -> Option<u8> {
+    let given = given_words(rt).ok()?;
+    let words: Result<Vec<&str>, AllocError> = given
+        .iter()
+        .map(|word| word.as_str())
+        .collect(rt.alloc());
+    let words = words.ok()?;
+    let mut files = SystemFiles { rt };
+    let (answer, mut output) = run(
+        rt.alloc(),
+        words.as_slice(),
+        &mut rt.stdin(),
+        &mut files,
+        rt.stdout(),
+    );
+    let _ = tell(&mut output, &mut rt.stderr(), &answer);
+    Some(answer.status())
+}
+
+/// The status of a run that memory is refused, of which it tells. Where the line can't be written, nothing changes.
+fn refused(rt: &HostRuntime) -> u8 {
+    let answer = Answer::Refused(Failure::OutOfMemory);
+    let _ = tell(&mut rt.stdout(), &mut rt.stderr(), &answer);
+    answer.status()
+}
+
+/// The words behind the program's name. Where one isn't UTF-8, there is one empty word, which is none of the program's.
+fn given_words(rt: &HostRuntime) -> io::Result<Vec<String>> {
+    match env::args(rt) {
+        Ok(words) => Ok(words.skip(1).collect(rt.alloc())?),
+        Err(error) if error.kind() == ErrorKind::InvalidData => {
+            let mut words = Vec::new(rt.alloc());
+            words.push(String::new(rt.alloc()))?;
+            Ok(words)
+        }
+        Err(error) => Err(error),
+    }
+}

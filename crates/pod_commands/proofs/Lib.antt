@@ -1,0 +1,6 @@
+mod Known
+mod Made
+mod Requested
+mod Paired
+mod Running
+mod Shown

@@ -1,0 +1,81 @@
+-- What is made of inputs, name by name.
+use Rattle.std.proofs.Common.{◌≡◌, ◌∙◌, ◌∷◌, ◌++◌, ◌+◌, ◌<◌, ◌≤◌, [], add-one, append_assoc, append-nil, arith, ap, drop, drop-cons, get_or, inl, inr, length, length-drop, refl, sym, subst, List, ℕ, Option}
+use Rattle.std.proofs.lemmas.List.{nil_from_length}
+use Rattle.std.specs.Borrow.{Bor}
+use Rattle.spa_device.specs.Whole.{IsAllOf}
+use Rattle.pod_commands.specs.Inputs.{AreMade, IsKnown, StopsAt, content_of, left_behind}
+use Rattle.pod_commands.specs.declared.answer.Failure.{Failure}
+use Rattle.pod_commands.proofs.Known.{known_all, known_behind}
+
+-- How far the work on names is: something was made, and with what is made of those that are left it is made of all; where the work
+-- stops at one of those, it stops at one of all.
+pub record MadeSoFar (Makes : List ℕ → List ℕ → Type 0) (Stops : List ℕ → List ℕ → List ℕ → Failure → Type 0) (remaining : Option (List ℕ))
+    (holds : List ℕ → Option (List ℕ)) (names : List (Bor (List ℕ))) (now : Option (List ℕ)) (left : List (Bor (List ℕ))) (out : List ℕ) : Type 0 where
+  pub expected : Option (List ℕ)
+  pub known : IsKnown expected now
+  pub made : (others : List ℕ) → AreMade Makes expected holds left others → AreMade Makes remaining holds names (out ++ others)
+  pub stops : (others : List ℕ) (why : Failure) → StopsAt Makes Stops expected holds left others why →
+      StopsAt Makes Stops remaining holds names (out ++ others) why
+
+module _ (Makes : List ℕ → List ℕ → Type 0) (Stops : List ℕ → List ℕ → List ℕ → Failure → Type 0) (remaining : Option (List ℕ))
+    (holds : List ℕ → Option (List ℕ)) (names : List (Bor (List ℕ))) where
+  pub begins : (out : List ℕ) → out ≡ [] → MadeSoFar Makes Stops remaining holds names remaining names out
+  begins out e = record {
+    expected = remaining;
+    known = inl refl;
+    made = λ others h. subst (λ z. AreMade Makes remaining holds names (z ++ others)) (sym e) h;
+    stops = λ others why h. subst (λ z. StopsAt Makes Stops remaining holds names (z ++ others) why) (sym e) h;
+  }
+
+  -- one name more
+  pub goes_on : (now after : Option (List ℕ)) (left behind : List (Bor (List ℕ))) (name : Bor (List ℕ)) (bytes first out new : List ℕ) →
+      left ≡ name ∷ behind → IsAllOf (content_of now holds name.now) bytes → IsKnown (left_behind now name.now) after → Makes bytes first →
+      new ≡ out ++ first → MadeSoFar Makes Stops remaining holds names now left out → MadeSoFar Makes Stops remaining holds names after behind new
+  goes_on now after left behind name bytes first out new e all k m is so =
+      let its = known_all so.expected now holds name.now bytes so.known all in
+      record {
+        expected = left_behind so.expected name.now;
+        known = known_behind so.expected now after name.now so.known k;
+        made = λ others h.
+            subst (AreMade Makes remaining holds names) (sym (ap (λ z. z ++ others) is ∙ append_assoc out first others))
+            (so.made (first ++ others) (subst (λ l. AreMade Makes so.expected holds l (first ++ others)) (sym e) (bytes, first, others, its, m, refl, h)));
+        stops = λ others why h.
+            subst (λ z. StopsAt Makes Stops remaining holds names z why) (sym (ap (λ z. z ++ others) is ∙ append_assoc out first others))
+            (so.stops (first ++ others) why
+            (subst (λ l. StopsAt Makes Stops so.expected holds l (first ++ others) why) (sym e) (inr (bytes, first, others, its, m, refl, h))));
+      }
+
+  -- no name is left
+  pub ends : (now : Option (List ℕ)) (left : List (Bor (List ℕ))) (out : List ℕ) → left ≡ [] → MadeSoFar Makes Stops remaining holds names now left out →
+      AreMade Makes remaining holds names out
+  ends now left out e so =
+      subst (AreMade Makes remaining holds names) (append-nil out)
+      (so.made [] (subst (λ l. AreMade Makes so.expected holds l []) (sym e) refl))
+
+  -- the work stops at a name
+  pub stopped : (now : Option (List ℕ)) (left behind : List (Bor (List ℕ))) (name : Bor (List ℕ)) (bytes out more : List ℕ) (why : Failure) →
+      left ≡ name ∷ behind → IsAllOf (content_of now holds name.now) bytes → Stops name.now bytes more why →
+      MadeSoFar Makes Stops remaining holds names now left out → StopsAt Makes Stops remaining holds names (out ++ more) why
+  stopped now left behind name bytes out more why e all s so =
+      so.stops more why
+      (subst (λ l. StopsAt Makes Stops so.expected holds l more why) (sym e)
+      (inl (bytes, known_all so.expected now holds name.now bytes so.known all, s)))
+
+-- the next name, and the names behind it
+pub next_left : (xs : List (Bor (List ℕ))) (i : ℕ) (d : Bor (List ℕ)) → i < length xs → drop i xs ≡ get_or xs i d ∷ drop (i + 1) xs
+next_left xs i d h = rw (add-one, drop-cons xs i d) refl
+
+pub none_left : (xs : List (Bor (List ℕ))) (i : ℕ) → length xs ≤ i → drop i xs ≡ []
+none_left xs i h = let l = length-drop i xs in nil_from_length (drop i xs) (omega (arith, l, h))
+
+-- one name, and two
+pub one_name : (xs : List (Bor (List ℕ))) (d : Bor (List ℕ)) → length xs ≡ 1 → xs ≡ get_or xs 0 d ∷ []
+one_name [] d h = absurd (omega (arith, h))
+one_name (x ∷ []) d h = refl
+one_name (x ∷ y ∷ xs) d h = absurd (omega (arith, h))
+
+pub two_names : (xs : List (Bor (List ℕ))) (d : Bor (List ℕ)) → length xs ≡ 2 → xs ≡ get_or xs 0 d ∷ get_or xs 1 d ∷ []
+two_names [] d h = absurd (omega (arith, h))
+two_names (x ∷ []) d h = absurd (omega (arith, h))
+two_names (x ∷ y ∷ []) d h = refl
+two_names (x ∷ y ∷ z ∷ xs) d h = absurd (omega (arith, h))

@@ -1,0 +1,107 @@
+-- What a parse found, as a request.
+use Rattle.std.proofs.Common.{◌≡◌, ◌∙◌, ◌∷◌, ◌++◌, [], inl, inr, ap, ap₂, refl, sym, subst, arith, length, List, Option, Some, None, true, true≢false}
+use Rattle.std.specs.Prelude.{Box, is_some, map, option_map, unwrap_or}
+use Rattle.std.specs.Borrow.{Bor}
+use Rattle.std.specs.Prelude.{Result, Ok, Err, IfErr}
+use Rattle.std.specs.Result.{IsErrAnd}
+use Rattle.std.specs.Box.{box_value}
+use Rattle.clap.specs.Faults.{fault_of, is_simple_and_free}
+use Rattle.clap.specs.Kinds.{HasKind, IsAmong, Kinds}
+use Rattle.clap.specs.Values.{kind_of}
+use Rattle.clap.specs.declared.error.kind.ErrorKind.TheVariants.{OutOfMemory}
+use Rattle.clap.specs.Matches.{subcommand_name_of}
+use Rattle.clap.specs.Simple.{App, HasMatchesOf, is_simple, subcommand_of, subcommand_rows}
+use Rattle.clap.specs.Walk.{Row, Text}
+use Rattle.clap.specs.declared.error.Error.{Error}
+use Rattle.clap.specs.declared.parser.matches.ArgMatches.{ArgMatches}
+use Rattle.clap.specs.declared.parser.matches.ArgMatches.TheViews.{out-ArgMatches, out-SubCommand}
+use Rattle.clap.specs.declared.parser.matches.SubCommand.{SubCommand}
+use Rattle.pod_commands.specs.Program.{program}
+use Rattle.pod_commands.specs.Requests.{or_input}
+
+value_or : {X : Type 0} → X → Option X → X
+value_or x None = x
+value_or x (Some y) = y
+
+some_none : {X : Type 0} (x : X) → Some x ≡ None → ⊥
+some_none x e = true≢false (ap is_some e)
+
+-- the name and the rows of a subcommand that was found
+module _ {Z : Type 0} where
+  sub_some : (x : Option (Box SubCommand Z)) (name : Text) (rows : List Row) →
+      Some name ≡ option_map (λ b. (out-SubCommand (box_value b)).name.now) x →
+      Some rows ≡ option_map (λ p. p.1) (subcommand_rows x) → subcommand_rows x ≡ Some (name, rows)
+  unfolding value_or out-SubCommand out-ArgMatches
+  sub_some None name rows n r = absurd (some_none name n)
+  sub_some (Some b) name rows n r = ap₂ (λ s t. Some (s, t)) (sym (ap (value_or name) n)) (sym (ap (value_or rows) r))
+
+  sub_none : (x : Option (Box SubCommand Z)) → None ≡ option_map (λ b. (out-SubCommand (box_value b)).name.now) x → subcommand_rows x ≡ None
+  sub_none None n = refl
+  sub_none (Some b) n = absurd (some_none _ (sym n))
+
+-- the program's command is one of which clap says all
+program_is_simple : is_simple program ≡ true
+program_is_simple = refl
+
+program_is_free : is_simple_and_free program ≡ true
+program_is_free = refl
+
+pub found_is : (app : App) (words : List Text) (m : ArgMatches) (name : Text) (rows : List Row) → app ≡ program → HasMatchesOf app words m →
+    Some name ≡ subcommand_name_of m → Some rows ≡ option_map (λ p. p.1) (subcommand_rows (out-ArgMatches m).subcommand) →
+    subcommand_of program words ≡ Some (name, rows)
+found_is app words m name rows e h n r =
+    let its = subst (λ a. HasMatchesOf a words m) e h program_is_simple in
+    sym its.1 ∙ sub_some (out-ArgMatches m).subcommand name rows n r
+
+pub none_is : (app : App) (words : List Text) (m : ArgMatches) → app ≡ program → HasMatchesOf app words m → None ≡ subcommand_name_of m →
+    subcommand_of program words ≡ None
+none_is app words m e h n =
+    let its = subst (λ a. HasMatchesOf a words m) e h program_is_simple in
+    sym its.1 ∙ sub_none (out-ArgMatches m).subcommand n
+
+pub no_fault : (app : App) (words : List Text) → app ≡ program → (is_simple_and_free app ≡ true → fault_of app words ≡ []) → fault_of program words ≡ []
+no_fault app words e h = subst (λ a. is_simple_and_free a ≡ true → fault_of a words ≡ []) e h program_is_free
+
+pub fault_is : (app : App) (words : List Text) (error : Error) → app ≡ program → (is_simple_and_free app ≡ true → HasKind (fault_of app words) error) →
+    HasKind (fault_of program words) error
+fault_is app words error e h = subst (λ a. is_simple_and_free a ≡ true → HasKind (fault_of a words) error) e h program_is_free
+
+-- two names of one subcommand are the same
+name_in : Option (Text × List Row) → Text
+name_in None = []
+name_in (Some p) = p.0
+
+pub one_name : (x : Option (Text × List Row)) (n m : Text) (rs ss : List Row) → x ≡ Some (n, rs) → x ≡ Some (m, ss) → n ≡ m
+unfolding name_in
+one_name x n m rs ss e f = sym (ap name_in e) ∙ ap name_in f
+
+pub no_name : (x : Option (Text × List Row)) (n : Text) (rs : List Row) → x ≡ None → x ≡ Some (n, rs) → ⊥
+no_name x n rs e f = some_none (n, rs) (sym f ∙ e)
+
+-- names that are given, or the standard input's
+pub all_names : (r : Option (Bor (List (Bor Text)))) (empty : Bor (List (Bor Text))) → empty.now ≡ [] →
+    map (λ v. v.now) (unwrap_or r empty).now ≡ unwrap_or (option_map (λ s. map (λ v. v.now) s.now) r) []
+all_names None empty e = ap (map (λ v. v.now)) e
+all_names (Some s) empty e = refl
+
+pub some_names : (xs : List (Bor Text)) → ¬ (length xs ≡ 0) → or_input (map (λ v. v.now) xs) ≡ map (λ v. v.now) xs
+some_names [] h = absurd (h refl)
+some_names (x ∷ xs) h = refl
+
+pub no_names : (xs : List (Bor Text)) → length xs ≡ 0 → or_input (map (λ v. v.now) xs) ≡ or_input []
+no_names [] h = refl
+no_names (x ∷ xs) h = absurd (omega (arith, h))
+
+-- a refusal that is handed on
+pub told : {T E : Type 0} (P : E → Type 0) (r : Result T E) (why : E) → IsErrAnd r (λ w. w ≡ why) → P why → IfErr r P
+told P (Ok x) why h p = absurd h
+told P (Err w) why h p = subst P (sym h) p
+
+-- one name is pushed
+pub pushed : (old new : List (Bor Text)) (x : Bor Text) → old ≡ [] → new ≡ old ++ (x ∷ []) → map (λ v. v.now) new ≡ x.now ∷ []
+pushed old new x none e = ap (map (λ v. v.now)) (e ∙ ap (λ l. l ++ (x ∷ [])) none)
+
+-- clap's refusal is one of those that stand, where memory didn't run out
+pub among : (kinds : Kinds) (error : Error) → HasKind kinds error → ¬ (kind_of error ≡ OutOfMemory) → IsAmong (kind_of error) kinds
+among kinds error (inl e) some = absurd (some e)
+among kinds error (inr a) some = a

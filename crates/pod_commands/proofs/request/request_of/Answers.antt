@@ -1,0 +1,44 @@
+use Rattle.std.proofs.Common.{◌≡◌, ◌∙◌, ap, codes, subst, Some}
+use Rattle.clap.specs.Kinds.{HasKind}
+use Rattle.clap.specs.Faults.{fault_of}
+use Rattle.clap.specs.Walk.{rows_of, texts}
+use Rattle.clap.specs.Words.{app_of, found_of, subcommand_of}
+use Rattle.clap.proofs.WalkLemmas.{first_value-rows}
+use Rattle.pod_commands.specs.Program.{program}
+use Rattle.pod_commands.specs.Requests.{HasLayout}
+use Rattle.pod_commands.proofs.Requested.{fault_is, found_is, no_fault, one_name, told}
+use Rattle.pod_commands.proofs.request.request_of.Goals as goal
+
+pub returns-in_err-matches-clause-refused : goal.returns-in_err-matches-clause-refused
+returns-in_err-matches-clause-refused c =
+    told (HasKind (fault_of program (texts c.args.words.now))) c.from_residual-in_err-matches.result c.in_err-matches.field-0.0 c.from_residual-in_err-matches.ensures.1
+    (fault_is _ (texts c.args.words.now) c.in_err-matches.field-0.0 c.in_ok-command.ensures c.in_err-matches.ensures.kinds)
+
+pub returns-in_default-word_of-clause-nothing : goal.returns-in_default-word_of-clause-nothing
+returns-in_default-word_of-clause-nothing c =
+    let ws = texts c.args.words.now in
+    let app = app_of c.in_ok-command.command in
+    let found : subcommand_of program ws ≡ Some (c.in-Some.name.now, rows_of (found_of c.in-Some.given.now)) =
+    found_is app ws c.in_ok-matches.matches c.in-Some.name.now (rows_of (found_of c.in-Some.given.now)) c.in_ok-command.ensures
+    c.in_ok-matches.ensures.matches c.in-Some.ensures.name c.in-Some.ensures.rows in
+    record {
+      accepted = no_fault app ws c.in_ok-command.ensures c.in_ok-matches.ensures.kinds;
+      nothing = λ word rows i. c.in_default-word_of.ensures.none word (one_name (subcommand_of program ws) _ _ _ rows found i);
+    }
+
+pub returns-clause-asked : goal.returns-clause-asked
+returns-clause-asked c =
+    let ws = texts c.args.words.now in
+    let app = app_of c.in_ok-command.command in
+    let rows = rows_of (found_of c.in-Some.given.now) in
+    let found : subcommand_of program ws ≡ Some (c.in-Some.name.now, rows) =
+    found_is app ws c.in_ok-matches.matches c.in-Some.name.now rows c.in_ok-command.ensures c.in_ok-matches.ensures.matches
+    c.in-Some.ensures.name c.in-Some.ensures.rows in
+    record {
+      accepted = no_fault app ws c.in_ok-command.ensures c.in_ok-matches.ensures.kinds;
+      rows = rows;
+      word = found ∙ ap (λ name. Some (name, rows)) c.in-Some-word_of.ensures.word;
+      layout = subst (λ layout. HasLayout layout c.in-Some-word_of.word) c.layout_of.ensures c.in-Some-word_of.ensures.layout;
+      names = c.in_ok-names.ensures;
+      target = c.get_str.ensures ∙ first_value-rows (found_of c.in-Some.given.now) (codes "output");
+    }

@@ -1,0 +1,220 @@
+-- What a run writes, and what it says of that: docs/PROVED.md, "The programs".
+use Rattle.std.specs.Prelude.{◌≡◌, ◌⊎◌, ⊤, ℕ, codes, List, [], ◌∷◌, ◌++◌, Option, Some, None, Ok, if◌then◌else◌, take}
+use Rattle.std.specs.Borrow.{Bor}
+use Rattle.std.specs.Io.KnownBytes.{Appends, Keeps}
+use Rattle.std.specs.Str.{bytes_eq}
+use Rattle.clap.specs.Faults.{fault_of}
+use Rattle.clap.specs.Kinds.{IsAmong}
+use Rattle.clap.specs.Values.{kind_of}
+use Rattle.clap.specs.Walk.{texts}
+use Rattle.clap.specs.declared.error.Error.{Error}
+use Rattle.clap.specs.declared.error.kind.ErrorKind.{ErrorKind}
+use Rattle.clap.specs.declared.error.kind.ErrorKind.TheVariants as kind
+use Rattle.spa_device.specs.Whole.{IsAllOf}
+use Rattle.spa_pod_commands.specs.Answers as pods
+use Rattle.spa_text_commands.specs.Answers as text
+use Rattle.spa_text_commands.specs.Differences.{Differ, RefusesEither, SayTheSame}
+use Rattle.spa_text_commands.specs.declared.answer.Failure.{Failure as TextFailure}
+use Rattle.spa_meet_commands.specs.Answers as meet
+use Rattle.spa_meet_commands.specs.Lists.{AreListsRefused, ListsGive}
+use Rattle.spa_meet_commands.specs.declared.answer.Failure.{Failure as MeetFailure}
+use Rattle.spa_meet_commands.specs.declared.pair.Work.{Work}
+use Rattle.pod_commands.specs.Inputs.{AreMade, OfOne, OfTwo, StopsAt}
+use Rattle.pod_commands.specs.Making.{Makes, RefusesIn, ShowsAs, ShowsBegin}
+use Rattle.pod_commands.specs.Program.{program}
+use Rattle.pod_commands.specs.Requests.{Asks, AsksNothing, dash}
+use Rattle.pod_commands.specs.declared.answer.Answer.{Answer}
+use Rattle.pod_commands.specs.declared.answer.Answer.TheVariants.{Done, Differs, Refused, Misused, Said}
+use Rattle.pod_commands.specs.declared.answer.Failure.{Failure}
+use Rattle.pod_commands.specs.declared.answer.Failure.TheVariants.{Pods, Texts, Compared, Pair, Lists, OutOfMemory, Unread, Unwritten}
+use Rattle.pod_commands.specs.declared.request.Making.{Making}
+use Rattle.pod_commands.specs.declared.request.Request.{Request}
+use Rattle.pod_commands.specs.declared.request.Word.{Word}
+use Rattle.pod_commands.specs.declared.request.Word.TheVariants.{Show, Make, Diff, Agree}
+
+-- ---- Where what is made goes
+
+-- the standard output and the files, before the work and after it, and the name of the file that is to be written, if one is
+pub record Outlet : Type 0 where
+  pub target : Option (Bor (List ℕ))
+  pub old : Option (List ℕ)
+  pub new : Option (List ℕ)
+  pub before : List ℕ → Option (List ℕ)
+  pub after : List ℕ → Option (List ℕ)
+
+abbrev pub outlet : (target : Option (Bor (List ℕ))) → (old new : Option (List ℕ)) → (before after : List ℕ → Option (List ℕ)) → Outlet
+outlet target old new before after = record { target = target; old = old; new = new; before = before; after = after }
+
+-- no file was written
+abbrev pub KeepsFiles : Outlet → Type 0
+KeepsFiles o = (name : List ℕ) → o.after name ≡ o.before name
+
+-- nothing was written
+abbrev pub IsUntouched : Outlet → Type 0
+IsUntouched o = Keeps o.old o.new × KeepsFiles o
+
+-- this was written, where it should be
+abbrev pub Gets : Option (Bor (List ℕ)) → Outlet → List ℕ → Type 0
+Gets None o out = Appends o.old o.new out × KeepsFiles o
+Gets (Some name) o out = IsAllOf (o.after name.now) out × Keeps o.old o.new
+
+-- so many first bytes of this were written to the standard output, maybe all, and then it failed; or a file did
+abbrev pub Begins : Option (Bor (List ℕ)) → Outlet → List ℕ → Type 0
+Begins None o out = ((n : ℕ) × Appends o.old o.new (take n out)) × KeepsFiles o
+Begins (Some name) o out = Keeps o.old o.new
+
+-- this was written, unless it was to go to a file
+abbrev pub Streams : Option (Bor (List ℕ)) → Outlet → List ℕ → Type 0
+Streams None o out = Appends o.old o.new out × KeepsFiles o
+Streams (Some name) o out = IsUntouched o
+
+-- ---- Answers
+
+-- the fact of what became of the work
+abbrev pub OnAnswer : Answer → (IfDone IfDiffers : Type 0) → (Failure → Type 0) → Type 0
+OnAnswer Done IfDone IfDiffers IfRefused = IfDone
+OnAnswer Differs IfDone IfDiffers IfRefused = IfDiffers
+OnAnswer (Refused why) IfDone IfDiffers IfRefused = IfRefused why
+OnAnswer Misused IfDone IfDiffers IfRefused = ⊥
+OnAnswer (Said error) IfDone IfDiffers IfRefused = ⊥
+
+-- something that this holds of was written
+abbrev pub Gives : (List ℕ → Type 0) → Outlet → Type 0
+Gives IsSo o = (out : List ℕ) × IsSo out × Gets o.target o out
+
+-- a write failed, and this is the reason
+abbrev pub IsUnwritten : Failure → Type 0
+IsUnwritten why = (target : Option (Bor (List ℕ))) × (why ≡ Unwritten target)
+
+-- why the work wasn't done, and what was written: nothing, unless a write failed
+abbrev pub Refuses : (List ℕ → Type 0) → (Failure → Type 0) → Outlet → Failure → Type 0
+Refuses IsSo IsRefused o why = (IsRefused why × IsUntouched o) ⊎ (IsUnwritten why × ((out : List ℕ) × IsSo out × Begins o.target o out))
+
+-- what is said of an input that couldn't be read, or of memory
+abbrev pub IsUnread : Failure → Type 0
+IsUnread why = (why ≡ OutOfMemory) ⊎ ((name : Bor (List ℕ)) × (why ≡ Unread name))
+
+-- the work on several inputs stops at one of them, which isn't read or is refused
+abbrev pub AreUnmade : Making → (remaining : Option (List ℕ)) → (holds : List ℕ → Option (List ℕ)) → List (Bor (List ℕ)) → Failure → Type 0
+AreUnmade making remaining holds names why =
+    IsUnread why ⊎ ((out : List ℕ) × StopsAt (Makes making) (λ name input made. RefusesIn making name input) remaining holds names out why)
+
+-- Why not all inputs are shown, and what was written: what follows the whole pods of one is refused behind their lines and those of the
+-- inputs before it.
+abbrev pub IsNotShown : (remaining : Option (List ℕ)) → (holds : List ℕ → Option (List ℕ)) → List (Bor (List ℕ)) → Outlet → Failure → Type 0
+IsNotShown remaining holds names o OutOfMemory = ⊤
+IsNotShown remaining holds names o (Unread name) = ⊤
+IsNotShown remaining holds names o (Unwritten target) = ⊤
+IsNotShown remaining holds names o why = (out : List ℕ) × StopsAt ShowsAs ShowsBegin remaining holds names out why × Streams o.target o out
+
+-- these are the lines that differ of two inputs, which are none where they say the same values
+abbrev pub Compare : (out a b : List ℕ) → Type 0
+Compare out a b = ((out ≡ []) × SayTheSame a b) ⊎ Differ out a b
+
+-- two inputs aren't read, or one of them isn't pods
+abbrev pub AreNotCompared : (remaining : Option (List ℕ)) → (holds : List ℕ → Option (List ℕ)) → (n m : List ℕ) → Failure → Type 0
+AreNotCompared remaining holds n m why =
+    IsUnread why ⊎ ((x : Bor (List ℕ)) × (y : Bor (List ℕ)) × (e : TextFailure) × (why ≡ Compared x y e) × (x.now ≡ n) × (y.now ≡ m)
+    × OfTwo remaining holds n m (RefusesEither e))
+
+-- the object on which the two agree that an input consists of, or the first pair of two lists
+abbrev pub AgreesOne : Work → (remaining : Option (List ℕ)) → (holds : List ℕ → Option (List ℕ)) → (n out : List ℕ) → Type 0
+AgreesOne work remaining holds n out = OfOne remaining holds n (meet.PairIn work out)
+
+abbrev pub AgreeTwo : Work → (remaining : Option (List ℕ)) → (holds : List ℕ → Option (List ℕ)) → (n m out : List ℕ) → Type 0
+AgreeTwo work remaining holds n m out = OfTwo remaining holds n m (ListsGive work (Ok out))
+
+-- why they don't
+abbrev pub IsOneApart : Work → (remaining : Option (List ℕ)) → (holds : List ℕ → Option (List ℕ)) → (n : List ℕ) → Failure → Type 0
+IsOneApart work remaining holds n why =
+    IsUnread why ⊎ ((x : Bor (List ℕ)) × (e : MeetFailure) × (why ≡ Pair x e) × (x.now ≡ n) × OfOne remaining holds n (meet.IsPairRefused work e))
+
+abbrev pub AreTwoApart : Work → (remaining : Option (List ℕ)) → (holds : List ℕ → Option (List ℕ)) → (n m : List ℕ) → Failure → Type 0
+AreTwoApart work remaining holds n m why =
+    IsUnread why ⊎ ((x : Bor (List ℕ)) × (y : Bor (List ℕ)) × (e : MeetFailure) × (why ≡ Lists x y e) × (x.now ≡ n) × (y.now ≡ m)
+    × OfTwo remaining holds n m (AreListsRefused work e))
+
+-- another number of inputs than the word takes
+abbrev pub IsMisuse : Answer → Outlet → Type 0
+IsMisuse answer o = (answer ≡ Misused) × IsUntouched o
+
+-- what an answer says of two inputs that are compared, and of the word with another number of them
+abbrev pub IsCompared : Answer → (remaining : Option (List ℕ)) → List (Bor (List ℕ)) → Outlet → Type 0
+IsCompared answer remaining (n ∷ m ∷ []) o =
+    OnAnswer answer (OfTwo remaining o.before n.now m.now SayTheSame × Gets o.target o [])
+    (Gives (λ out. OfTwo remaining o.before n.now m.now (Differ out)) o)
+    (Refuses (λ out. OfTwo remaining o.before n.now m.now (Compare out)) (AreNotCompared remaining o.before n.now m.now) o)
+IsCompared answer remaining _ o = IsMisuse answer o
+
+-- what it says of inputs in which two objects agree
+abbrev pub IsAgreed : Work → Answer → (remaining : Option (List ℕ)) → List (Bor (List ℕ)) → Outlet → Type 0
+IsAgreed work answer remaining (n ∷ []) o =
+    OnAnswer answer (Gives (AgreesOne work remaining o.before n.now) o) ⊥
+    (Refuses (AgreesOne work remaining o.before n.now) (IsOneApart work remaining o.before n.now) o)
+IsAgreed work answer remaining (n ∷ m ∷ []) o =
+    OnAnswer answer (Gives (AgreeTwo work remaining o.before n.now m.now) o) ⊥
+    (Refuses (AgreeTwo work remaining o.before n.now m.now) (AreTwoApart work remaining o.before n.now m.now) o)
+IsAgreed work answer remaining _ o = IsMisuse answer o
+
+-- what it says of a word's work on inputs of these names, where this is left of the standard input
+abbrev pub IsDone : Word → Answer → (remaining : Option (List ℕ)) → List (Bor (List ℕ)) → Outlet → Type 0
+IsDone Show answer remaining names o =
+    OnAnswer answer (Gives (AreMade ShowsAs remaining o.before names) o) ⊥ (IsNotShown remaining o.before names o)
+IsDone (Make making) answer remaining names o =
+    OnAnswer answer (Gives (AreMade (Makes making) remaining o.before names) o) ⊥
+    (Refuses (AreMade (Makes making) remaining o.before names) (AreUnmade making remaining o.before names) o)
+IsDone Diff answer remaining names o = IsCompared answer remaining names o
+IsDone (Agree work) answer remaining names o = IsAgreed work answer remaining names o
+
+-- What an answer says of a run: what the words ask for was done, or refused; clap refuses them for one of the causes that stand, help
+-- and the version among them; they name no word; or memory ran out.
+pub data IsAnswer (words : List (Bor (List ℕ))) (remaining old new : Option (List ℕ)) (before after : List ℕ → Option (List ℕ)) : Answer → Type 0 where
+  asked : (request : Request) (answer : Answer) → Asks words request →
+      IsDone request.word answer remaining request.names.items (outlet request.target old new before after) →
+      IsAnswer words remaining old new before after answer
+  said : (error : Error) → IsAmong (kind_of error) (fault_of program (texts words)) → Keeps old new → ((name : List ℕ) → after name ≡ before name) →
+      IsAnswer words remaining old new before after (Said error)
+  nothing : AsksNothing words → Keeps old new → ((name : List ℕ) → after name ≡ before name) →
+      IsAnswer words remaining old new before after Misused
+  no_memory : Keeps old new → ((name : List ℕ) → after name ≡ before name) →
+      IsAnswer words remaining old new before after (Refused OutOfMemory)
+
+-- ---- What is told
+
+-- help and the version are no misuse
+abbrev pub status_of_kind : ErrorKind → ℕ
+status_of_kind kind.DisplayHelp = 0
+status_of_kind kind.DisplayVersion = 0
+status_of_kind _ = 2
+
+-- the program's status
+abbrev pub status_of : Answer → ℕ
+status_of Done = 0
+status_of Differs = 1
+status_of (Refused why) = 1
+status_of Misused = 2
+status_of (Said error) = status_of_kind (kind_of error)
+
+-- what is said of an input's name
+abbrev pub name_text : List ℕ → List ℕ
+name_text name = if bytes_eq name dash then codes "standard input" else name
+
+-- what is said of the file that can't be written
+abbrev pub target_text : Option (Bor (List ℕ)) → List ℕ
+target_text None = codes "standard output"
+target_text (Some name) = name.now
+
+-- what is said of a refusal
+abbrev pub failure_text : Failure → List ℕ
+failure_text (Pods name why) = name_text name.now ++ (codes ": " ++ pods.failure_text why)
+failure_text (Texts name why) = name_text name.now ++ (codes ": " ++ text.failure_text why)
+failure_text (Compared ours theirs why) = name_text ours.now ++ (codes ", " ++ (name_text theirs.now ++ (codes ": " ++ text.failure_text why)))
+failure_text (Pair name why) = name_text name.now ++ (codes ": " ++ meet.failure_text why)
+failure_text (Lists ours theirs why) = name_text ours.now ++ (codes ", " ++ (name_text theirs.now ++ (codes ": " ++ meet.failure_text why)))
+failure_text OutOfMemory = codes "out of memory"
+failure_text (Unread name) = name_text name.now ++ codes ": read failed"
+failure_text (Unwritten target) = target_text target ++ codes ": write failed"
+
+-- the line that is written of a refusal
+abbrev pub line_of : Failure → List ℕ
+line_of why = codes "pod: " ++ (failure_text why ++ 10 ∷ [])

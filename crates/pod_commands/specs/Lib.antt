@@ -1,0 +1,7 @@
+pub mod Answers
+pub mod Inputs
+pub mod Making
+pub mod Program
+pub mod Requests
+pub mod Sending
+pub mod Showing

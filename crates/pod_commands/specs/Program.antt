@@ -1,0 +1,49 @@
+-- The command line, in clap's terms: `pod WORD [-o FILE] [FILE ..]`.
+use Rattle.std.specs.Prelude.{codes, Some, true}
+use Rattle.clap.specs.Words.{App, Rule, Text, new_app, new_rule, with_rule, with_subcommand}
+use Rattle.clap.specs.declared.builder.action.ArgAction.TheVariants.{Append, SetTrue}
+
+-- `FILE ..`
+abbrev pub files : Rule
+files = record (new_rule (codes "FILE")) { action = Some Append }
+
+-- `-o FILE`, `--output FILE`
+abbrev pub output : Rule
+output = record (new_rule (codes "output")) { short = Some 111; long = Some (codes "output"); value_names = 1 }
+
+-- `--pretty`
+abbrev pub pretty : Rule
+pretty = record (new_rule (codes "pretty")) { long = Some (codes "pretty"); action = Some SetTrue }
+
+-- a word that takes files
+abbrev pub word : Text → App
+word name = with_rule (with_rule (new_app name) files) output
+
+-- the word `json`, which takes `--pretty` too
+abbrev pub json : App
+json = with_rule (word (codes "json")) pretty
+
+-- the program without its words: it wants one, and has a version
+abbrev pub bare : App
+bare =
+    let app = new_app (codes "pod") in
+    record app {
+      top = record app.top { no_binary_name = true; has_version = true; subcommand_required = true; arg_required_else_help = true };
+    }
+
+abbrev pub with_word : App → Text → App
+with_word app name = with_subcommand app (word name).top
+
+-- the program's words, in order
+abbrev pub with_json : App → App
+with_json app = with_word (with_subcommand app json.top) (codes "read")
+
+abbrev pub with_writers : App → App
+with_writers app = with_word (with_word (with_word app (codes "rewrite")) (codes "fixate")) (codes "check")
+
+abbrev pub with_pairs : App → App
+with_pairs app = with_word (with_word (with_word app (codes "diff")) (codes "meet")) (codes "filter")
+
+-- the program
+abbrev pub program : App
+program = with_pairs (with_writers (with_json (with_word bare (codes "show"))))

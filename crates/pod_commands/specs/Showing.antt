@@ -1,0 +1,31 @@
+-- Where showing stopped. Only private clauses cite it.
+use Rattle.std.specs.Prelude.{◌≡◌, ⊤, ℕ, List, Option, None}
+use Rattle.std.specs.Io.KnownBytes.{Appends}
+use Rattle.std.specs.Borrow.{Bor}
+use Rattle.spa_text_commands.specs.declared.answer.Failure.{Failure as TextFailure}
+use Rattle.spa_text_commands.specs.declared.answer.Failure.TheVariants as text
+use Rattle.pod_commands.specs.Inputs.{StopsAt}
+use Rattle.pod_commands.specs.Making.{ShowsAs, ShowsBegin}
+use Rattle.pod_commands.specs.declared.answer.Failure.{Failure}
+use Rattle.pod_commands.specs.declared.answer.Failure.TheVariants.{Texts, OutOfMemory, Unread, Unwritten}
+
+-- the refusal of the input of this name is told so
+abbrev pub IsToldAs : List ℕ → TextFailure → Failure → Type 0
+IsToldAs name text.OutOfMemory why = why ≡ OutOfMemory
+IsToldAs name (text.ReadFailed origin) why = (n : Bor (List ℕ)) × (why ≡ Unread n)
+IsToldAs name text.WriteFailed why = why ≡ Unwritten None
+IsToldAs name e why = (n : Bor (List ℕ)) × (n.now ≡ name) × (why ≡ Texts n e)
+
+-- why an input of this name isn't shown whole, and what was written
+abbrev pub IsCutAt : (name input : List ℕ) → (old new : Option (List ℕ)) → Failure → Type 0
+IsCutAt name input old new OutOfMemory = ⊤
+IsCutAt name input old new (Unread n) = ⊤
+IsCutAt name input old new (Unwritten target) = ⊤
+IsCutAt name input old new why = (out : List ℕ) × ShowsBegin name input out why × Appends old new out
+
+-- the same of several inputs
+abbrev pub IsCut : (remaining : Option (List ℕ)) → (holds : List ℕ → Option (List ℕ)) → List (Bor (List ℕ)) → (old new : Option (List ℕ)) → Failure → Type 0
+IsCut remaining holds names old new OutOfMemory = ⊤
+IsCut remaining holds names old new (Unread n) = ⊤
+IsCut remaining holds names old new (Unwritten target) = ⊤
+IsCut remaining holds names old new why = (out : List ℕ) × StopsAt ShowsAs ShowsBegin remaining holds names out why × Appends old new out

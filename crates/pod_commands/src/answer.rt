@@ -1,0 +1,149 @@
+//! What becomes of a run, and what is said of it.
+ghost use Rattle.std.specs.Prelude.{◌≡◌, OnOk};
+ghost use Rattle.std.specs.Io.KnownBytes.{Appends};
+ghost use Rattle.pod_commands.specs.Answers.{line_of, name_text, status_of, target_text};
+
+use clap::Error;
+use std::alloc::AllocError;
+use std::fmt;
+use std::io::{self, Write};
+
+/// What became of a run.
+#[derive(Debug, Drop)]
+pub enum Answer<'a> {
+    /// The work was done; two inputs that were compared say the same values.
+    Done,
+    /// The two inputs say other values, and the lines that differ were written.
+    Differs,
+    /// The work was refused, for this reason.
+    Refused(Failure<'a>),
+    /// The word takes another number of inputs.
+    Misused,
+    /// The words ask for help or the version, or are none of the program's.
+    Said(Error),
+}
+
+impl Answer<'_> {
+    /// The program's status: 0 where the work was done or help given, 1 where it was refused or two inputs differ, 2 where the words
+    /// are none of the program's.
+    pub fn status(&self) -> u8
+        ensures { result ≡ status_of self.now }
+    {
+        match self {
+            Answer::Done => 0,
+            Answer::Differs => 1,
+            Answer::Refused(_) => 1,
+            Answer::Misused => 2,
+            Answer::Said(error) => { if error.use_stderr() { 2 } else { 0 } }
+        }
+    }
+}
+
+/// Why a run was refused.
+#[derive(Debug, Drop)]
+pub enum Failure<'a> {
+    /// The input of this name isn't pods.
+    Pods(&'a str, spa_pod_commands::answer::Failure),
+    /// The input of this name isn't texts, or has pods that aren't printed or shown.
+    Texts(&'a str, spa_text_commands::answer::Failure),
+    /// One of the inputs of these names, which are compared, isn't pods.
+    Compared(&'a str, &'a str, spa_text_commands::answer::Failure),
+    /// The two objects of the input of this name don't agree.
+    Pair(&'a str, spa_meet_commands::answer::Failure),
+    /// The objects of the inputs of these names don't agree.
+    Lists(&'a str, &'a str, spa_meet_commands::answer::Failure),
+    /// A growth was refused.
+    OutOfMemory,
+    /// The input of this name couldn't be read.
+    Unread(&'a str),
+    /// The file of this name, or without one the standard output, couldn't be written.
+    Unwritten(Option<&'a str>),
+}
+
+/// What is said of an input's name.
+fn shown_name<'a>(name: &'a str) -> &'a str
+    ensures { result.now ≡ name_text name.now }
+{
+    if name == "-" {
+        return "standard input";
+    }
+    name
+}
+
+/// What is said of the file that is written.
+fn shown_target<'a>(target: Option<&'a str>) -> &'a str
+    ensures { result.now ≡ target_text target.entry }
+{
+    match target {
+        Some(name) => name,
+        None => "standard output",
+    }
+}
+
+impl fmt::Display for Failure<'_> {
+    ghost use Rattle.std.specs.Prelude.{Some};
+    ghost use Rattle.pod_commands.specs.Answers.{failure_text};
+
+    ghost output = { λ failure. Some (failure_text failure) };
+
+    fn fmt<W: fmt::Write>(&self, f: &mut fmt::Formatter<W>) -> fmt::Result {
+        match self {
+            Failure::Pods(name, why) => write!(f, "{}: {why}", shown_name(*name)),
+            Failure::Texts(name, why) => write!(f, "{}: {why}", shown_name(*name)),
+            Failure::Compared(ours, theirs, why) => {
+                write!(f, "{}, {}: {why}", shown_name(*ours), shown_name(*theirs))
+            }
+            Failure::Pair(name, why) => write!(f, "{}: {why}", shown_name(*name)),
+            Failure::Lists(ours, theirs, why) => {
+                write!(f, "{}, {}: {why}", shown_name(*ours), shown_name(*theirs))
+            }
+            Failure::OutOfMemory => write!(f, "out of memory"),
+            Failure::Unread(name) => write!(f, "{}: read failed", shown_name(*name)),
+            Failure::Unwritten(target) => write!(f, "{}: write failed", shown_target(*target)),
+        }
+    }
+}
+
+impl From<AllocError> for Failure<'_> {
+    ghost use Rattle.pod_commands.specs.declared.answer.Failure.TheVariants.{OutOfMemory};
+    ghost use Rattle.std.specs.Prelude.{◌≡◌};
+
+    ghost from_gives = { λ _ e. e ≡ OutOfMemory };
+
+    fn from(_refused: AllocError) -> Self {
+        Failure::OutOfMemory
+    }
+}
+
+/// What is said of a word with another number of inputs than it takes.
+const MISUSE: &str = "pod: diff takes two FILEs, meet and filter one or two; pod --help says more";
+
+/// Writes what is said of this answer: help and the version to the output, a refusal or a misuse to the other writer, of work that was
+/// done nothing.
+pub fn tell<W: Write, E: Write>(
+    output: &mut W,
+    faults: &mut E,
+    answer: &Answer<'_>,
+) -> io::Result<()> {
+    match answer {
+        Answer::Done => Ok(()),
+        Answer::Differs => Ok(()),
+        Answer::Refused(why) => tell_failure(faults, why),
+        Answer::Misused => writeln!(faults, "{MISUSE}"),
+        Answer::Said(error) => {
+            if error.use_stderr() {
+                write!(faults, "{error}")
+            } else {
+                write!(output, "{error}")?;
+                output.flush()
+            }
+        }
+    }
+}
+
+/// Writes the line of a refusal.
+pub fn tell_failure<E: Write>(faults: &mut E, why: &Failure<'_>) -> io::Result<()>
+    ensures told { OnOk result (Appends (E.contents faults.old) (E.contents faults.new) (line_of why.now)) }
+{
+    writeln!(faults, "pod: {why}")
+}

@@ -1,0 +1,195 @@
+//! The command line: the program's words, what each takes, and its help.
+ghost use Rattle.std.specs.Prelude.{◌≡◌, IfOk, false};
+ghost use Rattle.clap.specs.Words.{app_of, rule_of};
+ghost use Rattle.clap.specs.declared.builder.command.Command.TheViews.{out-Command};
+ghost use Rattle.pod_commands.specs.Program as spec;
+
+use clap::{Arg, ArgAction, Command};
+use std::alloc::{AllocError, Global};
+
+/// The program's version.
+const VERSION: &str = "0.1.0";
+
+const ABOUT: &str =
+    "Shows, prints, reads, rewrites, fixates, checks and compares pods of PipeWire, and seeks what two of them agree on";
+
+/// What stands behind the help of the program.
+const EXAMPLES: &str =
+    "Without a FILE, and for a FILE named -, the standard input is read. But for show, nothing is written before all input is accepted.
+
+Status: 0 the work is done; 1 an input is refused, two differ, or something can't be read or written; 2 the words ask for nothing.
+
+Example: head -c 100 props.pod | cat route.pod - | pod rewrite -o clean.pod";
+
+/// `FILE ..`
+fn files<'a>(alloc: Global) -> Arg<'a>
+    ensures rule { rule_of result ≡ spec.files }
+    ensures local { result.global ≡ false }
+{
+    Arg::new(alloc, "FILE")
+        .action(ArgAction::Append)
+        .help("An input; - is the standard input, and so is none")
+}
+
+/// `-o FILE`
+fn output<'a>(alloc: Global) -> Arg<'a>
+    ensures rule { rule_of result ≡ spec.output }
+    ensures local { result.global ≡ false }
+{
+    Arg::new(alloc, "output")
+        .short('o')
+        .long("output")
+        .value_name("FILE")
+        .help("Writes this file, once all is made, and not the standard output")
+}
+
+/// `--pretty`
+fn pretty<'a>(alloc: Global) -> Arg<'a>
+    ensures rule { rule_of result ≡ spec.pretty }
+    ensures local { result.global ≡ false }
+{
+    Arg::new(alloc, "pretty")
+        .long("pretty")
+        .action(ArgAction::SetTrue)
+        .help("Indents each text")
+}
+
+/// A word of the program, with what help says of it and an example.
+fn word<'a>(
+    alloc: Global,
+    name: &'a str,
+    about: &'a str,
+    example: &'a str,
+) -> Result<Command<'a>, AllocError>
+    ensures app { IfOk result (λ it. app_of it ≡ spec.word name.entry.now) }
+    ensures local { IfOk result (λ it. (out-Command it).has_globals ≡ false) }
+{
+    let bare = Command::new(alloc, name).about(about).after_help(example);
+    let with_files = bare.arg(files(alloc))?;
+    with_files.arg(output(alloc))
+}
+
+/// The word `json`.
+fn json<'a>(alloc: Global) -> Result<Command<'a>, AllocError>
+    ensures app { IfOk result (λ it. app_of it ≡ spec.json) }
+    ensures local { IfOk result (λ it. (out-Command it).has_globals ≡ false) }
+{
+    let plain = word(
+        alloc,
+        "json",
+        "Prints pods as JSON with names, each on a line",
+        "Example: pod json --pretty props.pod",
+    )?;
+    plain.arg(pretty(alloc))
+}
+
+/// The program without its words.
+fn bare<'a>(alloc: Global) -> Result<Command<'a>, AllocError>
+    ensures { IfOk result (λ it. app_of it ≡ spec.bare) }
+{
+    Command::new(alloc, "pod")
+        .about(ABOUT)
+        .after_help(EXAMPLES)
+        .no_binary_name(true)
+        .version(VERSION)
+        .subcommand_required(true)
+        .arg_required_else_help(true)
+        .bin_name("pod")
+}
+
+/// A command with one more word.
+fn with_word<'a>(
+    alloc: Global,
+    command: Command<'a>,
+    name: &'a str,
+    about: &'a str,
+    example: &'a str,
+) -> Result<Command<'a>, AllocError>
+    ensures { IfOk result (λ it. app_of it ≡ spec.with_word (app_of command.entry) name.entry.now) }
+{
+    let one = word(alloc, name, about, example)?;
+    command.subcommand(one)
+}
+
+/// The program.
+pub(crate) fn program<'a>(alloc: Global) -> Result<Command<'a>, AllocError>
+    ensures { IfOk result (λ it. app_of it ≡ spec.program) }
+{
+    let bare = bare(alloc)?;
+    let first = with_word(
+        alloc,
+        bare,
+        "show",
+        "Shows pods, refused ones too, with names and what is inside them",
+        "Example: pod show recording.pods",
+    )?;
+    let second = with_json(alloc, first)?;
+    let third = with_writers(alloc, second)?;
+    with_pairs(alloc, third)
+}
+
+fn with_json<'a>(alloc: Global, command: Command<'a>) -> Result<Command<'a>, AllocError>
+    ensures { IfOk result (λ it. app_of it ≡ spec.with_json (app_of command.entry)) }
+{
+    let one = json(alloc)?;
+    let both = command.subcommand(one)?;
+    with_word(
+        alloc,
+        both,
+        "read",
+        "Reads JSON with names, and writes its pods",
+        "Example: pod json props.pod | pod read -o copy.pod",
+    )
+}
+
+fn with_writers<'a>(alloc: Global, command: Command<'a>) -> Result<Command<'a>, AllocError>
+    ensures { IfOk result (λ it. app_of it ≡ spec.with_writers (app_of command.entry)) }
+{
+    let first = with_word(
+        alloc,
+        command,
+        "rewrite",
+        "Writes each pod in its one encoding: padding zeros, true 1, nothing that the value doesn't say",
+        "Example: pod rewrite recording.pods -o clean.pods",
+    )?;
+    let second = with_word(
+        alloc,
+        first,
+        "fixate",
+        "Sets each unprotected choice of a top-level object to its default",
+        "Example: pod fixate buffers.pod -o fixed.pod",
+    )?;
+    with_word(
+        alloc,
+        second,
+        "check",
+        "Writes nothing: each input has to consist of pods",
+        "Example: pod check *.pod && echo all are pods",
+    )
+}
+
+fn with_pairs<'a>(alloc: Global, command: Command<'a>) -> Result<Command<'a>, AllocError>
+    ensures { IfOk result (λ it. app_of it ≡ spec.with_pairs (app_of command.entry)) }
+{
+    let first = with_word(
+        alloc,
+        command,
+        "diff",
+        "Prints the pods in which two FILEs differ; the status is 1 where they do",
+        "Example: pod diff before.pods after.pods",
+    )?;
+    let second = with_word(
+        alloc,
+        first,
+        "meet",
+        "Writes the object in which two meet: those of one FILE, or the first pair of two FILEs",
+        "Example: pod meet ours.pods theirs.pods | pod show",
+    )?;
+    with_word(
+        alloc,
+        second,
+        "filter",
+        "Writes the object to which two are filtered: those of one FILE, or the first pair of two FILEs",
+        "Example: pod filter ours.pods theirs.pods | pod fixate",
+    )
+}

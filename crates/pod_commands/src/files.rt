@@ -1,0 +1,71 @@
+//! The files that the program reads, and the one that it writes.
+ghost use Rattle.std.specs.Prelude.{ℕ, List, Option, IfErr, IfOk, OnOk};
+ghost use Rattle.spa_device.specs.Whole.{IsAllOf};
+ghost use Rattle.pod_commands.specs.Answers.{IsUnread};
+ghost use Rattle.pod_commands.specs.Inputs.{IsKnown, content_of, left_behind};
+
+use crate::answer::Failure;
+use spa_device::{ReadError, read_whole};
+use std::alloc::Global;
+use std::fs::{self, File};
+use std::io::{self, ErrorKind, Read, Write};
+
+/// Files that have names.
+pub trait Files {
+    /// The bytes of the file of this name, where they are known.
+    ghost holds: { Self → List ℕ → Option (List ℕ) };
+
+    /// All bytes of the file of this name.
+    fn read_file(&self, alloc: Global, name: &str) -> io::Result<Vec<u8>>
+        ensures all { IfOk result (λ bytes. IsAllOf (holds self.now name.now) bytes.items) };
+
+    /// Makes these the bytes of the file of this name.
+    fn write_file(&mut self, name: &str, bytes: &[u8]) -> io::Result<()>
+        ensures written { OnOk result (IsAllOf (holds self.new name.now) bytes.now) };
+}
+
+/// The files of the system, of which nothing is known.
+#[derive(Clone, Copy)]
+pub struct SystemFiles<'a> {
+    pub rt: &'a HostRuntime,
+}
+
+impl Files for SystemFiles<'_> {
+    ghost use Rattle.std.specs.Prelude.{None};
+
+    ghost holds = { λ _ _. None };
+
+    fn read_file(&self, _alloc: Global, name: &str) -> io::Result<Vec<u8>> {
+        fs::read(self.rt, name)
+    }
+
+    fn write_file(&mut self, name: &str, bytes: &[u8]) -> io::Result<()> {
+        let mut file = File::create(self.rt, name)?;
+        file.write_all(bytes)
+    }
+}
+
+/// All bytes of the input of this name: what is left of the standard input, or a file's.
+pub(crate) fn read_named<'a, R: Read, S: Files>(
+    alloc: Global,
+    name: &'a str,
+    input: &mut R,
+    files: &S,
+) -> Result<Vec<u8>, Failure<'a>>
+    ensures all { IfOk result (λ bytes. IsAllOf (content_of (R.remaining input.old) (S.holds files.now) name.entry.now) bytes.items) }
+    ensures left { IsKnown (left_behind (R.remaining input.old) name.entry.now) (R.remaining input.new) }
+    ensures cause { IfErr result IsUnread }
+{
+    if name == "-" {
+        return match read_whole(alloc, input) {
+            Ok(bytes) => Ok(bytes),
+            Err(ReadError::OutOfMemory) => Err(Failure::OutOfMemory),
+            Err(ReadError::Failed) => Err(Failure::Unread(name)),
+        };
+    }
+    match files.read_file(alloc, name) {
+        Ok(bytes) => Ok(bytes),
+        Err(error) if error.kind() == ErrorKind::OutOfMemory => Err(Failure::OutOfMemory),
+        Err(_) => Err(Failure::Unread(name)),
+    }
+}

@@ -1,0 +1,13 @@
+//! What `pod` does: pods of files or of the standard input are shown, printed as JSON, read from it, rewritten, fixated, checked, compared,
+//! or sought to agree.
+#![tactic(auto)]
+
+pub mod answer;
+mod command;
+pub mod files;
+mod making;
+mod pairs;
+pub mod request;
+pub mod run;
+mod sending;
+mod showing;

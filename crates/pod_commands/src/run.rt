@@ -1,0 +1,147 @@
+//! The program's work, over a reader, files and a writer.
+ghost use Rattle.std.specs.Prelude.{◌≡◌};
+ghost use Rattle.pod_commands.specs.Answers.{AreUnmade, Gives, IsAgreed, IsAnswer, IsCompared, IsDone, IsNotShown, OnAnswer, Refuses, outlet};
+ghost use Rattle.pod_commands.specs.Inputs.{AreMade};
+ghost use Rattle.pod_commands.specs.Making.{Makes, ShowsAs};
+
+use crate::answer::{Answer, Failure};
+use crate::files::Files;
+use crate::making::make_all;
+use crate::pairs::{agree, agree_of_lists, compare};
+use crate::request::{Request, Word, request_of};
+use crate::sending::answered;
+use crate::showing::show_all;
+use clap::error::ErrorKind;
+use spa_meet_commands::pair::Work;
+use std::alloc::Global;
+use std::io::{Read, Write};
+
+/// Does what the words ask for, the program's own name not among them.
+///
+/// The words are settled before anything is read. But for `show`, nothing is written before all inputs are read and accepted; a file
+/// that is to be written is written at the end, by all words.
+pub fn run<'a, R: Read, S: Files, W: Write + Drop>(
+    alloc: Global,
+    words: &'a [&'a str],
+    input: &mut R,
+    files: &mut S,
+    device: W,
+) -> (Answer<'a>, W)
+    ensures { IsAnswer words.entry.now (R.remaining input.old) (W.contents device) (W.contents result.1) (S.holds files.old) (S.holds files.new) result.0 }
+{
+    match request_of(alloc, words) {
+        Ok(Some(request)) => do_work(alloc, request, input, files, device),
+        Ok(None) => (Answer::Misused, device),
+        Err(error) => match error.kind() {
+            ErrorKind::OutOfMemory => (Answer::Refused(Failure::OutOfMemory), device),
+            _ => (Answer::Said(error), device),
+        },
+    }
+}
+
+/// Does what is asked for.
+fn do_work<'a, R: Read, S: Files, W: Write + Drop>(
+    alloc: Global,
+    request: Request<'a>,
+    input: &mut R,
+    files: &mut S,
+    device: W,
+) -> (Answer<'a>, W)
+    ensures { IsDone request.entry.word result.0 (R.remaining input.old) request.entry.names.items
+        (outlet request.entry.target (W.contents device) (W.contents result.1) (S.holds files.old) (S.holds files.new)) }
+{
+    let word = request.word;
+    let target = request.target;
+    let names = request.names.as_slice();
+    match word {
+        Word::Show => show(alloc, names, target, input, files, device),
+        Word::Make(making) => {
+            let made = make_all(alloc, making, names, input, files);
+            answered(files, target, device, made, Answer::Done)
+        }
+        Word::Diff => diff(alloc, names, target, input, files, device),
+        Word::Agree(work) => seek(alloc, work, names, target, input, files, device),
+    }
+}
+
+/// Shows the inputs of these names: as they come, or where a file is written, all of them at the end.
+fn show<'a, R: Read, S: Files, W: Write + Drop>(
+    alloc: Global,
+    names: &[&'a str],
+    target: Option<&'a str>,
+    input: &mut R,
+    files: &mut S,
+    device: W,
+) -> (Answer<'a>, W)
+    ensures { IsDone Word.Show result.0 (R.remaining input.old) names.now
+        (outlet target.entry (W.contents device) (W.contents result.1) (S.holds files.old) (S.holds files.new)) }
+{
+    match target {
+        None => {
+            let (shown, device) = show_all(alloc, names, input, files, device);
+            match shown {
+                Ok(()) => (Answer::Done, device),
+                Err(why) => (Answer::Refused(why), device),
+            }
+        }
+        Some(_) => {
+            let (shown, lines) = show_all(alloc, names, input, files, Vec::new(alloc));
+            match shown {
+                Ok(()) => answered(files, target, device, Ok(lines), Answer::Done),
+                Err(Failure::Unwritten(_)) => (Answer::Refused(Failure::OutOfMemory), device),
+                Err(why) => (Answer::Refused(why), device),
+            }
+        }
+    }
+}
+
+/// Compares the two inputs of these names.
+fn diff<'a, R: Read, S: Files, W: Write + Drop>(
+    alloc: Global,
+    names: &[&'a str],
+    target: Option<&'a str>,
+    input: &mut R,
+    files: &mut S,
+    device: W,
+) -> (Answer<'a>, W)
+    ensures { IsCompared result.0 (R.remaining input.old) names.now
+        (outlet target.entry (W.contents device) (W.contents result.1) (S.holds files.old) (S.holds files.new)) }
+{
+    let [ours, theirs] = names else {
+        return (Answer::Misused, device);
+    };
+    let lines = match compare(alloc, *ours, *theirs, input, files) {
+        Ok(lines) => lines,
+        Err(why) => return (Answer::Refused(why), device),
+    };
+    if lines.is_empty() {
+        return answered(files, target, device, Ok(lines), Answer::Done);
+    }
+    answered(files, target, device, Ok(lines), Answer::Differs)
+}
+
+/// Seeks the object on which two of the inputs of these names agree.
+fn seek<'a, R: Read, S: Files, W: Write + Drop>(
+    alloc: Global,
+    work: Work,
+    names: &[&'a str],
+    target: Option<&'a str>,
+    input: &mut R,
+    files: &mut S,
+    device: W,
+) -> (Answer<'a>, W)
+    ensures { IsAgreed work result.0 (R.remaining input.old) names.now
+        (outlet target.entry (W.contents device) (W.contents result.1) (S.holds files.old) (S.holds files.new)) }
+{
+    match names {
+        [name] => {
+            let made = agree(alloc, work, *name, input, files);
+            answered(files, target, device, made, Answer::Done)
+        }
+        [ours, theirs] => {
+            let made = agree_of_lists(alloc, work, *ours, *theirs, input, files);
+            answered(files, target, device, made, Answer::Done)
+        }
+        _ => (Answer::Misused, device),
+    }
+}

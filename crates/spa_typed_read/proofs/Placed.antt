@@ -1,5 +1,5 @@
 -- The public refusal that is made of one at a place: what that one says, this one says.
-use Rattle.std.proofs.Common.{◌≡◌, ℕ, List}
+use Rattle.std.proofs.Common.{ℕ, List}
 use Rattle.std.specs.Borrow.{Bor}
 use Rattle.spa_format.specs.Faults.{Stands}
 use Rattle.spa_format.specs.Opened as headers

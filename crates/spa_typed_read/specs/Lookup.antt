@@ -4,11 +4,11 @@ use Rattle.std.specs.Borrow.{Bor}
 use Rattle.spa_format.specs.Tree.{Tree, Properties, no_properties, property, object}
 use Rattle.spa_format.specs.Pod.{AreProperties}
 use Rattle.spa_format.specs.Words.{body_of, header_size, word_at}
-use Rattle.spa_format.specs.Front.{Begins, HasFront, rest_of}
+use Rattle.spa_format.specs.Front.{HasFront, rest_of}
 use Rattle.spa_fixed.specs.declared.fault.DeserializeError.{DeserializeError}
 use Rattle.spa_leaf.specs.Reading.{IsRead, IsShortAt, Names, OnFault, OnMemory}
 use Rattle.spa_leaf.specs.Refusing.{StandsInProperties}
-use Rattle.spa_scan.specs.Depth.{depth_of, levels_looked_into}
+use Rattle.spa_rewrite.specs.Look.{IsTooDeep}
 use Rattle.spa_fixed.specs.declared.fault.DeserializeError.TheVariants as error
 use Rattle.spa_typed_read.specs.Asking.{LacksObject}
 use Rattle.spa_typed_read.specs.Members.{ObjectReader, OpensObject}
@@ -42,11 +42,7 @@ pub record RefusesProperties (b : List ℕ) (e : DeserializeError (Bor (List ℕ
   pub named : Names (λ k place. StandsInProperties b place k) e
   pub memory : OnMemory (b ≢ []) e
 
--- the input begins with no pod that nests in so many levels at most
-abbrev pub IsNoneWithin : ℕ → List ℕ → Type 0
-IsNoneWithin levels b = (v : Tree) → Begins b v → levels < depth_of v
-
--- behind some first properties stands a key with flags, and behind those no pod that nests in 1000 levels at most
+-- behind some first properties stands a key with flags, and behind those bytes in which more than 1000 structs and objects stand in one another
 pub record HoldsDeep (b : List ℕ) : Type 0 where
   pub properties : Properties
   pub first : List ℕ
@@ -54,7 +50,7 @@ pub record HoldsDeep (b : List ℕ) : Type 0 where
   pub parts : b ≡ first ++ left
   pub are : AreProperties properties first
   pub header : header_size ≤ length left
-  pub deep : IsNoneWithin levels_looked_into (drop header_size left)
+  pub deep : IsTooDeep (drop header_size left)
 
 -- these bytes are some whole properties under other keys, whatever their pods say, and then what is left
 pub data LeadsTo (key : ℕ) (left : List ℕ) : List ℕ → Type 0 where

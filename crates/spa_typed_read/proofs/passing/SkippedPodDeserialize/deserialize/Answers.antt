@@ -1,18 +1,13 @@
-use Rattle.spa_value.specs.View.{view}
-use Rattle.spa_scan.specs.Depth.{levels_looked_into}
-use Rattle.spa_typed_read.specs.ExactlyLaws.{memory_there}
-use Rattle.spa_typed_read.specs.Lookup.{IsNoneWithin}
+use Rattle.spa_typed_read.proofs.Looked.{fault_refused}
 use Rattle.spa_typed_read.proofs.passing.SkippedPodDeserialize.deserialize.Goals as goal
-
-pub returns-in-Some-clause-read : goal.returns-in-Some-clause-read
-returns-in-Some-clause-read c = rw (← c.deserializer.view_is, c.after.ensures) c.in-Some.ensures.there
 
 pub returns-in-Ok-clause-read : goal.returns-in-Ok-clause-read
 returns-in-Ok-clause-read c =
-    record { value = view c.in-Ok.value; begins = c.in-Ok.ensures.value; follows = c.in-Ok.ensures.rest; holds = tt }
+    let pod = c.in-Ok.ensures.accepted.shorter in
+    rw (← c.deserializer.view_is, c.after.ensures)
+    (record { value = pod.value; begins = pod.begins.begins; follows = pod.begins.follows; holds = tt })
 
-pub returns-in-Err-clause-refused : goal.returns-in-Err-clause-refused
-returns-in-Err-clause-refused c = (
-  c.in-Err.ensures.refused,
-  memory_there (IsNoneWithin levels_looked_into _) c.in-Err.e (rw (← c.deserializer.view_is) c.in-None.ensures.missed),
-)
+pub returns-in-Err-Fault-clause-refused : goal.returns-in-Err-Fault-clause-refused
+returns-in-Err-Fault-clause-refused c =
+    let says = rw c.in-Err-Fault.field-0-is at c.in-Err-Fault.ensures.rejected in
+    rw (← c.deserializer.view_is, c.error_at.ensures) (fault_refused _ c.in-Err-Fault.place c.in-Err-Fault.why says)

@@ -9,17 +9,16 @@ use Rattle.spa_format.specs.Tree.{Tree, Trees, no_trees, member, join_members, o
 use Rattle.spa_format.specs.Pod.{AreMembers, IsBody}
 use Rattle.spa_format.specs.Encoding.{member_encodings}
 use Rattle.spa_format.specs.Front.{Begins, HasFront, IsRefused, front_of, rest_of}
-use Rattle.spa_format.specs.Faults.{Fault, Short, Text, InvalidType, InvalidChoiceType, MissingChoiceValues, WrongSize, Stands, StandsAtFront, at_front}
+use Rattle.spa_format.specs.Faults.{Short, Text, InvalidType, InvalidChoiceType, MissingChoiceValues, WrongSize, Stands, StandsAtFront, at_front}
 use Rattle.spa_format.specs.Typed.{IsBytes}
 use Rattle.spa_format.proofs.Refused.{begun}
 use Rattle.spa_format.proofs.Refused as format
 use Rattle.spa_format.proofs.Sequences.{members_push}
 use Rattle.spa_bytes.specs.Opening.{Opens}
 use Rattle.spa_fixed.specs.declared.fault.DeserializeError.{DeserializeError}
-use Rattle.spa_fixed.specs.declared.fault.DeserializeError.TheVariants as error
 use Rattle.spa_fixed.specs.declared.fault.Refusal.{Refusal}
 use Rattle.spa_fixed.specs.declared.fault.Refusal.TheVariants as refusal
-use Rattle.spa_leaf.specs.Reading.{BeginsWith, OnMemory}
+use Rattle.spa_leaf.specs.Reading.{BeginsWith}
 use Rattle.spa_leaf.specs.Refusing.{Says, error_of}
 use Rattle.spa_leaf.proofs.Refusals.{says_through}
 use Rattle.spa_scan.specs.Canonical.{AreCanonical, BeginsCanonical, IsStretch}
@@ -113,7 +112,7 @@ pub front_stops : (input : List ℕ) (why : Refusal) → Says (λ k. StandsAtFro
 front_stops input why f = says_through (λ k. StandsAtFront k input) (λ k. Stands k input input) ⊥ ⊥ (λ k x. at_front input refl x) (λ n. n) why f
 
 -- what is rejected is a pod of no value, or of one with more levels
-pub fault_refuses : (input place : List ℕ) (why : Refusal) → Says (λ k. Stands k place input) ⊥ why → IsRefused input
+fault_refuses : (input place : List ℕ) (why : Refusal) → Says (λ k. Stands k place input) ⊥ why → IsRefused input
 fault_refuses input place refusal.Short s = format.refused Short place input s
 fault_refuses input place refusal.Text s = format.refused Text place input s
 fault_refuses input place refusal.InvalidType s = format.refused InvalidType place input s
@@ -250,14 +249,6 @@ rejected_behind pods left canonical surplus r w l s a = rejected_first left r l 
 pub fault_front : (input : List ℕ) (place : Bor (List ℕ)) (why : Refusal) → Says (λ k. Stands k place.now input) ⊥ why → RefusesFront input (error_of place why)
 fault_front input place why s =
     front_refused input place why (says_through (λ k. Stands k place.now input) (λ k. Stands k place.now input) ⊥ (HasFront input) (λ k x. x) (λ n. absurd n) why s)
-
-pub fault_memory : (stands : Fault → Type 0) (fact : Type 0) (place : Bor (List ℕ)) (why : Refusal) → Says stands ⊥ why → OnMemory fact (error_of place why)
-fault_memory stands fact place refusal.OutOfMemory s = absurd s
-fault_memory stands fact place _ s = tt
-
-pub on_memory : (fact : Type 0) (e : DeserializeError (Bor (List ℕ))) → fact → OnMemory fact e
-on_memory fact error.OutOfMemory f = f
-on_memory fact _ f = tt
 
 -- what is left is refused behind first pods
 pub refused_behind : (input left pod : List ℕ) (e : DeserializeError (Bor (List ℕ))) → FirstMembers input left → IsLeft left pod → RefusesFront pod e →

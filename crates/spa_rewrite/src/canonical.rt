@@ -5,9 +5,9 @@ ghost use Rattle.spa_format.specs.Tree.{Tree};
 ghost use Rattle.spa_scan.specs.Canonical.{BeginsCanonical};
 ghost use Rattle.spa_scan.specs.Depth.{NestsDeeper, depth_of, levels_looked_into};
 
-use crate::look::{Rejected, look_at_pod};
 use crate::rewriting::rewrite;
 use spa_fixed::DeserializeError;
+use spa_scan::{LEVELS, canonical_front, nests_within};
 use std::alloc::{AllocError, Global};
 
 /// Whether the pod at the front of the input is its own rewriting: all of it is there, and `rewrite` would give the same bytes.
@@ -21,17 +21,12 @@ pub fn is_canonical(alloc: Global, input: &[u8]) -> Result<bool, AllocError>
     ensures memory { IfErr result (λ _. NestsDeeper levels_looked_into input.now) }
     ensures depth { IfErr result (λ _. (v : Tree) → Begins input.now v → levels_looked_into < depth_of v) }
 {
-    match look_at_pod(input) {
-        Ok(pod) => Ok(pod.canonical),
-        Err(Rejected::Fault(_, _)) => Ok(false),
-        Err(Rejected::TooDeep) => is_its_rewriting(alloc, input),
+    let None = canonical_front(input) else {
+        return Ok(true);
+    };
+    if nests_within(input, LEVELS) {
+        return Ok(false);
     }
-}
-
-/// The same as `is_canonical`, by a rewriting of the pod.
-fn is_its_rewriting(alloc: Global, input: &[u8]) -> Result<bool, AllocError>
-    ensures { IfOk result (λ answer. Decides answer (BeginsCanonical input.now (rest_of input.now))) }
-{
     match rewrite(alloc, input) {
         Ok((rest, encoding)) => {
             let (front, _) = input.split_at(input.len() - rest.len());

@@ -2,9 +2,9 @@
 use crate::bytes::{assert_holds, assert_holds_at};
 use crate::tables::{lines_of, lines_of_built};
 use spa_fixed::DeserializeError;
-use spa_rewrite::{is_canonical, rewrite};
+use spa_rewrite::{is_canonical, look_at_pod, rewrite};
 use spa_scan::nests_within;
-use spa_spelling::{bytes_spelled, nested_pods};
+use spa_spelling::{bytes_spelled, nested_pods, push_words};
 use std::alloc::{AllocError, Global};
 use std::process::Abort;
 use std::test::Fail;
@@ -114,9 +114,63 @@ fn answers_as_the_rewriting_shows(rt: HostRuntime) -> Result<(), Fail> {
     Ok(())
 }
 
+/// Structs in one another, each before an Int, and in the innermost one an Int alone.
+fn followed(alloc: Global, levels: u32) -> Result<Vec<u8>, AllocError> {
+    let mut bytes = Vec::new(alloc);
+    for level in 0..levels {
+        let inner = (levels - level).wrapping_sub(1);
+        push_words(&mut bytes, &[inner.wrapping_mul(24).wrapping_add(16), 14])?;
+    }
+    for _ in 0..levels {
+        push_words(&mut bytes, &[4, 4, 7, 0])?;
+    }
+    Ok(bytes)
+}
+
+/// Compares what a look finds in structs in one another that each stand before an Int: a pod that is accepted, or levels too many.
+fn compare_followed(rt: &impl Abort, alloc: Global, levels: u32) -> Result<(), Fail> {
+    let input = followed(alloc, levels)?;
+    let fits = match look_at_pod(input.as_slice()) {
+        Ok(pod) => pod.canonical && pod.rest.is_empty(),
+        Err(_) => false,
+    };
+    assert_holds(
+        rt,
+        fits == (levels < LEVELS_WAITING + 2),
+        "structs before Ints",
+    );
+    let is_own = is_canonical(alloc, input.as_slice())?;
+    assert_holds(rt, is_own, "structs before Ints");
+    Ok(())
+}
+
+/// How many structs with something behind them a look can stand in.
+const LEVELS_WAITING: u32 = 1000;
+
+/// How many structs stand in one another: so many that the short array is full or the long one, and one more or fewer.
+const FOLLOWED: &[u32] = &[1, 2, 16, 17, 18, 1000, 1001, 1002, 1003];
+
+#[test]
+fn looks_into_a_thousand_levels(rt: HostRuntime) -> Result<(), Fail> {
+    for levels in FOLLOWED {
+        compare_followed(&rt, rt.alloc(), *levels)?;
+    }
+    Ok(())
+}
+
+/// A pod that is looked into however deep it is, since its inner ones end together.
+fn assert_looked_into(rt: &impl Abort, input: &[u8], is_canonical: bool) {
+    let fits = match look_at_pod(input) {
+        Ok(pod) => pod.canonical == is_canonical && pod.surplus == 0,
+        Err(_) => false,
+    };
+    assert_holds(rt, fits, "deep pods that end together");
+}
+
 /// The pods that stand so deep are found to be their own rewriting or not, and each level is counted.
 fn compare_deep(rt: &impl Abort, alloc: Global, head: &[u32], truth: u32) -> Result<(), Fail> {
     let input = nested_pods(alloc, DEEP, head, &[4, 2, truth, 0])?;
+    assert_looked_into(rt, input.as_slice(), truth < 2);
     let is_own = is_canonical(alloc, input.as_slice())?;
     assert_holds(rt, is_own == (truth < 2), "deep pods");
     compare_depth(rt, input.as_slice(), DEEP, "deep pods");

@@ -8,6 +8,8 @@ use crate::bytes::{assert_holds_at, assert_number_at, assert_text};
 use crate::oracle::{Answer, Fault, answer_of, stands};
 use crate::tables::{lines_of_built, lines_of_read_rows};
 use crate::tests::every_reader::{is_short_for_every_type, parser_and_view_agree};
+use spa_leaf::error_at;
+use spa_rewrite::{Rejected, look_at_pod};
 use spa_spelling::bytes_spelled;
 use std::alloc::Global;
 use std::process::Abort;
@@ -31,7 +33,22 @@ fn compare_with_answer(
     reading: &Reading<'_>,
 ) -> Result<(), Fail> {
     let answer = answer_of(alloc, input)?;
+    compare_look(rt, input, &answer);
     compare_answers(rt, alloc, input, reading, &answer)
+}
+
+/// Compares what a look at an input finds with the answer of the second reader.
+fn compare_look(rt: &impl Abort, input: &[u8], answer: &Answer<'_>) {
+    match (look_at_pod(input), answer) {
+        (Ok(pod), Answer::Accepted(_, left)) => {
+            assert_number_at(rt, pod.rest.len(), *left, input);
+        }
+        (Err(Rejected::Fault(place, why)), Answer::Refused(wanted, faults)) => {
+            assert_stands(rt, input, error_at(place, why).kind(), faults.as_slice());
+            assert_holds_at(rt, place == *wanted, "the place of the fault", input);
+        }
+        _ => assert_holds_at(rt, false, "accepted by one alone", input),
+    }
 }
 
 fn compare_answers(

@@ -5,7 +5,8 @@ use crate::tables::lines_of;
 use crate::tables::lists::LISTS;
 use spa_fixed::DeserializeError;
 use spa_in_place::rewrite_in_place;
-use spa_rewrite::{accept_all, rewrite_all, rewrite_in_parts};
+use spa_leaf::error_at;
+use spa_rewrite::{Rejected, accept_all, look_at_pods, rewrite_all, rewrite_in_parts};
 use spa_spelling::bytes_spelled;
 use std::alloc::Global;
 use std::process::Abort;
@@ -99,7 +100,27 @@ fn compare_list_at(
     compare_calls(rt, alloc, input, rewritten, row[0])?;
     let (_, encodings) = out.split_at(2.min(out.len()));
     compare_in_place(rt, alloc, input, encodings, rewritten, row[0])?;
+    compare_look(rt, input, encodings, rewritten, row[0]);
     compare_output(rt, alloc, out.as_slice(), rewritten, input, row)
+}
+
+/// Compares what a look at a list of pods finds with its rewriting.
+fn compare_look(rt: &impl Abort, input: &[u8], encodings: &[u8], rewritten: Rewritten, at: &str) {
+    match (look_at_pods(input), rewritten) {
+        (Ok(all), Ok(())) => {
+            let wanted = input.len().saturating_sub(encodings.len());
+            assert_number(rt, all.surplus, wanted, at);
+            let first = input.get(..all.canonical);
+            assert_holds(rt, first == encodings.get(..all.canonical), at);
+            let is_canonical = all.canonical == input.len();
+            assert_holds(rt, is_canonical == (input == encodings), at);
+        }
+        (Err((left, Rejected::Fault(place, why))), Err((name, behind))) => {
+            assert_holds(rt, error_at(place, why).kind() == name, at);
+            assert_number(rt, left.len(), behind, at);
+        }
+        _ => assert_holds(rt, false, at),
+    }
 }
 
 /// Compares an output, and the answer of the rewriting of an input, with what a row says.

@@ -1,9 +1,7 @@
 //! Made by rust/erase.py of the proved crates, a module each.
-pub mod filter_pods_rows;
-pub mod filter_rows;
 pub mod libspa_tests;
 pub mod multiples_tests;
-pub mod negotiate_rows;
+pub mod negotiation_rows;
 pub mod negotiation_tests;
 pub mod podtool_rows;
 pub mod podtool_tests;
@@ -24,18 +22,8 @@ pub mod spa_write_tests;
 pub mod test_streams;
 
 #[test]
-fn filter_pods_rows_are_answered() {
-    crate::shims::test::answer_rows(include_str!("filter_pods_rows/stdin"), include_str!("filter_pods_rows/stdout"), filter_pods_rows::main);
-}
-
-#[test]
-fn filter_rows_are_answered() {
-    crate::shims::test::answer_rows(include_str!("filter_rows/stdin"), include_str!("filter_rows/stdout"), filter_rows::main);
-}
-
-#[test]
-fn negotiate_rows_are_answered() {
-    crate::shims::test::answer_rows(include_str!("negotiate_rows/stdin"), include_str!("negotiate_rows/stdout"), negotiate_rows::main);
+fn negotiation_rows_are_answered() {
+    crate::shims::test::answer_rows(include_str!("negotiation_rows/stdin"), include_str!("negotiation_rows/stdout"), negotiation_rows::main);
 }
 
 #[test]

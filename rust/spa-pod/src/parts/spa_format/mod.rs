@@ -1,4 +1,5 @@
 //! The pod format: its definitions, which stand in `specs/`, and their laws.
 use crate::shims::prelude::*;
 pub mod laws;
+pub mod lenient_laws;
 pub mod view_laws;

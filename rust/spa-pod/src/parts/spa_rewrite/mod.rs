@@ -2,6 +2,7 @@
 use crate::shims::prelude::*;
 mod canonical;
 mod elements;
+mod look;
 mod patch;
 mod pod;
 mod rewriting;
@@ -10,6 +11,7 @@ mod surplus;
 mod tail;
 
 pub use canonical::is_canonical;
+pub use look::{AcceptedPod, AcceptedPods, Rejected, look_at_pod, look_at_pods};
 pub use patch::{
     SECOND_HEADER, begins_word, patch_all, patch_leaf, patch_values, place_behind, taken_len,
 };

@@ -118,7 +118,7 @@ fn body_surplus(type_: u32, body: &[u8], levels: u32) -> Option<usize> {
 
 /// The same of a pod that holds no others.
 #[inline(always)]
-fn leaf_surplus(type_: u32, body: &[u8]) -> Option<usize> {
+pub(crate) fn leaf_surplus(type_: u32, body: &[u8]) -> Option<usize> {
     if type_ == SpaTypes::Choice.0 {
         return choice_surplus(body);
     }

@@ -62,11 +62,12 @@ fn is_looked_into(type_: u32) -> bool {
 }
 
 /// The same as `leaf_front`, of a pod that isn't of fixed size.
+#[inline(always)]
 fn leaf_body_front(input: &[u8]) -> Option<&[u8]> {
     let Some(front) = padded_front(input) else {
         return None;
     };
-    if is_body(front.type_, front.body, 0) {
+    if is_any_body(front.type_, front.body, 0) {
         Some(front.rest)
     } else {
         None

@@ -15,17 +15,28 @@ pub struct Optional<const KEY: u32, P>(pub Option<P>);
 /// The properties of an object, one and those after it, up to `()`. They stand in the object in any order, and others among
 /// them.
 pub trait DeserializeProperties<'de>: Sized {
-    /// Finds them among the properties that are left.
+    /// Is this one of these keys?
+    fn asks_for(key: u32) -> bool;
+
+    /// Finds them among properties of which none before this place is under one of their keys.
     ///
     /// Refusals: `PropertyMissing` where one that has to be there isn't, else those of `find_property`.
-    fn find_properties(
+    fn find_from(
         reader: &ObjectPodDeserializer<'de>,
+        from: &'de [u8],
     ) -> Result<Self, DeserializeError<&'de [u8]>>;
 }
 
 impl<'de> DeserializeProperties<'de> for () {
-    fn find_properties(
+    #[inline(always)]
+    fn asks_for(_key: u32) -> bool {
+        false
+    }
+
+    #[inline(always)]
+    fn find_from(
         _reader: &ObjectPodDeserializer<'de>,
+        _from: &'de [u8],
     ) -> Result<(), DeserializeError<&'de [u8]>> {
         Ok(())
     }
@@ -37,15 +48,24 @@ impl<
     A: ExactDeserialize<'de>,
     R: DeserializeProperties<'de>,
 > DeserializeProperties<'de> for (Required<KEY, A>, R) {
-    fn find_properties(
+    #[inline(always)]
+    fn asks_for(key: u32) -> bool {
+        key == KEY || R::asks_for(key)
+    }
+
+    #[inline(always)]
+    fn find_from(
         reader: &ObjectPodDeserializer<'de>,
+        from: &'de [u8],
     ) -> Result<(Required<KEY, A>, R), DeserializeError<&'de [u8]>> {
-        let first = match reader.find_property::<A>(KEY) {
-            Ok(Some(first)) => first,
-            Ok(None) => return Err(DeserializeError::PropertyMissing),
+        let (found, next) = match reader.find_from::<A, R>(KEY, from) {
+            Ok(found) => found,
             Err(e) => return Err(e),
         };
-        match R::find_properties(reader) {
+        let Some(first) = found else {
+            return Err(DeserializeError::PropertyMissing);
+        };
+        match R::find_from(reader, next) {
             Ok(others) => Ok((Required(first), others)),
             Err(e) => Err(e),
         }
@@ -58,14 +78,21 @@ impl<
     A: ExactDeserialize<'de>,
     R: DeserializeProperties<'de>,
 > DeserializeProperties<'de> for (Optional<KEY, A>, R) {
-    fn find_properties(
+    #[inline(always)]
+    fn asks_for(key: u32) -> bool {
+        key == KEY || R::asks_for(key)
+    }
+
+    #[inline(always)]
+    fn find_from(
         reader: &ObjectPodDeserializer<'de>,
+        from: &'de [u8],
     ) -> Result<(Optional<KEY, A>, R), DeserializeError<&'de [u8]>> {
-        let first = match reader.find_property::<A>(KEY) {
-            Ok(first) => first,
+        let (first, next) = match reader.find_from::<A, R>(KEY, from) {
+            Ok(found) => found,
             Err(e) => return Err(e),
         };
-        match R::find_properties(reader) {
+        match R::find_from(reader, next) {
             Ok(others) => Ok((Optional(first), others)),
             Err(e) => Err(e),
         }
@@ -90,7 +117,7 @@ impl<'de, const TYPE: u32, const ID: u32, P: DeserializeProperties<'de>> PodDese
         if reader.type_() != TYPE || reader.id() != ID {
             return Err(DeserializeError::UnsupportedType);
         }
-        let properties = match P::find_properties(&reader) {
+        let properties = match reader.find_properties::<P>() {
             Ok(properties) => properties,
             Err(e) => return Err(e),
         };

@@ -2,6 +2,7 @@
 
 use crate::shims::prelude::*;
 use crate::parts::spa_typed_read::deserializer::{DeserializeSuccess, PodDeserialize, PodDeserializer};
+use crate::parts::spa_typed_read::object_content::DeserializeProperties;
 use crate::parts::spa_typed_read::passing::Skipped;
 use crate::parts::spa_typed_read::typed::open_as;
 use crate::shims::flags::Flags;
@@ -16,6 +17,19 @@ fn short_at(place: &[u8]) -> DeserializeError<&[u8]> {
         input: place,
         kind: FaultKind::Short,
     })
+}
+
+/// The first place whose key is asked for: the one that was met before, or else this one, if its key is.
+#[inline(always)]
+fn first_asked<'de, R: DeserializeProperties<'de>>(
+    before: Option<&'de [u8]>,
+    left: &'de [u8],
+    key: u32,
+) -> Option<&'de [u8]> {
+    match before {
+        Some(place) => Some(place),
+        None => { if R::asks_for(key) { Some(left) } else { None } }
+    }
 }
 
 /// Reads an object's properties one by one. Once a property was refused, every call answers `FailedReader`.
@@ -119,20 +133,47 @@ impl<'de> ObjectPodDeserializer<'de> {
         &self,
         key: u32,
     ) -> Result<Option<P>, DeserializeError<&'de [u8]>> {
+        match self.find_from::<P, ()>(key, self.left) {
+            Ok((found, _)) => Ok(found),
+            Err(e) => Err(e),
+        }
+    }
+
+    /// Finds these properties among those that are left, each the first one under its key, and leaves the reader where it is. Where they
+    /// stand in the order in which they are asked for, one walk over the properties finds them all; a search that finds nothing is one more.
+    ///
+    /// Refusals: `PropertyMissing` where one that has to be there isn't, else those of `find_property`.
+    pub fn find_properties<P: DeserializeProperties<'de>>(
+        &self,
+    ) -> Result<P, DeserializeError<&'de [u8]>> {
+        P::find_from(self, self.left)
+    }
+
+    /// Looks for the first property under this key from a place on, as `find_property` does. It also answers the place from which those
+    /// that `R` asks for are to be looked for: at the first of them that it met, or else behind what it looked at.
+    #[inline(always)]
+    pub(crate) fn find_from<P: PodDeserialize<'de>, R: DeserializeProperties<'de>>(
+        &self,
+        key: u32,
+        from: &'de [u8],
+    ) -> Result<(Option<P>, &'de [u8]), DeserializeError<&'de [u8]>> {
         if self.failed {
             return Err(DeserializeError::FailedReader);
         }
-        let mut left = self.left;
+        let mut left = from;
+        let mut next = None;
         while !left.is_empty() {
             if left.len() < HEADER_LEN {
                 return Err(short_at(left));
             }
             let (_, behind) = left.split_at(HEADER_LEN);
-            if u32_at(left, 0) == key {
+            let found = u32_at(left, 0);
+            next = first_asked::<R>(next, left, found);
+            if found == key {
                 return match P::deserialize(PodDeserializer {
                     input: behind,
                 }) {
-                    Ok((value, _)) => Ok(Some(value)),
+                    Ok((value, success)) => Ok((Some(value), next.unwrap_or(success.rest()))),
                     Err(e) => Err(e),
                 };
             }
@@ -141,7 +182,7 @@ impl<'de> ObjectPodDeserializer<'de> {
             };
             left = front.rest;
         }
-        Ok(None)
+        Ok((None, next.unwrap_or(left)))
     }
 
     /// Passes all properties that are left, whatever they are. Refusals are those of `deserialize_property` into a `Skipped`; after

@@ -1,7 +1,7 @@
 //! Objects of many keys, of Enums of many alternatives, and of values that stand deep in one another.
 use crate::shims::prelude::*;
 use crate::tests::negotiation_tests::answers::assert_meet;
-use crate::tests::spa_spelling::bytes_of;
+use crate::tests::spa_spelling::{bytes_of, push_words};
 use crate::shims::memory::AllocError;
 use crate::shims::test::Fail;
 
@@ -10,13 +10,6 @@ const COUNT: u32 = 2000;
 
 /// Few levels, and more than a stack of 8 MB holds of a function that calls itself for each of them.
 const DEPTHS: &[u32] = &[300, 100_000];
-
-fn push_words(bytes: &mut Vec<u8>, words: &[u32]) -> Result<(), AllocError> {
-    for word in words {
-        bytes.try_extend_from_slice(&word.to_le_bytes())?;
-    }
-    Ok(())
-}
 
 /// An object of all keys, each an Int that is the key: upwards.
 fn rising() -> Result<Vec<u8>, AllocError> {

@@ -1,29 +1,12 @@
 //! Pods that stand deep in one another.
 use crate::shims::prelude::*;
 use crate::tests::podtool_tests::streams::{Wanted, assert_run};
-use crate::tests::spa_spelling::bytes_of;
+use crate::tests::spa_spelling::nested_pods;
 use crate::shims::memory::AllocError;
 use crate::tests::test_streams::{ALL, Device, Source};
 
 /// How many structs or objects stand in one another: more than a stack holds that grows with each level.
 const DEEP: u32 = 20_000;
-
-/// So many pods in one another, each of a size and these words, and in the last one four words more.
-fn nested(head: &[u32], inner: [u32; 4]) -> Result<Vec<u8>, AllocError> {
-    let head = bytes_of(head)?;
-    let inner = bytes_of(&inner)?;
-    let mut bytes = Vec::new();
-    for level in 0..DEEP {
-        let each = (head.len() as u64).saturating_add(4);
-        let left = u64::from(DEEP - level)
-            .saturating_mul(each)
-            .saturating_add(inner.len() as u64);
-        bytes.try_extend_from_slice(&left.saturating_sub(8).to_le_bytes()[..4])?;
-        bytes.try_extend_from_slice(head.as_slice())?;
-    }
-    bytes.try_extend_from_slice(inner.as_slice())?;
-    Ok(bytes)
-}
 
 /// Compares the run of a word over all these bytes with what is wanted.
 fn assert_row(
@@ -51,9 +34,9 @@ const HEADS: [&[u32]; 2] = [&[14], &[15, 5, 3, 1, 0]];
 #[test]
 fn deep_pods_are_rewritten() -> Result<(), AllocError> {
     for head in HEADS {
-        let one = nested(head, [4, 2, 1, 0])?;
-        let seven = nested(head, [4, 2, 7, 0])?;
-        let unknown = nested(head, [4, 21, 7, 0])?;
+        let one = nested_pods(DEEP, head, &[4, 2, 1, 0])?;
+        let seven = nested_pods(DEEP, head, &[4, 2, 7, 0])?;
+        let unknown = nested_pods(DEEP, head, &[4, 21, 7, 0])?;
         let (one, seven, unknown) = (one.as_slice(), seven.as_slice(), unknown.as_slice());
         let refused: Wanted<'_> = (1, "podtool: byte 0: InvalidType\n", &[]);
         let rows = [

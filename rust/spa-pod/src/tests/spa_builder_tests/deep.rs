@@ -2,6 +2,7 @@
 use crate::shims::prelude::*;
 use crate::tests::spa_builder_tests::bytes::assert_holds;
 use crate::parts::spa_builder::Builder;
+use crate::tests::spa_spelling::nested_structs;
 use crate::parts::spa_utils::{Errno, Frame};
 use crate::shims::memory::AllocError;
 
@@ -20,21 +21,9 @@ fn build(builder: &mut Builder, depth: u32) -> Result<(), Errno> {
     Ok(())
 }
 
-/// The bytes of so many structs, each holding the next one, and the last one a None.
-fn nested(depth: u32) -> Result<Vec<u8>, AllocError> {
-    let mut bytes = Vec::new();
-    for level in 0..depth {
-        let size = depth.wrapping_sub(level).wrapping_mul(8);
-        bytes.try_extend_from_slice(&size.to_le_bytes())?;
-        bytes.try_extend_from_slice(&14u32.to_le_bytes())?;
-    }
-    bytes.try_extend_from_slice(&[0, 0, 0, 0, 1, 0, 0, 0])?;
-    Ok(bytes)
-}
-
 /// Whether so many structs are built as these bytes.
 fn is_built(depth: u32) -> Result<bool, AllocError> {
-    let wanted = nested(depth)?;
+    let wanted = nested_structs(depth, &[0, 1])?;
     let mut builder = Builder::new(Vec::new());
     match build(&mut builder, depth) {
         Ok(()) => Ok(builder.as_bytes() == wanted.as_slice()),

@@ -45,10 +45,10 @@ pub enum Failure {
 impl fmt::Display for Failure {
     fn fmt(&self, f: &mut fmt::Formatter<'_>) -> fmt::Result {
         match self {
-            Failure::Pod { place, kind } => write!(f, "podtool: byte {place}: {kind}"),
-            Failure::OutOfMemory => write!(f, "podtool: out of memory"),
-            Failure::ReadFailed => write!(f, "podtool: read failed"),
-            Failure::WriteFailed => write!(f, "podtool: write failed"),
+            Failure::Pod { place, kind } => write!(f, "byte {place}: {kind}"),
+            Failure::OutOfMemory => write!(f, "out of memory"),
+            Failure::ReadFailed => write!(f, "read failed"),
+            Failure::WriteFailed => write!(f, "write failed"),
         }
     }
 }
@@ -78,7 +78,7 @@ pub fn tell<E: Write>(faults: &mut E, answer: &Answer) -> Result<(), Failure> {
 fn add_line(line: &mut ArrayVec<u8, LINE_LIMIT>, answer: &Answer) -> io::Result<()> {
     match answer {
         Answer::Done => Ok(()),
-        Answer::Refused(why) => writeln!(line, "{why}"),
+        Answer::Refused(why) => writeln!(line, "podtool: {why}"),
         Answer::Misused => writeln!(line, "usage: podtool rewrite|fixate|show"),
     }
 }

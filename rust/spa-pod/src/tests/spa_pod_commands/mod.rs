@@ -2,6 +2,7 @@
 use crate::shims::prelude::*;
 pub mod answer;
 mod listing;
+pub mod making;
 mod output;
 mod pods;
 pub mod run;

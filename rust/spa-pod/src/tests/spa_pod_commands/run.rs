@@ -3,12 +3,10 @@
 use crate::shims::prelude::*;
 use crate::tests::spa_pod_commands::answer::{Answer, Failure, tell};
 use crate::tests::spa_pod_commands::listing::list;
+use crate::tests::spa_pod_commands::making::{fixated, rewritten};
 use crate::tests::spa_pod_commands::output::{answered, write};
-use crate::tests::spa_pod_commands::pods::{first_short, fixate_all};
+use crate::tests::spa_pod_commands::pods::first_short;
 use crate::parts::spa_device::read_whole;
-use crate::parts::spa_fixed::DeserializeError;
-use crate::parts::spa_in_place::rewrite_in_place;
-use crate::parts::spa_rewrite::accept_all;
 use std::io::{Read, Write};
 
 /// Does all of `podtool`: what the words ask for, exactly one of `rewrite`, `fixate` and `show`, and then writes the line of what
@@ -52,25 +50,18 @@ pub fn answer<R: Read, W: Write>(
     }
 }
 
-/// Writes the rewritings of the pods that the input consists of, which are made where these lie.
+/// Writes the rewritings of the pods that the input consists of.
 fn rewrite<R: Read, W: Write>(input: &mut R, output: &mut W) -> Result<(), Failure> {
-    let mut bytes = read_whole(input)?;
-    match rewrite_in_place(bytes.as_mut_slice()) {
-        Ok(len) => write(output, &bytes.as_slice()[..len]),
-        Err((place, error)) => Err(refused(place, &error)),
-    }
+    let bytes = read_whole(input)?;
+    let made = rewritten(bytes)?;
+    write(output, made.as_slice())
 }
 
-/// Writes the input with each top-level object fixated in place, and the other pods as they came. It is accepted exactly
-/// where it could be rewritten.
+/// Writes the input with each top-level object fixated.
 fn fixate<R: Read, W: Write>(input: &mut R, output: &mut W) -> Result<(), Failure> {
-    let mut bytes = read_whole(input)?;
-    let whole = bytes.as_slice();
-    if let Err((left, error)) = accept_all(whole) {
-        return Err(refused(whole.len() - left.len(), &error));
-    }
-    fixate_all(bytes.as_mut_slice());
-    write(output, bytes.as_slice())
+    let bytes = read_whole(input)?;
+    let made = fixated(bytes)?;
+    write(output, made.as_slice())
 }
 
 /// Lists the pods that the input consists of, and the pods inside them.
@@ -85,15 +76,4 @@ fn show<R: Read, W: Write>(input: &mut R, output: &mut W) -> Result<(), Failure>
     let mut lines = String::new();
     list(bytes.as_slice(), &mut lines, output)?;
     write(output, lines.as_bytes())
-}
-
-/// The refusal of the top-level pod at this byte.
-fn refused<I>(place: usize, error: &DeserializeError<I>) -> Failure {
-    match error {
-        DeserializeError::OutOfMemory => Failure::OutOfMemory,
-        _ => Failure::Pod {
-            place,
-            kind: error.kind(),
-        },
-    }
 }

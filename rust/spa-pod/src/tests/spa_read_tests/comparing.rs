@@ -1,7 +1,8 @@
 //! Values that stand deep in one another, compared and let go.
 use crate::shims::prelude::*;
 use crate::tests::spa_read_tests::compare::assert_holds;
-use crate::tests::spa_read_tests::counting::{nested, nested_objects, read};
+use crate::tests::spa_read_tests::counting::read;
+use crate::tests::spa_spelling::{nested_objects, nested_structs};
 use crate::parts::spa_value::{Held, same};
 use crate::shims::memory::AllocError;
 use crate::shims::test::Fail;
@@ -64,8 +65,8 @@ fn depth_ends_no_comparison_of_structs() {
 }
 
 fn depth_ends_no_comparison_of_structs_answers() -> Result<(), Fail> {
-    let one = nested(DEPTH, &INNERMOST.0)?;
-    let other = nested(DEPTH, &INNERMOST.1)?;
+    let one = nested_structs(DEPTH, &INNERMOST.0)?;
+    let other = nested_structs(DEPTH, &INNERMOST.1)?;
     assert_compared((one.as_slice(), other.as_slice()))
 }
 
@@ -93,7 +94,7 @@ fn depth_ends_no_comparison_of_what_others_follow_answers() -> Result<(), Fail> 
 
 /// Whether what a `Held` was made of is lent and handed back.
 fn is_handed_back() -> Result<bool, Fail> {
-    let input = nested(2, &INNERMOST.0)?;
+    let input = nested_structs(2, &INNERMOST.0)?;
     let held = Held::from(read(input.as_slice())?);
     let twin = read(input.as_slice())?;
     let is_lent = *held == twin;

@@ -2,7 +2,7 @@
 use crate::shims::prelude::*;
 use crate::tests::spa_read_tests::compare::assert_holds;
 use crate::parts::spa_fixed::DeserializeError;
-use crate::tests::spa_spelling::bytes_of;
+use crate::tests::spa_spelling::{bytes_of, nested_objects, nested_structs};
 use crate::parts::spa_typed_read::PodDeserializer;
 use crate::parts::spa_value::{Value, discard};
 use crate::shims::memory::AllocError;
@@ -84,42 +84,6 @@ fn headers_are_counted_answers() -> Result<(), Fail> {
     assert_counted(&[0; 7], ("Short", 0))
 }
 
-/// The bytes of structs, so many, each holding the next one, and the last one the pod of these words.
-pub(crate) fn nested(depth: u32, inner: &[u32; 2]) -> Result<Vec<u8>, AllocError> {
-    let mut input = Vec::new();
-    for level in 0..depth {
-        let size = depth.saturating_sub(level).saturating_mul(8);
-        push_words(&mut input, &[size, 14])?;
-    }
-    push_words(&mut input, inner)?;
-    Ok(input)
-}
-
-/// The bytes of objects, so many, each with one property that holds the next one, and the last one the pod of these words.
-pub(crate) fn nested_objects(
-    depth: u32,
-    inner: &[u32; 2],
-) -> Result<Vec<u8>, AllocError> {
-    let mut input = Vec::new();
-    for level in 0..depth {
-        let size = depth.saturating_sub(level).saturating_mul(24);
-        input.try_extend_from_slice(&size.to_le_bytes())?;
-        push_words(&mut input, HEAD)?;
-    }
-    push_words(&mut input, inner)?;
-    Ok(input)
-}
-
-/// What stands in an object of one property between its size and the property's value.
-const HEAD: &[u32] = &[15, 5, 3, 1, 0];
-
-fn push_words(input: &mut Vec<u8>, words: &[u32]) -> Result<(), AllocError> {
-    for word in words {
-        input.try_extend_from_slice(&word.to_le_bytes())?;
-    }
-    Ok(())
-}
-
 /// Depths, of which the second is more than a stack holds that grows with each level.
 const DEPTHS: &[u32] = &[299, 20_000];
 
@@ -129,7 +93,7 @@ const INNERMOST: &[([u32; 2], &str)] = &[([0, 1], "accepted"), ([0, 21], "Invali
 fn assert_nested(depth: u32) -> Result<(), Fail> {
     let count = u64::from(depth) + 1;
     for (inner, verdict) in INNERMOST {
-        let structs = nested(depth, inner)?;
+        let structs = nested_structs(depth, inner)?;
         assert_counted(structs.as_slice(), (verdict, count))?;
         let objects = nested_objects(depth, inner)?;
         assert_counted(objects.as_slice(), (verdict, count))?;
@@ -156,7 +120,7 @@ fn a_header_for_each_eight_bytes() {
 }
 
 fn a_header_for_each_eight_bytes_answers() -> Result<(), Fail> {
-    let input = nested(299, &[0, 14])?;
+    let input = nested_structs(299, &[0, 14])?;
     assert_len(input.len());
     assert_counted(input.as_slice(), ("accepted", 300))
 }
@@ -211,7 +175,7 @@ fn clone_nests(input: &[u8], depth: u32) -> Result<bool, Fail> {
 
 /// Compares how deep clones nest with how deep their sources do.
 fn assert_clones(depth: u32) -> Result<(), Fail> {
-    let structs = nested(depth, &[0, 1])?;
+    let structs = nested_structs(depth, &[0, 1])?;
     let is_struct = clone_nests(structs.as_slice(), depth)?;
     assert_holds(is_struct, "structs");
     let objects = nested_objects(depth, &[0, 1])?;

@@ -195,16 +195,6 @@ fn worked_examples_answers() -> Result<(), Fail> {
     Ok(())
 }
 
-/// Structs, each the one member of the one around it.
-fn nested() -> Result<Vec<u8>, AllocError> {
-    let mut input = Vec::new();
-    for level in 0..DEPTH {
-        input.try_extend_from_slice(&((DEPTH - 1 - level) * 8).to_le_bytes())?;
-        input.try_extend_from_slice(&14u32.to_le_bytes())?;
-    }
-    Ok(input)
-}
-
 /// What their read answers.
 fn nested_said() -> Result<String, AllocError> {
     let mut wanted = String::new();
@@ -224,7 +214,7 @@ fn nested_structs() {
 }
 
 fn nested_structs_answers() -> Result<(), Fail> {
-    let input = nested()?;
+    let input = crate::tests::spa_spelling::nested_structs(DEPTH - 1, &[0, 14])?;
     let wanted = nested_said()?;
     let found = any_said(input.as_slice())?;
     assert_said(found.as_str(), wanted.as_str(), "nested structs");

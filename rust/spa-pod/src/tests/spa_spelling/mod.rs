@@ -1,4 +1,5 @@
-//! Bytes for tests: from the words of a table, and from a text that spells them. There is nothing here that the library uses.
+//! Bytes for tests: from the words of a table, from a text that spells them, and of pods nested deep; and a pod's words as a text. There
+//! is nothing here that the library uses.
 
 use crate::shims::prelude::*;
 use crate::shims::memory::AllocError;
@@ -21,10 +22,54 @@ impl From<AllocError> for SpellingError {
 /// The bytes of these words, least byte first.
 pub fn bytes_of(words: &[u32]) -> Result<Vec<u8>, AllocError> {
     let mut bytes = Vec::new();
+    push_words(&mut bytes, words)?;
+    Ok(bytes)
+}
+
+/// Appends these words, least byte first.
+pub fn push_words(bytes: &mut Vec<u8>, words: &[u32]) -> Result<(), AllocError> {
     for word in words {
         bytes.try_extend_from_slice(&word.to_le_bytes())?;
     }
+    Ok(())
+}
+
+/// The bytes of structs nested so deep, each the one member of the one around it, with the pod of these words in the innermost.
+pub fn nested_structs(depth: u32, inner: &[u32]) -> Result<Vec<u8>, AllocError> {
+    nested_pods(depth, &[14], inner)
+}
+
+/// The bytes of objects nested so deep, each with one property, which holds the next one: the innermost the pod of these words.
+pub fn nested_objects(depth: u32, inner: &[u32]) -> Result<Vec<u8>, AllocError> {
+    nested_pods(depth, &[15, 5, 3, 1, 0], inner)
+}
+
+/// The bytes of pods nested so deep: each has the words of `head` behind its size word, and the innermost one is the pod `inner`.
+pub fn nested_pods(
+    depth: u32,
+    head: &[u32],
+    inner: &[u32],
+) -> Result<Vec<u8>, AllocError> {
+    let each = (head.len() as u64).saturating_add(1).saturating_mul(4);
+    let last = (inner.len() as u64).saturating_mul(4);
+    let mut bytes = Vec::new();
+    for level in 0..depth {
+        let below = u64::from(depth - level).saturating_mul(each);
+        let size = below.saturating_add(last).saturating_sub(8);
+        bytes.try_extend_from_slice(&size.to_le_bytes()[..4])?;
+        push_words(&mut bytes, head)?;
+    }
+    push_words(&mut bytes, inner)?;
     Ok(bytes)
+}
+
+/// Appends the words of a pod in decimal, a space before each.
+pub fn push_spelling(text: &mut String, pod: &[u8]) -> Result<(), AllocError> {
+    for word in pod.as_chunks::<4>().0 {
+        let number = u32::from_le_bytes(*word);
+        write!(text, " {number}")?;
+    }
+    Ok(())
 }
 
 /// The bytes that a text of words spells: decimal words, least byte first, and bytes in hexadecimal behind an `x`, in any

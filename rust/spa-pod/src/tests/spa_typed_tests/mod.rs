@@ -7,6 +7,8 @@ mod compare;
 #[cfg(test)]
 mod declared;
 #[cfg(test)]
+mod latency;
+#[cfg(test)]
 mod own_types;
 #[cfg(test)]
 mod reading;

@@ -5,7 +5,8 @@ use crate::parts::libspa::pod::deserialize::{DeserializeError, PodDeserialize, P
 use crate::parts::libspa::utils::Float32;
 use crate::tests::spa_spelling::bytes_spelled;
 use crate::tests::spa_uses::{
-    Device, Level, Mode, Screen, Size, Song, Tagged, is_number, read_mode, sent, with_volume,
+    Capture, Device, Gain, Level, Mode, Screen, Size, Song, Tagged, is_number, read_mode, sent,
+    with_volume,
 };
 use crate::shims::memory::AllocError;
 use crate::shims::test::Fail;
@@ -191,5 +192,34 @@ fn what_is_not_known_is_kept_answers() -> Result<(), Fail> {
     let other = bytes_spelled(DEVICE)?;
     let none = with_volume(other.as_slice(), Float32(0))?;
     assert!(none.is_none());
+    Ok(())
+}
+
+/// A capture of 640 by 480 pixels without a rate.
+const CAPTURE: &[u8] = &[
+    16, 0, 0, 0, 14, 0, 0, 0, 8, 0, 0, 0, 10, 0, 0, 0, 128, 2, 0, 0, 224, 1, 0, 0,
+];
+
+/// A gain of 1, whose property has a flag.
+const GAIN: &[u8] = &[
+    32, 0, 0, 0, 15, 0, 0, 0, 2, 0, 4, 0, 2, 0, 0, 0, 3, 0, 1, 0, 16, 0, 0, 0, 4, 0, 0, 0, 6, 0, 0,
+    0, 0, 0, 128, 63, 0, 0, 0, 0,
+];
+
+/// It passes where each request of memory is refused, since none is made.
+#[test]
+fn visitors_of_ones_own_ask_for_no_memory() {
+    crate::shims::test::run(visitors_of_ones_own_ask_for_no_memory_answers())
+}
+
+fn visitors_of_ones_own_ask_for_no_memory_answers() -> Result<(), Fail> {
+    let Ok((_, capture)) = PodDeserializer::deserialize_from::<Capture>(CAPTURE) else {
+        return Err(Fail::new("no capture"));
+    };
+    let Ok((_, gain)) = PodDeserializer::deserialize_from::<Gain>(GAIN) else {
+        return Err(Fail::new("no gain"));
+    };
+    assert!(capture.size.width == 640 && capture.rate.is_none());
+    assert!(gain.id == 2 && gain.volume == Float32(1065353216));
     Ok(())
 }

@@ -13,7 +13,7 @@ use crate::parts::libspa::utils::Float32;
 use crate::shims::memory::AllocError;
 
 /// The key of a volume, which PipeWire calls `SPA_PROP_volume`.
-const VOLUME: u32 = 65539;
+pub(crate) const VOLUME: u32 = 65539;
 
 /// Properties that are kept as they are. What they hold may be nested deep, so they are let go by a loop.
 pub struct Kept {

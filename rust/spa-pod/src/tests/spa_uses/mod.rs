@@ -1,17 +1,23 @@
 //! Types of a program's own, written as pods. They know the library by its contracts alone.
 use crate::shims::prelude::*;
+mod capture;
 mod control;
 mod curve;
 mod format;
+mod gain;
+mod latency;
 mod level;
 mod mode;
 mod screen;
 mod song;
 mod tagged;
 
+pub use capture::Capture;
 pub use control::{Control, with_volume};
 pub use curve::{Curve, put_curve};
 pub use format::{AudioFormat, put_format};
+pub use gain::Gain;
+pub use latency::{Latency, latencies_come_back, read_latency};
 pub use level::{Level, Pair};
 pub use mode::{Mode, Size, put_mode, read_mode, sent};
 pub use screen::{Device, Screen};

@@ -1,23 +1,12 @@
 //! Structs that stand deep in one another, looked into.
 use crate::shims::prelude::*;
 use crate::tests::spa_view_tests::compare::assert_holds;
+use crate::tests::spa_spelling::nested_structs;
 use crate::parts::spa_view::Pod;
 use crate::shims::memory::AllocError;
 
 /// Few levels, and more than a stack of 8 MB holds of a function that calls itself for each.
 const DEPTHS: &[u32] = &[300, 100_000];
-
-/// The bytes of so many structs, each holding the next one, and the last one a None.
-fn nested(depth: u32) -> Result<Vec<u8>, AllocError> {
-    let mut bytes = Vec::new();
-    for level in 0..depth {
-        let size = depth.wrapping_sub(level).wrapping_mul(8);
-        bytes.try_extend_from_slice(&size.to_le_bytes())?;
-        bytes.try_extend_from_slice(&14u32.to_le_bytes())?;
-    }
-    bytes.try_extend_from_slice(&[0, 0, 0, 0, 1, 0, 0, 0])?;
-    Ok(bytes)
-}
 
 /// How many structs stand in one another, each first in the one around it.
 fn levels_of(bytes: &[u8]) -> u32 {
@@ -39,7 +28,7 @@ fn levels_of(bytes: &[u8]) -> u32 {
 #[test]
 fn views_go_down_to_any_depth() -> Result<(), AllocError> {
     for depth in DEPTHS {
-        let input = nested(*depth)?;
+        let input = nested_structs(*depth, &[0, 1])?;
         let levels = levels_of(input.as_slice());
         assert_holds(levels == *depth, "structs in one another");
     }

@@ -1,10 +1,11 @@
 //! Structs and objects that stand deep in one another, through each call that writes or copies them.
 use crate::shims::prelude::*;
 use crate::tests::spa_write_tests::compare::assert_holds;
-use crate::tests::spa_write_tests::nested::{nested, nested_objects, read};
+use crate::tests::spa_write_tests::nested::read;
 use crate::shims::array::ArrayVec;
 use crate::parts::spa_device::IoSink;
 use crate::parts::spa_sink::GenError;
+use crate::tests::spa_spelling::{nested_objects, nested_structs};
 use crate::parts::spa_typed_write::PodSerializer;
 use crate::parts::spa_value::{Held, Value, same};
 use crate::parts::spa_write::{write_sized, write_value};
@@ -74,7 +75,7 @@ fn depth_ends_no_write() {
 
 fn depth_ends_no_write_answers() -> Result<(), Fail> {
     for depth in DEPTHS {
-        let structs = nested(*depth, &INNERMOST)?;
+        let structs = nested_structs(*depth, &INNERMOST)?;
         assert_level(structs.as_slice())?;
         let objects = nested_objects(*depth, &INNERMOST)?;
         assert_level(objects.as_slice())?;
@@ -108,7 +109,7 @@ fn as_many_levels_as_there_is_room_for() {
 
 fn as_many_levels_as_there_is_room_for_answers() -> Result<(), Fail> {
     // 511 structs and a None, eight bytes each, fill the room.
-    let input = nested(511, &INNERMOST)?;
+    let input = nested_structs(511, &INNERMOST)?;
     assert_holds(input.len() == 4096, "the room");
     assert_fixed(input.as_slice(), Ok(4096))
 }
@@ -123,7 +124,7 @@ fn a_fixed_output_is_full_at_any_depth() {
 
 fn a_fixed_output_is_full_at_any_depth_answers() -> Result<(), Fail> {
     for depth in TOO_DEEP {
-        let input = nested(*depth, &INNERMOST)?;
+        let input = nested_structs(*depth, &INNERMOST)?;
         assert_fixed(input.as_slice(), Err(GenError::Full))?;
     }
     let input = nested_objects(100_000, &INNERMOST)?;

@@ -2,6 +2,7 @@
 use crate::shims::prelude::*;
 use crate::parts::libspa::pod::Held;
 use crate::parts::libspa::pod::deserialize::{DeserializeError, PodDeserializer};
+use crate::tests::spa_spelling::push_words;
 use crate::shims::memory::AllocError;
 use crate::shims::test::Fail;
 
@@ -34,13 +35,6 @@ pub(crate) fn between(
     push_words(&mut bytes, &inner)?;
     push_words(&mut bytes, behind)?;
     Ok(bytes)
-}
-
-pub(crate) fn push_words(bytes: &mut Vec<u8>, words: &[u32]) -> Result<(), AllocError> {
-    for word in words {
-        bytes.try_extend_from_slice(&word.to_le_bytes())?;
-    }
-    Ok(())
 }
 
 /// The value at the front.

@@ -1,7 +1,8 @@
 //! A choice that gets shorter, deep in structs or objects that end where it does, rewritten where it lies.
 use crate::shims::prelude::*;
-use crate::tests::libspa_tests::deep::bytes::{DEPTHS, assert_holds, push_words};
+use crate::tests::libspa_tests::deep::bytes::{DEPTHS, assert_holds};
 use crate::parts::libspa::pod::rewrite_in_place;
+use crate::tests::spa_spelling::push_words;
 use crate::shims::memory::AllocError;
 use crate::shims::test::Fail;
 

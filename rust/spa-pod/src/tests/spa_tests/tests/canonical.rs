@@ -3,9 +3,9 @@ use crate::shims::prelude::*;
 use crate::tests::spa_tests::bytes::{assert_holds, assert_holds_at};
 use crate::tests::spa_tests::tables::{lines_of, lines_of_built};
 use crate::parts::spa_fixed::DeserializeError;
-use crate::parts::spa_rewrite::{is_canonical, rewrite};
+use crate::parts::spa_rewrite::{is_canonical, look_at_pod, rewrite};
 use crate::parts::spa_scan::nests_within;
-use crate::tests::spa_spelling::bytes_spelled;
+use crate::tests::spa_spelling::{bytes_spelled, nested_pods};
 use crate::shims::memory::AllocError;
 use crate::shims::test::Fail;
 
@@ -122,6 +122,11 @@ fn answers_as_the_rewriting_shows_answers() -> Result<(), Fail> {
     Ok(())
 }
 
+<<<<<<< HEAD
+/// The pods that stand so deep are found to be their own rewriting or not, and each level is counted.
+fn compare_deep(head: &[u32], truth: u32) -> Result<(), Fail> {
+    let input = nested_pods(DEEP, head, &[4, 2, truth, 0])?;
+=======
 /// Structs in one another, or objects, and in the innermost one a Bool of this number.
 fn nested(levels: u32, type_: u32, truth: u32) -> Result<Vec<u8>, AllocError> {
     let mut bytes = Vec::new();
@@ -144,9 +149,67 @@ fn push_words(bytes: &mut Vec<u8>, words: &[u32]) -> Result<(), AllocError> {
     Ok(())
 }
 
+/// Structs in one another, each before an Int, and in the innermost one an Int alone.
+fn followed(levels: u32) -> Result<Vec<u8>, AllocError> {
+    let mut bytes = Vec::new();
+    for level in 0..levels {
+        let inner = (levels - level).wrapping_sub(1);
+        push_words(&mut bytes, &[inner.wrapping_mul(24).wrapping_add(16), 14])?;
+    }
+    for _ in 0..levels {
+        push_words(&mut bytes, &[4, 4, 7, 0])?;
+    }
+    Ok(bytes)
+}
+
+/// Compares what a look finds in structs in one another that each stand before an Int: a pod that is accepted, or levels too many.
+fn compare_followed(levels: u32) -> Result<(), Fail> {
+    let input = followed(levels)?;
+    let fits = match look_at_pod(input.as_slice()) {
+        Ok(pod) => pod.canonical && pod.rest.is_empty(),
+        Err(_) => false,
+    };
+    assert_holds(
+        fits == (levels < LEVELS_WAITING + 2),
+        "structs before Ints",
+    );
+    let is_own = is_canonical(input.as_slice())?;
+    assert_holds(is_own, "structs before Ints");
+    Ok(())
+}
+
+/// How many structs with something behind them a look can stand in.
+const LEVELS_WAITING: u32 = 1000;
+
+/// How many structs stand in one another: so many that the short array is full or the long one, and one more or fewer.
+const FOLLOWED: &[u32] = &[1, 2, 16, 17, 18, 1000, 1001, 1002, 1003];
+
+#[test]
+fn looks_into_a_thousand_levels() {
+    crate::shims::test::run(looks_into_a_thousand_levels_answers())
+}
+
+fn looks_into_a_thousand_levels_answers() -> Result<(), Fail> {
+    for levels in FOLLOWED {
+        compare_followed(*levels)?;
+    }
+    Ok(())
+}
+
+/// A pod that is looked into however deep it is, since its inner ones end together.
+fn assert_looked_into(input: &[u8], is_canonical: bool) {
+    let fits = match look_at_pod(input) {
+        Ok(pod) => pod.canonical == is_canonical && pod.surplus == 0,
+        Err(_) => false,
+    };
+    assert_holds(fits, "deep pods that end together");
+}
+
 /// The pods that stand so deep are found to be their own rewriting or not, and each level is counted.
 fn compare_deep(type_: u32, truth: u32) -> Result<(), Fail> {
     let input = nested(DEEP, type_, truth)?;
+    assert_looked_into(input.as_slice(), truth < 2);
+>>>>>>> look/wip
     let is_own = is_canonical(input.as_slice())?;
     assert_holds(is_own == (truth < 2), "deep pods");
     compare_depth(input.as_slice(), DEEP, "deep pods");
@@ -161,8 +224,11 @@ fn compare_depth(input: &[u8], levels: u32, at: &str) {
     }
 }
 
-/// What is nested, structs or objects, and the number of the Bool in the innermost.
-const DEEP_PODS: &[(u32, u32)] = &[(14, 0), (14, 1), (14, 7), (15, 0), (15, 1), (15, 7)];
+/// The words behind the size of a struct, and of an object with one property.
+const HEADS: &[&[u32]] = &[&[14], &[15, 262147, 3, 1, 0]];
+
+/// The number of the Bool in the innermost.
+const TRUTHS: &[u32] = &[0, 1, 7];
 
 #[test]
 fn looks_into_any_depth() {
@@ -170,8 +236,10 @@ fn looks_into_any_depth() {
 }
 
 fn looks_into_any_depth_answers() -> Result<(), Fail> {
-    for (type_, truth) in DEEP_PODS {
-        compare_deep(*type_, *truth)?;
+    for head in HEADS {
+        for truth in TRUTHS {
+            compare_deep(head, *truth)?;
+        }
     }
     Ok(())
 }

@@ -8,6 +8,8 @@ use crate::tests::spa_tests::bytes::{assert_holds_at, assert_number_at, assert_t
 use crate::tests::spa_tests::oracle::{Answer, Fault, answer_of, stands};
 use crate::tests::spa_tests::tables::{lines_of_built, lines_of_read_rows};
 use crate::tests::spa_tests::tests::every_reader::{is_short_for_every_type, parser_and_view_agree};
+use crate::parts::spa_leaf::error_at;
+use crate::parts::spa_rewrite::{Rejected, look_at_pod};
 use crate::tests::spa_spelling::bytes_spelled;
 use crate::shims::test::Fail;
 
@@ -27,7 +29,22 @@ fn compare_with_answer(
     reading: &Reading<'_>,
 ) -> Result<(), Fail> {
     let answer = answer_of(input)?;
+    compare_look(input, &answer);
     compare_answers(input, reading, &answer)
+}
+
+/// Compares what a look at an input finds with the answer of the second reader.
+fn compare_look(input: &[u8], answer: &Answer<'_>) {
+    match (look_at_pod(input), answer) {
+        (Ok(pod), Answer::Accepted(_, left)) => {
+            assert_number_at(pod.rest.len(), *left, input);
+        }
+        (Err(Rejected::Fault(place, why)), Answer::Refused(wanted, faults)) => {
+            assert_stands(input, error_at(place, why).kind(), faults.as_slice());
+            assert_holds_at(place == *wanted, "the place of the fault", input);
+        }
+        _ => assert_holds_at(false, "accepted by one alone", input),
+    }
 }
 
 fn compare_answers(

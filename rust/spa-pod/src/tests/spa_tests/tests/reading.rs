@@ -7,7 +7,7 @@ use crate::tests::spa_tests::answers::{
 use crate::tests::spa_tests::bytes::{assert_holds_at, assert_number, assert_number_at, assert_text};
 use crate::tests::spa_tests::tables::c_bytes::C_BYTES;
 use crate::tests::spa_tests::tables::{lines_of, lines_of_built, lines_of_read_rows};
-use crate::tests::spa_spelling::bytes_spelled;
+use crate::tests::spa_spelling::{bytes_spelled, nested_structs};
 use crate::parts::spa_typed_read::PodDeserializer;
 use crate::parts::spa_value::Value;
 use crate::shims::memory::AllocError;
@@ -174,17 +174,6 @@ fn writes_back_the_bytes_of_c_answers() -> Result<(), Fail> {
     Ok(())
 }
 
-/// Structs that nest, so many, with nothing in the innermost one.
-fn nested() -> Result<Vec<u8>, AllocError> {
-    let mut input = Vec::new();
-    for level in 0..DEPTH {
-        let size = 8 * (DEPTH - 1 - level);
-        input.try_extend_from_slice(&size.to_le_bytes())?;
-        input.try_extend_from_slice(&14u32.to_le_bytes())?;
-    }
-    Ok(input)
-}
-
 /// What structs that nest say.
 fn nested_said() -> Result<String, AllocError> {
     let mut said = "{\"t\":\"Struct\",\"v\":[".try_repeat(DEPTH as usize)?;
@@ -207,6 +196,6 @@ fn reads_three_hundred_levels() {
 }
 
 fn reads_three_hundred_levels_answers() -> Result<(), Fail> {
-    let input = nested()?;
+    let input = nested_structs(DEPTH - 1, &[0, 14])?;
     compare_nested(input.as_slice())
 }

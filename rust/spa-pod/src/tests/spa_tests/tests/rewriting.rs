@@ -6,7 +6,8 @@ use crate::tests::spa_tests::tables::lines_of;
 use crate::tests::spa_tests::tables::lists::LISTS;
 use crate::parts::spa_fixed::DeserializeError;
 use crate::parts::spa_in_place::rewrite_in_place;
-use crate::parts::spa_rewrite::{accept_all, rewrite_all, rewrite_in_parts};
+use crate::parts::spa_leaf::error_at;
+use crate::parts::spa_rewrite::{Rejected, accept_all, look_at_pods, rewrite_all, rewrite_in_parts};
 use crate::tests::spa_spelling::bytes_spelled;
 use crate::shims::test::Fail;
 
@@ -92,7 +93,27 @@ fn compare_list_at(
     compare_calls(input, rewritten, row[0])?;
     let (_, encodings) = out.split_at(2.min(out.len()));
     compare_in_place(input, encodings, rewritten, row[0])?;
+    compare_look(input, encodings, rewritten, row[0]);
     compare_output(out.as_slice(), rewritten, input, row)
+}
+
+/// Compares what a look at a list of pods finds with its rewriting.
+fn compare_look(input: &[u8], encodings: &[u8], rewritten: Rewritten, at: &str) {
+    match (look_at_pods(input), rewritten) {
+        (Ok(all), Ok(())) => {
+            let wanted = input.len().saturating_sub(encodings.len());
+            assert_number(all.surplus, wanted, at);
+            let first = input.get(..all.canonical);
+            assert_holds(first == encodings.get(..all.canonical), at);
+            let is_canonical = all.canonical == input.len();
+            assert_holds(is_canonical == (input == encodings), at);
+        }
+        (Err((left, Rejected::Fault(place, why))), Err((name, behind))) => {
+            assert_holds(error_at(place, why).kind() == name, at);
+            assert_number(left.len(), behind, at);
+        }
+        _ => assert_holds(false, at),
+    }
 }
 
 /// Compares an output, and the answer of the rewriting of an input, with what a row says.

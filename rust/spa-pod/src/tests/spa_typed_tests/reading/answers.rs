@@ -9,7 +9,8 @@ use crate::tests::spa_typed_tests::reading::structs::{Idle, Stubborn, screen_sai
 use crate::tests::spa_typed_tests::reading::visitors::called;
 use crate::parts::spa_fixed::DeserializeError;
 use crate::tests::spa_spelling::bytes_spelled;
-use crate::parts::spa_typed_read::{PodDeserialize, PodDeserializer};
+use crate::parts::spa_typed_read::{PodDeserialize, PodDeserializer, StructOf};
+use crate::tests::spa_uses::{Capture, Gain};
 use crate::parts::spa_utils::{Choice, Fd, Float32, Float64, Fraction, Id, Rectangle};
 use crate::parts::spa_value::Bitmap;
 use crate::shims::memory::AllocError;
@@ -28,10 +29,11 @@ fn answer<'de, P: PodDeserialize<'de> + Debug>(
     }
 }
 
-/// The name of a refusal.
+/// The name of a refusal, or the key that is another one.
 pub(crate) fn refused(error: DeserializeError<&[u8]>) -> Result<String, AllocError> {
     match error {
         DeserializeError::OutOfMemory => Err(AllocError),
+        DeserializeError::PropertyWrongKey(key) => crate::try_format!("not {key}"),
         error => String::try_from_str(error.kind()),
     }
 }
@@ -110,6 +112,9 @@ fn own(name: &str, input: &[u8]) -> Result<String, AllocError> {
         "steps" => steps_said(input),
         "marks" => marks_said(input),
         "first mark" => verdict::<First>(input),
+        "capture" => answer::<Capture>(input),
+        "gain" => answer::<Gain>(input),
+        "capture and gain" => verdict::<StructOf<(Capture, (Gain, ()))>>(input),
         _ => call_said(name, input),
     }
 }
@@ -244,7 +249,33 @@ steps | 20 13 4 4 10 15 19 0 | [10, 15, 19]
 marks | 8 13 0 1 | 0
 first mark | 8 13 0 1 | NoElementLeft"#;
 
-const TABLES: &[&str] = &[READ, CALLS, OWN, BUILT];
+/// A struct and an object that visitors of their own read: whole, without what may be missing, and with each cause for which they are
+/// refused; and both as the members of a declared struct.
+const VISITED: &str =
+    r#"capture | 32 14 8 10 640 480 8 11 25 1 | Capture { size: Rectangle { width: 640, height: 480 }, rate: Some(Fraction { num: 25, denom: 1 }) }
+capture | 16 14 8 10 640 480 | Capture { size: Rectangle { width: 640, height: 480 }, rate: None }
+capture | 0 14 | PropertyMissing
+capture | 16 14 4 4 3 0 | Tag
+capture | 16 14 4 10 640 0 | WrongSize
+capture | 32 14 8 10 640 480 4 4 25 0 | Tag
+capture | 24 14 8 10 640 480 8 11 | Short
+capture | 48 14 8 10 640 480 8 11 25 1 8 11 25 1 | UnreadMembers
+capture | 8 15 262146 2 | Tag
+gain | 32 15 262146 2 65539 16 4 6 1036831949 0 | Gain { id: 2, volume: Float32(1036831949), flags: PropertyFlags(16) }
+gain | 32 15 262146 7 65539 0 4 6 0 0 | Gain { id: 7, volume: Float32(0), flags: PropertyFlags(0) }
+gain | 32 15 5 2 65539 0 4 6 1036831949 0 | UnsupportedType
+gain | 8 15 262146 2 | PropertyMissing
+gain | 12 15 262146 2 65539 0 | Short
+gain | 32 15 262146 2 65540 0 4 6 1036831949 0 | not 65540
+gain | 32 15 262146 2 65540 0 4 2 1 0 | Tag
+gain | 24 15 262146 2 65539 0 4 6 | Short
+gain | 56 15 262146 2 65539 0 4 6 1036831949 0 65540 0 4 2 1 0 | UnreadMembers
+gain | 4 15 262146 0 | WrongSize
+gain | 16 14 4 4 3 0 | Tag
+capture and gain | 64 14 16 14 8 10 640 480 32 15 262146 2 65539 16 4 6 1036831949 0 | accepted
+capture and gain | 64 14 16 14 8 10 640 480 32 15 262146 2 65540 16 4 6 1036831949 0 | not 65540"#;
+
+const TABLES: &[&str] = &[READ, CALLS, OWN, VISITED, BUILT];
 
 /// The tables: they are named here alone, as a function that names a long table is proved with all of it.
 fn tables() -> &'static [&'static str] {

@@ -66,7 +66,6 @@ pub(crate) fn device_said(input: &[u8]) -> Result<String, AllocError> {
     );
     match read {
         Ok((_, device)) => told(device.name, device.volume),
-        Err(DeserializeError::PropertyWrongKey(key)) => crate::try_format!("not {key}"),
         Err(error) => refused(error),
     }
 }

@@ -1,0 +1,74 @@
+//! An object that is read by a visitor of its own, since a declaration says nothing of a property's flags.
+
+use crate::shims::prelude::*;
+use crate::tests::spa_uses::control::VOLUME;
+use crate::parts::libspa::pod::PropertyFlags;
+use crate::parts::libspa::pod::deserialize::laws::{members_are_fronts, readers_go_further};
+use crate::parts::libspa::pod::deserialize::{
+    DeserializeError, DeserializeSuccess, ExactDeserialize, Never, ObjectPodDeserializer,
+    PodDeserialize, PodDeserializer, StructPodDeserializer, Visit, Visitor,
+};
+use crate::parts::libspa::utils::Float32;
+
+/// The type of properties, which PipeWire calls `SPA_TYPE_OBJECT_Props`.
+const PROPS: u32 = 262146;
+
+/// A volume and nothing else, as a device's properties say it.
+#[derive(Clone, Copy, Debug)]
+pub struct Gain {
+    /// The object's id.
+    pub id: u32,
+    /// The volume: 1 leaves a sound as it is.
+    pub volume: Float32,
+    /// The flags of its property.
+    pub flags: PropertyFlags,
+}
+
+/// Makes a gain of an object's properties: of a volume with its flags. It declines anything else.
+struct GainVisitor;
+
+impl<'de> Visitor<'de> for GainVisitor {
+    type Value = Gain;
+
+    type ArrayElem = Never;
+
+    fn visit(&self, _given: Visit<'de, Never>) -> Result<Gain, DeserializeError<&'de [u8]>> {
+        Err(DeserializeError::UnsupportedType)
+    }
+
+    fn visit_struct(
+        &self,
+        _reader: &mut StructPodDeserializer<'de>,
+    ) -> Result<Gain, DeserializeError<&'de [u8]>> {
+        readers_go_further();
+        Err(DeserializeError::UnsupportedType)
+    }
+
+    fn visit_object(
+        &self,
+        reader: &mut ObjectPodDeserializer<'de>,
+    ) -> Result<Gain, DeserializeError<&'de [u8]>> {
+        members_are_fronts();
+        readers_go_further();
+        if reader.type_() != PROPS {
+            return Err(DeserializeError::UnsupportedType);
+        }
+        let id = reader.id();
+        let (volume, flags) = reader.deserialize_property_key::<Float32>(VOLUME)?;
+        Ok(Gain { id, volume, flags })
+    }
+}
+
+/// An object of this type and any id, with a volume alone. Refusals: those of `deserialize_object`, `UnsupportedType` where the
+/// object is of another type, and those of `deserialize_property_key`. It asks for no memory.
+impl<'de> PodDeserialize<'de> for Gain {
+    fn deserialize(
+        deserializer: PodDeserializer<'de>,
+    ) -> Result<(Gain, DeserializeSuccess<'de>), DeserializeError<&'de [u8]>> {
+        deserializer.deserialize_object(GainVisitor)
+    }
+}
+
+/// It is refused exactly where no such object is there.
+impl<'de> ExactDeserialize<'de> for Gain {
+}

@@ -5,7 +5,7 @@ use crate::tests::spa_tests::tables::{lines_of, lines_of_built};
 use crate::parts::spa_fixed::DeserializeError;
 use crate::parts::spa_rewrite::{is_canonical, look_at_pod, rewrite};
 use crate::parts::spa_scan::nests_within;
-use crate::tests::spa_spelling::{bytes_spelled, nested_pods};
+use crate::tests::spa_spelling::{bytes_spelled, nested_pods, push_words};
 use crate::shims::memory::AllocError;
 use crate::shims::test::Fail;
 
@@ -122,33 +122,6 @@ fn answers_as_the_rewriting_shows_answers() -> Result<(), Fail> {
     Ok(())
 }
 
-<<<<<<< HEAD
-/// The pods that stand so deep are found to be their own rewriting or not, and each level is counted.
-fn compare_deep(head: &[u32], truth: u32) -> Result<(), Fail> {
-    let input = nested_pods(DEEP, head, &[4, 2, truth, 0])?;
-=======
-/// Structs in one another, or objects, and in the innermost one a Bool of this number.
-fn nested(levels: u32, type_: u32, truth: u32) -> Result<Vec<u8>, AllocError> {
-    let mut bytes = Vec::new();
-    let head: u32 = if type_ == 15 { 24 } else { 8 };
-    for level in 0..levels {
-        let size = (levels - level).wrapping_mul(head).wrapping_add(8);
-        push_words(&mut bytes, &[size, type_])?;
-        if type_ == 15 {
-            push_words(&mut bytes, &[262147, 3, 1, 0])?;
-        }
-    }
-    push_words(&mut bytes, &[4, 2, truth, 0])?;
-    Ok(bytes)
-}
-
-fn push_words(bytes: &mut Vec<u8>, words: &[u32]) -> Result<(), AllocError> {
-    for word in words {
-        bytes.try_extend_from_slice(&word.to_le_bytes())?;
-    }
-    Ok(())
-}
-
 /// Structs in one another, each before an Int, and in the innermost one an Int alone.
 fn followed(levels: u32) -> Result<Vec<u8>, AllocError> {
     let mut bytes = Vec::new();
@@ -206,10 +179,9 @@ fn assert_looked_into(input: &[u8], is_canonical: bool) {
 }
 
 /// The pods that stand so deep are found to be their own rewriting or not, and each level is counted.
-fn compare_deep(type_: u32, truth: u32) -> Result<(), Fail> {
-    let input = nested(DEEP, type_, truth)?;
+fn compare_deep(head: &[u32], truth: u32) -> Result<(), Fail> {
+    let input = nested_pods(DEEP, head, &[4, 2, truth, 0])?;
     assert_looked_into(input.as_slice(), truth < 2);
->>>>>>> look/wip
     let is_own = is_canonical(input.as_slice())?;
     assert_holds(is_own == (truth < 2), "deep pods");
     compare_depth(input.as_slice(), DEEP, "deep pods");

@@ -100,7 +100,7 @@ fn canonical_len(canonical: usize, begin: usize, is_canonical: bool, end: usize)
     canonical
 }
 
-/// The same as `look_at_pod`, with an array in which lists can wait.
+/// Looks at the pod at the front of the input as `look_at_pod` does, with an array in which lists can wait.
 #[inline(always)]
 fn look_at_front<'a>(
     input: &'a [u8],
@@ -147,7 +147,7 @@ fn look_into<'a>(keyed: bool, pods: &'a [u8], frames: &mut [Inside<'a>]) -> Foun
     }
 }
 
-/// The same with the long array alone.
+/// Looks inside a struct or an object with the long array alone.
 #[cold]
 #[inline(never)]
 fn look_deep(keyed: bool, pods: &[u8]) -> Found<'_> {
@@ -234,7 +234,7 @@ fn is_inside_first(keyed: bool, pods: &[u8]) -> bool {
     type_ == SpaTypes::Struct.0 || type_ == SpaTypes::Object.0
 }
 
-/// The same of canonical ones, with a loop for each kind of list.
+/// What follows the first canonical pods that hold no others: of properties by one loop, and of members by another.
 #[inline(never)]
 fn behind_canonical(keyed: bool, pods: &[u8]) -> &[u8] {
     if keyed {
@@ -286,7 +286,7 @@ fn fault(place: &[u8]) -> Refusal {
     }
 }
 
-/// The same of a body of this type.
+/// The fault of a body of this type.
 fn body_fault(type_: u32, body: &[u8]) -> Refusal {
     match SpaTypes(type_) {
         SpaTypes::String => Refusal::Text,
@@ -314,7 +314,7 @@ fn body_fault(type_: u32, body: &[u8]) -> Refusal {
 /// The longest body of fixed size, in bytes.
 const WIDE_LEN: u32 = 8;
 
-/// The same of an array's body.
+/// The fault of an array's body.
 fn array_fault(body: &[u8]) -> Refusal {
     if body.len() < HEADER_LEN {
         return Refusal::WrongSize;
@@ -325,7 +325,7 @@ fn array_fault(body: &[u8]) -> Refusal {
     Refusal::WrongSize
 }
 
-/// The same of a choice's body.
+/// The fault of a choice's body.
 fn choice_fault(body: &[u8]) -> Refusal {
     if body.len() < CHOICE_HEADER {
         return Refusal::WrongSize;

@@ -6,10 +6,11 @@ refuse.py rows [CRATE ..]: does so with these programs of rows, or all, as `rt r
 refuse.py sample N: all three, as `rt ci` has built them, but of each run only some requests: the first N, then N of every
 other one, N of every fourth, and so on, and of a test as many as SAMPLE_SECONDS seconds hold.
 
-Each word of podtool and of podtext runs on each pod of examples/, on all of them one after another, and on a list whose last
-pod is short, `podtext read` on what `print` makes of these; meet runs on pairs of objects, of which some meet and some don't,
-as one input and as two files. A run must end as it does with memory, or write nothing and say that it is out of memory;
-`podtext show`, which writes as it goes, may have written a beginning. A row of a program must have its answer or say so. A
+Each word of podtool, podtext and pod runs on each pod of examples/, on all of them one after another, and on a list whose last
+pod is short, `podtext read` on what `print` makes of these, and `pod read` on what `json` makes; meet, and `pod`'s words meet and
+filter, run on pairs of objects, of which some meet and some don't, as one input and as two files. A run must end as it does with
+memory, or write nothing and say that it is out of memory; `show` of podtext and pod, which writes as it goes, may have written a
+beginning. A row of a program must have its answer or say so. A
 test must pass, or end by an error that says so and by nothing else. Status 1 where one doesn't, or where a test has more
 requests than could be refused in SECONDS seconds (from the environment, 600).
 """
@@ -23,7 +24,16 @@ import sys
 import tempfile
 
 HERE = pathlib.Path(__file__).resolve().parent
-PROGRAMS = ("podtool", "podtext", "meet")
+PROGRAMS = ("podtool", "podtext", "meet", "pod")
+
+# The words of these programs that take one input, the printing one first.
+WORDS = {
+    "podtext": (("print",), ("print", "--pretty"), ("show",)),
+    "pod": (("json",), ("json", "--pretty"), ("show",), ("rewrite",), ("fixate",), ("check",)),
+}
+
+# How each program names the two ways in which a pair agrees.
+AGREEING = {"meet": ((), ("filter",)), "pod": (("meet",), ("filter",))}
 SECONDS = int(os.environ.get("SECONDS", "600"))
 # How long a test is tried of which only some requests are refused.
 SAMPLE_SECONDS = 10
@@ -51,7 +61,7 @@ WANTS_MEMORY = re.compile(
 
 # How a program of rows ends by such an error, and what a row's run says behind its label.
 PROGRAM_WANTS_MEMORY = re.compile(rb"Error: .*(AllocError|OutOfMemory).*\n")
-RUN_WANTS_MEMORY = re.compile(rb"(.*: )?1 \w+: out of memory\xe2\x8f\x8e \|.*")
+RUN_WANTS_MEMORY = re.compile(rb"(.*: )?1 \w+: (?:.*: )?out of memory\xe2\x8f\x8e \|.*")
 
 
 def pairs():
@@ -87,21 +97,24 @@ def runs_of(program, room):
     if program == "podtool":
         return [((built, word), name, it) for name, it in inputs().items() for word in ("rewrite", "fixate", "show")]
     found = []
-    for number, (name, it) in enumerate((pairs() if program == "meet" else inputs()).items()):
-        files = [room / f"{number}.{part}" for part in ("a", "b")]
-        if program == "meet":
-            halves = (it[:64], it[64:]) if name.endswith("second") else (it[:-64], it[-64:])
-            words = [(), ("filter",), files, ("filter", *files)]
-        else:
-            halves = (it, inputs()["props.pod"])
-            words = [("print",), ("print", "--pretty"), ("show",), ("diff", *files)]
-        for file, part in zip(files, halves):
-            file.write_bytes(part)
-        found += [((built, *word), name, it) for word in words]
-        if program == "podtext":
-            text = subprocess.run([built, "print"], input=it, stdout=subprocess.PIPE).stdout
-            found += [((built, "read"), f"the text of {name}", text), ((built, "read"), f"a part of that of {name}", text[:-9])]
+    for number, (name, it) in enumerate(inputs().items() if program in WORDS else ()):
+        files = files_of(room, f"input {number}", it, inputs()["props.pod"])
+        found += [((built, *word), name, it) for word in (*WORDS[program], ("diff", *files))]
+        text = subprocess.run([built, *WORDS[program][0]], input=it, stdout=subprocess.PIPE).stdout
+        found += [((built, "read"), f"the text of {name}", text), ((built, "read"), f"a part of that of {name}", text[:-9])]
+    for number, (name, it) in enumerate(pairs().items() if program in AGREEING else ()):
+        halves = (it[:64], it[64:]) if name.endswith("second") else (it[:-64], it[-64:])
+        files = files_of(room, f"pair {number}", *halves)
+        found += [((built, *word, *more), name, it) for word in AGREEING[program] for more in ((), files)]
     return found
+
+
+def files_of(room, name, *parts):
+    """Files in the room with these contents."""
+    files = [room / f"{name}.{letter}" for letter in "ab"]
+    for file, part in zip(files, parts):
+        file.write_bytes(part)
+    return files
 
 
 def numbers(sample):
@@ -120,13 +133,14 @@ def refuse_in_programs(library, programs, sample):
     with tempfile.TemporaryDirectory() as room:
         for command, name, given in (it for program in programs for it in runs_of(program, pathlib.Path(room))):
             program = command[0].name
-            says, goes_on = f"{program}: out of memory\n".encode(), program == "podtext" and command[1] == "show"
+            says = re.compile(rb"%b: (?:.*: )?out of memory\n" % program.encode())
+            goes_on = program in WORDS and command[1] == "show"
             wanted, _ = run(command, given)
             for number in numbers(sample):
                 found, was_refused = run(command, given, library, number)
                 runs += was_refused
                 is_begun = found[1] == b"" or goes_on and wanted[1].startswith(found[1])
-                if found != wanted and not (was_refused and found[::2] == (1, says) and is_begun):
+                if found != wanted and not (was_refused and found[0] == 1 and says.fullmatch(found[2]) and is_begun):
                     wrong += 1
                     print(f"{program} {' '.join(map(str, command[1:]))} of {name}, request {number}: {found}")
                 if not was_refused:

@@ -5,15 +5,21 @@ use Rattle.spa_format.specs.Pod.{AreProperties}
 use Rattle.spa_format.proofs.Sequences.{props_left}
 use Rattle.spa_scan.specs.Depth.{depth_of, levels_looked_into, property_depth}
 use Rattle.std.specs.Borrow.{Bor}
-use Rattle.spa_format.specs.Faults.{Stands}
+use Rattle.spa_format.specs.Faults.{Fault, Stands}
 use Rattle.spa_fixed.specs.declared.fault.Refusal.{Refusal}
+use Rattle.spa_fixed.specs.declared.fault.Refusal.TheVariants as refusal
 use Rattle.spa_leaf.specs.Reading.{MayLackMemory, OnMemory, RefusesInput}
 use Rattle.spa_leaf.specs.Refusing.{Says, error_of}
 use Rattle.spa_rewrite.specs.Look.{IsTooDeep}
-use Rattle.spa_rewrite.proofs.Accepted.{fault_front, fault_memory}
+use Rattle.spa_rewrite.proofs.Accepted.{fault_front}
 use Rattle.spa_rewrite.proofs.Levels.{deep_begun}
 use Rattle.spa_typed_read.specs.Lookup.{HoldsDeep}
 use Rattle.spa_typed_read.proofs.Lookups.{first_of_all, some_long}
+
+-- a fault is no want of memory
+fault_memory : (stands : Fault → Type 0) (fact : Type 0) (place : Bor (List ℕ)) (why : Refusal) → Says stands ⊥ why → OnMemory fact (error_of place why)
+fault_memory stands fact place refusal.OutOfMemory s = absurd s
+fault_memory stands fact place _ s = tt
 
 -- the refusal of a fault, which is none for lack of memory
 pub fault_refused : (input : List ℕ) (place : Bor (List ℕ)) (why : Refusal) → Says (λ k. Stands k place.now input) ⊥ why →

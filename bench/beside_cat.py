@@ -18,7 +18,7 @@ HERE = pathlib.Path(__file__).resolve().parent
 PROGRAM = HERE.parent / "crates" / "podtool" / "out" / "podtool"
 INPUTS = pathlib.Path(os.environ.get("INPUTS", HERE / "out" / "inputs"))
 ROUNDS = int(os.environ.get("ROUNDS", "101"))
-NAMES = ("array-of-ints", "bytes", "mixed", "noisy-mixed", "struct-of-ints", "struct-of-strings")
+NAMES = ("array-of-ints", "bytes", "mixed", "dirty-mixed", "struct-of-ints", "struct-of-strings")
 
 # As the script `podtool` sets it.
 MALLOC = "glibc.malloc"

@@ -61,8 +61,8 @@ def nested(depth):
     return b"".join(words(8 * (depth - 1 - level), STRUCT) for level in range(depth))
 
 
-def noisy(pods, keyed=False):
-    """These pods, or properties, with other bytes than zeros as padding, at each depth."""
+def dirty(pods, keyed=False):
+    """These pods, or properties, with dirty padding, which is other bytes than zeros, at each depth."""
     made, at = bytearray(), 0
     while at < len(pods):
         if keyed:
@@ -71,9 +71,9 @@ def noisy(pods, keyed=False):
         size, type_ = struct.unpack_from("<2I", pods, at)
         body = pods[at + 8 : at + 8 + size]
         if type_ == STRUCT:
-            body = noisy(body)
+            body = dirty(body)
         elif type_ == OBJECT:
-            body = body[:8] + noisy(body[8:], keyed=True)
+            body = body[:8] + dirty(body[8:], keyed=True)
         made += words(size, type_) + body + b"\xa5" * (-size % 8)
         at += 8 + size + -size % 8
     return bytes(made)
@@ -86,7 +86,7 @@ INPUTS = [
     ("array-of-ints", lambda: array_of_ints(1_000_000)),
     ("bytes", lambda: pod(BYTES, bytes(range(256)) * (64 * MIB // 256))),
     ("mixed", lambda: examples(100_000)),
-    ("noisy-mixed", lambda: noisy(examples(100_000))),
+    ("dirty-mixed", lambda: dirty(examples(100_000))),
     ("nested", lambda: nested(300) * 1000),
     ("object-of-ints", lambda: object_of_ints(10_000)),
 ]

@@ -1,9 +1,9 @@
 #!/usr/bin/env python3
-"""rewrites.py OUTDIR: writes the inputs of bench/rewrites.rt.txt, pods that aren't their own rewriting."""
+"""rewrites.py OUTDIR: writes the inputs of bench/rewrites.rt.txt, pods that aren't canonical."""
 import os
 import sys
 
-from make import ARRAY, INT, NO_FLAGS, OBJECT, STRUCT, examples, noisy, pod, words
+from make import ARRAY, INT, NO_FLAGS, OBJECT, STRUCT, examples, dirty, pod, words
 
 BOOL, CHOICE = 2, 19
 NONE, RANGE, ENUM = 0, 1, 3
@@ -31,18 +31,18 @@ INPUTS = {
     "flags": objects(1000, [choice(NONE, 1, 5), choice(NONE, 0, 5, 6)]),
     # a struct of 1,000 Ints and one Bool that is 2 in their midst, 100 times
     "one-in-a-thousand": pod(STRUCT, pod(INT, words(7)) * 500 + pod(BOOL, words(2)) + pod(INT, words(7)) * 500) * 100,
-    # structs of Bools that are 2: no member is its own rewriting
+    # structs of Bools that are 2: no member is canonical
     "none": pod(STRUCT, pod(BOOL, words(2)) * 1000) * 100,
-    # what travels between real processes, and a struct of Ints, with noise in the padding
-    "noisy-mixed": noisy(examples(10_000)),
-    "noisy-ints": noisy(pod(STRUCT, pod(INT, words(7)) * 100_000)),
-    # the same without noise
+    # what travels between real processes, and a struct of Ints, with dirty padding
+    "dirty-mixed": dirty(examples(10_000)),
+    "dirty-ints": dirty(pod(STRUCT, pod(INT, words(7)) * 100_000)),
+    # with clean padding
     "mixed": examples(10_000),
     "ints": pod(STRUCT, pod(INT, words(7)) * 100_000),
     # such objects alone, and one before these
     "shrinks": SHRINKS * 1000,
     "shrinks-mixed": SHRINKS + examples(10_000),
-    "shrinks-noisy-mixed": SHRINKS + noisy(examples(10_000)),
+    "shrinks-dirty-mixed": SHRINKS + dirty(examples(10_000)),
     "shrinks-ints": SHRINKS + pod(STRUCT, pod(INT, words(7)) * 100_000),
     # an Int and such a Bool in turn
     "in-turn": pod(STRUCT, (pod(INT, words(7)) + pod(BOOL, words(2))) * 500) * 100,

@@ -38,7 +38,7 @@ void __wrap_free(void *block) {
 #define SEE(fact) do { if (!(fact)) { fprintf(stderr, "line %d: %s\n", __LINE__, #fact); exit(1); } } while (0)
 
 /* A Bool as 7, and an object with a struct in it that holds such a Bool and a choice with surplus values. */
-static const uint32_t noisy[] = {
+static const uint32_t dirty[] = {
 	4, 2, 7, 9,
 	80, 15, 5, 3, 1, 0, 56, 14, 4, 2, 7, 9, 28, 19, 0, 5, 4, 4, 1, 2, 3, 0, 0, 14, 0, 14, 0, 14,
 };
@@ -209,19 +209,19 @@ static void refuse_building(void) {
 int main(void) {
 	static uint8_t own[1024];
 	size_t written, at;
-	SEE(spav_rewrite(noisy, sizeof noisy, own, sizeof own, &written, &at) == 0 && written + 8 == sizeof noisy);
+	SEE(spav_rewrite(dirty, sizeof dirty, own, sizeof own, &written, &at) == 0 && written + 8 == sizeof dirty);
 	for (int i = 0; i < 2; i++) {
 		and_after = i == 1;
 		/* What gets shorter, into room for it all, and into just enough. */
-		refuse_each(noisy, sizeof noisy, sizeof noisy, false);
-		refuse_each(noisy, sizeof noisy, written, true);
+		refuse_each(dirty, sizeof dirty, sizeof dirty, false);
+		refuse_each(dirty, sizeof dirty, written, true);
 		refuse_each(own, written, written, false);
-		refuse_each(noisy, 16, 1024, false);
-		refuse_check(noisy, sizeof noisy, false);
+		refuse_each(dirty, 16, 1024, false);
+		refuse_check(dirty, sizeof dirty, false);
 		refuse_check(own, written, false);
-		refuse_check(noisy, 16, false);
-		refuse_in_place(noisy, 16, false);
-		refuse_in_place(noisy, sizeof noisy, false);
+		refuse_check(dirty, 16, false);
+		refuse_in_place(dirty, 16, false);
+		refuse_in_place(dirty, sizeof dirty, false);
 		refuse_deep_in_place();
 		refuse_deep();
 		refuse_joining(false);

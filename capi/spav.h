@@ -33,12 +33,12 @@ uint32_t spav_abi(void);
  *   0        *written is their length; behind them `out` is as it was
  *   -EINVAL  `in` isn't pods one after another: the refused pod begins at the byte *at
  *   -ENOSPC  `cap` is less than their length, *written
- *   -ENOMEM  memory was asked for and refused; none is asked for where `in` is its own rewriting and nests in 1000 levels at most, nor
+ *   -ENOMEM  memory was asked for and refused; none is asked for where `in` is canonical and nests in 1000 levels at most, nor
  *            where it is pods that nest so, and `cap` is n or more
  * Where the answer isn't 0, `out` is unchanged. */
 int32_t spav_rewrite(const void *in, size_t n, void *out, size_t cap, size_t *written, size_t *at);
 
-/* The same where the pods lie: their rewritings go to the front of `bytes`. Never more than n are written.
+/* Rewrites the pods in place: their rewritings go to the front of `bytes`. Never more than n are written.
  *   0        *written is their length; behind them the bytes are as they were
  *   -EINVAL  the bytes aren't pods one after another: the refused pod begins at the byte *at
  *   -ENOMEM  memory was asked for and refused; none is asked for where the bytes are pods that nest in 1000 levels at most
@@ -49,7 +49,7 @@ int32_t spav_rewrite_in_place(void *bytes, size_t n, size_t *written, size_t *at
  * -ENOMEM: memory was asked for and refused; none is asked for where `in` is pods that nest in 1000 levels at most. */
 int32_t spav_check(const void *in, size_t n, size_t *at);
 
-/* Whether the pod at the front of `in` is its own rewriting: 1 or 0. -ENOMEM: memory was asked for and refused, which is asked for only
+/* Whether the pod at the front of `in` is canonical, which is to say its rewriting is the same bytes: 1 or 0. -ENOMEM: memory was asked for and refused, which is asked for only
  * where structs and objects stand more than 1000 deep in one another. */
 int32_t spav_is_canonical(const void *in, size_t n);
 
@@ -85,7 +85,7 @@ int32_t spav_fraction(const void *in, size_t n, uint32_t key, uint32_t *num, uin
 int32_t spav_float(const void *in, size_t n, uint32_t key, uint32_t *bits);
 int32_t spav_double(const void *in, size_t n, uint32_t key, uint64_t *bits);
 
-/* The same of a text: what stands before the first NUL of a string goes to the front of `out`, with one NUL behind it. *len is how
+/* Reads a string: what is before its first NUL goes to the front of `out`, with one NUL behind it. *len is how
  * long it is without that. -ENOSPC: `cap` isn't more than *len, which alone is written. -EPROTO also says that the string's body
  * doesn't end in NUL. */
 int32_t spav_string(const void *in, size_t n, uint32_t key, char *out, size_t cap, size_t *len);
@@ -133,17 +133,17 @@ int32_t spav_build(const struct spav_call *calls, size_t count, const void *text
 /* The parent of a pod that stands in no other. */
 #define SPAV_NO_PARENT SIZE_MAX
 
-/* What is told of a pod that lies inside bytes. */
+/* One pod of a listing: its type, its size, and where it is. */
 struct spav_event {
 	uint32_t type; /* its type */
 	uint32_t size; /* the size of its body, which begins 8 bytes behind its header */
 	size_t depth;  /* how many structs and objects it stands in */
 	size_t at;     /* the byte at which its header begins */
-	size_t parent; /* where in the list the innermost of these is told of, or SPAV_NO_PARENT */
+	size_t parent; /* the index of the event of the innermost of these, or SPAV_NO_PARENT */
 };
 
-/* Writes what is told of each pod that stands in `in`, one after another, and of each inside it, to the front of `out`: a pod, then all
- * inside it in order, then what follows it. Inside are the members of a struct and the properties of an object, as walks find them: a walk
+/* Lists the pods of `in`, and those inside each of them, at the front of `out`, an event a pod: a pod, then all inside it in order, then
+ * what follows it. Inside are the members of a struct and the properties of an object, as walks find them: a walk
  * ends at the first pod that isn't whole, and the bytes may be anything. An eighth of n is room enough.
  *   0        *count is how many events they are; behind them `out` is as it was
  *   -ENOSPC  there are more than `room`: `out` is full of the first of them, and *count, an eighth of n, is room enough

@@ -47,7 +47,7 @@ struct words {
 	uint32_t words[12];
 };
 
-static const struct words odd = { "an odd Bool", 4, { 4, 2, 7, 0 } }, noisy = { "an Int with noise", 4, { 4, 4, 7, 9 } },
+static const struct words odd = { "an odd Bool", 4, { 4, 2, 7, 0 } }, dirty = { "an Int with dirty padding", 4, { 4, 4, 7, 9 } },
 	own = { "an Int", 4, { 4, 4, 7, 0 } }, surplus = { "a choice with a surplus value", 12, { 36, 19, 0, 0, 4, 4, 1, 2, 3, 4, 5, 0 } };
 
 static uint8_t *bytes;
@@ -100,7 +100,7 @@ int main(void) {
 	nested(STRUCTS_AND_INTS, "the same, each before an Int", &odd);
 	list("a list, each", &odd, &odd);
 	list("such a choice, and", &surplus, &own);
-	list("such a choice, and", &surplus, &noisy);
+	list("such a choice, and", &surplus, &dirty);
 	list("a list, each", &surplus, &surplus);
 	return 0;
 }

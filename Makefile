@@ -1,7 +1,7 @@
 # make install: the programs, proved and built where they aren't yet, into PREFIX/bin. There they start without a script.
 PREFIX = /usr/local
 bindir = $(PREFIX)/bin
-programs = podtool podtext pod
+programs = podtool pod
 
 install:
 	for it in $(programs); do crates/podtool/renew $$it || exit; done

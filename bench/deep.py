@@ -4,7 +4,7 @@ nothing is said, and a tenth of that, on a stack of 8 MiB.
 
 The pods are structs, objects, both in turn, and structs with a None behind each struct in them, with a truth value in the innermost.
 The calls are those of bench/depth.rt.txt, which `bench/build depth none` proves and builds (with `none` it fails, which says nothing);
-`rt run` in crates/podtool and crates/meet builds the programs. Each run must come to the number or to the output that is known, and
+`rt run` in crates/podtool and crates/pod builds the programs. Each run must come to the number or to the output that is known, and
 take at most 20 times as long as a tenth of the levels. Prints the best milliseconds of three runs, of a call without what comes before it,
 of a program with its start; where these are too long, of twelve more. Last, many values are read and let go in memory that doesn't hold them all. Status 1 where a row is wrong.
 """
@@ -17,7 +17,7 @@ import sys
 import time
 
 HERE = pathlib.Path(__file__).resolve().parent
-CALLS, PODTOOL, MEET = HERE / "out/depth", HERE.parent / "crates/podtool/out/podtool", HERE.parent / "crates/meet/out/meet"
+CALLS, PODTOOL, POD = HERE / "out/depth", HERE.parent / "crates/podtool/out/podtool", HERE.parent / "crates/pod/out/pod"
 HEADER, KEYED = 8, 24
 STACK = 8 << 20
 TRUE, SEVEN, FALSE, UNKNOWN = (struct.pack("<4I", 4, type_, word, 0) for type_, word in ((2, 1), (2, 7), (2, 0), (21, 7)))
@@ -101,8 +101,8 @@ def program_rows(nest, levels):
         "podtool fixate": ([PODTOOL, "fixate"], other, (0, other, b"")),
         "podtool fixate, innermost is unknown": ([PODTOOL, "fixate"], unknown, refused),
         "podtool show": ([PODTOOL, "show"], whole, (0, None, b"")),
-        "meet": ([MEET], first + first, (0, first, b"")),
-        "meet, innermost differs": ([MEET], first + second, (1, b"", b"meet: no value for key 1 is in both\n")),
+        "pod meet": ([POD, "meet"], first + first, (0, first, b"")),
+        "pod meet, innermost differs": ([POD, "meet"], first + second, (1, b"", b"pod: standard input: no value for key 1 is in both\n")),
     }
 
 

@@ -6,13 +6,12 @@ refuse.py rows [CRATE ..]: does so with these programs of rows, or all, as `rt r
 refuse.py sample N: all three, as `rt ci` has built them, but of each run only some requests: the first N, then N of every
 other one, N of every fourth, and so on, and of a test as many as SAMPLE_SECONDS seconds hold.
 
-Each word of podtool, podtext and pod runs on each pod of examples/, on all of them one after another, and on a list whose last
-pod is short, `podtext read` on what `print` makes of these, and `pod read` on what `json` makes; meet, and `pod`'s words meet and
-filter, run on pairs of objects, of which some meet and some don't, as one input and as two files. A run must end as it does with
-memory, or write nothing and say that it is out of memory; `show` of podtext and pod, which writes as it goes, may have written a
-beginning. A row of a program must have its answer or say so. A
-test must pass, or end by an error that says so and by nothing else. Status 1 where one doesn't, or where a test has more
-requests than could be refused in SECONDS seconds (from the environment, 600).
+Each word of podtool and pod runs on each pod of examples/, on all of them one after another, and on a list whose last pod is
+short, `pod read` on what `json` makes of these; `pod`'s words meet and filter run on pairs of objects, of which some meet and some
+don't, as one input and as two files. A run must end as it does with memory, or write nothing and say that it is out of memory; `pod
+show`, which writes as it goes, may have written a beginning. A row of a program must have its answer or say so. A test must pass,
+or end by an error that says so and by nothing else. Status 1 where one doesn't, or where a test has more requests than could be
+refused in SECONDS seconds (from the environment, 600).
 """
 
 import os
@@ -24,16 +23,11 @@ import sys
 import tempfile
 
 HERE = pathlib.Path(__file__).resolve().parent
-PROGRAMS = ("podtool", "podtext", "meet", "pod")
+PROGRAMS = ("podtool", "pod")
 
-# The words of these programs that take one input, the printing one first.
-WORDS = {
-    "podtext": (("print",), ("print", "--pretty"), ("show",)),
-    "pod": (("json",), ("json", "--pretty"), ("show",), ("rewrite",), ("fixate",), ("check",)),
-}
-
-# How each program names the two ways in which a pair agrees.
-AGREEING = {"meet": ((), ("filter",)), "pod": (("meet",), ("filter",))}
+# The words of pod that take one input, the printing one first, and those for a pair.
+WORDS = (("json",), ("json", "--pretty"), ("show",), ("rewrite",), ("fixate",), ("check",))
+AGREEING = ("meet", "filter")
 SECONDS = int(os.environ.get("SECONDS", "600"))
 # How long a test is tried of which only some requests are refused.
 SAMPLE_SECONDS = 10
@@ -65,7 +59,7 @@ RUN_WANTS_MEMORY = re.compile(rb"(.*: )?1 \w+: (?:.*: )?out of memory\xe2\x8f\x8
 
 
 def pairs():
-    """The inputs of meet by name: each pair in both orders."""
+    """Pairs of objects by name, each in both orders."""
     made = {}
     for name, words in OTHERS.items():
         for first, second, order in ((RANGE, words, "second"), (words, RANGE, "first")):
@@ -75,7 +69,7 @@ def pairs():
 
 
 def inputs():
-    """The inputs of podtool by name."""
+    """Inputs of pods by name."""
     pods = {it.name: it.read_bytes() for it in sorted((HERE.parent / "examples").glob("*.pod"))}
     short = struct.pack("<10I", 16, 14, 4, 4, 3, 0, 8, 14, 4, 4)
     return {**pods, "all examples": b"".join(pods.values()), "a short pod": short}
@@ -97,15 +91,15 @@ def runs_of(program, room):
     if program == "podtool":
         return [((built, word), name, it) for name, it in inputs().items() for word in ("rewrite", "fixate", "show")]
     found = []
-    for number, (name, it) in enumerate(inputs().items() if program in WORDS else ()):
+    for number, (name, it) in enumerate(inputs().items()):
         files = files_of(room, f"input {number}", it, inputs()["props.pod"])
-        found += [((built, *word), name, it) for word in (*WORDS[program], ("diff", *files))]
-        text = subprocess.run([built, *WORDS[program][0]], input=it, stdout=subprocess.PIPE).stdout
+        found += [((built, *word), name, it) for word in (*WORDS, ("diff", *files))]
+        text = subprocess.run([built, *WORDS[0]], input=it, stdout=subprocess.PIPE).stdout
         found += [((built, "read"), f"the text of {name}", text), ((built, "read"), f"a part of that of {name}", text[:-9])]
-    for number, (name, it) in enumerate(pairs().items() if program in AGREEING else ()):
+    for number, (name, it) in enumerate(pairs().items()):
         halves = (it[:64], it[64:]) if name.endswith("second") else (it[:-64], it[-64:])
         files = files_of(room, f"pair {number}", *halves)
-        found += [((built, *word, *more), name, it) for word in AGREEING[program] for more in ((), files)]
+        found += [((built, word, *more), name, it) for word in AGREEING for more in ((), files)]
     return found
 
 
@@ -134,7 +128,7 @@ def refuse_in_programs(library, programs, sample):
         for command, name, given in (it for program in programs for it in runs_of(program, pathlib.Path(room))):
             program = command[0].name
             says = re.compile(rb"%b: (?:.*: )?out of memory\n" % program.encode())
-            goes_on = program in WORDS and command[1] == "show"
+            goes_on = program == "pod" and command[1] == "show"
             wanted, _ = run(command, given)
             for number in numbers(sample):
                 found, was_refused = run(command, given, library, number)

@@ -19,11 +19,11 @@ ROOT = pathlib.Path(__file__).resolve().parent.parent
 # Where the tests of crates that were cut up are now: the beginning of a path, and the crates.
 MOVED = {
     "crates/spa_command_tests/src/pods": ("podtool_rows", "podtool_tests"),
-    "crates/spa_command_tests/src/meetings": ("meet_rows", "meet_tests"),
-    "crates/spa_command_tests/src/texts": ("podtext_rows", "podtext_tests"),
+    "crates/spa_command_tests/src/meetings": ("pod_rows", "pod_tests"),
+    "crates/spa_command_tests/src/texts": ("pod_rows", "pod_tests"),
     "crates/spa_command_tests/src/text": ("text_rows", "text_tests"),
     "crates/spa_command_tests/src/names": ("text_rows",),
-    "crates/spa_command_tests": ("podtool_tests", "meet_tests", "podtext_tests"),
+    "crates/spa_command_tests": ("podtool_tests", "pod_tests"),
     "crates/spa_filter_tests/src/pods": ("negotiation_rows",),
     "crates/spa_filter_tests/src/multiples": ("multiples_tests",),
     "crates/spa_filter_tests": ("negotiation_rows",),

@@ -8,8 +8,6 @@ BESIDE = ['spa_names', 'spa_events', 'spa_negotiate', 'spa_filter_pods']
 # Crates of tests are those whose names end so, and programs that answer rows, each of which becomes a test. Those that stand on a crate of the kit without a shim, as what reads text does, are left out.
 TEST_SUFFIXES = ('_tests', '_rows')
 ROWS_SUFFIX = '_rows'
-# It reads files by the kit's runtime: tests that stand on it are left out too.
-LEFT_OUT = ['spa_meet_commands']
 # The kit's crates for which shims stand.
 SHIMS = {'bitflags', 'arrayvec', 'thiserror'}
 
@@ -33,8 +31,6 @@ def with_those_below(names, stands_on):
         name = left.pop()
         if name in SHIMS or name in found:
             continue
-        if name in LEFT_OUT:
-            raise ValueError('"%s" is left out' % name)
         if name not in stands_on:
             raise ValueError('for the crate "%s" of the kit there is no shim' % name)
         found.add(name)

@@ -9,7 +9,7 @@ use Rattle.spa_format.specs.Walk.{walk}
 use Rattle.spa_text_commands.specs.Lines.{Shows}
 use Rattle.spa_text_commands.specs.Answers as text
 use Rattle.spa_text_commands.specs.declared.answer.Failure.{Failure as TextFailure}
-use Rattle.spa_text_commands.specs.declared.answer.Failure.TheVariants.{Pod, Line, OutOfMemory as NoMemory, ReadFailed, WriteFailed}
+use Rattle.spa_text_commands.specs.declared.answer.Failure.TheVariants.{Pod, Line, OutOfMemory as NoMemory, WriteFailed}
 use Rattle.pod_commands.specs.Inputs.{AreMade, IsKnown, content_of, left_behind}
 use Rattle.pod_commands.specs.Making.{ShowsAs, ShowsBegin}
 use Rattle.pod_commands.specs.Showing.{IsCut, IsCutAt, IsToldAs}
@@ -81,32 +81,18 @@ module _ (remaining : Option (List ℕ)) (holds : List ℕ → Option (List ℕ)
   unread old new why (inr e) = subst (IsCut remaining holds names old new) (sym e.1) tt
 
 -- an input is shown whole
-pub shown : (input : List ℕ) (old new : Option (List ℕ)) → text.ShowsAll (Some input) old new →
-    (out : List ℕ) × ShowsAs input out × Appends old new out
-shown input old new s =
-    let t = s.1 in
-    subst (λ z. (out : List ℕ) × ShowsAs z out × Appends old new out) t.read (t.out, (sym t.behind, t.lines), t.written)
+pub shown : (input : List ℕ) (old new : Option (List ℕ)) → text.ShowsAll input old new → (out : List ℕ) × ShowsAs input out × Appends old new out
+shown input old new s = (s.out, (sym s.behind, s.lines), s.written)
 
 -- or it isn't
 pub not_shown : (name input : List ℕ) (old new : Option (List ℕ)) (e : TextFailure) (why : Failure) → IsToldAs name e why →
-    text.IsNotShown (Some input) old new e → IsCutAt name input old new why
+    text.IsNotShown input old new e → IsCutAt name input old new why
 not_shown name input old new NoMemory why t s = subst (IsCutAt name input old new) (sym t) tt
-not_shown name input old new (ReadFailed origin) why t s = subst (IsCutAt name input old new) (sym t.1) tt
 not_shown name input old new WriteFailed why t s = subst (IsCutAt name input old new) (sym t) tt
 not_shown name input old new (Line line column kind path) why t s = absurd s
 not_shown name input old new (Pod origin place kind) why t s =
-    let to = s.2.2 in
-    subst (IsCutAt name input old new) (sym t.2) (
-      to.out,
-      (
-        t.1,
-        s.1,
-        subst (λ z. place ≡ walk_size (walk z)) to.read to.behind,
-        subst (λ z. place < length z) to.read s.2.1,
-        subst (λ z. Shows (walk z) to.out) to.read to.lines,
-      ),
-      to.written,
-    )
+    let to = s.2 in
+    subst (IsCutAt name input old new) (sym t.2) (to.out, (t.1, s.0, to.behind, s.1, to.lines), to.written)
 
 -- ---- The run
 

@@ -12,7 +12,6 @@ use Rattle.pod_commands.specs.declared.answer.Failure.TheVariants.{Texts, OutOfM
 -- the refusal of the input of this name is told so
 abbrev pub IsToldAs : List ℕ → TextFailure → Failure → Type 0
 IsToldAs name text.OutOfMemory why = why ≡ OutOfMemory
-IsToldAs name (text.ReadFailed origin) why = (n : Bor (List ℕ)) × (why ≡ Unread n)
 IsToldAs name text.WriteFailed why = why ≡ Unwritten None
 IsToldAs name e why = (n : Bor (List ℕ)) × (n.now ≡ name) × (why ≡ Texts n e)
 

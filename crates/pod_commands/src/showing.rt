@@ -7,8 +7,7 @@ ghost use Rattle.pod_commands.specs.Showing.{IsCut, IsCutAt, IsToldAs};
 
 use crate::answer::Failure;
 use crate::files::{Files, read_named};
-use spa_text_commands::answer::Answer;
-use spa_text_commands::run::show_pods;
+use spa_text_commands::showing::show_pods;
 use std::alloc::Global;
 use std::io::{Read, Write};
 
@@ -50,10 +49,10 @@ fn show<'a, W: Write + Drop>(
     ensures shown { OnOk result.0 ((out : List ℕ) × ShowsAs bytes.now out × Appends (W.contents device) (W.contents result.1) out) }
     ensures cut { IfErr result.0 (IsCutAt name.entry.now bytes.now (W.contents device) (W.contents result.1)) }
 {
-    let (answer, device) = show_pods(alloc, bytes, device);
-    match answer {
-        Answer::Refused(why) => (Err(failure_of(name, why)), device),
-        _ => (Ok(()), device),
+    let (shown, device) = show_pods(alloc, bytes, device);
+    match shown {
+        Ok(()) => (Ok(()), device),
+        Err(why) => (Err(failure_of(name, why)), device),
     }
 }
 
@@ -63,7 +62,6 @@ fn failure_of<'a>(name: &'a str, why: spa_text_commands::answer::Failure) -> Fai
 {
     match why {
         spa_text_commands::answer::Failure::OutOfMemory => Failure::OutOfMemory,
-        spa_text_commands::answer::Failure::ReadFailed(_) => Failure::Unread(name),
         spa_text_commands::answer::Failure::WriteFailed => Failure::Unwritten(None),
         why => Failure::Texts(name, why),
     }

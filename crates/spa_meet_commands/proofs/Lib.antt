@@ -1,4 +1,2 @@
 mod Agreeing
-mod Keeping
 mod Seeking
-mod Running

@@ -16,7 +16,7 @@ use Rattle.spa_meet_commands.specs.Agreeing.{Agree, AgreeIn, ArentAgreed}
 use Rattle.spa_meet_commands.specs.Lists.{AgreesWithNone, AreOfObjects, FirstGives, FirstPairGives, Gives, IsBehindObjects, IsList, IsNoList, IsOfDisagreement, NoneAgree, StopsAt}
 use Rattle.spa_meet_commands.specs.declared.pair.Work.{Work}
 use Rattle.spa_meet_commands.specs.declared.answer.Failure.{Failure}
-use Rattle.spa_meet_commands.specs.declared.answer.Failure.TheVariants.{Apart, More, NoPair, NoPod, NoObject, FileFailed, OutOfMemory, ReadFailed, WriteFailed}
+use Rattle.spa_meet_commands.specs.declared.answer.Failure.TheVariants.{Apart, More, NoPair, NoPod, NoObject, OutOfMemory}
 
 -- the walk goes on behind the front,
 pub walk_next : (left pod next behind : List ℕ) (n : ℕ) → HasFront left → pod ≡ front_of left → n ≡ length pod → next ≡ take n left →
@@ -120,9 +120,6 @@ stops input left side place OutOfMemory is some so stop = tt
 stops input left side place (Apart e) is some so stop = absurd stop
 stops input left side place More is some so stop = absurd stop
 stops input left side place NoPair is some so stop = absurd stop
-stops input left side place (FileFailed s) is some so stop = absurd stop
-stops input left side place ReadFailed is some so stop = absurd stop
-stops input left side place WriteFailed is some so stop = absurd stop
 
 -- how far the second list was looked through: what comes of one pod and what is left comes of it and the whole, and where it agrees
 -- with none that is left it does with none

@@ -1,10 +1,6 @@
-//! What `meet` does: the object on which two objects agree, of a reader or of two lists, is written on a writer.
+//! The object on which two objects agree: of two that follow each other, or of the first pair that agrees of two lists.
 #![tactic(auto)]
 
 pub mod answer;
-pub mod files;
 pub mod lists;
-mod output;
 pub mod pair;
-mod request;
-pub mod run;

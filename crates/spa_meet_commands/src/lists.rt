@@ -8,10 +8,12 @@ ghost use Rattle.spa_meet_commands.specs.Lists.{AgreesWithNone, AreListsRefused,
 
 use crate::answer::Failure;
 use crate::pair::{Work, agreed};
-use libspa::pod::deserialize::{DeserializeError, PodDeserializer};
-use libspa::pod::value_laws::trees_have_their_types;
-use libspa::pod::{Held, Pod, Value};
 use spa_filter_pods::{FilterError, Side};
+use spa_fixed::DeserializeError;
+use spa_typed_read::PodDeserializer;
+use spa_value::laws::trees_have_their_types;
+use spa_value::{Held, Value};
+use spa_view::Pod;
 use std::alloc::Global;
 
 /// The encoding of the object on which the first pair of two lists agrees: the first object of `a` that agrees with one of `b`,

@@ -5,9 +5,9 @@ ghost use Rattle.spa_meet_commands.specs.Agreeing.{AgreeIn, ArentAgreed, side_as
 ghost use Rattle.spa_meet_commands.specs.Answers.{IsPairRefused, PairIn};
 
 use crate::answer::Failure;
-use libspa::pod::Pod;
 use spa_filter_pods::{FilterError, Side, filter_pods};
 use spa_negotiate_pods::{NegotiateError, negotiate_pods};
+use spa_view::Pod;
 use std::alloc::Global;
 
 /// What is done with two objects.

@@ -4,4 +4,3 @@ pub mod Extents
 pub mod ReadTexts
 pub mod Differing
 pub mod Compared
-pub mod Asked

@@ -15,18 +15,12 @@ use Rattle.spa_fixed.specs.Faults.{kind_text}
 use Rattle.spa_fixed.specs.declared.fault.DeserializeError.{DeserializeError}
 use Rattle.spa_fixed.specs.declared.fault.DeserializeError.TheVariants as error
 use Rattle.spa_leaf.specs.Reading.{Names, OnFault}
-use Rattle.spa_device.specs.Whole.{IsAllOf}
-use Rattle.spa_text_commands.specs.Answers.{IsInputRefused, IsRun, IsUndone, OfInput}
-use Rattle.spa_text_commands.specs.Unread.{AddsTexts, IsNoFront, IsStopped, IsWritten, NoFront}
-use Rattle.spa_text_commands.specs.declared.answer.Answer.{Answer}
-use Rattle.spa_text_commands.specs.declared.answer.Answer.TheVariants.{Done}
+use Rattle.spa_text_commands.specs.Unread.{AddsTexts, IsNoFront, IsStopped, NoFront}
 use Rattle.spa_text_commands.specs.declared.answer.Origin.{Origin}
-use Rattle.spa_text_commands.specs.declared.answer.Origin.TheVariants.{Input}
-use Rattle.spa_text_commands.specs.Texts.{AreTexts, IsTextIn, Prints, RefusesPods, RefusesTexts}
+use Rattle.spa_text_commands.specs.Texts.{AreTexts, IsTextIn, Prints, RefusesPods}
 use Rattle.spa_text_commands.specs.declared.printing.Layout.{Layout}
 use Rattle.spa_text_commands.specs.declared.answer.Failure.{Failure}
-use Rattle.spa_text_commands.specs.declared.answer.Failure.TheVariants.{Pod, Line, OutOfMemory, ReadFailed, WriteFailed}
-use Rattle.spa_text_commands.proofs.Saying.{keeps_itself}
+use Rattle.spa_text_commands.specs.declared.answer.Failure.TheVariants.{Pod, Line, OutOfMemory, WriteFailed}
 
 -- how far the loop over pods is: some first ones are printed, and this is left
 pub record PrintedSoFar (layout : Layout) (mark start left old out : List ℕ) : Type 0 where
@@ -121,7 +115,6 @@ stops layout mark start left old out origin place size (Pod from at kind) so som
     )
 stops layout mark start left old out origin place size (Line n c k p) so some fits is h = absurd h
 stops layout mark start left old out origin place size OutOfMemory so some fits is h = tt
-stops layout mark start left old out origin place size (ReadFailed o) so some fits is h = absurd h
 stops layout mark start left old out origin place size WriteFailed so some fits is h = absurd h
 
 pub runs_out : (origin : Origin) (start : List ℕ) (size : ℕ) (why : Failure) → why ≡ OutOfMemory → IsStopped origin start size why
@@ -154,7 +147,6 @@ stops_whole origin input first left vs (Pod from place kind) whole members h =
     )
 stops_whole origin input first left vs (Line n c k p) whole members h = absurd h
 stops_whole origin input first left vs OutOfMemory whole members h = tt
-stops_whole origin input first left vs (ReadFailed o) whole members h = absurd h
 stops_whole origin input first left vs WriteFailed whole members h = absurd h
 
 -- all of an input
@@ -165,38 +157,3 @@ prints_all layout mark input old out h m o =
 
 pub refuses_all : (origin : Origin) (input : List ℕ) (why : Failure) → IsStopped origin input (length input) why → RefusesPods origin input why
 refuses_all origin input why h = stops_whole origin input [] input no_trees why refl refl h
-
--- ---- The run
-
-pub not_read : (Made : List ℕ → Type 0) (Refuses : List ℕ → Failure → Type 0) (remaining old : Option (List ℕ)) (why : Failure) →
-    (why ≡ OutOfMemory) ⊎ (why ≡ ReadFailed Input) → IsUndone Made (IsInputRefused Refuses remaining) old old why
-not_read Made Refuses remaining old why (inl e) =
-    subst (IsUndone Made (IsInputRefused Refuses remaining) old old) (sym e) (tt, keeps_itself old)
-not_read Made Refuses remaining old why (inr e) =
-    subst (IsUndone Made (IsInputRefused Refuses remaining) old old) (sym e) (refl, keeps_itself old)
-
-pub not_printed : (Made : List ℕ → Type 0) (remaining old : Option (List ℕ)) (input : List ℕ) (why : Failure) → IsAllOf remaining input →
-    RefusesPods Input input why → IsUndone Made (IsInputRefused (RefusesPods Input) remaining) old old why
-not_printed Made remaining old input (Pod o p k) all r = ((input, all, r), keeps_itself old)
-not_printed Made remaining old input (Line n c k p) all r = absurd r
-not_printed Made remaining old input OutOfMemory all r = (tt, keeps_itself old)
-not_printed Made remaining old input (ReadFailed o) all r = absurd r
-not_printed Made remaining old input WriteFailed all r = absurd r
-
-pub texts_not_read : (Made : List ℕ → Type 0) (remaining old : Option (List ℕ)) (input : List ℕ) (why : Failure) → IsAllOf remaining input →
-    RefusesTexts input why → IsUndone Made (IsInputRefused RefusesTexts remaining) old old why
-texts_not_read Made remaining old input (Pod o p k) all r = absurd r
-texts_not_read Made remaining old input (Line n c k p) all r = ((input, all, r), keeps_itself old)
-texts_not_read Made remaining old input OutOfMemory all r = (tt, keeps_itself old)
-texts_not_read Made remaining old input (ReadFailed o) all r = absurd r
-texts_not_read Made remaining old input WriteFailed all r = absurd r
-
-pub answered : (Makes : List ℕ → List ℕ → Type 0) (IsRefused : Failure → Type 0) (remaining old new : Option (List ℕ)) (input out : List ℕ)
-    (answer : Answer) → IsAllOf remaining input → Makes input out → IsWritten out Done answer old new →
-    IsRun answer (OfInput Makes remaining) IsRefused old new
-answered Makes IsRefused remaining old new input out answer all is (inl w) =
-    subst (λ a. IsRun a (OfInput Makes remaining) IsRefused old new) (sym w.0)
-    (record { out = out; made = (input, all, is); written = w.1 })
-answered Makes IsRefused remaining old new input out answer all is (inr w) =
-    subst (λ a. IsRun a (OfInput Makes remaining) IsRefused old new) (sym w.0)
-    (record { out = out; made = (input, all, is); count = w.1; written = w.2 })

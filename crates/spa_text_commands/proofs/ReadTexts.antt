@@ -10,7 +10,7 @@ use Rattle.spa_text_commands.specs.Extent.{BeginsText, column_behind, line_behin
 use Rattle.spa_text_commands.specs.Texts.{BeginTexts, HasNoPod, IsRefusedAt, IsText, Reads, RefusesTexts}
 use Rattle.spa_text_commands.specs.Unread.{IsFor, IsNoPod, IsNoText}
 use Rattle.spa_text_commands.specs.declared.answer.Failure.{Failure}
-use Rattle.spa_text_commands.specs.declared.answer.Failure.TheVariants.{Pod, Line, OutOfMemory, ReadFailed, WriteFailed}
+use Rattle.spa_text_commands.specs.declared.answer.Failure.TheVariants.{Pod, Line, OutOfMemory, WriteFailed}
 use Rattle.spa_text_commands.specs.declared.reading.Unread.{Unread}
 use Rattle.spa_text_commands.specs.declared.reading.Unread.TheVariants as unread
 use Rattle.spa_text_read.specs.declared.cause.Cause.{Cause}
@@ -123,7 +123,6 @@ not_read input left text behind pods line (Line l c k p) so b h = record {
   refused = subst (λ f. IsRefusedAt text f l c) (so.placed b.some).0 h;
 }
 not_read input left text behind pods line OutOfMemory so b h = tt
-not_read input left text behind pods line (ReadFailed o) so b h = absurd h
 not_read input left text behind pods line WriteFailed so b h = absurd h
 
 -- ---- Why a text has no pod

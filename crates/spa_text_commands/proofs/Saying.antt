@@ -8,13 +8,8 @@ use Rattle.spa_format.specs.Front.{HasFront, front_of, rest_of}
 use Rattle.spa_format.specs.Walk.{walk}
 use Rattle.spa_format.specs.Fixation.{walk_size}
 use Rattle.spa_format.proofs.WalkLemmas.{walk-end, walk-there}
-use Rattle.spa_device.specs.Whole.{IsAllOf}
-use Rattle.spa_text_commands.specs.Answers.{IsCutOff, IsNotShown, OnAnswer, ShowsAll, ShowsBegin, ShowsTo, path_text}
+use Rattle.spa_text_commands.specs.Answers.{IsCutOff, IsNotShown, ShowsAll, ShowsTo, path_text}
 use Rattle.spa_text_commands.specs.declared.answer.Failure.{Failure}
-use Rattle.spa_text_commands.specs.declared.answer.Failure.TheVariants.{Pod, Line, OutOfMemory, ReadFailed, WriteFailed}
-use Rattle.spa_text_commands.specs.declared.answer.Answer.{Answer}
-use Rattle.spa_text_commands.specs.declared.answer.Answer.TheVariants.{Done, Differs, Refused, Misused}
-use Rattle.spa_text_commands.specs.declared.answer.Origin.TheVariants.{Input}
 use Rattle.spa_text_commands.specs.Lines.{Adds, AreLines, Lists, MayAdd, Says, Shows}
 
 pub appends_nothing : (a : Option (List ℕ)) → Appends a a []
@@ -199,45 +194,16 @@ pub ok_may : {T E : Type 0} (r : Result T E) (a b c : Option (List ℕ)) (l m n 
 ok_may (Ok x) a b c l m n s t = adds_may a b c l m n s t
 ok_may (Err e) a b c l m n s t = tt
 
-pub not_read : (remaining old : Option (List ℕ)) (why : Failure) → (why ≡ OutOfMemory) ⊎ (why ≡ ReadFailed Input) → IsNotShown remaining old old why
-not_read remaining old why (inl e) = subst (IsNotShown remaining old old) (sym e) tt
-not_read remaining old why (inr e) = subst (IsNotShown remaining old old) (sym e) (refl, keeps_itself old)
-
--- what is said of bytes is said of the input that they are all of
-shown_as_read : (remaining old new : Option (List ℕ)) (bytes : List ℕ) (place : ℕ) (input : List ℕ) → IsAllOf remaining bytes →
-    ShowsTo (Some bytes) old new place input → ShowsTo remaining old new place input
-shown_as_read remaining old new bytes place input all s = record {
-  read = subst (IsAllOf remaining) (sym s.read) all;
-  behind = s.behind;
-  out = s.out;
-  lines = s.lines;
-  written = s.written;
-}
-
-pub as_read : (remaining old new : Option (List ℕ)) (bytes : List ℕ) (answer : Answer) → IsAllOf remaining bytes →
-    OnAnswer answer (ShowsAll (Some bytes) old new) (IsNotShown (Some bytes) old new) →
-    OnAnswer answer (ShowsAll remaining old new) (IsNotShown remaining old new)
-as_read remaining old new bytes Done all s = (s.0, shown_as_read remaining old new bytes _ s.0 all s.1)
-as_read remaining old new bytes Differs all s = s
-as_read remaining old new bytes Misused all s = s
-as_read remaining old new bytes (Refused (Pod origin place kind)) all s =
-    (s.0, s.1, (s.2.0, s.2.1, shown_as_read remaining old new bytes _ s.2.0 all s.2.2))
-as_read remaining old new bytes (Refused (Line line column kind path)) all s = s
-as_read remaining old new bytes (Refused OutOfMemory) all s = s
-as_read remaining old new bytes (Refused (ReadFailed origin)) all s = s
-as_read remaining old new bytes (Refused WriteFailed) all s = s
-
-pub cut_off : (remaining old new : Option (List ℕ)) (why : Failure) → IsCutOff why → IsNotShown remaining old new why
-cut_off remaining old new why (inl e) = subst (IsNotShown remaining old new) (sym e) tt
-cut_off remaining old new why (inr e) = subst (IsNotShown remaining old new) (sym e) tt
+pub cut_off : (input : List ℕ) (old new : Option (List ℕ)) (why : Failure) → IsCutOff why → IsNotShown input old new why
+cut_off input old new why (inl e) = subst (IsNotShown input old new) (sym e) tt
+cut_off input old new why (inr e) = subst (IsNotShown input old new) (sym e) tt
 
 -- so the bytes behind the lines are there when the device was flushed
-pub shows_to : (remaining old made mid new : Option (List ℕ)) (waited input : List ℕ) (left place : ℕ) → IsAllOf remaining input → made ≡ old →
-    waited ≡ [] → Lists input made waited mid left → Keeps mid new → place ≡ length input - left → ShowsTo remaining old new place input
-shows_to remaining old made mid new waited input left place all same none s k at =
+pub shows_to : (old made mid new : Option (List ℕ)) (waited input : List ℕ) (left place : ℕ) → made ≡ old → waited ≡ [] →
+    Lists input made waited mid left → Keeps mid new → place ≡ length input - left → ShowsTo input old new place
+shows_to old made mid new waited input left place same none s k at =
     let b = s.behind in
     record {
-      read = all;
       behind = at ∙ b;
       out = s.out;
       lines = s.lines;
@@ -245,14 +211,13 @@ shows_to remaining old made mid new waited input left place all same none s k at
           (subst (λ z. Appends z mid s.out) same (subst (λ z. Appends made mid (z ++ s.out)) none s.written)) k;
     }
 
-pub shows_all : (remaining old made mid new : Option (List ℕ)) (waited input : List ℕ) (left : ℕ) → IsAllOf remaining input → made ≡ old →
-    waited ≡ [] → Lists input made waited mid left → Keeps mid new → left ≡ 0 → ShowsAll remaining old new
-shows_all remaining old made mid new waited input left all same none s k e =
-    (input, shows_to remaining old made mid new waited input left (length input) all same none s k (omega (arith, e)))
+pub shows_all : (old made mid new : Option (List ℕ)) (waited input : List ℕ) (left : ℕ) → made ≡ old → waited ≡ [] →
+    Lists input made waited mid left → Keeps mid new → left ≡ 0 → ShowsAll input old new
+shows_all old made mid new waited input left same none s k e =
+    shows_to old made mid new waited input left (length input) same none s k (omega (arith, e))
 
-pub shows_begin : (remaining old made mid new : Option (List ℕ)) (waited input : List ℕ) (left place : ℕ) → IsAllOf remaining input → made ≡ old →
-    waited ≡ [] → Lists input made waited mid left → Keeps mid new → ¬ (left ≡ 0) → place ≡ length input - left →
-    ShowsBegin remaining old new place
-shows_begin remaining old made mid new waited input left place all same none s k some at =
-    let f = s.fits in
-    (input, omega (arith, f, some, at), shows_to remaining old made mid new waited input left place all same none s k at)
+pub shows_begin : (old made mid new : Option (List ℕ)) (waited input : List ℕ) (left place : ℕ) → made ≡ old → waited ≡ [] →
+    Lists input made waited mid left → Keeps mid new → ¬ (left ≡ 0) → place ≡ length input - left →
+    (place < length input) × ShowsTo input old new place
+shows_begin old made mid new waited input left place same none s k some at =
+    let f = s.fits in (omega (arith, f, some, at), shows_to old made mid new waited input left place same none s k at)

@@ -1,5 +1,4 @@
 pub mod Answers
-pub mod Asked
 pub mod Differences
 pub mod Extent
 pub mod Lines

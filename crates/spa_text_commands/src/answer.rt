@@ -1,47 +1,16 @@
-//! What becomes of a run, and what is said of it.
-ghost use Rattle.std.specs.Prelude.{◌≡◌, OnOk};
-ghost use Rattle.std.specs.Io.KnownBytes.{Appends};
-ghost use Rattle.spa_text_commands.specs.Answers.{file_text, line_of, status_of};
+//! Why pods or texts aren't read, and what is said of it.
+ghost use Rattle.std.specs.Prelude.{◌≡◌};
+ghost use Rattle.spa_text_commands.specs.Answers.{file_text};
 
-use spa_device::ReadError;
 use std::alloc::AllocError;
 use std::fmt;
-use std::io::{self, Write};
-
-/// What became of a run.
-#[derive(Debug, Drop)]
-pub enum Answer {
-    /// The work was done; two files that were compared say the same values.
-    Done,
-    /// The two files say other values, and the lines that differ were written.
-    Differs,
-    /// The work was refused, for this reason.
-    Refused(Failure),
-    /// The words are none of the program's.
-    Misused,
-}
-
-impl Answer {
-    /// The program's status: 0 where the work was done, 1 where it was refused or two files differ, 2 where the words are none of the
-    /// program's.
-    pub fn status(&self) -> u8
-        ensures { result ≡ status_of self.now }
-    {
-        match self {
-            Answer::Done => 0,
-            Answer::Differs => 1,
-            Answer::Refused(_) => 1,
-            Answer::Misused => 2,
-        }
-    }
-}
 
 /// Where bytes were read from.
 #[derive(Clone, Copy, Debug)]
 pub enum Origin {
-    /// The standard input.
+    /// One input.
     Input,
-    /// The first of two files.
+    /// The first of two.
     First,
     /// The second.
     Second,
@@ -77,10 +46,10 @@ impl fmt::Display for At<'_> {
     }
 }
 
-/// Why a run was refused.
+/// Why pods or texts are refused.
 #[derive(Debug, Drop)]
 pub enum Failure {
-    /// The name of a refusal, and the byte of the input or of a file where the refused top-level pod begins.
+    /// The name of a refusal, and the byte of the input where the refused top-level pod begins.
     Pod {
         origin: Origin,
         place: usize,
@@ -96,8 +65,6 @@ pub enum Failure {
     },
     /// A growth was refused.
     OutOfMemory,
-    /// The standard input or a file couldn't be read.
-    ReadFailed(Origin),
     /// The answer couldn't be written.
     WriteFailed,
 }
@@ -126,7 +93,6 @@ impl fmt::Display for Failure {
                 At(path.as_str())
             ),
             Failure::OutOfMemory => write!(f, "out of memory"),
-            Failure::ReadFailed(origin) => write!(f, "{}read failed", file_of(*origin)),
             Failure::WriteFailed => write!(f, "write failed"),
         }
     }
@@ -140,35 +106,5 @@ impl From<AllocError> for Failure {
 
     fn from(_refused: AllocError) -> Failure {
         Failure::OutOfMemory
-    }
-}
-
-impl From<ReadError> for Failure {
-    ghost use Rattle.spa_text_commands.specs.declared.answer.Failure.TheVariants.{OutOfMemory, ReadFailed};
-    ghost use Rattle.spa_text_commands.specs.declared.answer.Origin.TheVariants.{Input};
-    ghost use Rattle.std.specs.Prelude.{◌≡◌, ◌⊎◌};
-
-    ghost from_gives = { λ _ e. (e ≡ OutOfMemory) ⊎ (e ≡ ReadFailed Input) };
-
-    fn from(error: ReadError) -> Failure {
-        match error {
-            ReadError::OutOfMemory => Failure::OutOfMemory,
-            ReadError::Failed => Failure::ReadFailed(Origin::Input),
-        }
-    }
-}
-
-/// Writes the line of this answer, nothing where nothing was refused.
-pub fn tell<E: Write>(faults: &mut E, answer: &Answer) -> io::Result<()>
-    ensures told { OnOk result (Appends (E.contents faults.old) (E.contents faults.new) (line_of answer.now)) }
-{
-    match answer {
-        Answer::Done => Ok(()),
-        Answer::Differs => Ok(()),
-        Answer::Refused(why) => writeln!(faults, "podtext: {why}"),
-        Answer::Misused => writeln!(
-            faults,
-            "usage: podtext print [--pretty]|read|show, podtext diff FILE FILE"
-        ),
     }
 }

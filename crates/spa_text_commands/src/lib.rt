@@ -1,11 +1,9 @@
-//! What `podtext` does: the pods of a reader are printed as text, read from it, or shown with names on a writer, and those of
-//! two files compared by their texts.
+//! Pods as text: printed, read, shown with names, and compared by their texts.
 #![tactic(auto)]
 
 pub mod answer;
 pub mod comparing;
 mod extent;
-pub mod files;
 mod inside;
 mod lines;
 mod listing;
@@ -14,4 +12,4 @@ mod page;
 mod parts;
 pub mod printing;
 pub mod reading;
-pub mod run;
+pub mod showing;

@@ -1,4 +1,4 @@
-//! The lines of `podtext show`, without their ends.
+//! The lines of shown pods, without their ends.
 use crate::inside::Label;
 use crate::parts::{Parts, Scalar, Shown};
 use ryu::Buffer;

@@ -1,4 +1,4 @@
-//! Pods as `podtext show` shows them: a line for each value, each key and each sixteen bytes.
+//! Pods shown: a line for each value, each key and each sixteen bytes.
 ghost use Rattle.std.specs.Prelude.{IfErr, OnOk, string_bytes};
 ghost use Rattle.spa_text_commands.specs.Answers.{IsCutOff};
 ghost use Rattle.spa_text_commands.specs.Lines.{Adds, MayAdd};

@@ -1,0 +1,62 @@
+//! Inputs shown.
+use crate::streams::{Broken, WANTING};
+use pod_commands::answer::tell;
+use pod_commands::run::run;
+use spa_spelling::nested_structs;
+use std::alloc::{AllocError, Global};
+use std::io::ErrorKind;
+use test_streams::{ALL, Device, PIECE, Source};
+
+/// What is wanted of a run: the end of what it writes, what it says, and its status.
+type Wanted<'a> = (&'a [u8], &'a [u8], u8);
+
+/// Whether `show` answers so over this input, with this room for what it writes, unless it says that memory is wanting.
+fn shows(
+    rt: &HostRuntime,
+    mut source: Source<'_>,
+    room: &mut [u8],
+    wanted: Wanted<'_>,
+) -> Result<bool, AllocError> {
+    let device = Device::new(room, ALL);
+    let (answer, mut device) = run(rt.alloc(), &["show"], &mut source, &mut Broken, device);
+    let mut line = [0; 100];
+    let mut faults = Device::new(&mut line, PIECE);
+    let is_told = tell(&mut device, &mut faults, &answer).is_ok();
+    if faults.taken() == WANTING.as_bytes() {
+        return Err(AllocError);
+    }
+    let (end, said, status) = wanted;
+    let is_said = is_told && faults.taken() == said && answer.status() == status;
+    Ok(is_said && device.taken().ends_with(end))
+}
+
+#[test]
+fn an_input_that_breaks_off_is_refused(rt: HostRuntime) -> Result<(), AllocError> {
+    let source = Source::broken(&[0, 0, 0, 0, 1, 0, 0, 0], ErrorKind::Other, PIECE);
+    // Without room, a write would fail.
+    let holds = shows(&rt, source, &mut [], (b"", b"pod: standard input: read failed\n", 1))?;
+    assert!(rt; holds);
+    Ok(())
+}
+
+/// How many levels the deepest pod has.
+const LEVELS: u32 = 100_000;
+
+/// Room for so many lines, which don't grow with their depth.
+const ROOM: usize = LEVELS as usize * 120;
+
+/// Whether `show` shows so many levels.
+fn is_deep_shown(rt: &HostRuntime) -> Result<bool, AllocError> {
+    let bytes = nested_structs(rt.alloc(), LEVELS - 1, &[0, 14])?;
+    let mut room = vec![in rt.alloc(); 0; ROOM]?;
+    let source = Source::whole(bytes.as_slice(), ALL);
+    let wanted: Wanted<'_> = (b"(99999) Struct: size 0\n", b"", 0);
+    shows(rt, source, room.as_mut_slice(), wanted)
+}
+
+#[test]
+fn deep_pods_are_shown(rt: HostRuntime) -> Result<(), AllocError> {
+    let holds = is_deep_shown(&rt)?;
+    assert!(rt; holds);
+    Ok(())
+}

@@ -1,0 +1,181 @@
+//! Streams and files that break off, are full, or can't be flushed.
+use pod_commands::answer::tell;
+use pod_commands::files::Files;
+use pod_commands::run::run;
+use std::alloc::{AllocError, Global};
+use std::io::{self, Error, ErrorKind};
+use std::process::Abort;
+use test_streams::{Device, PIECE, Source};
+
+/// A file `broken`, which can't be read for want of memory, and no other. None can be written.
+#[derive(Drop)]
+pub(crate) struct Broken;
+
+impl Files for Broken {
+    ghost use Rattle.std.specs.Prelude.{None};
+
+    ghost holds = { λ _ _. None };
+
+    fn read_file(&self, _alloc: Global, name: &str) -> io::Result<Vec<u8>> {
+        if name == "broken" {
+            return Err(Error::from(ErrorKind::OutOfMemory));
+        }
+        Err(Error::from(ErrorKind::NotFound))
+    }
+
+    fn write_file(&mut self, _name: &str, _bytes: &[u8]) -> io::Result<()> {
+        Err(Error::from(ErrorKind::NotFound))
+    }
+}
+
+/// What is said where memory is refused.
+pub(crate) const WANTING: &str = "pod: out of memory\n";
+
+/// What is wanted of a run: its status, what it says, and what it writes.
+type Wanted<'a> = (u8, &'a str, &'a [u8]);
+
+/// Compares a run by these words with what is wanted. Where memory is refused it says so and writes nothing, which is the test's
+/// error.
+fn assert_run(
+    rt: &impl Abort,
+    alloc: Global,
+    words: &[&str],
+    mut input: Source<'_>,
+    output: Device<'_>,
+    mut faults: Device<'_>,
+    wanted: Wanted<'_>,
+) -> Result<(), AllocError> {
+    let (answer, mut output) = run(alloc, words, &mut input, &mut Broken, output);
+    // Where the line can't be written, nothing changes.
+    let _ = tell(&mut output, &mut faults, &answer);
+    let is_refused = faults.taken() == WANTING.as_bytes() && wanted.1 != WANTING;
+    let (status, said, written) = if is_refused {
+        (1, WANTING, &[][..])
+    } else {
+        wanted
+    };
+    assert_eq!(rt; answer.status(), status, "the status of {words:?}");
+    assert_eq!(rt; faults.taken(), said.as_bytes(), "what {words:?} says");
+    assert_eq!(rt; output.taken(), written, "what {words:?} writes");
+    if is_refused {
+        return Err(AllocError);
+    }
+    Ok(())
+}
+
+/// An object without properties, and another one behind it. The first is what they meet in.
+const FIRST: [u8; 16] = [8, 0, 0, 0, 15, 0, 0, 0, 5, 0, 0, 0, 3, 0, 0, 0];
+
+const BOTH: [u8; 32] = [
+    8, 0, 0, 0, 15, 0, 0, 0, 5, 0, 0, 0, 3, 0, 0, 0, 8, 0, 0, 0, 15, 0, 0, 0, 5, 0, 0, 0, 7, 0, 0,
+    0,
+];
+
+/// The words that seek what the two objects of an input agree on.
+const WORDS: [&[&str]; 2] = [&["meet"], &["filter"]];
+
+/// More bytes than any of these runs writes, or says.
+const ROOM: usize = 100;
+
+#[test]
+fn sources_break_off(rt: HostRuntime) -> Result<(), AllocError> {
+    let rows = [
+        (ErrorKind::UnexpectedEof, "pod: standard input: read failed\n"),
+        (ErrorKind::OutOfMemory, WANTING),
+    ];
+    for words in WORDS {
+        for (refusal, line) in rows {
+            let (mut room, mut line_room) = ([0; ROOM], [0; ROOM]);
+            let output = Device::new(&mut room, PIECE);
+            let faults = Device::new(&mut line_room, PIECE);
+            let input = Source::broken(&BOTH, refusal, PIECE);
+            assert_run(
+                &rt,
+                rt.alloc(),
+                words,
+                input,
+                output,
+                faults,
+                (1, line, &[]),
+            )?;
+        }
+    }
+    Ok(())
+}
+
+#[test]
+fn files_want_memory(rt: HostRuntime) -> Result<(), AllocError> {
+    let words = ["filter", "broken", "nowhere"];
+    let (mut room, mut line_room) = ([0; ROOM], [0; ROOM]);
+    let output = Device::new(&mut room, PIECE);
+    let faults = Device::new(&mut line_room, PIECE);
+    // The standard input isn't read: this source would refuse.
+    let input = Source::broken(&[], ErrorKind::UnexpectedEof, PIECE);
+    assert_run(
+        &rt,
+        rt.alloc(),
+        &words,
+        input,
+        output,
+        faults,
+        (1, WANTING, &[]),
+    )
+}
+
+/// What is said where a write is refused.
+const FAILED: &str = "pod: standard output: write failed\n";
+
+#[test]
+fn outputs_are_not_flushed(rt: HostRuntime) -> Result<(), AllocError> {
+    for words in WORDS {
+        let (mut room, mut line_room) = ([0; ROOM], [0; ROOM]);
+        let output = Device::unflushed(&mut room, PIECE);
+        let faults = Device::new(&mut line_room, PIECE);
+        let input = Source::whole(&BOTH, PIECE);
+        assert_run(
+            &rt,
+            rt.alloc(),
+            words,
+            input,
+            output,
+            faults,
+            (1, FAILED, &FIRST),
+        )?;
+    }
+    Ok(())
+}
+
+#[test]
+fn outputs_are_full(rt: HostRuntime) -> Result<(), AllocError> {
+    for words in WORDS {
+        for count in 0..6 {
+            let (mut room, mut line_room) = ([0; ROOM], [0; ROOM]);
+            let output = Device::new(&mut room[..count], PIECE);
+            let faults = Device::new(&mut line_room, PIECE);
+            let input = Source::whole(&BOTH, PIECE);
+            let wanted = (1, FAILED, &FIRST[..count]);
+            assert_run(&rt, rt.alloc(), words, input, output, faults, wanted)?;
+        }
+    }
+    Ok(())
+}
+
+#[test]
+fn refusals_that_cannot_be_said_change_nothing(rt: HostRuntime) -> Result<(), AllocError> {
+    for words in WORDS {
+        let (mut room, mut line_room) = ([0; ROOM], [0; 3]);
+        let output = Device::new(&mut room, PIECE);
+        let faults = Device::new(&mut line_room, PIECE);
+        let input = Source::whole(&[1], PIECE);
+        assert_run(
+            &rt,
+            rt.alloc(),
+            words,
+            input,
+            output,
+            faults,
+            (1, "pod", &[]),
+        )?;
+    }
+    Ok(())
+}

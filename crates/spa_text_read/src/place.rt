@@ -23,17 +23,17 @@ pub(crate) enum Open<'a> {
     Array(usize),
 }
 
-/// The path of the last token that stands before this byte of a text, by the keys and the places in arrays that lead there, as `jq` writes
+/// The path of the last token that begins before this byte of a text, by the keys and the places in arrays that lead there, as `jq` writes
 /// them: `.props.rate`, `[2].props.volume`.
 pub(crate) fn path_to(
     alloc: Global,
     reader: &mut Reader<'_>,
-    offset: usize,
+    end: usize,
 ) -> Result<String, AllocError>
     ensures { IfOk result (λ path. IsPlace reader.old (string_bytes path)) }
 {
     let mut trail = Vec::new(alloc);
-    while reader.offset() < offset {
+    while reader.offset() < end {
         let Some(token) = reader.next() else {
             break;
         };

@@ -65,20 +65,24 @@ impl TextReader {
             Ok(value) => Ok(value),
             Err(cause) => {
                 let offset = reader.offset();
-                Err(self.refusal(cause, text, offset))
+                let has_more = reader.next().is_some();
+                Err(self.refusal(cause, text, offset, has_more))
             }
         }
     }
 
-    /// The refusal at this byte of the text, with its path; without one where memory runs out, also for the path.
-    fn refusal(&mut self, cause: Cause, text: &str, offset: usize) -> TextError
+    /// The refusal at this byte of the text, behind which there may be more tokens, with its path; without one where memory runs out, also
+    /// for the path.
+    fn refusal(&mut self, cause: Cause, text: &str, offset: usize, has_more: bool) -> TextError
         ensures cause { result.cause ≢ Cause.OutOfMemory → result.cause ≡ cause }
         ensures no_path { result.cause ≡ Cause.OutOfMemory → string_bytes result.path ≡ [] }
         ensures path { result.cause ≢ Cause.OutOfMemory → IsPlace (tokens text.now) (string_bytes result.path) }
     {
         if cause != Cause::OutOfMemory {
             if let Ok(mut reader) = Reader::new(text, &mut self.scratch) {
-                if let Ok(path) = path_to(self.alloc, &mut reader, offset) {
+                // A token that isn't JSON is the last one, and ends where it begins.
+                let end = if has_more { offset } else { usize::MAX };
+                if let Ok(path) = path_to(self.alloc, &mut reader, end) {
                     return error_at(cause, text, offset, path);
                 }
             }

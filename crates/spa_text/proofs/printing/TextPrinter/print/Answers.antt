@@ -7,7 +7,7 @@ use Rattle.spa_value.specs.View.{view}
 use Rattle.spa_text_read.specs.Grammar.{ReadsAs, nothing}
 use Rattle.spa_text.specs.Line.{HasNoEnd}
 use Rattle.spa_text.specs.Printed as printed
-use Rattle.spa_text.proofs.printing.print.Goals as goal
+use Rattle.spa_text.proofs.printing.TextPrinter.print.Goals as goal
 
 appended : {A E : Type 0} (r : Result A E) (v : Tree) (old new text : List ℕ) → new ≡ (if is_ok r then old ++ text else old) → IsUtf8 text →
     ReadsAs nothing v (tokens text) [] → HasNoEnd text →

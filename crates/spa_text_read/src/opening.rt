@@ -152,9 +152,9 @@ fn leaf_at(
 
 /// Why a token is no number of this type.
 fn no_scalar(scalar: Scalar, token: Token<'_>) -> Cause {
-    match scalar {
-        Scalar::Id => no_number(token),
-        _ => Cause::Number,
+    match token {
+        Token::String(_) if scalar != Scalar::Id => Cause::Number,
+        _ => no_number(token),
     }
 }
 

@@ -125,7 +125,8 @@ pub(crate) fn name_or_word(reader: &mut Reader<'_>, table: Table) -> Result<u32,
 pub(crate) fn no_number(token: Token<'_>) -> Cause {
     match token {
         Token::String(_) => Cause::Name,
-        _ => Cause::Number,
+        Token::Number(_) => Cause::Number,
+        _ => Cause::Token,
     }
 }
 

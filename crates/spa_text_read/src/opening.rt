@@ -18,8 +18,8 @@ use crate::scalars::scalar_of;
 use crate::shape::Shape;
 use crate::tag::{Scalar, Tag, bare, tag_of, takes_text};
 use crate::tokens::{
-    any_key, any_text, any_token, begin_array, begin_object, end_object, key, name_or_word, no_number,
-    word,
+    any_key, any_text, any_token, begin_array, begin_object, end_object, key, name_or_word,
+    no_number, word,
 };
 use bitflags::Flags;
 use json::{Reader, Token};

@@ -1,8 +1,7 @@
 //! Where in a text a token stands.
-ghost use Rattle.std.specs.Prelude.{◌≡◌, ◌∷◌, ◌++◌, [], IfOk, List, OnOk, length, map, reverse, string_bytes};
+ghost use Rattle.std.specs.Prelude.{◌≡◌, ◌∷◌, ◌++◌, [], IfOk, OnOk, map, string_bytes};
 ghost use Rattle.json.specs.Reads.{token_of};
-ghost use Rattle.json.specs.Token.{Token as SpecToken};
-ghost use Rattle.spa_text_read.specs.Places.{IsPlace, Opens, after, closed, one_more, path_behind, step_text, under};
+ghost use Rattle.spa_text_read.specs.Places.{IsPlace, after, one_more, path_behind, step_text, under};
 ghost use Rattle.spa_text_read.specs.Trails.{open_of, opens_of};
 
 use json::{Reader, Token};

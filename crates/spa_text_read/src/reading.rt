@@ -56,7 +56,7 @@ impl TextReader {
         ensures value { IfOk result (λ v. ReadsAs nothing (view v) (tokens text.now) []) }
         ensures refused { IfErr result (λ e. e.cause ≢ Cause.OutOfMemory → (v : Tree) → ¬ (ReadsAs nothing v (tokens text.now) [])) }
         ensures no_path { IfErr result (λ e. e.cause ≡ Cause.OutOfMemory → string_bytes e.path ≡ []) }
-    ensures path { IfErr result (λ e. e.cause ≢ Cause.OutOfMemory → IsPlace (tokens text.now) (string_bytes e.path)) }
+        ensures path { IfErr result (λ e. e.cause ≢ Cause.OutOfMemory → IsPlace (tokens text.now) (string_bytes e.path)) }
     {
         let Ok(mut reader) = Reader::new(text, &mut self.scratch) else {
             return Err(error_at(Cause::OutOfMemory, text, 0, String::new(self.alloc)));

@@ -61,7 +61,13 @@ pub(crate) fn key(reader: &mut Reader<'_>, name: &str) -> Result<(), Cause>
     ensures no_more { length reader.new ≤ length reader.old }
 {
     match reader.next() {
-        Some(Token::Key(key)) => { if key == name { Ok(()) } else { Err(Cause::Name) } }
+        Some(Token::Key(key)) => {
+            if key == name {
+                Ok(())
+            } else {
+                Err(Cause::Name)
+            }
+        }
         _ => Err(Cause::Token),
     }
 }

@@ -9,5 +9,5 @@ mod printed;
 mod printing;
 
 pub use pretty::print_pretty;
-pub use printing::print;
+pub use printing::{TextPrinter, print};
 pub use spa_text_read::{Cause, TextError, TextReader, read};

@@ -12,7 +12,7 @@ ghost use Rattle.spa_text.specs.Line.{AreGood, HasNoEnd};
 
 use json::Writer;
 use ryu::Float;
-use std::alloc::{AllocError, Global};
+use std::alloc::AllocError;
 use std::marker::Model;
 
 /// A writer of tokens over a buffer of its own.
@@ -36,12 +36,13 @@ impl Model for Out {
 }
 
 impl Out {
-    /// Nothing is written yet.
-    pub(crate) fn new(alloc: Global) -> Out
+    /// Nothing is written yet; the text goes to this buffer.
+    pub(crate) fn new(buffer: Vec<u8>) -> Out
+        requires { buffer.items ≡ [] }
         ensures { result.tokens ≡ [] }
     {
         Out {
-            writer: Writer::new(Vec::new(alloc)),
+            writer: Writer::new(buffer),
         }
     }
 

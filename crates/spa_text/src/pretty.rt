@@ -22,7 +22,7 @@ pub fn print_pretty(alloc: Global, value: &Value, out: &mut Vec<u8>) -> Result<(
     ensures exact { OnOk result (HasNoFloat (view value.now) → out.new.items ≡ out.old.items ++ pretty (tokens_of nothing (view value.now))) }
     ensures kept { OnErr result (out.new.items ≡ out.old.items) }
 {
-    let Ok(line) = String::from_utf8(line_of(alloc, value)?) else {
+    let Ok(line) = String::from_utf8(line_of(alloc, value, Vec::new(alloc))?) else {
         unreachable!()
     };
     let text = laid_out(alloc, line.as_str())?;

@@ -24,6 +24,7 @@ use spa_text_read::names::{expected_under, ids_of, keys_of, name_of};
 use spa_text_read::numerals::unsigned;
 use spa_value::{Object, Property, Value};
 use std::alloc::{AllocError, Global};
+use std::mem;
 
 /// What is left of a struct or of an object that is begun.
 #[derive(Clone, Copy)]
@@ -50,7 +51,39 @@ enum Next<'a> {
     Begun(Begun<'a>, Begun<'a>),
 }
 
-/// Prints a value behind what is in `out`: one line of JSON, without the line feed, as docs/TEXT.md says.
+/// Prints values one after another, in memory that it keeps.
+#[derive(Drop)]
+pub struct TextPrinter {
+    alloc: Global,
+    line: Vec<u8>,
+}
+
+impl TextPrinter {
+    /// One that has printed nothing.
+    pub fn new(alloc: Global) -> TextPrinter {
+        TextPrinter {
+            alloc,
+            line: Vec::new(alloc),
+        }
+    }
+
+    /// Prints a value behind what is in `out`, as `print` does.
+    pub fn print(&mut self, value: &Value, out: &mut Vec<u8>) -> Result<(), AllocError>
+        ensures printed { OnOk result ((text : List ℕ) × (out.new.items ≡ out.old.items ++ text) × IsUtf8 text × ReadsAs nothing (view value.now) (tokens text) [] × HasNoEnd text) }
+        ensures exact { OnOk result (HasNoFloat (view value.now) → out.new.items ≡ out.old.items ++ printed.line_of (view value.now)) }
+        ensures kept { OnErr result (out.new.items ≡ out.old.items) }
+    {
+        let mut buffer = mem::replace(&mut self.line, Vec::new(self.alloc));
+        buffer.clear();
+        let line = line_of(self.alloc, value, buffer)?;
+        let added = out.extend_from_slice(line.as_slice());
+        self.line = line;
+        added
+    }
+}
+
+/// Prints a value behind what is in `out`: one line of JSON, without the line feed, as docs/TEXT.md says. For many values a `TextPrinter`
+/// asks for less memory.
 ///
 /// It is refused only where memory runs out, and then leaves `out` as it was. A value that is nested deep is printed too, by a loop.
 pub fn print(alloc: Global, value: &Value, out: &mut Vec<u8>) -> Result<(), AllocError>
@@ -58,19 +91,20 @@ pub fn print(alloc: Global, value: &Value, out: &mut Vec<u8>) -> Result<(), Allo
     ensures exact { OnOk result (HasNoFloat (view value.now) → out.new.items ≡ out.old.items ++ printed.line_of (view value.now)) }
     ensures kept { OnErr result (out.new.items ≡ out.old.items) }
 {
-    let line = line_of(alloc, value)?;
-    out.extend_from_slice(line.as_slice())
+    let mut printer = TextPrinter::new(alloc);
+    printer.print(value, out)
 }
 
-/// The line of a value.
-pub(crate) fn line_of(alloc: Global, value: &Value) -> Result<Vec<u8>, AllocError>
+/// The line of a value, in this buffer.
+pub(crate) fn line_of(alloc: Global, value: &Value, buffer: Vec<u8>) -> Result<Vec<u8>, AllocError>
+    requires { buffer.items ≡ [] }
     ensures reads { IfOk result (λ line. ReadsAs nothing (view value.now) (tokens line.items) []) }
     ensures utf8 { IfOk result (λ line. IsUtf8 line.items) }
     ensures no_end { IfOk result (λ line. HasNoEnd line.items) }
     ensures good { IfOk result (λ line. AreGood (tokens line.items)) }
     ensures exact { IfOk result (λ line. HasNoFloat (view value.now) → (line.items ≡ printed.line_of (view value.now)) × (tokens line.items ≡ tokens_of nothing (view value.now))) }
 {
-    let mut out = Out::new(alloc);
+    let mut out = Out::new(buffer);
     print_value(alloc, &mut out, value)?;
     Ok(out.into_bytes())
 }

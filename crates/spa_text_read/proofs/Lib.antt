@@ -4,3 +4,4 @@ pub mod Completeness
 pub mod Soundness
 pub mod ViewLaws
 pub mod Nesting
+pub mod Trailing

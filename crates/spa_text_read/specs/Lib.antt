@@ -8,3 +8,5 @@ pub mod Laws
 pub mod Shapes
 pub mod Seen
 pub mod Begun
+pub mod Places
+pub mod Trails

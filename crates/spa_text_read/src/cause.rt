@@ -8,7 +8,9 @@ pub enum Cause {
     OutOfMemory,
     /// Another token is looked for, or the text isn't JSON.
     Token,
-    /// A name that isn't in its table, or a number that doesn't fit its type.
+    /// A key that is none there, or a name that isn't in its table.
+    Name,
+    /// A number that doesn't fit its type, or digits, or a text where a number is looked for.
     Number,
     /// A type that is unknown there, or a value of another type than the others of an array or a choice.
     Type,

@@ -14,7 +14,7 @@ ghost use Rattle.spa_value.specs.Views.{property_views, views};
 use crate::cause::Cause;
 use crate::chosen::choice_value;
 use crate::element::{element_of, put_element};
-use crate::names::{expected_under, keys_of, name_of, number_of};
+use crate::names::{expected_under, keys_of, number_of};
 use crate::numerals::unsigned;
 use crate::shape::Shape;
 use crate::tokens::{end_object, head, item, key, next_key, word};
@@ -23,7 +23,6 @@ use json::{Reader, Token};
 use spa_names::{Expected, Table};
 use spa_utils::SpaTypes;
 use spa_value::{Object, Property, PropertyFlags, Value, ValueArray, discard};
-use std::alloc::AllocError;
 
 /// An object that is begun.
 #[derive(Drop)]
@@ -128,26 +127,6 @@ impl Inside {
         }
     }
 
-    /// Appends where the value in it that is being read stands.
-    pub(crate) fn push_place(&self, path: &mut String) -> Result<(), AllocError> {
-        let mut buffer = itoa::Buffer::new();
-        match self {
-            Inside::Struct { members, .. } => {
-                path.push_str("[")?;
-                path.push_str(buffer.format(members.len()))?;
-                path.push_str("]")
-            }
-            Inside::Array { .. } | Inside::Choice { .. } => path.push_str(".values"),
-            Inside::Object(object) => {
-                path.push_str(".props.")?;
-                match name_of(keys_of(object.type_), object.key) {
-                    Some(name) => path.push_str(name),
-                    None => path.push_str(buffer.format(object.key)),
-                }
-            }
-        }
-    }
-
     /// Takes apart what is read, by a loop: it may be nested deep.
     pub(crate) fn give_up(self) {
         match self {
@@ -238,12 +217,10 @@ impl OpenObject {
         };
         let keys = keys_of(self.type_);
         let Some(key) = key_number(keys, name) else {
-            return Err(Cause::Number);
+            return Err(Cause::Name);
         };
         self.key = key;
-        let Some((flags, braced, head)) = property_at(reader) else {
-            return Err(Cause::Token);
-        };
+        let (flags, braced, head) = property_at(reader)?;
         self.flags = PropertyFlags::from_bits_retain(flags);
         self.braced = braced;
         Ok(Next::Wants(head, expected_under(keys, key)))
@@ -295,25 +272,23 @@ fn is_flags(token: Token<'_>) -> bool
 }
 
 /// The flags of a property, whether a brace follows its value, and the first token of that.
-fn property_at<'a>(reader: &mut Reader<'a>) -> Option<(u32, bool, Token<'a>)>
-    ensures taken { MatchOption result (grammar.property_at reader.old ≡ None) (λ p. grammar.property_at reader.old ≡ Some ((p.0, (p.1, token_of p.2)), reader.new)) }
+fn property_at<'a>(reader: &mut Reader<'a>) -> Result<(u32, bool, Token<'a>), Cause>
+    ensures taken { MatchResult result (λ p. grammar.property_at reader.old ≡ Some ((p.0, (p.1, token_of p.2)), reader.new)) (λ _. grammar.property_at reader.old ≡ None) }
     ensures no_more { length reader.new ≤ length reader.old }
 {
     let Some(first) = head(reader) else {
-        return None;
+        return Err(Cause::Token);
     };
     if !is_flags(first) {
-        return Some((0, false, first));
+        return Ok((0, false, first));
     }
     let Some(flags) = word(reader) else {
-        return None;
+        return Err(Cause::Number);
     };
-    let Some(()) = key(reader, "value") else {
-        return None;
-    };
+    key(reader, "value")?;
     match head(reader) {
-        Some(first) => Some((flags, true, first)),
-        None => None,
+        Some(first) => Ok((flags, true, first)),
+        None => Err(Cause::Token),
     }
 }
 

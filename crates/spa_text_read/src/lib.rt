@@ -10,6 +10,7 @@ pub mod names;
 mod nest;
 pub mod numerals;
 mod opening;
+mod place;
 mod reading;
 mod scalars;
 pub mod shape;

@@ -100,17 +100,12 @@ impl Nest {
         }
     }
 
-    /// Takes apart what is read, by loops: it may be nested deep. Appends the path of the value that was being read, and answers whether
-    /// there was memory for all of it.
-    pub(crate) fn give_up(self, path: &mut String) -> bool {
+    /// Takes apart what is read, by loops: it may be nested deep.
+    pub(crate) fn give_up(self) {
         let Nest { inner, outer } = self;
-        let mut is_whole = true;
         for around in outer {
-            is_whole = around.push_place(path).is_ok() && is_whole;
             around.give_up();
         }
-        is_whole = inner.push_place(path).is_ok() && is_whole;
         inner.give_up();
-        is_whole
     }
 }

@@ -18,7 +18,8 @@ use crate::scalars::scalar_of;
 use crate::shape::Shape;
 use crate::tag::{Scalar, Tag, bare, tag_of, takes_text};
 use crate::tokens::{
-    any_key, any_text, any_token, begin_array, begin_object, end_object, key, name_or_word, word,
+    any_key, any_text, any_token, begin_array, begin_object, end_object, key, name_or_word,
+    no_number, word,
 };
 use bitflags::Flags;
 use json::{Reader, Token};
@@ -49,9 +50,10 @@ pub(crate) fn open(
         },
         Token::String(text) => {
             if takes_text(expected.type_.0) {
-                return match scalar_of(bare(expected.type_.0), expected.ids, head) {
+                let scalar = bare(expected.type_.0);
+                return match scalar_of(scalar, expected.ids, head) {
                     Some(value) => Ok(Opened::Leaf(value)),
-                    None => Err(Cause::Number),
+                    None => Err(no_scalar(scalar, head)),
                 };
             }
             match String::from_str(alloc, text) {
@@ -133,18 +135,26 @@ fn leaf_at(
             Err(cause) => Err(cause),
         },
         Tag::Width => match two_words(reader, "height") {
-            Some((width, height)) => Ok(Value::Rectangle(Rectangle { width, height })),
-            None => Err(Cause::Number),
+            Ok((width, height)) => Ok(Value::Rectangle(Rectangle { width, height })),
+            Err(cause) => Err(cause),
         },
         Tag::Num => match two_words(reader, "denom") {
-            Some((num, denom)) => Ok(Value::Fraction(Fraction { num, denom })),
-            None => Err(Cause::Number),
+            Ok((num, denom)) => Ok(Value::Fraction(Fraction { num, denom })),
+            Err(cause) => Err(cause),
         },
         Tag::Pointer => match pointer_at(reader) {
-            Some((type_, address)) => Ok(Value::Pointer(type_, address)),
-            None => Err(Cause::Number),
+            Ok((type_, address)) => Ok(Value::Pointer(type_, address)),
+            Err(cause) => Err(cause),
         },
-        _ => Err(Cause::Token),
+        _ => Err(Cause::Name),
+    }
+}
+
+/// Why a token is no number of this type.
+fn no_scalar(scalar: Scalar, token: Token<'_>) -> Cause {
+    match token {
+        Token::String(_) if scalar != Scalar::Id => Cause::Number,
+        _ => no_number(token),
     }
 }
 
@@ -160,7 +170,7 @@ fn scalar_at(reader: &mut Reader<'_>, scalar: Scalar, ids: Table) -> Result<Valu
     };
     match scalar_of(scalar, ids, token) {
         Some(value) => Ok(value),
-        None => Err(Cause::Number),
+        None => Err(no_scalar(scalar, token)),
     }
 }
 
@@ -211,39 +221,35 @@ fn hex_bytes(alloc: Global, reader: &mut Reader<'_>) -> Result<Vec<u8>, Cause>
 }
 
 /// Takes two numbers, the second under this key.
-fn two_words(reader: &mut Reader<'_>, name: &str) -> Option<(u32, u32)>
-    ensures taken { MatchOption result (grammar.two_words name.now reader.old ≡ None) (λ p. grammar.two_words name.now reader.old ≡ Some (p, reader.new)) }
+fn two_words(reader: &mut Reader<'_>, name: &str) -> Result<(u32, u32), Cause>
+    ensures taken { MatchResult result (λ p. grammar.two_words name.now reader.old ≡ Some (p, reader.new)) (λ _. grammar.two_words name.now reader.old ≡ None) }
     ensures no_more { length reader.new ≤ length reader.old }
 {
     let Some(first) = word(reader) else {
-        return None;
+        return Err(Cause::Number);
     };
-    let Some(()) = key(reader, name) else {
-        return None;
-    };
-    match word(reader) {
-        Some(second) => Some((first, second)),
-        None => None,
+    match key(reader, name) {
+        Ok(()) => match word(reader) {
+            Some(second) => Ok((first, second)),
+            None => Err(Cause::Number),
+        },
+        Err(cause) => Err(cause),
     }
 }
 
 /// Takes a type and an address.
-fn pointer_at(reader: &mut Reader<'_>) -> Option<(u32, u64)>
-    ensures taken { MatchOption result (grammar.pointer_at reader.old ≡ None) (λ p. grammar.pointer_at reader.old ≡ Some (p, reader.new)) }
+fn pointer_at(reader: &mut Reader<'_>) -> Result<(u32, u64), Cause>
+    ensures taken { MatchResult result (λ p. grammar.pointer_at reader.old ≡ Some (p, reader.new)) (λ _. grammar.pointer_at reader.old ≡ None) }
     ensures no_more { length reader.new ≤ length reader.old }
 {
-    let Some(type_) = name_or_word(reader, Table::Types) else {
-        return None;
-    };
-    let Some(()) = key(reader, "address") else {
-        return None;
-    };
+    let type_ = name_or_word(reader, Table::Types)?;
+    key(reader, "address")?;
     let Some(text) = any_text(reader) else {
-        return None;
+        return Err(Cause::Token);
     };
     match wide_bits(text) {
-        Some(address) => Some((type_, address)),
-        None => None,
+        Some(address) => Ok((type_, address)),
+        None => Err(Cause::Number),
     }
 }
 
@@ -273,15 +279,11 @@ fn array_at(alloc: Global, reader: &mut Reader<'_>, expected: Expected) -> Resul
     ensures fresh { IfOk result (λ i. IsFresh i) }
     ensures no_more { length reader.new ≤ length reader.old }
 {
-    let Some(type_) = name_or_word(reader, Table::Types) else {
-        return Err(Cause::Type);
-    };
+    let type_ = name_or_word(reader, Table::Types)?;
     let Some(values) = no_elements(alloc, type_) else {
         return Err(Cause::Type);
     };
-    let Some(()) = key(reader, "values") else {
-        return Err(Cause::Token);
-    };
+    key(reader, "values")?;
     let Some(()) = begin_array(reader) else {
         return Err(Cause::Token);
     };
@@ -297,18 +299,10 @@ fn object_at(alloc: Global, reader: &mut Reader<'_>) -> Result<Inside, Cause>
     ensures fresh { IfOk result (λ i. IsFresh i) }
     ensures no_more { length reader.new ≤ length reader.old }
 {
-    let Some(type_) = name_or_word(reader, Table::Types) else {
-        return Err(Cause::Number);
-    };
-    let Some(()) = key(reader, "id") else {
-        return Err(Cause::Token);
-    };
-    let Some(id) = name_or_word(reader, ids_of(type_)) else {
-        return Err(Cause::Number);
-    };
-    let Some(()) = key(reader, "props") else {
-        return Err(Cause::Token);
-    };
+    let type_ = name_or_word(reader, Table::Types)?;
+    key(reader, "id")?;
+    let id = name_or_word(reader, ids_of(type_))?;
+    key(reader, "props")?;
     let Some(()) = begin_object(reader) else {
         return Err(Cause::Token);
     };
@@ -354,19 +348,21 @@ fn choice_flags<'a>(reader: &mut Reader<'a>, name: &'a str) -> Option<(u32, &'a 
 }
 
 /// The type of a choice's values, where this is its key, else the one that is expected; and the key behind it.
-fn choice_type<'a>(reader: &mut Reader<'a>, name: &'a str, expected: u32) -> Option<(u32, &'a str)>
-    ensures taken { MatchOption result (grammar.choice_type expected (name.now, reader.old) ≡ None) (λ p. grammar.choice_type expected (name.now, reader.old) ≡ Some (p.0, (p.1.now, reader.new))) }
+fn choice_type<'a>(
+    reader: &mut Reader<'a>,
+    name: &'a str,
+    expected: u32,
+) -> Result<(u32, &'a str), Cause>
+    ensures taken { MatchResult result (λ p. grammar.choice_type expected (name.now, reader.old) ≡ Some (p.0, (p.1.now, reader.new))) (λ _. grammar.choice_type expected (name.now, reader.old) ≡ None) }
     ensures no_more { length reader.new ≤ length reader.old }
 {
     if name != "of" {
-        return Some((expected, name));
+        return Ok((expected, name));
     }
-    let Some(type_) = name_or_word(reader, Table::Types) else {
-        return None;
-    };
+    let type_ = name_or_word(reader, Table::Types)?;
     match any_key(reader) {
-        Some(next) => Some((type_, next)),
-        None => None,
+        Some(next) => Ok((type_, next)),
+        None => Err(Cause::Token),
     }
 }
 
@@ -380,7 +376,7 @@ fn choice_at(alloc: Global, reader: &mut Reader<'_>, expected: Expected) -> Resu
         return Err(Cause::Token);
     };
     let Some(shape) = shape_named(name) else {
-        return Err(Cause::Type);
+        return Err(Cause::Name);
     };
     let Some(first) = any_key(reader) else {
         return Err(Cause::Token);
@@ -388,15 +384,13 @@ fn choice_at(alloc: Global, reader: &mut Reader<'_>, expected: Expected) -> Resu
     let Some((flags, second)) = choice_flags(reader, first) else {
         return Err(Cause::Number);
     };
-    let Some((type_, third)) = choice_type(reader, second, expected.type_.0) else {
-        return Err(Cause::Type);
-    };
+    let (type_, third) = choice_type(reader, second, expected.type_.0)?;
+    if third != "values" {
+        return Err(Cause::Name);
+    }
     let Some(values) = no_elements(alloc, type_) else {
         return Err(Cause::Type);
     };
-    if third != "values" {
-        return Err(Cause::Token);
-    }
     let Some(()) = begin_array(reader) else {
         return Err(Cause::Token);
     };

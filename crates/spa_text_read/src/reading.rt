@@ -3,6 +3,7 @@ ghost use Rattle.std.specs.Prelude.{◌≡◌, ◌≢◌, [], IfErr, IfOk, Some,
 ghost use Rattle.json.specs.Lex.{tokens};
 ghost use Rattle.spa_format.specs.Tree.{Tree};
 ghost use Rattle.spa_text_read.specs.Grammar.{ReadsAs, nothing};
+ghost use Rattle.spa_text_read.specs.Places.{IsPlace};
 ghost use Rattle.spa_text_read.specs.Steps.{ComesTo};
 ghost use Rattle.spa_value.specs.View.{view};
 
@@ -10,6 +11,7 @@ use crate::cause::Cause;
 use crate::inside::Opened;
 use crate::nest::Nest;
 use crate::opening::open;
+use crate::place::path_to;
 use crate::tokens::head;
 use json::{Reader, Scratch};
 use spa_names::Expected;
@@ -27,8 +29,9 @@ pub struct TextError {
     pub line: usize,
     /// How many bytes of that line stand before it, and one.
     pub column: usize,
-    /// The value that was being read, as `.props.rate` or `[2].props.volume`, whole; empty for the outermost, and where memory ran out,
-    /// also for the path itself.
+    /// Where the last token that was read stands, by keys and places in arrays, as `.props.rate` or `[2].props.volume`: a key that is refused
+    /// is the last of them. Two points stand for a key of more than 64 bytes, and for what follows 256 bytes. Empty for the outermost, and
+    /// where memory ran out, also for the path itself.
     pub path: String,
 }
 
@@ -53,15 +56,38 @@ impl TextReader {
         ensures value { IfOk result (λ v. ReadsAs nothing (view v) (tokens text.now) []) }
         ensures refused { IfErr result (λ e. e.cause ≢ Cause.OutOfMemory → (v : Tree) → ¬ (ReadsAs nothing v (tokens text.now) [])) }
         ensures no_path { IfErr result (λ e. e.cause ≡ Cause.OutOfMemory → string_bytes e.path ≡ []) }
+        ensures path { IfErr result (λ e. e.cause ≢ Cause.OutOfMemory → IsPlace (tokens text.now) (string_bytes e.path)) }
     {
-        let mut path = String::new(self.alloc);
         let Ok(mut reader) = Reader::new(text, &mut self.scratch) else {
-            return Err(error_at(Cause::OutOfMemory, text, 0, path));
+            return Err(error_at(Cause::OutOfMemory, text, 0, String::new(self.alloc)));
         };
-        match read_whole(self.alloc, &mut reader, &mut path) {
+        match read_whole(self.alloc, &mut reader) {
             Ok(value) => Ok(value),
-            Err(cause) => Err(error_at(cause, text, reader.offset(), path)),
+            Err(cause) => {
+                let offset = reader.offset();
+                let has_more = reader.next().is_some();
+                Err(self.refusal(cause, text, offset, has_more))
+            }
         }
+    }
+
+    /// The refusal at this byte of the text, behind which there may be more tokens, with its path; without one where memory runs out, also
+    /// for the path.
+    fn refusal(&mut self, cause: Cause, text: &str, offset: usize, has_more: bool) -> TextError
+        ensures cause { result.cause ≢ Cause.OutOfMemory → result.cause ≡ cause }
+        ensures no_path { result.cause ≡ Cause.OutOfMemory → string_bytes result.path ≡ [] }
+        ensures path { result.cause ≢ Cause.OutOfMemory → IsPlace (tokens text.now) (string_bytes result.path) }
+    {
+        if cause != Cause::OutOfMemory {
+            if let Ok(mut reader) = Reader::new(text, &mut self.scratch) {
+                // A token that isn't JSON is the last one, and ends where it begins.
+                let end = if has_more { offset } else { usize::MAX };
+                if let Ok(path) = path_to(self.alloc, &mut reader, end) {
+                    return error_at(cause, text, offset, path);
+                }
+            }
+        }
+        error_at(Cause::OutOfMemory, text, offset, String::new(self.alloc))
     }
 }
 
@@ -73,19 +99,17 @@ pub fn read(alloc: Global, text: &str) -> Result<Value, TextError>
     ensures value { IfOk result (λ v. ReadsAs nothing (view v) (tokens text.now) []) }
     ensures refused { IfErr result (λ e. e.cause ≢ Cause.OutOfMemory → (v : Tree) → ¬ (ReadsAs nothing v (tokens text.now) [])) }
     ensures no_path { IfErr result (λ e. e.cause ≡ Cause.OutOfMemory → string_bytes e.path ≡ []) }
+    ensures path { IfErr result (λ e. e.cause ≢ Cause.OutOfMemory → IsPlace (tokens text.now) (string_bytes e.path)) }
 {
     let mut reader = TextReader::new(alloc);
     reader.read(text)
 }
 
-/// The refusal at this place, without its path where memory ran out.
-fn error_at(cause: Cause, text: &str, offset: usize, mut path: String) -> TextError
+/// The refusal at this byte of the text.
+fn error_at(cause: Cause, text: &str, offset: usize, path: String) -> TextError
     ensures cause { result.cause ≡ cause }
-    ensures no_path { cause ≡ Cause.OutOfMemory → string_bytes result.path ≡ [] }
+    ensures path { result.path ≡ path }
 {
-    if cause == Cause::OutOfMemory {
-        path.clear();
-    }
     let mut line: usize = 1;
     let mut column: usize = 1;
     for (at, byte) in text.as_bytes().iter().enumerate() {
@@ -110,11 +134,11 @@ fn error_at(cause: Cause, text: &str, offset: usize, mut path: String) -> TextEr
 
 /// Reads a value and the end of the text.
 #[tactic(auto, using(crate::proofs::Soundness::reads_as))]
-fn read_whole(alloc: Global, reader: &mut Reader<'_>, path: &mut String) -> Result<Value, Cause>
+fn read_whole(alloc: Global, reader: &mut Reader<'_>) -> Result<Value, Cause>
     ensures value { IfOk result (λ v. ReadsAs nothing (view v) reader.old []) }
     ensures refused { IfErr result (λ e. e ≢ Cause.OutOfMemory → (v : Tree) → ¬ (ReadsAs nothing v reader.old [])) }
 {
-    match read_value(alloc, reader, path) {
+    match read_value(alloc, reader) {
         Ok(value) => match reader.next() {
             Some(_) => {
                 discard(value);
@@ -127,7 +151,7 @@ fn read_whole(alloc: Global, reader: &mut Reader<'_>, path: &mut String) -> Resu
 }
 
 /// Reads a value: also one that is nested deep, since what is begun is kept in a list.
-fn read_value(alloc: Global, reader: &mut Reader<'_>, path: &mut String) -> Result<Value, Cause>
+fn read_value(alloc: Global, reader: &mut Reader<'_>) -> Result<Value, Cause>
     ensures value { IfOk result (λ v. ComesTo nothing reader.old (Some (view v, reader.new))) }
     ensures refused { IfErr result (λ e. e ≢ Cause.OutOfMemory → ComesTo nothing reader.old None) }
 {
@@ -149,10 +173,7 @@ fn read_value(alloc: Global, reader: &mut Reader<'_>, path: &mut String) -> Resu
                 return inner.into_value();
             }
             Err(why) => {
-                let is_whole = nest.give_up(path);
-                if !is_whole {
-                    return Err(Cause::OutOfMemory);
-                }
+                nest.give_up();
                 return Err(why);
             }
         }

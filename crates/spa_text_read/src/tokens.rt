@@ -1,10 +1,11 @@
 //! What stands at the front of the tokens that are left.
-ghost use Rattle.std.specs.Prelude.{◌≡◌, ◌<◌, ◌≤◌, IfSome, MatchOption, Some, None, length, option_map};
+ghost use Rattle.std.specs.Prelude.{◌≡◌, ◌<◌, ◌≤◌, IfSome, MatchOption, MatchResult, Some, None, length, option_map};
 ghost use Rattle.json.specs.Json.{after_end_array, read_key};
 ghost use Rattle.json.specs.Reads.{token_of};
 ghost use Rattle.spa_text_read.specs.Seen.{IsItem};
 ghost use Rattle.spa_text_read.specs.Tokens as spec;
 
+use crate::cause::Cause;
 use crate::names::number_of;
 use crate::numerals::unsigned;
 use json::{Reader, Token};
@@ -55,13 +56,19 @@ pub(crate) fn any_key<'a>(reader: &mut Reader<'a>) -> Option<&'a str>
 }
 
 /// Takes the key of this name.
-pub(crate) fn key(reader: &mut Reader<'_>, name: &str) -> Option<()>
-    ensures taken { MatchOption result (spec.after_key name.now reader.old ≡ None) (λ _. spec.after_key name.now reader.old ≡ Some reader.new) }
+pub(crate) fn key(reader: &mut Reader<'_>, name: &str) -> Result<(), Cause>
+    ensures taken { MatchResult result (λ _. spec.after_key name.now reader.old ≡ Some reader.new) (λ _. spec.after_key name.now reader.old ≡ None) }
     ensures no_more { length reader.new ≤ length reader.old }
 {
     match reader.next() {
-        Some(Token::Key(key)) => { if key == name { Some(()) } else { None } }
-        _ => None,
+        Some(Token::Key(key)) => {
+            if key == name {
+                Ok(())
+            } else {
+                Err(Cause::Name)
+            }
+        }
+        _ => Err(Cause::Token),
     }
 }
 
@@ -107,13 +114,25 @@ pub(crate) fn number_by_name(table: Table, token: Token<'_>) -> Option<u32>
 }
 
 /// Takes a number of 32 bits, by its name in the table or by its digits.
-pub(crate) fn name_or_word(reader: &mut Reader<'_>, table: Table) -> Option<u32>
-    ensures taken { MatchOption result (spec.name_or_word table reader.old ≡ None) (λ n. spec.name_or_word table reader.old ≡ Some (n, reader.new)) }
+pub(crate) fn name_or_word(reader: &mut Reader<'_>, table: Table) -> Result<u32, Cause>
+    ensures taken { MatchResult result (λ n. spec.name_or_word table reader.old ≡ Some (n, reader.new)) (λ _. spec.name_or_word table reader.old ≡ None) }
     ensures no_more { length reader.new ≤ length reader.old }
 {
-    match reader.next() {
-        Some(token) => number_by_name(table, token),
-        None => None,
+    let Some(token) = reader.next() else {
+        return Err(Cause::Token);
+    };
+    match number_by_name(table, token) {
+        Some(number) => Ok(number),
+        None => Err(no_number(token)),
+    }
+}
+
+/// Why a token is no number of a table: a text isn't a name in it.
+pub(crate) fn no_number(token: Token<'_>) -> Cause {
+    match token {
+        Token::String(_) => Cause::Name,
+        Token::Number(_) => Cause::Number,
+        _ => Cause::Token,
     }
 }
 

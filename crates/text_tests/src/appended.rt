@@ -1,6 +1,6 @@
 //! Texts behind what was there.
 use crate::read::assert_so;
-use spa_text::print;
+use spa_text::{TextPrinter, print};
 use spa_value::Value;
 use std::alloc::{AllocError, Global};
 
@@ -19,6 +19,26 @@ fn texts_stand_behind_what_was_there(rt: HostRuntime) -> Result<(), AllocError> 
         &rt,
         bytes.as_slice() == b"a\n5null".as_slice(),
         "5 and null",
+    );
+    Ok(())
+}
+
+/// The same two, by a printer that keeps its memory.
+fn print_twice_by_one(alloc: Global) -> Result<Vec<u8>, AllocError> {
+    let mut printer = TextPrinter::new(alloc);
+    let mut bytes = Vec::from_slice(alloc, b"a\n")?;
+    printer.print(&Value::Int(5), &mut bytes)?;
+    printer.print(&Value::None, &mut bytes)?;
+    Ok(bytes)
+}
+
+#[test]
+fn a_printer_keeps_nothing_of_the_value_before(rt: HostRuntime) -> Result<(), AllocError> {
+    let bytes = print_twice_by_one(rt.alloc())?;
+    assert_so(
+        &rt,
+        bytes.as_slice() == b"a\n5null".as_slice(),
+        "5 and null, by one printer",
     );
     Ok(())
 }

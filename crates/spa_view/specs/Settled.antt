@@ -1,4 +1,4 @@
--- The value of a None choice, which a look at a settled pod finds: docs/FORMAT.md, "Looking through None choices".
+-- The value of a None choice, which a look at a settled pod finds: docs/FORMAT.md, "Walks over views".
 use Rattle.std.specs.Prelude.{ℕ, ◌+◌, List, drop, if◌then◌else◌, Bool, nat_eq, nat_le, ◌&&◌}
 use Rattle.spa_format.specs.Words.{word_at, header_size}
 use Rattle.spa_format.specs.Tree.{Tree, fixed, choice, shape_number, none_choice, type_of}

@@ -18,7 +18,7 @@ mod type_tests;
 pub use arrays::{PodArray, PodChoice, PodElements};
 pub use fields::{PodStruct, PodStructIter};
 pub use flags::PodPropFlags;
-pub use lookup::FromPod;
+pub use lookup::{FixedPod, FromPod};
 pub use parts::{body_bytes, split_first, whole_bytes};
 pub use pod::Pod;
 pub use props::{PodObject, PodObjectIter, PodProp};

@@ -1,6 +1,5 @@
 //! Values looked up by key, whether each stands there as it is or as a None choice.
 ghost use Rattle.std.specs.Prelude.{◌≡◌, ℕ, IfNone, IfSome};
-ghost use Rattle.spa_format.specs.Kind as k;
 ghost use Rattle.spa_format.specs.Pod.{IsPod};
 ghost use Rattle.spa_format.specs.Tree.{Properties, Tree, bytes, fixed, object, string};
 ghost use Rattle.spa_view.specs.Settled.{Says};
@@ -23,94 +22,38 @@ pub trait FromPod<'a>: Sized {
         ensures none { IfNone result ((x : Self) → ¬ (Says (says x) (pod_bytes pod.now))) };
 }
 
-/// The value of a pod of fixed size, where it says one of this type.
-fn fixed_from<'a, T: CanonicalFixedSizedPod>(pod: &Pod<'a>) -> Option<T>
-    ensures value { IfSome result (λ x. Says (fixed (T.fixed x)) (pod_bytes pod.now)) }
-    ensures none { IfNone result ((x : T) → ¬ (Says (fixed (T.fixed x)) (pod_bytes pod.now))) }
-{
-    match pod.get::<T>() {
-        Ok(value) => Some(value),
-        Err(_) => None,
-    }
-}
+/// One of the ten types of fixed size. A trait of this crate's own, so that what is written once for them overlaps no other type.
+pub trait FixedPod: CanonicalFixedSizedPod {}
 
-impl<'a> FromPod<'a> for () {
-    ghost says = { λ _. fixed k.none };
+impl FixedPod for () {}
 
-    fn from_pod(pod: &Pod<'a>) -> Option<()> {
-        fixed_from(pod)
-    }
-}
+impl FixedPod for bool {}
 
-impl<'a> FromPod<'a> for bool {
-    ghost says = { λ x. fixed (k.bool x) };
+impl FixedPod for Id {}
 
-    fn from_pod(pod: &Pod<'a>) -> Option<bool> {
-        fixed_from(pod)
-    }
-}
+impl FixedPod for i32 {}
 
-impl<'a> FromPod<'a> for Id {
-    ghost says = { λ x. fixed (k.id x.0) };
+impl FixedPod for i64 {}
 
-    fn from_pod(pod: &Pod<'a>) -> Option<Id> {
-        fixed_from(pod)
-    }
-}
+impl FixedPod for Float32 {}
 
-impl<'a> FromPod<'a> for i32 {
-    ghost says = { λ x. fixed (k.int x) };
+impl FixedPod for Float64 {}
 
-    fn from_pod(pod: &Pod<'a>) -> Option<i32> {
-        fixed_from(pod)
-    }
-}
+impl FixedPod for Rectangle {}
 
-impl<'a> FromPod<'a> for i64 {
-    ghost says = { λ x. fixed (k.long x) };
+impl FixedPod for Fraction {}
 
-    fn from_pod(pod: &Pod<'a>) -> Option<i64> {
-        fixed_from(pod)
-    }
-}
+impl FixedPod for Fd {}
 
-impl<'a> FromPod<'a> for Float32 {
-    ghost says = { λ x. fixed (k.float x.0) };
+/// The value of a body of its size.
+impl<'a, T: FixedPod> FromPod<'a> for T {
+    ghost says = { λ x. fixed (T.fixed x) };
 
-    fn from_pod(pod: &Pod<'a>) -> Option<Float32> {
-        fixed_from(pod)
-    }
-}
-
-impl<'a> FromPod<'a> for Float64 {
-    ghost says = { λ x. fixed (k.double x.0) };
-
-    fn from_pod(pod: &Pod<'a>) -> Option<Float64> {
-        fixed_from(pod)
-    }
-}
-
-impl<'a> FromPod<'a> for Rectangle {
-    ghost says = { λ x. fixed (k.rectangle x.width x.height) };
-
-    fn from_pod(pod: &Pod<'a>) -> Option<Rectangle> {
-        fixed_from(pod)
-    }
-}
-
-impl<'a> FromPod<'a> for Fraction {
-    ghost says = { λ x. fixed (k.fraction x.num x.denom) };
-
-    fn from_pod(pod: &Pod<'a>) -> Option<Fraction> {
-        fixed_from(pod)
-    }
-}
-
-impl<'a> FromPod<'a> for Fd {
-    ghost says = { λ x. fixed (k.fd x.0) };
-
-    fn from_pod(pod: &Pod<'a>) -> Option<Fd> {
-        fixed_from(pod)
+    fn from_pod(pod: &Pod<'a>) -> Option<T> {
+        match pod.get::<T>() {
+            Ok(value) => Some(value),
+            Err(_) => None,
+        }
     }
 }
 

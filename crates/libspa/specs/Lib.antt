@@ -35,6 +35,8 @@ pub use Rattle.spa_rewrite.specs.Rewriting
 pub use Rattle.spa_view.specs.View as Seen
 pub use Rattle.spa_view.specs.Tests
 pub use Rattle.spa_view.specs.Found
+pub use Rattle.spa_view.specs.Settled
+pub use Rattle.spa_view.specs.Elements
 pub use Rattle.spa_builder.specs.State as BuilderState
 pub use Rattle.spa_builder.specs.Step as BuilderSteps
 pub use Rattle.spa_builder.specs.Held as BuilderHeld

@@ -42,8 +42,8 @@ pub mod pod {
         laws as value_laws, object, property, same,
     };
     pub use spa_view::{
-        Pod, PodObject, PodObjectIter, PodProp, PodPropFlags, PodStruct, PodStructIter,
-        laws as getter_laws,
+        FixedPod, FromPod, Pod, PodArray, PodChoice, PodElements, PodObject, PodObjectIter,
+        PodProp, PodPropFlags, PodStruct, PodStructIter, laws as getter_laws,
     };
 
     /// Building pods call by call.

@@ -8,10 +8,8 @@ mod taking_apart {
     use libspa::pod::Pod;
     use libspa::pod::parser::{Parser, parser_get};
     use libspa::utils::{Errno, Id};
+    use spa_names::keys;
     use std::alloc::Global;
-
-    /// The key of a format's sample rate.
-    const RATE: Id = Id(65539);
 
     /// The sample rate of the format in a message: a struct of the number of a parameter, and the parameter.
     pub fn sample_rate(alloc: Global, message: &[u8]) -> Result<i32, Errno> {
@@ -20,13 +18,8 @@ mod taking_apart {
         let mut parser = Parser::new(alloc, message);
         parser_get!(&mut parser, Struct { Id(&mut parameter), Pod(&mut format) })?;
 
-        let mut rate = 0;
-        let property = format.as_object()?.find_prop(RATE).ok_or(Errno::INVAL)?;
-        parser_get!(
-            &mut Parser::from_pod(alloc, property.value()),
-            Int(&mut rate)
-        )?;
-        Ok(rate)
+        let rate = format.as_object()?.get(Id(keys::FORMAT_AUDIO_RATE));
+        rate.ok_or(Errno::INVAL)
     }
 }
 

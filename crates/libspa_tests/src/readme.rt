@@ -2,13 +2,12 @@
 //! builder made, or on a worked example of docs/FORMAT.md.
 use crate::bytes::{assert_holds, assert_number, assert_spelt};
 use crate::readme::fixate::settle;
-use crate::readme::look::int_under;
+use crate::readme::look::sample_rate;
 use crate::readme::look_up::channels;
 use crate::readme::read::count;
 use crate::readme::result_codes::told;
 use crate::readme::rewrite::{all_rewritten, say_the_same};
 use crate::readme::write::{encoded_int, encoded_pair};
-use libspa::utils::Id;
 use spa_spelling::bytes_spelled;
 use std::alloc::{AllocError, Global};
 use std::process::Abort;
@@ -77,11 +76,12 @@ mod rewrite {
 mod look {
     use libspa::pod::Pod;
     use libspa::utils::Id;
+    use spa_names::keys;
 
-    /// The Int under a key of the object at the front.
-    pub fn int_under(key: Id, bytes: &[u8]) -> Option<i32> {
-        let object = Pod::from_bytes(bytes)?.as_object().ok()?;
-        object.find_prop(key)?.value().get_int().ok()
+    /// The sample rate of the format at the front, also where fixation left a None choice of it.
+    pub fn sample_rate(format: &[u8]) -> Option<i32> {
+        let object = Pod::from_bytes(format)?.as_object().ok()?;
+        object.get(Id(keys::FORMAT_AUDIO_RATE))
     }
 }
 
@@ -243,19 +243,27 @@ fn refused_place(alloc: Global, pods: &[u8]) -> usize {
     }
 }
 
-/// Keys, and the Ints under them in examples/buffers.pod.
-const UNDER: &[(u32, Option<i32>)] = &[(1, None), (2, Some(1)), (4, Some(4)), (5, None)];
+/// Formats, and the sample rate of each.
+const RATES: &[(&str, Option<i32>)] = &[
+    ("32 15 262147 4 65539 0 4 4 48000 0", Some(48000)),
+    ("48 15 262147 4 65539 0 20 19 0 0 4 4 44100 0", Some(44100)),
+    (
+        "56 15 262147 3 65539 0 28 19 1 0 4 4 48000 8000 96000 0",
+        None,
+    ),
+    ("32 15 262147 4 65540 0 4 4 2 0", None),
+];
 
-fn assert_under(rt: &impl Abort, found: Option<i32>, wanted: Option<i32>, key: u32) {
-    assert_eq!(rt; found, wanted, "under {key}");
+fn assert_rate(rt: &impl Abort, found: Option<i32>, wanted: Option<i32>, words: &str) {
+    assert_eq!(rt; found, wanted, "of {words}");
 }
 
 #[test]
 fn looks(rt: HostRuntime) -> Result<(), Fail> {
-    let bytes = bytes_spelled(rt.alloc(), BUFFERS)?;
-    for (key, wanted) in UNDER {
-        let found = int_under(Id(*key), bytes.as_slice());
-        assert_under(&rt, found, *wanted, *key);
+    for (words, wanted) in RATES {
+        let format = bytes_spelled(rt.alloc(), *words)?;
+        let found = sample_rate(format.as_slice());
+        assert_rate(&rt, found, *wanted, *words);
     }
     Ok(())
 }

@@ -1,13 +1,18 @@
 #!/usr/bin/env python3
 """Makes the tables, and the proofs of what is true of each, of what walk.c prints of PipeWire's headers.
 
-    cc $(pkg-config --cflags libspa-0.2) -o walk walk.c && ./walk | ./generate.py
+    ./identifiers.py $(pkg-config --variable=includedir libspa-0.2)/spa-0.2 > identifiers.c
+    for it in walk identifiers; do cc $(pkg-config --cflags libspa-0.2) -o $it $it.c; done
+    ./identifiers > identifiers.txt && ./walk | ./generate.py identifiers.txt
 
 A name is the shortest end of PipeWire's name, cut at a colon, that no entry before it in its table has. So a name keeps its
 number when PipeWire appends entries to a table. Entries whose names end in a colon only mark where a range begins: they give no
 name. Of several entries of one number the first one gives the name that the number is shown by; all of them are looked up.
+
+A constant is named as C's identifier, in capitals, without what all of its module begin with.
 """
 
+import re
 import sys
 from pathlib import Path
 
@@ -84,6 +89,20 @@ def entries_in(table, place_of):
     for number, name, path, type_, values in named(table):
         rows.setdefault(number, f'    ({number}, "{path}", {len(path) - len(name)}, {place_of(type_, values)}),')
     return [rows[it] for it in sorted(rows)]
+
+
+def read_identifiers(path):
+    """C's identifiers, by number and PipeWire's name."""
+    lines = (line.split("\t") for line in Path(path).read_text(encoding="utf-8").splitlines())
+    return {(int(number), name): identifier for identifier, number, name in lines}
+
+
+def constants_in(table, front, identifiers):
+    """The constants of a table's numbers, under C's identifiers without this front."""
+    for number, _, path, _, _ in named(table):
+        identifier = identifiers[number, path]
+        name = re.sub("([a-z])([A-Z])", r"\1_\2", identifier.removeprefix(front)).upper()
+        yield f"/// `{identifier}`.", f"pub const {name}: u32 = {number};"
 
 
 def write(name, lines):
@@ -163,6 +182,21 @@ def main():
     out += ["    ensures { IsOfIds table → map naming_of result.now ≡ namings_of table }", "{", "    match table {"]
     out += arms(others, names) + ["        _ => &[],", "    }", "}"]
     write("src/contents.rt", out)
+
+    identifiers = read_identifiers(sys.argv[1])
+    objects = [entry for entry in tables[0] if entry[3] >= 0]
+    formats = {at for at in kept if titles[at] in ("AudioFormat", "VideoFormat")}
+    of_constants = (
+        ("types", [objects], "SPA_TYPE_", "The types of objects"),
+        ("shapes", [tables[1]], "SPA_CHOICE_", "The shapes of choices"),
+        ("keys", [tables[at] for at in kept if at in is_keys], "SPA_", "The keys of objects"),
+        ("formats", [tables[at] for at in kept if at in formats], "SPA_", "The ids of formats of samples and of pictures"),
+        ("ids", [tables[at] for at in kept[2:] if at not in is_keys | formats], "SPA_", "The ids of objects, and others that stand under keys"),
+    )
+    for module, ours, front, what in of_constants:
+        out = [f"// Written {OF_C}", f"//! {what}, named as C names them.", ""]
+        out += [line for table in ours for constant in constants_in(table, front, identifiers) for line in constant]
+        write(f"src/{module}.rt", out)
 
     out = [f"-- Written {OF_C}", "-- The contents of each table."]
     out += ["use Rattle.std.specs.Prelude.{List, [], get_or, map, ⊤}"]

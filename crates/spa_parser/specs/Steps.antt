@@ -3,10 +3,10 @@ use Rattle.std.specs.Prelude.{◌≡◌, ◌≢◌, ◌⊎◌, ℕ, List, ◌∷
 use Rattle.spa_format.specs.Words.{header_size, word_at, body_of}
 use Rattle.spa_format.specs.Kind.{Fixed, kind_of, content}
 use Rattle.spa_format.specs.Tree.{Tree, Trees, Properties, no_properties, property}
-use Rattle.spa_format.specs.Walk.{first_with_key, property_walk, properties_of}
 use Rattle.spa_format.specs.Pod.{IsPod, AreMembers}
 use Rattle.spa_utils.specs.declared.errno.Errno.{Errno}
 use Rattle.spa_utils.specs.declared.errno.TheConstants.Errno.{NOMEM, INVAL, PIPE, PROTO}
+use Rattle.spa_view.specs.Found.{property_at}
 use Rattle.spa_view.specs.Tests.{IsOfKind, IsNulEnded, before_nul, IsBytesPod, IsPointerPod, IsAddress, IsStructPod, IsObjectPod}
 use Rattle.spa_parser.specs.State.{ParserState, next_pod, start_of}
 
@@ -70,15 +70,6 @@ RefusesObject type s e = MatchOption (next_pod s) (e ≡ PIPE) (λ pod.
 -- the innermost frame is closed, and what is left of it is skipped
 abbrev pub ClosesFrame : ParserState → ParserState → Type 0
 ClosesFrame old new = old.outer ≡ new.innermost ∷ new.outer
-
--- the first property with this key, in an object's bytes
-abbrev pub property_at : ℕ → List ℕ → Option (List ℕ)
-property_at key object = first_with_key key (property_walk (properties_of object))
-
--- and its value, in properties
-abbrev pub first_value : ℕ → Properties → Option Tree
-first_value key no_properties = None
-first_value key (property k flags v ps) = if nat_eq k key then Some v else first_value key ps
 
 -- at the front of the value of the first property with this key
 abbrev pub IsValueOf : ℕ → List ℕ → ParserState → Type 0

@@ -4,7 +4,8 @@ ghost use Rattle.spa_format.specs.Kind as k;
 ghost use Rattle.spa_format.specs.Pod.{IsPod};
 ghost use Rattle.spa_format.specs.Tree.{Properties, Tree, bytes, fixed, object, pointer, string};
 ghost use Rattle.spa_parser.specs.State.{state_behind, next_pod};
-ghost use Rattle.spa_parser.specs.Steps.{IsObjectOf, IsTextPod, IsValueOf, NextIs, NextPasses, RefusesGet, RefusesObjectGet, first_value, property_at, SaysFixed, SaysBytes, SaysPointer, SaysString};
+ghost use Rattle.spa_parser.specs.Steps.{IsObjectOf, IsTextPod, IsValueOf, NextIs, NextPasses, RefusesGet, RefusesObjectGet, SaysFixed, SaysBytes, SaysPointer, SaysString};
+ghost use Rattle.spa_view.specs.Found.{first_value, property_at};
 ghost use Rattle.spa_view.specs.Tests as t;
 
 use crate::parser::Parser;

@@ -21,15 +21,15 @@ fixed_test b x h = (h.its_type, sym (length-whole_body b _ _ h) ∙ h.content.wh
 pub fixed_value : (b : List ℕ) (x : Fixed) → IsPod b (fixed x) → content (kind_of x) (body_of b) ≡ x
 fixed_value b x h = sym h.content.says
 
--- the text before the NUL that ends it
-before_nul-ended : (s : List ℕ) → ¬ (Contains s 0) → t.before_nul (s ++ 0 ∷ []) ≡ s
-before_nul-ended [] h = take_while-cons (λ y. not (y == 0)) 0 []
-before_nul-ended (x ∷ s) h =
+-- the text before the first NUL
+pub before_nul-ended : (s r : List ℕ) → ¬ (Contains s 0) → t.before_nul (s ++ 0 ∷ r) ≡ s
+before_nul-ended [] r h = take_while-cons (λ y. not (y == 0)) 0 r
+before_nul-ended (x ∷ s) r h =
     let ne : x ≡ 0 → ⊥ = λ e. h (0, omega arith, e) in
     let rest : ¬ (Contains s 0) = λ m. h (suc m.0, let l = m.1 in omega arith, m.2) in
-    take_while-cons (λ y. not (y == 0)) x (s ++ 0 ∷ [])
-    ∙ ap (λ z. cond (not z) (x ∷ take_while (λ y. not (y == 0)) (s ++ 0 ∷ [])) []) (ne_eqb x 0 ne)
-    ∙ ap (λ z. x ∷ z) (before_nul-ended s rest)
+    take_while-cons (λ y. not (y == 0)) x (s ++ 0 ∷ r)
+    ∙ ap (λ z. cond (not z) (x ∷ take_while (λ y. not (y == 0)) (s ++ 0 ∷ r)) []) (ne_eqb x 0 ne)
+    ∙ ap (λ z. x ∷ z) (before_nul-ended s r rest)
 
 pub string_test : (b s : List ℕ) → IsPod b (string s) → t.IsNulEnded b
 string_test b s h =
@@ -41,7 +41,7 @@ string_test b s h =
     ((h.its_type, omega arith), ap (λ z. slice_index z (word_at b 0 - 1)) e ∙ ap (slice_index (s ++ 0 ∷ [])) last ∙ get_or-append_seam s 0 [] 0)
 
 pub string_value : (b s : List ℕ) → IsPod b (string s) → t.before_nul (body_of b) ≡ s
-string_value b s h = ap t.before_nul h.content.1 ∙ before_nul-ended s h.content.0.no_nul
+string_value b s h = ap t.before_nul h.content.1 ∙ before_nul-ended s [] h.content.0.no_nul
 
 pub bytes_test : (b s : List ℕ) → IsPod b (bytes s) → t.IsBytesPod b
 bytes_test b s h = h.its_type

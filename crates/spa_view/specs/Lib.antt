@@ -1,3 +1,5 @@
 pub mod Tests
 pub mod View
 pub mod Found
+pub mod Elements
+pub mod Settled

@@ -1,5 +1,6 @@
 -- What the views stand for: docs/FORMAT.md, "Walks over views".
 use Rattle.std.specs.Prelude.{ℕ, List}
+use Rattle.spa_view.specs.declared.arrays.PodChoice.{PodChoice}
 use Rattle.spa_view.specs.declared.pod.Pod.{Pod}
 use Rattle.spa_view.specs.declared.fields.PodStruct.{PodStruct}
 use Rattle.spa_view.specs.declared.fields.PodStructIter.{PodStructIter}
@@ -18,6 +19,9 @@ struct_bytes members = pod_bytes members.pod
 
 abbrev pub object_bytes : PodObject → List ℕ
 object_bytes object = pod_bytes object.pod
+
+abbrev pub choice_bytes : PodChoice → List ℕ
+choice_bytes choice = pod_bytes choice.pod
 
 -- the bytes of key, flags and the whole pod
 abbrev pub prop_bytes : PodProp → List ℕ

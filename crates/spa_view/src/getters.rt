@@ -22,7 +22,7 @@ impl<'a> Pod<'a> {
     ghost use Rattle.spa_view.specs.View.{object_bytes, pod_bytes, struct_bytes};
 
     /// The value of a pod of fixed size. INVAL where the type isn't that of `T` or the size isn't its size.
-    fn get<T: CanonicalFixedSizedPod>(&self) -> Result<T, Errno>
+    pub(crate) fn get<T: CanonicalFixedSizedPod>(&self) -> Result<T, Errno>
         ensures ok { OnOk result (t.IsOfKind T.kind (pod_bytes self.now)) }
         ensures value { IfOk result (λ x. T.fixed x ≡ content T.kind (body_of (pod_bytes self.now))) }
         ensures refused { IfErr result (λ e. (¬ (t.IsOfKind T.kind (pod_bytes self.now))) × (e ≡ Errno.INVAL)) }

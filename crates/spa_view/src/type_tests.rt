@@ -5,7 +5,7 @@ ghost use Rattle.spa_view.specs.Tests as t;
 
 use crate::pod::Pod;
 use spa_bytes::{POINTER_LEN, SHORT_POINTER_LEN, u32_at};
-use spa_fixed::CanonicalFixedSizedPod;
+use spa_fixed::{CanonicalFixedSizedPod, NONE_SHAPE};
 use spa_utils::{Fd, Float32, Float64, Fraction, Id, Rectangle, SpaTypes};
 
 /// A string's body has its NUL at least.
@@ -15,12 +15,10 @@ const LEAST_STRING: u32 = 1;
 const TWO_WORDS: u32 = 8;
 
 /// What stands before a choice's values: its shape, its flags and the child header.
-const FOUR_WORDS: u32 = 16;
+pub(crate) const FOUR_WORDS: u32 = 16;
 
-/// Where a choice's pod has its shape word, and the shape word of a None choice.
+/// Where a choice's pod has its shape word.
 pub(crate) const CHOICE_SHAPE_AT: usize = 8;
-
-const NONE_SHAPE: u32 = 0;
 
 impl<'a> Pod<'a> {
     ghost use Rattle.spa_view.specs.View.{pod_bytes};

@@ -185,6 +185,7 @@ fn made(alloc: Global, form: Form) -> Result<Object, Errno> {
 
 /// What docs/CALLING.md shows, word for word.
 mod by_value {
+    use spa_names::{ids, keys, types};
     use spa_utils::{Errno, Fraction, Id, Rectangle, SpaTypes};
     use spa_value::{Object, object, property};
     use std::alloc::Global;
@@ -193,12 +194,12 @@ mod by_value {
     pub fn format_object(alloc: Global) -> Result<Object, Errno> {
         object!(
             in alloc;
-            SpaTypes(262147),
-            Id(4),
-            property!(in alloc; Id(1), Id, Id(2))?,
-            property!(in alloc; Id(2), Id, Id(1))?,
-            property!(in alloc; Id(131075), Rectangle, Rectangle { width: 320, height: 240 })?,
-            property!(in alloc; Id(131076), Fraction, Fraction { num: 25, denom: 1 })?,
+            SpaTypes(types::OBJECT_FORMAT),
+            Id(ids::PARAM_FORMAT),
+            property!(in alloc; Id(keys::FORMAT_MEDIA_TYPE), Id, Id(ids::MEDIA_TYPE_VIDEO))?,
+            property!(in alloc; Id(keys::FORMAT_MEDIA_SUBTYPE), Id, Id(ids::MEDIA_SUBTYPE_RAW))?,
+            property!(in alloc; Id(keys::FORMAT_VIDEO_SIZE), Rectangle, Rectangle { width: 320, height: 240 })?,
+            property!(in alloc; Id(keys::FORMAT_VIDEO_FRAMERATE), Fraction, Fraction { num: 25, denom: 1 })?,
         )
     }
 }

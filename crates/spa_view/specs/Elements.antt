@@ -1,0 +1,40 @@
+-- Values of one type behind the header that they share, as arrays and choices have them: docs/FORMAT.md, "Walks over views".
+use Rattle.std.specs.Prelude.{◌≡◌, ℕ, ◌+◌, ◌*◌, ◌-◌, ◌/◌, List, length, take, drop, map, if◌then◌else◌, nat_eq}
+use Rattle.std.specs.Simd.{first_chunks}
+use Rattle.spa_format.specs.Words.{word_at, header_size}
+use Rattle.spa_format.specs.Kind.{Kind, Fixed, type_number, body_size, content}
+use Rattle.spa_format.specs.Tree.{shape_number, none_choice, range_choice, step_choice}
+use Rattle.spa_view.specs.declared.arrays.PodArray.{PodArray}
+use Rattle.spa_view.specs.declared.arrays.PodElements.{PodElements}
+
+-- the child header, and the elements behind it
+abbrev pub array_bytes : PodArray → List ℕ
+array_bytes values = values.body.now
+
+-- how many whole elements of the child size are there
+abbrev pub element_count : List ℕ → ℕ
+element_count b = (length b - header_size) / word_at b 0
+
+-- the child header is that of the kind
+abbrev pub HasKind : Kind → List ℕ → Type 0
+HasKind k b = (word_at b 4 ≡ type_number k) × (word_at b 0 ≡ body_size k)
+
+-- what the whole bodies of this kind say that stand in these bytes one after another; a kind without bytes has none
+abbrev pub values_in : Kind → List ℕ → List Fixed
+values_in k b = map (content k) (first_chunks (body_size k) (length b / body_size k) b)
+
+-- the values that are still to come
+abbrev pub elements_left : {T : Type 0} → Kind → PodElements T → List Fixed
+elements_left k elements = values_in k elements.left.now
+
+-- the child header, and this many elements at most
+abbrev pub first_elements : ℕ → List ℕ → List ℕ
+first_elements n b = take (header_size + n * word_at b 0) b
+
+-- in a choice's body the child header and the values that its shape takes, the default first
+abbrev pub choice_values : List ℕ → List ℕ
+choice_values b =
+    if nat_eq (word_at b 0) (shape_number none_choice) then first_elements 1 (drop header_size b)
+    else if nat_eq (word_at b 0) (shape_number range_choice) then first_elements 3 (drop header_size b)
+    else if nat_eq (word_at b 0) (shape_number step_choice) then first_elements 4 (drop header_size b)
+    else drop header_size b

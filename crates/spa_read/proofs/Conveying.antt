@@ -6,18 +6,22 @@ use Rattle.spa_format.specs.Words.{word_at, body_of, header_size}
 use Rattle.spa_format.specs.Kind.{Kind, kind_of, type_number, body_size}
 use Rattle.spa_format.specs.Tree.{Tree, fixed, string, bytes, bitmap, array, choice, pointer, struct, object, Trees, no_trees, member, Properties, no_properties, property, join_members, join_properties, type_of, struct_type, object_type}
 use Rattle.spa_format.specs.Pod.{IsBody, IsChoice}
-use Rattle.spa_format.specs.Front.{HasFront, front_of, rest_of}
+use Rattle.spa_format.specs.Front.{Begins, HasFront, front_of, rest_of}
 use Rattle.spa_format.specs.Faults.{Fault, Short, Text, InvalidType, InvalidChoiceType, MissingChoiceValues, WrongSize, IsInvalidType, no_type, of_elements, of_values, IsWrongSize, of_fixed, of_array, of_choice, of_pointer, short_array, short_choice, short_object}
 use Rattle.spa_format.specs.Lenient.{ConveysIn, ConveyMembers, ConveyProperties, Conveys}
-use Rattle.spa_format.proofs.Conveyed.{conveying_front, one_value}
+use Rattle.spa_format.proofs.Conveyed.{conveying_front, one_value, pod_conveys}
 use Rattle.spa_format.proofs.Choices.{shape_fits}
 use Rattle.spa_format.proofs.FixedKinds.{number_is}
 use Rattle.spa_format.proofs.Fronts.{body_of_front, type_of_front, whole_front}
 use Rattle.spa_format.proofs.Refused.{enough_values, right_size, right_type}
 use Rattle.spa_format.proofs.Shapes.{choice_only, object_only, string_only, struct_only}
 use Rattle.spa_format.proofs.WordLemmas.{word_at-append}
-use Rattle.spa_leaf.specs.Refusing.{StandsInBody}
-use Rattle.spa_read.specs.Reading.{ConveysAtFront, ConveysNothing, ConveysWith, IsBodyIn, OpensLeniently, ReadsAs, StandsLeniently, no_front, in_body, in_member, in_key, in_property}
+use Rattle.std.specs.Borrow.{Bor}
+use Rattle.spa_fixed.specs.declared.fault.Refusal.{Refusal}
+use Rattle.spa_fixed.specs.declared.fault.Refusal.TheVariants as refusal
+use Rattle.spa_leaf.specs.Reading.{IsShortAt, MayLackMemory, Names, OnFault, OnMemory}
+use Rattle.spa_leaf.specs.Refusing.{StandsInBody, error_of}
+use Rattle.spa_read.specs.Reading.{ConveysAtFront, ConveysNothing, ConveysWith, IsBodyIn, OpensLeniently, ReadsAs, RefusesInput, RefusesLeniently, StandsLeniently, no_front, in_body, in_member, in_key, in_property}
 use Rattle.spa_read.proofs.Replaced.{ConveysAs, as_conveyed, conveyed_as}
 
 -- Fronts.
@@ -49,6 +53,10 @@ at_front : (b first others : List ℕ) (v : Tree) → b ≡ first ++ others → 
 at_front b first others v e h =
     let f = conveying_front b first others _ _ _ e h in
     record { there = f.0; conveys = subst (λ l. Conveys l v) f.1 h }
+
+-- a pod conveys its value
+pub conveys_pod : (input : List ℕ) (v : Tree) → Begins input v → ConveysAtFront input v
+conveys_pod input v h = record { there = h.there; conveys = pod_conveys (front_of input) v h.pod }
 
 -- the front conveys no other value
 pub only_conveyed : (input : List ℕ) (v w : Tree) → ConveysAtFront input v → ConveysAtFront input w → w ≡ v
@@ -169,6 +177,17 @@ in_content k (pointer t a) c h s = in_exact k (pointer t a) c h s
 in_content k (struct vs) c h s = in_struct k c s
 in_content k (object t i ps) c h s = in_object k c h.0 s
 
+-- no values one after another go on with what conveys none
+pub none_behind : (vs ws : Trees) (first left : List ℕ) → ConveyMembers vs first → left ≢ [] → ConveysNothing left →
+    ¬ (ConveyMembers ws (first ++ left))
+none_behind vs ws first left m n s c =
+    let r = members_left vs ws first left m c in
+    none_of left r.0 n s r.1
+  where
+    none_of : (left : List ℕ) (us : Trees) → left ≢ [] → ConveysNothing left → ¬ (ConveyMembers us left)
+    none_of left no_trees n s m = n m
+    none_of left (member u us) n s m = s u (at_front left m.0 m.1 u m.2 m.3)
+
 pub conveys_nothing : (k : Fault) (place b : List ℕ) → StandsLeniently k place b → ConveysNothing b
 conveys_nothing k place _ (no_front b e f n) = λ v h. n h.there
 conveys_nothing k place _ (in_body b u c e f r s) = λ v h.
@@ -178,12 +197,7 @@ conveys_nothing k place _ (in_member b c vs first left f r e m n s) = λ v h.
     let a = conveyed_as (word_at b 4) (body_of b) struct_type c v r (front_conveys b v h) in
     let i = struct_only v a.0 in
     let all : ConveyMembers i.0 c = subst (λ w. IsBodyIn true w c) i.1 a.1 in
-    let behind = members_left vs i.0 first left m (subst (ConveyMembers i.0) e all) in
-    none_of left behind.0 n (conveys_nothing k place left s) behind.1
-  where
-    none_of : (left : List ℕ) (us : Trees) → left ≢ [] → ConveysNothing left → ¬ (ConveyMembers us left)
-    none_of left no_trees n s m = n m
-    none_of left (member u us) n s m = s u (at_front left m.0 m.1 u m.2 m.3)
+    none_behind vs i.0 first left m n (conveys_nothing k place left s) (subst (ConveyMembers i.0) e all)
 conveys_nothing k place _ (in_key b c ps first f r l e m n short _) = λ v h.
     let a = conveyed_as (word_at b 4) (body_of b) object_type c v r (front_conveys b v h) in
     let i = object_only v a.0 in
@@ -204,3 +218,54 @@ conveys_nothing k place _ (in_property b c ps first left f r l e m n s) = λ v h
     none_of : (left : List ℕ) (us : Properties) → 8 ≤ length left → ConveysNothing (drop 8 left) → ¬ (ConveyProperties us left)
     none_of left no_properties n s m = let z = ap length m in omega arith
     none_of left (property q g u us) n s m = s u (at_front (drop 8 left) m.3 m.4 u m.5 m.6)
+
+-- The public refusal that is made of one at a place.
+
+said_nothing : (input : List ℕ) (place : Bor (List ℕ)) (why : Refusal) → RefusesLeniently input place.now why →
+    OnFault (ConveysNothing input) (error_of place why)
+said_nothing input place refusal.Short s = conveys_nothing Short place.now input s
+said_nothing input place refusal.Text s = conveys_nothing Text place.now input s
+said_nothing input place refusal.InvalidType s = conveys_nothing InvalidType place.now input s
+said_nothing input place refusal.InvalidChoiceType s = conveys_nothing InvalidChoiceType place.now input s
+said_nothing input place refusal.MissingChoiceValues s = conveys_nothing MissingChoiceValues place.now input s
+said_nothing input place refusal.WrongSize s = conveys_nothing WrongSize place.now input s
+said_nothing input place refusal.OutOfMemory s = tt
+
+said_memory : (input : List ℕ) (place : Bor (List ℕ)) (why : Refusal) → RefusesLeniently input place.now why →
+    OnMemory (MayLackMemory input) (error_of place why)
+said_memory input place refusal.OutOfMemory s = s
+said_memory input place _ s = tt
+
+-- where the front isn't there, no fault stands but that it is short
+only_short : (k : Fault) (place input : List ℕ) → StandsLeniently k place input → ¬ (HasFront input) → (k ≡ Short) × (place ≡ input)
+only_short k place _ (no_front b e f n) m = (f, e)
+only_short k place _ (in_body b u c e f r s) m = absurd (m f)
+only_short k place _ (in_member b c vs first left f r e n d s) m = absurd (m f)
+only_short k place _ (in_key b c ps first f r l e n d short g) m = absurd (m f)
+only_short k place _ (in_property b c ps first left f r l e n d s) m = absurd (m f)
+
+said_short : (input : List ℕ) (place : Bor (List ℕ)) (why : Refusal) → RefusesLeniently input place.now why → ¬ (HasFront input) →
+    IsShortAt input (error_of place why)
+said_short input place refusal.Short s n = (refl, (only_short Short place.now input s n).1)
+said_short input place refusal.Text s n = cc ((only_short Text place.now input s n).0)
+said_short input place refusal.InvalidType s n = cc ((only_short InvalidType place.now input s n).0)
+said_short input place refusal.InvalidChoiceType s n = cc ((only_short InvalidChoiceType place.now input s n).0)
+said_short input place refusal.MissingChoiceValues s n = cc ((only_short MissingChoiceValues place.now input s n).0)
+said_short input place refusal.WrongSize s n = cc ((only_short WrongSize place.now input s n).0)
+said_short input place refusal.OutOfMemory s n = absurd (n s.0)
+
+said_fault : (input : List ℕ) (place : Bor (List ℕ)) (why : Refusal) → RefusesLeniently input place.now why →
+    Names (λ k at. StandsLeniently k at input) (error_of place why)
+said_fault input place refusal.Short s = s
+said_fault input place refusal.Text s = s
+said_fault input place refusal.OutOfMemory s = tt
+said_fault input place _ s = (place.now, s)
+
+pub refused_as : (input : List ℕ) (place : Bor (List ℕ)) (why : Refusal) → RefusesLeniently input place.now why →
+    RefusesInput input (error_of place why)
+refused_as input place why s = record {
+  refused = said_nothing input place why s;
+  memory = said_memory input place why s;
+  short_first = said_short input place why s;
+  named = said_fault input place why s;
+}

@@ -159,7 +159,7 @@ impl<'de> PodDeserializer<'de> {
     {
         match read_value_leniently(alloc, input) {
             Ok(read) => Ok(read),
-            Err(refused) => Err(error_at(refused.place, refused.why)),
+            Err(fault) => Err(error_at(fault.place, fault.why)),
         }
     }
 

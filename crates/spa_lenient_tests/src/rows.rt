@@ -101,7 +101,7 @@ pub(crate) const ROWS: &[Row] = &[
     (
         "None choice over Fraction, one word left",
         &[20, 19, 0, 0, 8, 11, 6, 0],
-        Err("MissingChoiceValues"),
+        Err("WrongSize"),
     ),
     (
         "None choice over Id, no value",

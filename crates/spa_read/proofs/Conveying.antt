@@ -3,12 +3,11 @@ use Rattle.std.proofs.Common.{◌≡◌, ◌≢◌, ℕ, ◌<◌, ◌≤◌, ◌
 use Rattle.std.specs.Prelude.{⊤}
 use Rattle.std.proofs.lemmas.List.{append-nil, drop-append-le}
 use Rattle.spa_format.specs.Words.{word_at, body_of, header_size}
-use Rattle.spa_format.specs.Kind.{Kind, kind_of, type_number, body_size}
 use Rattle.spa_format.specs.Tree.{Tree, fixed, string, bytes, bitmap, array, choice, pointer, struct, object, Trees, no_trees, member, Properties, no_properties, property, join_members, join_properties, type_of, struct_type, object_type}
 use Rattle.spa_format.specs.Pod.{IsBody, IsChoice}
-use Rattle.spa_format.specs.Front.{Begins, HasFront, front_of, rest_of}
+use Rattle.spa_format.specs.Front.{Begins, HasFront, front_of}
 use Rattle.spa_format.specs.Faults.{Fault, Short, Text, InvalidType, InvalidChoiceType, MissingChoiceValues, WrongSize, IsInvalidType, no_type, of_elements, of_values, IsWrongSize, of_fixed, of_array, of_choice, of_pointer, short_array, short_choice, short_object}
-use Rattle.spa_format.specs.Lenient.{ConveysIn, ConveyMembers, ConveyProperties, Conveys}
+use Rattle.spa_format.specs.Lenient.{ConveyMembers, ConveyProperties, Conveys}
 use Rattle.spa_format.proofs.Conveyed.{conveying_front, one_value, pod_conveys}
 use Rattle.spa_format.proofs.Choices.{shape_fits}
 use Rattle.spa_format.proofs.FixedKinds.{number_is}
@@ -21,7 +20,7 @@ use Rattle.spa_fixed.specs.declared.fault.Refusal.{Refusal}
 use Rattle.spa_fixed.specs.declared.fault.Refusal.TheVariants as refusal
 use Rattle.spa_leaf.specs.Reading.{IsShortAt, MayLackMemory, Names, OnFault, OnMemory}
 use Rattle.spa_leaf.specs.Refusing.{StandsInBody, error_of}
-use Rattle.spa_read.specs.Reading.{ConveysAtFront, ConveysNothing, ConveysWith, IsBodyIn, OpensLeniently, ReadsAs, RefusesInput, RefusesLeniently, StandsLeniently, no_front, in_body, in_member, in_key, in_property}
+use Rattle.spa_read.specs.Reading.{ConveysAtFront, ConveysNothing, ConveysWith, IsBodyIn, OpensLeniently, RefusesInput, RefusesLeniently, StandsLeniently, no_front, in_body, in_member, in_key, in_property}
 use Rattle.spa_read.proofs.Replaced.{ConveysAs, as_conveyed, conveyed_as}
 
 -- Fronts.

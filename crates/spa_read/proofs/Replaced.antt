@@ -1,20 +1,19 @@
 -- What the lenient reading reads in the place of a body conveys what the body conveys, and nothing else.
-use Rattle.std.proofs.Common.{◌≡◌, ◌≢◌, ℕ, ◌+◌, ◌<◌, ◌≤◌, ◌⊎◌, inl, inr, ⊎_elim, List, [], ◌∷◌, ◌++◌, length, take, drop, drop-drop, refl, sym, ap, ◌∙◌, subst, arith, length-append, length-drop, length-take, Bool, true, false}
-use Rattle.std.specs.Prelude.{◌-◌, Contains, Decides}
+use Rattle.std.proofs.Common.{◌≡◌, ◌≢◌, ℕ, ◌+◌, ◌<◌, ◌≤◌, ◌⊎◌, inl, inr, ⊎_elim, List, [], ◌∷◌, ◌++◌, length, take, drop, drop-drop, refl, sym, ap, ◌∙◌, subst, arith, length-append, length-drop, length-take, true, false}
+use Rattle.std.specs.Prelude.{◌-◌, Decides}
 use Rattle.std.proofs.lemmas.Bool.{cases_lt}
 use Rattle.std.proofs.lemmas.List.{append_cancel_right, drop-take, take-take, length-take-le, nil_from_length, take_all}
-use Rattle.spa_format.specs.Words.{word_at, header_size, body_of}
+use Rattle.spa_format.specs.Words.{word_at, body_of}
 use Rattle.spa_format.specs.Kind.{Kind, Fixed, kind_of, type_number, body_size, IsFixedBody}
-use Rattle.spa_format.specs.Tree.{Shape, none_choice, range_choice, step_choice, enum_choice, flags_choice, shape_number, Tree, fixed, string, bytes, bitmap, array, choice, pointer, struct, object, Trees, Properties, type_of, choice_type, string_type}
+use Rattle.spa_format.specs.Tree.{Shape, none_choice, shape_number, Tree, fixed, string, bytes, bitmap, array, choice, pointer, struct, object, type_of, choice_type, string_type}
 use Rattle.spa_format.specs.Pod.{IsText, IsArray, IsChoice, IsBody}
-use Rattle.spa_format.specs.Front.{HasFront, front_of, rest_of}
-use Rattle.spa_format.specs.Lenient.{HasChild, HasFixedChild, ConveysText, ConveysChoice, ReplacesNoneChoice, ConveysIn, ConveysBody, Conveys}
+use Rattle.spa_format.specs.Lenient.{HasChild, HasFixedChild, ConveysText, ConveysChoice, ReplacesNoneChoice, ConveysBody}
 use Rattle.spa_format.proofs.Shapes.{fixed_only, choice_only}
 use Rattle.spa_format.proofs.FixedKinds.{number_is}
 use Rattle.spa_format.proofs.Conveyed.{by_shape, choice_conveyed, same_child, same_text}
 use Rattle.spa_format.proofs.WordLemmas.{word_at-drop, word_at-take}
 use Rattle.spa_leaf.specs.Reading.{TakesMemory}
-use Rattle.spa_read.specs.Reading.{EndsInNul, IsNoneChoice, StaysChoice, ReadsText, all, first, ReadsBody, of_text, of_other, ReadsAs, same_type, stays, of_child, no_child, IsBodyIn}
+use Rattle.spa_read.specs.Reading.{IsNoneChoice, StaysChoice, ReadsText, all, first, ReadsBody, of_text, of_other, ReadsAs, same_type, stays, of_child, no_child, IsBodyIn}
 
 -- what a body of this type conveys: as it is, or by a child
 abbrev pub ConveysAs : ℕ → List ℕ → Tree → Type 0

@@ -1,11 +1,8 @@
 -- The front of an input, rewritten leniently.
-use Rattle.std.proofs.Common.{◌≡◌, ℕ, ◌≤◌, ◌⊎◌, List, ◌++◌, length, take, refl, sym, ap, ◌∙◌, subst, arith}
-use Rattle.std.proofs.lemmas.List.{take_at}
+use Rattle.std.proofs.Common.{ℕ, List}
 use Rattle.std.specs.Borrow.{Bor}
-use Rattle.spa_sink.specs.Writing.{Begun, Sent, none_sent, some_sent}
 use Rattle.spa_fixed.specs.declared.fault.DeserializeError.{DeserializeError}
 use Rattle.spa_fixed.specs.declared.fault.DeserializeError.TheVariants as error
-use Rattle.spa_format.specs.Tree.{Tree}
 use Rattle.spa_format.specs.Front.{HasFront}
 use Rattle.spa_leaf.specs.Reading.{MayLackMemory, OnMemory}
 use Rattle.spa_read.specs.Reading.{RefusesInput}

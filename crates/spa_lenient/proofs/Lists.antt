@@ -1,10 +1,10 @@
 -- Fronts that are rewritten one after another.
-use Rattle.std.proofs.Common.{◌≡◌, ◌≢◌, ℕ, ◌-◌, ◌<◌, ◌≤◌, List, [], ◌∷◌, ◌++◌, length, take, drop, refl, sym, ap, ◌∙◌, subst, arith, length-append, append_assoc}
-use Rattle.std.proofs.lemmas.List.{append-nil, drop_at, take_at}
+use Rattle.std.proofs.Common.{◌≡◌, ◌≢◌, ℕ, ◌-◌, List, [], ◌∷◌, ◌++◌, length, take, refl, sym, ap, ◌∙◌, subst, arith, length-append, append_assoc}
+use Rattle.std.proofs.lemmas.List.{append-nil, take_at}
 use Rattle.std.specs.Borrow.{Bor}
 use Rattle.spa_fixed.specs.declared.fault.DeserializeError.{DeserializeError}
 use Rattle.spa_fixed.specs.declared.fault.DeserializeError.TheVariants as error
-use Rattle.spa_format.specs.Tree.{Tree, Trees, no_trees, member, join_members}
+use Rattle.spa_format.specs.Tree.{Trees, no_trees, member, join_members}
 use Rattle.spa_format.specs.Pod.{AreMembers}
 use Rattle.spa_format.specs.Encoding.{encoding_of, member_encodings}
 use Rattle.spa_format.specs.Front.{HasFront, front_of}
@@ -13,7 +13,7 @@ use Rattle.spa_format.proofs.Conveyed.{pod_conveys}
 use Rattle.spa_format.proofs.Fronts.{front_and_rest, front_of_whole}
 use Rattle.spa_leaf.specs.Reading.{OnFault}
 use Rattle.spa_read.specs.Reading.{ConveysNothing}
-use Rattle.spa_read.proofs.Conveying.{members_joined, members_push, none_behind}
+use Rattle.spa_read.proofs.Conveying.{members_joined, none_behind}
 use Rattle.spa_rewrite.specs.Rewriting.{AreRewritten, IsLeft}
 use Rattle.spa_write.proofs.MemberLists.{member_encodings_join}
 use Rattle.spa_lenient.specs.Rewriting.{AppendsFront, AreRewrittenLeniently, IsLeftLeniently, RefusesFront, RefusesList}

@@ -1,8 +1,7 @@
 -- What a lenient rewriting is: docs/FORMAT.md, "The lenient reading".
-use Rattle.std.specs.Prelude.{◌≡◌, ◌≢◌, ◌++◌, List, [], ℕ, ⊤, drop}
+use Rattle.std.specs.Prelude.{◌≡◌, ◌≢◌, ◌++◌, List, [], ℕ}
 use Rattle.std.specs.Borrow.{Bor}
 use Rattle.spa_fixed.specs.declared.fault.DeserializeError.{DeserializeError}
-use Rattle.spa_fixed.specs.Faults.{kind_text}
 use Rattle.spa_format.specs.Tree.{Tree, Trees}
 use Rattle.spa_format.specs.Encoding.{encoding_of, member_encodings}
 use Rattle.spa_format.specs.Front.{HasFront}

@@ -26,7 +26,7 @@ by_shape flags_choice f k x xs b h = inr (omega arith, h)
 -- One value.
 
 -- a text ends at the first NUL
-same_text : (s t p q : List ℕ) → ¬ (Contains s 0) → ¬ (Contains t 0) → s ++ 0 ∷ p ≡ t ++ 0 ∷ q → s ≡ t
+pub same_text : (s t p q : List ℕ) → ¬ (Contains s 0) → ¬ (Contains t 0) → s ++ 0 ∷ p ≡ t ++ 0 ∷ q → s ≡ t
 same_text [] [] p q m n e = refl
 same_text [] (y ∷ t) p q m n e = absurd (n (0, omega arith, sym (ap (λ l. get_or l 0 0) e)))
 same_text (x ∷ s) [] p q m n e = absurd (m (0, omega arith, ap (λ l. get_or l 0 0) e))
@@ -36,7 +36,7 @@ same_text (x ∷ s) (y ∷ t) p q m n e =
     cc
 
 -- no body has two children
-same_child : (t u : ℕ) (c d b : List ℕ) → HasChild t c b → HasChild u d b → (t ≡ u) × (c ≡ d)
+pub same_child : (t u : ℕ) (c d b : List ℕ) → HasChild t c b → HasChild u d b → (t ≡ u) × (c ≡ d)
 same_child t u c d b h i = (sym h.its_type ∙ i.its_type, h.body ∙ sym i.body)
 
 same_fixed_child : (k l : Kind) (x y : Fixed) (b : List ℕ) → HasFixedChild k x b → HasFixedChild l y b → (k ≡ l) × (x ≡ y)
@@ -199,7 +199,7 @@ none_choice_conveyed f k x xs b h =
       record { sized = h.values.elements.0; child = body_of behind; there = there; says = subst (λ m. IsFixedBody k (take m (drop 8 behind)) x) (sym n) first },
     )
 
-choice_conveyed : (s : Shape) (f : ℕ) (k : Kind) (x : Fixed) (xs : List Fixed) (b : List ℕ) → IsChoice s f k x xs b →
+pub choice_conveyed : (s : Shape) (f : ℕ) (k : Kind) (x : Fixed) (xs : List Fixed) (b : List ℕ) → IsChoice s f k x xs b →
     ConveysChoice s f k x xs b
 choice_conveyed none_choice f k x xs b h = none_choice_conveyed f k x xs b h
 choice_conveyed range_choice f k x xs b h = h

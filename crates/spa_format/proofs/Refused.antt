@@ -47,7 +47,7 @@ array_is_right k l xs b h w =
 child_of_values : (s : Shape) (f : ℕ) (k : Kind) (x : Fixed) (xs : List Fixed) (b : List ℕ) → IsChoice s f k x xs b → word_at b 12 ≡ type_number k
 child_of_values s f k x xs b h = sym (word_at-drop 8 4 b) ∙ h.values.child_type
 
-right_size : (v : Tree) (b : List ℕ) → IsBody v b → ¬ (IsWrongSize (type_of v) b)
+pub right_size : (v : Tree) (b : List ℕ) → IsBody v b → ¬ (IsWrongSize (type_of v) b)
 right_size v b h (of_fixed k e n) =
     let i = fixed_only v k e in
     let c : IsBody (fixed i.0) b = subst (λ t. IsBody t b) i.2 h in
@@ -80,7 +80,7 @@ right_size v b h (short_object e l) =
     let z = c.0 in
     omega arith
 
-right_type : (v : Tree) (b : List ℕ) → IsBody v b → ¬ (IsInvalidType (type_of v) b)
+pub right_type : (v : Tree) (b : List ℕ) → IsBody v b → ¬ (IsInvalidType (type_of v) b)
 right_type v b h (no_type u) = known v u
 right_type v b h (of_elements e l n) =
     let i = array_only v e in
@@ -91,7 +91,7 @@ right_type v b h (of_values e l n) =
     let c : IsBody (choice i.0 i.1 i.2 i.3 i.4) b = subst (λ t. IsBody t b) i.5 h in
     n i.2 c.values.elements.0 (child_of_values i.0 i.1 i.2 i.3 i.4 b c)
 
-enough_values : (s : Shape) (f : ℕ) (k : Kind) (x : Fixed) (xs : List Fixed) (b : List ℕ) → IsChoice s f k x xs b → ¬ (LacksValues b)
+pub enough_values : (s : Shape) (f : ℕ) (k : Kind) (x : Fixed) (xs : List Fixed) (b : List ℕ) → IsChoice s f k x xs b → ¬ (LacksValues b)
 enough_values s f k x xs b h w =
     let e = same_shape s w.shape (sym h.shape ∙ w.its_shape) in
     let g = same_kind k w.kind (sym (child_of_values s f k x xs b h) ∙ w.child_type) in

@@ -7,7 +7,7 @@ ghost use Rattle.spa_read.specs.declared.inside.Inside.{Inside};
 ghost use Rattle.spa_read.specs.declared.inside.Inside.TheVariants as inside_variant;
 ghost use Rattle.spa_value.specs.View.{view};
 
-use crate::front::open_counted;
+use crate::front::open_in;
 use crate::leaves::read_leaf_into;
 use crate::refused::Refused;
 use bitflags::Flags;
@@ -139,7 +139,7 @@ fn pods_from(behind: &[u8], between: usize) -> usize
 /// Reads pods up to the end of a body, where it answers nothing, or up to a struct or an object, which it answers opened and
 /// where it then stands.
 #[inline(always)]
-pub(crate) fn read_leaves<'de, G: Grows>(
+pub(crate) fn read_leaves<'de, G: Grows, const LENIENT: bool>(
     alloc: Global,
     left: &mut &'de [u8],
     opened: &mut u64,
@@ -148,8 +148,8 @@ pub(crate) fn read_leaves<'de, G: Grows>(
     requires { 8 * opened.old + length left.old.now < 2 ^ 64 }
     ensures few { 8 * opened.new ≤ 8 * opened.old + length left.old.now }
     ensures more { opened.old ≤ opened.new }
-    ensures read { IfOk result (λ front. ReadsOn (G.inside to.old) left.old.now opened.old front (G.inside to.new) left.new.now opened.new) }
-    ensures refused { IfErr result (λ refused. RefusesBehind (so_far (G.inside to.old)) left.old.now opened.old refused.place.now opened.new refused.why) }
+    ensures read { IfOk result (λ front. ReadsOn LENIENT (G.inside to.old) left.old.now opened.old front (G.inside to.new) left.new.now opened.new) }
+    ensures refused { IfErr result (λ refused. RefusesBehind LENIENT (so_far (G.inside to.old)) left.old.now opened.old refused.place.now opened.new refused.why) }
 {
     while !left.is_empty() {
         let Some(place) = to.reach(*left) else {
@@ -158,7 +158,7 @@ pub(crate) fn read_leaves<'de, G: Grows>(
                 why: Refusal::Short,
             });
         };
-        let Some(front) = open_counted(place, opened) else {
+        let Some(front) = open_in::<LENIENT>(place, opened) else {
             return Err(Refused {
                 place,
                 why: Refusal::Short,
@@ -182,7 +182,7 @@ pub(crate) fn read_leaves<'de, G: Grows>(
 impl Inside {
     /// Reads on as the members of a struct or as the properties of an object.
     #[inline(always)]
-    pub(crate) fn read_on<'de>(
+    pub(crate) fn read_on<'de, const LENIENT: bool>(
         &mut self,
         alloc: Global,
         left: &mut &'de [u8],
@@ -191,12 +191,16 @@ impl Inside {
         requires { 8 * opened.old + length left.old.now < 2 ^ 64 }
         ensures few { 8 * opened.new ≤ 8 * opened.old + length left.old.now }
         ensures more { opened.old ≤ opened.new }
-        ensures read { IfOk result (λ front. ReadsOn self.old left.old.now opened.old front self.new left.new.now opened.new) }
-        ensures refused { IfErr result (λ refused. RefusesBehind (so_far self.old) left.old.now opened.old refused.place.now opened.new refused.why) }
+        ensures read { IfOk result (λ front. ReadsOn LENIENT self.old left.old.now opened.old front self.new left.new.now opened.new) }
+        ensures refused { IfErr result (λ refused. RefusesBehind LENIENT (so_far self.old) left.old.now opened.old refused.place.now opened.new refused.why) }
     {
         match self {
-            Inside::Struct(members) => read_leaves(alloc, left, opened, members),
-            Inside::Object(object) => read_leaves(alloc, left, opened, object),
+            Inside::Struct(members) => read_leaves::<Vec<Value>, LENIENT>(
+                alloc, left, opened, members,
+            ),
+            Inside::Object(object) => read_leaves::<OpenObject, LENIENT>(
+                alloc, left, opened, object,
+            ),
         }
     }
 

@@ -3,7 +3,7 @@ ghost use Rattle.std.specs.Prelude.{◌≡◌, ◌⊎◌, ◌+◌, ◌*◌, ◌<
 ghost use Rattle.spa_fixed.specs.declared.fault.Refusal.TheVariants as refusal;
 ghost use Rattle.spa_format.specs.Tree.{object_type, struct_type};
 ghost use Rattle.spa_format.specs.Words.{header_size};
-ghost use Rattle.spa_read.specs.Nesting.{EndsInner, IsBegunAs, IsUnderWay, RefusesAt, Steps, ahead, around, so_far};
+ghost use Rattle.spa_read.specs.Nesting.{EndsInner, IsBegunAs, IsUnderWay, RefusesIn, Steps, ahead, around, so_far};
 ghost use Rattle.spa_value.specs.View.{view};
 
 use crate::inside::{Inside, OpenObject};
@@ -87,7 +87,7 @@ impl<'de> Nest<'de> {
     /// Reads on to the next struct or object, which is begun, or to the end of the innermost, which is put into the one around
     /// it. Whether something is left to read: where not, the innermost is the outermost, and is read.
     #[inline(always)]
-    pub(crate) fn step(
+    pub(crate) fn step<const LENIENT: bool>(
         &mut self,
         alloc: Global,
         left: &mut &'de [u8],
@@ -96,11 +96,11 @@ impl<'de> Nest<'de> {
         requires { 8 * opened.old + length left.old.now < 2 ^ 64 }
         ensures few { 8 * opened.new ≤ 8 * opened.old + length left.old.now }
         ensures more { opened.old ≤ opened.new }
-        ensures taken { IfOk result (λ goes_on. (input : List ℕ) → IsUnderWay input self.old.inner (reverse (around self.old)) left.old.now opened.old → Steps goes_on input self.new.inner (reverse (around self.new)) left.new.now opened.new) }
+        ensures taken { IfOk result (λ goes_on. (input : List ℕ) → IsUnderWay LENIENT input self.old.inner (reverse (around self.old)) left.old.now opened.old → Steps LENIENT goes_on input self.new.inner (reverse (around self.new)) left.new.now opened.new) }
         ensures nearer { IfOk result (λ goes_on. goes_on ≡ true → ahead self.new.inner (reverse (around self.new)) left.new.now < ahead self.old.inner (reverse (around self.old)) left.old.now) }
-        ensures refused { IfErr result (λ refused. (input : List ℕ) → IsUnderWay input self.old.inner (reverse (around self.old)) left.old.now opened.old → RefusesAt input refused.place.now opened.new refused.why) }
+        ensures refused { IfErr result (λ refused. (input : List ℕ) → IsUnderWay LENIENT input self.old.inner (reverse (around self.old)) left.old.now opened.old → RefusesIn LENIENT input refused.place.now opened.new refused.why) }
     {
-        let Some(front) = self.inner.inside.read_on(alloc, left, opened)? else {
+        let Some(front) = self.inner.inside.read_on::<LENIENT>(alloc, left, opened)? else {
             *left = self.inner.rest;
             return self.end();
         };

@@ -8,11 +8,12 @@ ghost use Rattle.spa_format.specs.Opened.{OpensHeaders};
 ghost use Rattle.spa_format.specs.Tree.{Tree, node_count};
 ghost use Rattle.spa_format.specs.Words.{header_size};
 ghost use Rattle.spa_leaf.specs.Reading.{IsRead, IsShortAt, MayLackMemory, Names, OnFault, OnMemory, RefusesInput};
+ghost use Rattle.spa_read.specs.Reading.{ConveysAtFront, ConveysNothing, StandsLeniently};
 ghost use Rattle.spa_value.specs.View.{view};
 
 use spa_fixed::DeserializeError;
 use spa_leaf::error_at;
-use spa_read::read_value;
+use spa_read::{read_value, read_value_leniently};
 use spa_value::Value;
 use std::alloc::Global;
 use std::marker::Model;
@@ -130,6 +131,35 @@ impl<'de> PodDeserializer<'de> {
         match read_value(alloc, input, &mut opened) {
             Ok(read) => Ok(read),
             Err(refused) => Err(error_at(refused.place, refused.why)),
+        }
+    }
+
+    /// Reads what the front of the input conveys in the lenient reading (docs/FORMAT.md), and answers what follows the front. That also finds the value of
+    /// a None choice over an array, and the text of a string that ends in several NULs, at any depth: what `spa_pod_filter` and ALSA leave.
+    ///
+    /// Unless memory runs out, this succeeds exactly where the front that the first size word names is there and conveys a value. A pod conveys its
+    /// own value: where `deserialize_any_from` accepts, this gives the same. Refusals are those of that call, each where that fault stands in
+    /// the lenient reading.
+    pub fn deserialize_any_leniently_from(
+        alloc: Global,
+        input: &'de [u8],
+    ) -> Result<(&'de [u8], Value), DeserializeError<&'de [u8]>>
+        // The front conveys the value,
+        ensures value { IfOk result (λ read. ConveysAtFront input.now (view read.1)) }
+        // and no other; so a pod is read as its own.
+        ensures one { IfOk result (λ read. (w : Tree) → ConveysAtFront input.now w → w ≡ view read.1) }
+        ensures same { IfOk result (λ read. (w : Tree) → Begins input.now w → w ≡ view read.1) }
+        ensures rest { IfOk result (λ read. read.0.now ≡ rest_of input.now) }
+        // Any refusal but one for lack of memory says that the front isn't there or conveys no value,
+        ensures refused { IfErr result (OnFault (ConveysNothing input.now)) }
+        // and names a fault that stands in the lenient reading.
+        ensures named { IfErr result (Names (λ fault place. StandsLeniently fault place input.now)) }
+        ensures short_first { ¬ (HasFront input.now) → IsErrAnd result (IsShortAt input.now) }
+        ensures memory { IfErr result (OnMemory (MayLackMemory input.now)) }
+    {
+        match read_value_leniently(alloc, input) {
+            Ok(read) => Ok(read),
+            Err(fault) => Err(error_at(fault.place, fault.why)),
         }
     }
 

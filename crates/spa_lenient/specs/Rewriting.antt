@@ -1,0 +1,40 @@
+-- What a lenient rewriting is: docs/FORMAT.md, "The lenient reading".
+use Rattle.std.specs.Prelude.{◌≡◌, ◌≢◌, ◌++◌, List, [], ℕ, ⊤, drop}
+use Rattle.std.specs.Borrow.{Bor}
+use Rattle.spa_fixed.specs.declared.fault.DeserializeError.{DeserializeError}
+use Rattle.spa_fixed.specs.Faults.{kind_text}
+use Rattle.spa_format.specs.Tree.{Tree, Trees}
+use Rattle.spa_format.specs.Encoding.{encoding_of, member_encodings}
+use Rattle.spa_format.specs.Front.{HasFront}
+use Rattle.spa_format.specs.Lenient.{ConveyMembers}
+use Rattle.spa_leaf.specs.Reading.{IsShortAt, Names, OnFault, OnMemory}
+use Rattle.spa_read.specs.Reading.{ConveysAtFront, ConveysNothing, ConveysWith, StandsLeniently}
+
+-- the encoding of the value that the front of the input conveys
+abbrev pub IsLenientRewriting : List ℕ → List ℕ → Type 0
+IsLenientRewriting input out = (v : Tree) × ConveysAtFront input v × (out ≡ encoding_of v)
+
+-- the same was appended, and this follows the front
+abbrev pub AppendsFront : List ℕ → List ℕ → List ℕ → List ℕ → Type 0
+AppendsFront input rest old new = (v : Tree) × ConveysWith input v rest × (new ≡ old ++ encoding_of v)
+
+-- the input conveys some values, one after another without remainder, and their encodings were appended
+abbrev pub AreRewrittenLeniently : List ℕ → List ℕ → List ℕ → Type 0
+AreRewrittenLeniently input old new = (vs : Trees) × ConveyMembers vs input × (new ≡ old ++ member_encodings vs)
+
+-- some first bytes convey values one after another, or there are none, and this is left behind them
+abbrev pub IsLeftLeniently : List ℕ → List ℕ → Type 0
+IsLeftLeniently input left = (vs : Trees) × (first : List ℕ) × (input ≡ first ++ left) × ConveyMembers vs first × (left ≢ [])
+
+-- Why the front isn't rewritten: as a lenient read is refused, but that memory may also run out for the encoding.
+pub record RefusesFront (input : List ℕ) (e : DeserializeError (Bor (List ℕ))) : Type 0 where
+  pub refused : OnFault (ConveysNothing input) e
+  pub named : Names (λ fault place. StandsLeniently fault place input) e
+  pub short_first : ¬ (HasFront input) → IsShortAt input e
+  pub memory : OnMemory (HasFront input) e
+
+-- Why an input isn't rewritten: what is left behind some first values is refused so.
+pub record RefusesList (input left : List ℕ) (e : DeserializeError (Bor (List ℕ))) : Type 0 where
+  pub behind : IsLeftLeniently input left
+  pub refused : OnFault ((vs : Trees) → ¬ (ConveyMembers vs input)) e
+  pub front : RefusesFront left e

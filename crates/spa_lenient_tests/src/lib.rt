@@ -1,0 +1,7 @@
+//! Tests of the lenient reading and of rewriting in it. There is nothing here but tests.
+#![tactic(auto)]
+
+#[cfg(test)]
+mod rewriting;
+#[cfg(test)]
+mod rows;

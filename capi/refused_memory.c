@@ -153,10 +153,10 @@ static const uint32_t theirs[] = { 32, 15, 5, 7, 1, 0, 4, 4, 9, 0 };
 
 /* The object in which they meet, or to which they are filtered. */
 static int32_t join(bool filters, void *out, size_t cap, size_t *written) {
-	uint32_t told;
+	uint32_t key_or_side;
 	if (filters)
-		return spav_filter(ours, sizeof ours, theirs, sizeof theirs, out, cap, written, &told);
-	return spav_negotiate(ours, sizeof ours, theirs, sizeof theirs, out, cap, written, &told);
+		return spav_filter(ours, sizeof ours, theirs, sizeof theirs, out, cap, written, &key_or_side);
+	return spav_negotiate(ours, sizeof ours, theirs, sizeof theirs, out, cap, written, &key_or_side);
 }
 
 static void refuse_joining(bool filters) {

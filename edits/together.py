@@ -13,6 +13,7 @@ import pathlib
 import re
 import shutil
 import subprocess
+import sys
 import tempfile
 import threading
 import time
@@ -72,6 +73,29 @@ class Verdict:
     why: str
     # A proof names what the edit took away, and nothing else is told.
     is_by_names: bool = False
+
+
+def folder_of_kit():
+    """The folder of the Rattle kit; where there is none, a line says so and ends the whole."""
+    if not shutil.which("rt"):
+        sys.exit(f"{pathlib.Path(sys.argv[0]).name}: this needs rt, the command of the Rattle kit, which is not on the path")
+    return pathlib.Path(subprocess.run(["rt", "doc"], stdout=subprocess.PIPE, text=True, check=True).stdout.strip()).parent
+
+
+def are_of_ci(crates):
+    """Whether all libraries below these crates are those that `rt ci` made. At its end `rt ci` puts back what earlier commands had built, each
+    library with a stamp, and statements fit only the libraries over which they were proved: so with one of those below, none is of use, and
+    a line says so. Where some library isn't there, a line says what to do and ends the whole."""
+    below = {it: crate.rlib_of(it) for crate in crates for it in crate.below()}
+    own = [it for it, rlib in below.items() if (rlib.parent / "stamp").is_file()]
+    if own:
+        told = f"{len(own)} of the {len(below)} libraries in crates/*/out are not of `rt ci` ({own[0]}, ..)"
+        print(f"{pathlib.Path(sys.argv[0]).name}: {told}: `rt lib` proves what doesn't fit", file=sys.stderr, flush=True)
+        return False
+    lacking = [it for it, rlib in below.items() if not (rlib / "format").is_file()]
+    if lacking:
+        sys.exit(f"{pathlib.Path(sys.argv[0]).name}: there is no library of {lacking[0]} in out/: run `rt ci` first, or don't ask for what follows it")
+    return True
 
 
 def listed(root):

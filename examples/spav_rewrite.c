@@ -13,7 +13,8 @@ static bool show(const uint8_t *in, size_t n) {
 	struct spav_event *events = malloc(room ? room * sizeof *events : 1);
 	if (!events)
 		return false;
-	spav_events(in, n, events, room, &count);
+	if (spav_events(in, n, events, room, &count))
+		return false;
 	for (size_t i = 0; i < count; i++)
 		printf("%zu %u %u\n", events[i].depth, events[i].type, events[i].size);
 	free(events);

@@ -113,7 +113,8 @@ typedef int32_t join(const void *a, size_t n, const void *b, size_t m, void *out
 static int32_t try_joining(join *call, const uint8_t *in, size_t n, uint8_t *out) {
 	uint32_t type, size, told = 0, other = 0;
 	size_t whole = n, len = 0, swapped = 0;
-	spav_front(in, n, &type, &size, &whole);
+	if (!spav_front(in, n, &type, &size, &whole))
+		whole = n;
 	const uint8_t *second = whole < n ? in + whole : in;
 	size_t m = whole < n ? n - whole : n;
 	memset(out, UNTOUCHED, n);

@@ -2,3 +2,4 @@ mod Nesting
 mod Refusals
 mod Runs
 mod Written
+mod Searches

@@ -1,6 +1,6 @@
 -- What is read of the front of an input, and of a property of the object there: docs/CAPI.md, "Reading".
 use Rattle.std.specs.Prelude.{◌≡◌, ℕ, List, drop, Option, None, Some}
-use Rattle.spa_format.specs.Words.{body_of, header_size}
+use Rattle.spa_format.specs.Words.{body_of, header_size, word_at}
 use Rattle.spa_format.specs.Kind.{Kind, Fixed, content}
 use Rattle.spa_format.specs.Front.{HasFront, front_of}
 use Rattle.spa_format.specs.Walk.{first_with_key, properties_of, property_walk}
@@ -10,6 +10,12 @@ use Rattle.spa_view.specs.Tests.{IsNulEnded, IsObjectPod, IsOfKind, before_nul}
 pub record BeginsObject (input : List ℕ) : Type 0 where
   pub front : HasFront input
   pub object : IsObjectPod (front_of input)
+
+-- an object is at the front, of this type and id
+pub record SaysObject (input : List ℕ) (type id : ℕ) : Type 0 where
+  pub object : BeginsObject input
+  pub its_type : type ≡ word_at (body_of (front_of input)) 0
+  pub its_id : id ≡ word_at (body_of (front_of input)) 4
 
 -- the first property with this key of the object at the front, with key and flags, or none
 abbrev pub property_under : ℕ → List ℕ → Option (List ℕ)

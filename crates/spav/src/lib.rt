@@ -1,4 +1,4 @@
-//! The library for C: pods in the caller's memory are checked, rewritten, told apart, read, fixated, negotiated, filtered and built.
+//! The library for C: pods in the caller's memory are checked, with the first fault, rewritten, read, fixated, negotiated, filtered and built.
 //!
 //! Each call answers 0 or more where it is done, and else the number of an error, negated.
 #![tactic(auto)]
@@ -8,6 +8,7 @@ ghost use Rattle.std.specs.Prelude.{◌≡◌};
 mod answers;
 mod building;
 mod events;
+mod faults;
 mod filtering;
 mod fixation;
 mod in_place;

@@ -6,8 +6,8 @@ ghost use Rattle.spa_format.specs.Front.{HasFront};
 ghost use Rattle.spa_format.specs.Kind as k;
 ghost use Rattle.spa_format.specs.Words.{extent, word_at};
 ghost use Rattle.spa_view.specs.View.{pod_bytes};
-ghost use Rattle.spav.specs.Answers.{IsDone, IsInvalid, IsMissing, IsNoRoom, IsOther, IsPut, IsRead, IsTextRead, IsTold, IsUnfound, IsYes};
-ghost use Rattle.spav.specs.Reading.{BeginsObject, HasNoTextUnder, HasNoneUnder, HasOtherUnder, HasTextUnder, IsUnder, SaysUnder};
+ghost use Rattle.spav.specs.Answers.{IsChanged, IsDone, IsInvalid, IsMissing, IsNoRoom, IsOther, IsPut, IsRead, IsTextRead, IsTold, IsUnfound, IsYes};
+ghost use Rattle.spav.specs.Reading.{BeginsObject, HasNoTextUnder, HasNoneUnder, HasOtherUnder, HasTextUnder, IsUnder, SaysObject, SaysUnder};
 
 use crate::answers::{DONE, INVALID, MISSING, NO_ROOM, OTHER, YES};
 use spa_bytes::{extent_of, open, u32_at};
@@ -38,6 +38,27 @@ pub extern "C" fn spav_front(
     *size = body_len;
     *whole = extent_of(body_len);
     YES
+}
+
+/// The type and the id of the object at the front.
+///
+/// 0: done. -EINVAL: no object is at the front, and nothing is written.
+#[unsafe(no_mangle)]
+pub extern "C" fn spav_object(input: &[u8], type_: &mut u32, id: &mut u32) -> i32
+    ensures said { IsDone result → SaysObject input.now type_.new id.new }
+    ensures refused { IsInvalid result → ¬ (BeginsObject input.now) }
+    ensures answers { IsChanged result }
+    ensures unchanged { ¬ (IsDone result) → (type_.new ≡ type_.old) × (id.new ≡ id.old) }
+{
+    let Some(pod) = Pod::from_bytes(input) else {
+        return INVALID;
+    };
+    let Ok(object) = pod.as_object() else {
+        return INVALID;
+    };
+    *type_ = object.type_().0;
+    *id = object.id().0;
+    DONE
 }
 
 /// The value of the first property with the key in the object at the front, or what is answered where there is none.

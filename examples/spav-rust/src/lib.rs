@@ -7,17 +7,19 @@ mod raw {
         pub fn spav_rewrite(input: *const u8, n: usize, out: *mut u8, cap: usize, written: *mut usize, at: *mut usize) -> i32;
         pub fn spav_rewrite_in_place(bytes: *mut u8, n: usize, written: *mut usize, at: *mut usize) -> i32;
         pub fn spav_check(input: *const u8, n: usize, at: *mut usize) -> i32;
+        pub fn spav_fault(input: *const u8, n: usize, kind: *mut u32, top: *mut usize, at: *mut usize) -> i32;
         pub fn spav_is_canonical(input: *const u8, n: usize) -> i32;
         pub fn spav_nests_within(input: *const u8, n: usize, levels: u32) -> i32;
         pub fn spav_fixate(pod: *mut u8, n: usize) -> i32;
         pub fn spav_front(input: *const u8, n: usize, type_: *mut u32, size: *mut u32, whole: *mut usize) -> i32;
+        pub fn spav_object(input: *const u8, n: usize, type_: *mut u32, id: *mut u32) -> i32;
         pub fn spav_bool(input: *const u8, n: usize, key: u32, value: *mut bool) -> i32;
         pub fn spav_id(input: *const u8, n: usize, key: u32, value: *mut u32) -> i32;
         pub fn spav_int(input: *const u8, n: usize, key: u32, value: *mut i32) -> i32;
         pub fn spav_long(input: *const u8, n: usize, key: u32, value: *mut i64) -> i32;
         pub fn spav_fd(input: *const u8, n: usize, key: u32, value: *mut i64) -> i32;
-        pub fn spav_float(input: *const u8, n: usize, key: u32, bits: *mut u32) -> i32;
-        pub fn spav_double(input: *const u8, n: usize, key: u32, bits: *mut u64) -> i32;
+        pub fn spav_float(input: *const u8, n: usize, key: u32, value: *mut f32) -> i32;
+        pub fn spav_double(input: *const u8, n: usize, key: u32, value: *mut f64) -> i32;
         pub fn spav_rectangle(input: *const u8, n: usize, key: u32, width: *mut u32, height: *mut u32) -> i32;
         pub fn spav_fraction(input: *const u8, n: usize, key: u32, num: *mut u32, denom: *mut u32) -> i32;
         pub fn spav_events(input: *const u8, n: usize, out: *mut super::Event, room: usize, count: *mut usize) -> i32;
@@ -115,6 +117,45 @@ pub fn check(input: &[u8]) -> Result<(), Error> {
     }
 }
 
+/// What is wrong with bytes.
+#[derive(Clone, Copy, PartialEq, Eq, Debug)]
+pub enum FaultKind {
+    /// Fewer bytes are left than a header, the size in it, or a property's key and flags take.
+    Short,
+    /// A string isn't UTF-8 with one NUL, at its end.
+    Text,
+    /// There is no such type, or none of which elements and values can be.
+    Type,
+    /// A choice has no such shape.
+    Shape,
+    /// A choice has fewer values than its shape takes.
+    Values,
+    /// A body, or the size of elements or values, isn't as long as its type's are.
+    Size,
+}
+
+/// A fault of bytes.
+#[derive(Clone, Copy, PartialEq, Eq, Debug)]
+pub struct Fault {
+    /// What is wrong.
+    pub kind: FaultKind,
+    /// The byte at which the refused pod begins.
+    pub top: usize,
+    /// The byte at which the fault stands: there begins that pod, one inside it, or a property.
+    pub at: usize,
+}
+
+/// The first fault of the input, or `None` where it is pods one after another. No memory is asked for.
+pub fn fault(input: &[u8]) -> Result<Option<Fault>, Error> {
+    let (mut kind, mut top, mut at) = (0, 0, 0);
+    let kinds = [FaultKind::Short, FaultKind::Text, FaultKind::Type, FaultKind::Shape, FaultKind::Values, FaultKind::Size];
+    match unsafe { raw::spav_fault(input.as_ptr(), input.len(), &mut kind, &mut top, &mut at) } {
+        0 => Ok(None),
+        1 => Ok(Some(Fault { kind: kinds[kind as usize - 1], top, at })),
+        _ => Err(Error::TooDeep),
+    }
+}
+
 /// Whether the pod at the front is its own rewriting.
 pub fn is_canonical(input: &[u8]) -> Result<bool, Error> {
     match unsafe { raw::spav_is_canonical(input.as_ptr(), input.len()) } {
@@ -149,6 +190,13 @@ fn read(answer: i32, needed: usize) -> Result<(), Error> {
         -71 => Err(Error::OtherType),
         _ => Err(Error::NoObject),
     }
+}
+
+/// The type and the id of the object at the front.
+pub fn object(input: &[u8]) -> Result<(u32, u32), Error> {
+    let (mut type_, mut id) = (0, 0);
+    read(unsafe { raw::spav_object(input.as_ptr(), input.len(), &mut type_, &mut id) }, 0)?;
+    Ok((type_, id))
 }
 
 /// The truth value under a key of the object at the front.
@@ -188,16 +236,16 @@ pub fn fd(input: &[u8], key: u32) -> Result<i64, Error> {
 
 /// The Float under a key.
 pub fn float(input: &[u8], key: u32) -> Result<f32, Error> {
-    let mut bits = 0;
-    read(unsafe { raw::spav_float(input.as_ptr(), input.len(), key, &mut bits) }, 0)?;
-    Ok(f32::from_bits(bits))
+    let mut value = 0.0;
+    read(unsafe { raw::spav_float(input.as_ptr(), input.len(), key, &mut value) }, 0)?;
+    Ok(value)
 }
 
 /// The Double under a key.
 pub fn double(input: &[u8], key: u32) -> Result<f64, Error> {
-    let mut bits = 0;
-    read(unsafe { raw::spav_double(input.as_ptr(), input.len(), key, &mut bits) }, 0)?;
-    Ok(f64::from_bits(bits))
+    let mut value = 0.0;
+    read(unsafe { raw::spav_double(input.as_ptr(), input.len(), key, &mut value) }, 0)?;
+    Ok(value)
 }
 
 /// Width and height of the Rectangle under a key.
@@ -585,6 +633,8 @@ mod tests {
     #[test]
     fn properties_are_read() {
         let (pod, mut out) = (object(), [0; 3]);
+        assert_eq!(super::object(&pod), Ok((5, 3)));
+        assert_eq!(super::object(&pod[24..]), Err(Error::NoObject));
         assert_eq!(int(&pod, 1), Ok(9));
         assert_eq!(int(&pod, 2), Err(Error::OtherType));
         assert_eq!(int(&pod, 4), Err(Error::NoKey));
@@ -640,6 +690,14 @@ mod tests {
         assert_eq!(Pods::new(&two), Err(Error::Refused(112)));
         assert_eq!(rewrite_into(&object(), &mut [0; 111]), Err(Error::NoRoom(112)));
         assert_eq!(check(&[]), Ok(()));
+    }
+
+    #[test]
+    fn faults_have_a_kind_and_a_place() {
+        assert_eq!(fault(&object()), Ok(None));
+        let inside = bytes(&[4, 4, 7, 0, 32, 15, 5, 3, 1, 0, 8, 4, 7, 0]);
+        assert_eq!(fault(&inside), Ok(Some(Fault { kind: FaultKind::Size, top: 16, at: 40 })));
+        assert_eq!(fault(&inside[..15]), Ok(Some(Fault { kind: FaultKind::Short, top: 0, at: 0 })));
     }
 
     #[test]

@@ -34,7 +34,12 @@ fn shows(
 fn an_input_that_breaks_off_is_refused(rt: HostRuntime) -> Result<(), AllocError> {
     let source = Source::broken(&[0, 0, 0, 0, 1, 0, 0, 0], ErrorKind::Other, PIECE);
     // Without room, a write would fail.
-    let holds = shows(&rt, source, &mut [], (b"", b"pod: standard input: read failed\n", 1))?;
+    let holds = shows(
+        &rt,
+        source,
+        &mut [],
+        (b"", b"pod: standard input: read failed\n", 1),
+    )?;
     assert!(rt; holds);
     Ok(())
 }

@@ -80,7 +80,10 @@ const ROOM: usize = 100;
 #[test]
 fn sources_break_off(rt: HostRuntime) -> Result<(), AllocError> {
     let rows = [
-        (ErrorKind::UnexpectedEof, "pod: standard input: read failed\n"),
+        (
+            ErrorKind::UnexpectedEof,
+            "pod: standard input: read failed\n",
+        ),
         (ErrorKind::OutOfMemory, WANTING),
     ];
     for words in WORDS {

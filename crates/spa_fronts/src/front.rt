@@ -96,7 +96,7 @@ fn no_object(alloc: Global, input: &[u8]) -> NoObject
     }
 }
 
-/// The same of a front that nests too deep to be looked into, which is rewritten.
+/// What a front is that nests too deep to be looked into: it is rewritten to see.
 fn deep_no_object(alloc: Global, input: &[u8]) -> NoObject
     requires other { word_at input.now 4 ≢ object_type }
     requires deep { IsTooDeep input.now }

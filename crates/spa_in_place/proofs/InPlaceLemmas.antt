@@ -358,7 +358,7 @@ on_memory P error.NoElementLeft h = tt
 on_memory P error.FailedReader h = tt
 on_memory P error.OutOfMemory h = h refl
 
--- so what is told of it isn't, either
+-- nor is the refusal that is made of it
 pub fault_memory : (P : Type 0) (told : DeserializeError (Bor (List ℕ))) (e : DeserializeError ⊤) → OnMemory ⊥ told →
     (e ≡ error.OutOfMemory → told ≡ error.OutOfMemory) → OnMemory P e
 fault_memory P told e f m = on_memory P e (λ z. absurd (subst (OnMemory ⊥) (m z) f))

@@ -26,17 +26,17 @@ begins_with (member v vs) input first rest e m l =
     let f = front_of_whole input m.0 (m.1 ++ rest) (type_of v) (IsBody v) (e ∙ ap (λ x. x ++ rest) m.2 ∙ append_assoc m.0 m.1 rest) m.3 in
     (v, record { there = f.0; pod = subst (λ b. IsPod b v) f.1 m.3 })
 
--- what is told of a refusal, and what memory was asked for
-pub record IsTold (input : List ℕ) (told : DeserializeError (Bor (List ℕ))) : Type 0 where
+-- the public refusal of the pod at the front, and what memory was asked for
+pub record IsRefusal (input : List ℕ) (told : DeserializeError (Bor (List ℕ))) : Type 0 where
   pub refused : RefusesFront input told
   pub asks : OnMemory (FrontAsksMemory input) told
 
 -- memory ran out
 pub lacks : (input : List ℕ) (place : Bor (List ℕ)) (why : Refusal) (told : DeserializeError (Bor (List ℕ))) → told ≡ error_of place why →
-    why ≡ refusal.OutOfMemory → HasFront input → FrontAsksMemory input → IsTold input told
+    why ≡ refusal.OutOfMemory → HasFront input → FrontAsksMemory input → IsRefusal input told
 lacks input place why told e w h a =
     let same : told ≡ error_of place refusal.OutOfMemory = e ∙ ap (error_of place) w in
-    subst (IsTold input) (sym same) (record { refused = front_refused input place refusal.OutOfMemory h; asks = a })
+    subst (IsRefusal input) (sym same) (record { refused = front_refused input place refusal.OutOfMemory h; asks = a })
 
 -- and a look tells a fault
 of_fault : (input : List ℕ) (place : Bor (List ℕ)) (why : Refusal) → Says (λ k. Stands k place.now input) ⊥ why →
@@ -50,10 +50,10 @@ of_fault input place refusal.WrongSize s = tt
 of_fault input place refusal.OutOfMemory s = absurd s
 
 pub tells_fault : (input : List ℕ) (r : Rejected) (place : Bor (List ℕ)) (why : Refusal) (told : DeserializeError (Bor (List ℕ))) →
-    told ≡ error_of place why → r ≡ rejected.Fault place why → IsRejected input r → IsTold input told
+    told ≡ error_of place why → r ≡ rejected.Fault place why → IsRejected input r → IsRefusal input told
 tells_fault input r place why told e q h =
     let says = subst (IsRejected input) q h in
-    subst (IsTold input) (sym e) (record { refused = fault_front input place why says; asks = of_fault input place why says })
+    subst (IsRefusal input) (sym e) (record { refused = fault_front input place why says; asks = of_fault input place why says })
 
 pub too_deep : (input : List ℕ) (r : Rejected) → r ≡ rejected.TooDeep → IsRejected input r → IsTooDeep input
 too_deep input r e h = subst (IsRejected input) e h
@@ -69,9 +69,9 @@ of_other input place refusal.WrongSize n = tt
 of_other input place refusal.OutOfMemory n = absurd (n refl)
 
 pub tells_other : (input : List ℕ) (place : Bor (List ℕ)) (why : Refusal) (told : DeserializeError (Bor (List ℕ))) → told ≡ error_of place why →
-    (why ≡ refusal.OutOfMemory → ⊥) → RefusesFrontAt input place.now why → IsTold input told
+    (why ≡ refusal.OutOfMemory → ⊥) → RefusesFrontAt input place.now why → IsRefusal input told
 tells_other input place why told e n h =
-    subst (IsTold input) (sym e) (record { refused = front_refused input place why h; asks = of_other input place why n })
+    subst (IsRefusal input) (sym e) (record { refused = front_refused input place why h; asks = of_other input place why n })
 
 -- the front is there where memory runs out
 pub front_there : (input place : List ℕ) (why : Refusal) → why ≡ refusal.OutOfMemory → RefusesFrontAt input place why → HasFront input

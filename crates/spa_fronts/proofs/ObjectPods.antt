@@ -1,21 +1,30 @@
 -- The pods of objects at the fronts of inputs.
-use Rattle.std.proofs.Common.{◌≡◌, ◌≢◌, ℕ, ◌-◌, ◌≤◌, List, [], length, take, drop, refl, sym, ap, ◌∙◌, subst, arith, length-drop}
-use Rattle.std.proofs.lemmas.List.{append-nil, take_all, take-take, length-take-le}
+use Rattle.std.proofs.Common.{inl, inr, ◌≡◌, ◌≢◌, ℕ, ◌-◌, ◌≤◌, List, length, take, drop, refl, sym, ap, ◌∙◌, subst, arith, length-drop}
+use Rattle.std.proofs.lemmas.List.{take_all, take-take}
 use Rattle.spa_format.specs.Words.{word_at, extent, body_of}
-use Rattle.spa_format.specs.Tree.{Tree, fixed, string, bytes, bitmap, array, choice, pointer, struct, object, struct_type, object_type, Trees, no_trees, member, type_of}
-use Rattle.spa_format.specs.Pod.{AreMembers, IsPod}
+use Rattle.spa_format.specs.Tree.{Tree, struct, object, object_type, type_of}
+use Rattle.spa_format.specs.Pod.{IsPod}
 use Rattle.spa_format.specs.Encoding.{encoding_of}
 use Rattle.spa_format.specs.Front.{Begins, HasFront, IsRefused, front_of, rest_of}
 use Rattle.spa_format.specs.Typed.{IsBytes}
-use Rattle.spa_format.proofs.Fronts.{front_of_whole, size_of_front, type_of_front}
+use Rattle.spa_format.proofs.Fronts.{size_of_front, type_of_front}
 use Rattle.spa_format.proofs.Shapes.{object_only}
 use Rattle.spa_format.proofs.Unique.{one_value}
+use Rattle.spa_format.specs.Faults.{Stands}
 use Rattle.spa_bytes.specs.Opening.{Opens}
+use Rattle.spa_fixed.specs.declared.fault.Refusal.{Refusal}
+use Rattle.spa_fixed.specs.declared.fault.Refusal.TheVariants as refusal
+use Rattle.spa_leaf.specs.Reading.{TakesMemory}
+use Rattle.spa_leaf.specs.Refusing.{Says}
 use Rattle.spa_scan.specs.Canonical.{BeginsCanonical}
-use Rattle.spa_scan.specs.Depth.{depth_of, levels_looked_into}
+use Rattle.spa_rewrite.specs.Look.{IsRejected, IsTooDeep}
 use Rattle.spa_rewrite.specs.Rewriting.{IsRewriting}
-use Rattle.spa_rewrite.specs.Shorter.{ArePodsWithin}
-use Rattle.std.specs.Prelude.{IfOk, Result, Ok, Err}
+use Rattle.spa_rewrite.specs.Steady.{IsInside}
+use Rattle.spa_rewrite.specs.declared.look.Rejected.{Rejected}
+use Rattle.spa_rewrite.specs.declared.look.Rejected.TheVariants as rejected
+use Rattle.spa_rewrite.proofs.Accepted.{fault_front}
+use Rattle.std.specs.Borrow.{Bor}
+use Rattle.std.specs.Prelude.{Bool, true, false, IfOk, Result, Ok, Err}
 use Rattle.spa_fronts.specs.Fronts.{BeginsObject, BeginsObjectIn, BeginsOther, IsNoObject, IsObject, IsUnread}
 use Rattle.spa_fronts.specs.declared.front.NoObject.{NoObject}
 use Rattle.spa_fronts.specs.declared.front.NoObject.TheVariants.{Unread, Other, OutOfMemory}
@@ -74,41 +83,6 @@ front_twice : (input : List ℕ) → front_of (front_of input) ≡ front_of inpu
 front_twice input =
     ap (λ n. take (extent n) (front_of input)) (size_of_front input) ∙ take-take (extent (word_at input 0)) (extent (word_at input 0)) input (omega arith)
 
--- a front that is pods one after another is one of another value
-pub other_of_members : (input : List ℕ) → HasFront input → word_at input 4 ≢ object_type → (vs : Trees) → AreMembers vs (front_of input) → BeginsOther input
-other_of_members input h t no_trees m =
-    let long = length-take-le (extent (word_at input 0)) input h.whole in
-    let none = ap length m in
-    absurd (omega arith)
-other_of_members input h t (member v vs) m =
-    let whole = front_of_whole (front_of input) m.0 m.1 (type_of v) _ m.2 m.3 in
-    let its : IsPod (front_of input) v = subst (λ b. IsPod b v) (whole.1 ∙ front_twice input) m.3 in
-    let begins : Begins input v = record { there = h; pod = its } in
-    record { value = v; begins = begins; no_object = no_object v (λ e. t (sym (begun_type input v begins) ∙ e)) }
-
-flat : (v : Tree) → type_of v ≢ struct_type → type_of v ≢ object_type → depth_of v ≡ 0
-flat (fixed x) s o = refl
-flat (string b) s o = refl
-flat (bytes b) s o = refl
-flat (bitmap b) s o = refl
-flat (array k xs) s o = refl
-flat (choice h f k x xs) s o = refl
-flat (pointer t a) s o = refl
-flat (struct vs) s o = absurd (s refl)
-flat (object t i ps) s o = absurd (o refl)
-
--- a front in which nothing nests is refused where it isn't pods one after another
-pub refused_flat : (input : List ℕ) → word_at input 4 ≢ struct_type → word_at input 4 ≢ object_type → ¬ (ArePodsWithin levels_looked_into (front_of input)) →
-    IsRefused input
-refused_flat input s o n v b =
-    let type = begun_type input v b in
-    let zero_deep = flat v (λ e. s (sym type ∙ e)) (λ e. o (sym type ∙ e)) in
-    n (record {
-      values = member v no_trees;
-      members = (front_of input, [], sym (append-nil (front_of input)), b.pod, refl);
-      shallow = omega arith;
-    })
-
 -- a pod is at its own front
 pub pod_there : (pod : List ℕ) (v : Tree) → IsPod pod v → HasFront pod
 pod_there pod v p = let w = p.whole in record { header = omega arith; whole = omega arith }
@@ -145,3 +119,34 @@ no_object_of input OutOfMemory h = h
 pub of_ok : {T E P : Type 0} {Q : T → Type 0} (r : Result T E) → ((e : E) → r ≡ Err e → ⊥) → ((v : T) → Q v → P) → IfOk r Q → P
 of_ok (Ok v) n f h = f v h
 of_ok (Err e) n f h = absurd (n e refl)
+
+-- a front that is a pod of another type than an object's
+pub begins_other : (input : List ℕ) (v : Tree) → word_at input 4 ≢ object_type → Begins input v → BeginsOther input
+begins_other input v t b = record { value = v; begins = b; no_object = no_object v (λ e. t (sym (begun_type input v b) ∙ e)) }
+
+-- a fault that stands refuses the front
+of_fault : (input : List ℕ) (place : Bor (List ℕ)) (why : Refusal) → Says (λ k. Stands k place.now input) ⊥ why → IsRefused input
+of_fault input place refusal.Short s = (fault_front input place refusal.Short s).refused
+of_fault input place refusal.Text s = (fault_front input place refusal.Text s).refused
+of_fault input place refusal.InvalidType s = (fault_front input place refusal.InvalidType s).refused
+of_fault input place refusal.InvalidChoiceType s = (fault_front input place refusal.InvalidChoiceType s).refused
+of_fault input place refusal.MissingChoiceValues s = (fault_front input place refusal.MissingChoiceValues s).refused
+of_fault input place refusal.WrongSize s = (fault_front input place refusal.WrongSize s).refused
+of_fault input place refusal.OutOfMemory s = absurd s
+
+pub refused_front : (input : List ℕ) (r : Rejected) (place : Bor (List ℕ)) (why : Refusal) → r ≡ rejected.Fault place why → IsRejected input r → IsRefused input
+refused_front input r place why e h = of_fault input place why (subst (IsRejected input) e h)
+
+pub too_deep : (input : List ℕ) (r : Rejected) → r ≡ rejected.TooDeep → IsRejected input r → IsTooDeep input
+too_deep input r e h = subst (IsRejected input) e h
+
+-- a pod that nests deep is a struct or an object
+pub deep_takes_memory : (input : List ℕ) → IsTooDeep input → TakesMemory (word_at input 4)
+deep_takes_memory input d = inside_type d.inner d.opens.its_inside
+  where
+    same : word_at input 4 ≡ d.opens.type
+    same = sym (d.opens.opens.its_type ∙ ap (λ b. word_at b 4) d.opens.its_key)
+
+    inside_type : (inner : Bool) → IsInside d.opens.type d.opens.body inner d.inside → TakesMemory (word_at input 4)
+    inside_type true i = inr (inr (inr (inr (inr (inl (same ∙ i.0))))))
+    inside_type false i = inr (inr (inr (inr (inl (same ∙ i.0)))))

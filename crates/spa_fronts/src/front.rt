@@ -1,16 +1,16 @@
 //! The pods of objects at the fronts of inputs, as they are written.
 ghost use Rattle.std.specs.Prelude.{◌≡◌, ◌≢◌, ◌<◌, IfErr, IfNone, IfOk, IfSome, List, ℕ};
-ghost use Rattle.spa_bytes.specs.Opening.{Opens};
 ghost use Rattle.spa_format.specs.Tree.{object_type};
 ghost use Rattle.spa_format.specs.Words.{size_limit, word_at};
 ghost use Rattle.spa_fronts.specs.Fronts.{BeginsObjectIn, BeginsView, IsNoObject, IsUnread, bytes_of};
 ghost use Rattle.spa_leaf.specs.Reading.{TakesMemory};
+ghost use Rattle.spa_rewrite.specs.Look.{IsTooDeep};
 ghost use Rattle.spa_rewrite.specs.Rewriting.{IsRewriting};
 
 use crate::object_view::ObjectView;
-use spa_bytes::{Front, HEADER_LEN, SECOND_WORD, open, u32_at};
+use spa_bytes::{HEADER_LEN, SECOND_WORD, open, u32_at};
 use spa_fixed::DeserializeError;
-use spa_rewrite::{rewrite, surplus_of_all};
+use spa_rewrite::{Rejected, look_at_pod, rewrite};
 use spa_scan::canonical_front;
 use spa_utils::SpaTypes;
 use std::alloc::Global;
@@ -57,7 +57,7 @@ pub fn object_pod(alloc: Global, input: &[u8]) -> Result<ObjectPod<'_>, NoObject
         return Err(NoObject::Unread);
     };
     if front.type_ != SpaTypes::Object.0 {
-        return Err(no_object(alloc, input, &front));
+        return Err(no_object(alloc, input));
     }
     if let Some(rest) = canonical_front(input) {
         let (pod, _) = input.split_at(input.len() - rest.len());
@@ -80,20 +80,28 @@ fn rewritten(alloc: Global, input: &[u8]) -> Result<Vec<u8>, NoObject>
     }
 }
 
-/// What a front of another type than an object's is. Memory is asked for only where structs stand more than 1000 deep in one another.
+/// What a front of another type than an object's is. Memory is asked for only where structs stand more than 1000 deep in one another, not counting
+/// those that end where the one around them does.
 #[inline(never)]
-fn no_object(alloc: Global, input: &[u8], front: &Front<'_>) -> NoObject
-    requires opened { Opens input.now front.now.type_ front.now.body.now front.now.rest.now }
-    requires other { front.now.type_ ≢ object_type }
+fn no_object(alloc: Global, input: &[u8]) -> NoObject
+    requires { word_at input.now 4 ≢ object_type }
     ensures { IsNoObject input.now result }
 {
-    let (pod, _) = input.split_at(input.len() - front.rest.len());
-    if let Some(_surplus) = surplus_of_all(pod) {
-        return NoObject::Other;
+    match look_at_pod(input) {
+        Ok(_) => NoObject::Other,
+        Err(rejected) => match rejected {
+            Rejected::Fault(_, _) => NoObject::Unread,
+            Rejected::TooDeep => deep_no_object(alloc, input),
+        },
     }
-    if front.type_ != SpaTypes::Struct.0 {
-        return NoObject::Unread;
-    }
+}
+
+/// What a front is that nests too deep to be looked into: it is rewritten to see.
+fn deep_no_object(alloc: Global, input: &[u8]) -> NoObject
+    requires other { word_at input.now 4 ≢ object_type }
+    requires deep { IsTooDeep input.now }
+    ensures { IsNoObject input.now result }
+{
     let Err(why) = rewritten(alloc, input) else {
         return NoObject::Other;
     };

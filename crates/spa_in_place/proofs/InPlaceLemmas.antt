@@ -1,13 +1,17 @@
 -- Rewritings that are put where their pods lay.
-use Rattle.std.proofs.Common.{◌≡◌, ℕ, ◌+◌, ◌-◌, ◌≤◌, List, [], ◌++◌, length, take, drop, refl, sym, ap, ◌∙◌, subst, arith, append-nil, append_assoc, length-append}
+use Rattle.std.proofs.Common.{◌≡◌, ℕ, ◌+◌, ◌-◌, ◌≤◌, inl, inr, List, [], ◌++◌, length, take, drop, refl, sym, ap, ◌∙◌, subst, arith, append-nil, append_assoc, length-append}
 use Rattle.std.specs.Borrow.{Bor}
 use Rattle.std.specs.Prelude.{⊤, false}
 use Rattle.std.proofs.lemmas.List.{drop-drop, drop_at, nil_from_length, take_at}
 use Rattle.spa_format.proofs.Short.{short_members}
 use Rattle.spa_fixed.specs.declared.fault.DeserializeError.{DeserializeError}
 use Rattle.spa_fixed.specs.declared.fault.DeserializeError.TheVariants as error
-use Rattle.spa_leaf.specs.Reading.{OnFault}
-use Rattle.spa_in_place.specs.InPlace.{IsFaultOf, RefusesListAt}
+use Rattle.spa_fixed.specs.declared.fault.Refusal.{Refusal}
+use Rattle.spa_fixed.specs.declared.fault.Refusal.TheVariants as refusal
+use Rattle.spa_format.specs.Faults.{Fault}
+use Rattle.spa_leaf.specs.Reading.{OnFault, OnMemory}
+use Rattle.spa_leaf.specs.Refusing.{Says, error_of}
+use Rattle.spa_in_place.specs.InPlace.{AsksMemory, IsFaultOf, RefusesListAt}
 use Rattle.std.proofs.lemmas.Slice.{drop-put_mid, take-put_mid}
 use borrow.Rule.Slice.PartMut.{put_mid}
 use Rattle.spa_format.specs.Tree.{join_members}
@@ -19,7 +23,7 @@ use Rattle.spa_rewrite.specs.Rewriting.{AreRewritten, AreRewrittenInParts, IsLef
 use Rattle.spa_rewrite.specs.Shorter.{AreShorter}
 use Rattle.spa_rewrite.specs.Steady.{ArePatched, AreSteady}
 use Rattle.spa_rewrite.proofs.Patches.{length_put, put_end}
-use Rattle.spa_rewrite.proofs.FirstPods.{left_behind_pods}
+use Rattle.spa_rewrite.proofs.FirstPods.{accepted_behind, left_behind_pods}
 use Rattle.spa_rewrite.proofs.Stretches.{both_rewritten, list_refused, member_encodings-join}
 use Rattle.spa_rewrite.proofs.TailLemmas.{written_behind}
 use Rattle.spa_in_place.proofs.WrittenAcross.{drop_past, take_past}
@@ -329,3 +333,45 @@ across_rewritten input first rest steady others all patched at k e i c r s o n m
     let q : ArePatched false steady patched = subst (λ x. ArePatched false x patched) (w.slice ∙ same) p in
     subst (AreRewritten input []) (sym w.same)
     (both_rewritten input first rest patched i c (s.values, subst (AreMembers s.values) (sym same) s.members, q s.values s.members s.long))
+
+-- a fault is no lack of memory
+pub fault_told : (stands : Fault → Type 0) (place : Bor (List ℕ)) (why : Refusal) → Says stands ⊥ why → OnMemory ⊥ (error_of place why)
+fault_told stands place refusal.Short s = tt
+fault_told stands place refusal.Text s = tt
+fault_told stands place refusal.InvalidType s = tt
+fault_told stands place refusal.InvalidChoiceType s = tt
+fault_told stands place refusal.MissingChoiceValues s = tt
+fault_told stands place refusal.WrongSize s = tt
+fault_told stands place refusal.OutOfMemory s = s
+
+on_memory : {I : Type 0} (P : Type 0) (e : DeserializeError I) → (e ≡ error.OutOfMemory → P) → OnMemory P e
+on_memory P (error.Nom f) h = tt
+on_memory P error.UnsupportedType h = tt
+on_memory P error.InvalidType h = tt
+on_memory P error.PropertyMissing h = tt
+on_memory P (error.PropertyWrongKey k) h = tt
+on_memory P error.InvalidChoiceType h = tt
+on_memory P error.MissingChoiceValues h = tt
+on_memory P error.WrongSize h = tt
+on_memory P error.UnreadMembers h = tt
+on_memory P error.NoElementLeft h = tt
+on_memory P error.FailedReader h = tt
+on_memory P error.OutOfMemory h = h refl
+
+-- nor is the refusal that is made of it
+pub fault_memory : (P : Type 0) (told : DeserializeError (Bor (List ℕ))) (e : DeserializeError ⊤) → OnMemory ⊥ told →
+    (e ≡ error.OutOfMemory → told ≡ error.OutOfMemory) → OnMemory P e
+fault_memory P told e f m = on_memory P e (λ z. absurd (subst (OnMemory ⊥) (m z) f))
+
+-- what memory is asked for behind the first pods
+pub asks_behind : (input first rest steady others : List ℕ) → input ≡ first ++ rest → AreCanonical first → rest ≡ steady ++ others → AreSteady steady →
+    AsksMemory others → AsksMemory input
+asks_behind input first rest steady others i k r s (inl m) =
+    inl (accepted_behind input first rest k.values i k.members (accepted_behind rest steady others s.values r s.members m))
+asks_behind input first rest steady others i k r s (inr d) =
+    let inner = left_behind_pods rest steady others d.0 s.values r s.members d.1 in
+    inr (d.0, left_behind_pods input first rest d.0 k.values i k.members inner, d.2)
+
+pub deep_memory : (P : Type 0) (e : DeserializeError ⊤) → P → OnMemory P e
+deep_memory P e h = on_memory P e (λ z. h)
+

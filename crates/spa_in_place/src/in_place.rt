@@ -1,15 +1,19 @@
 //! Rewriting where the input lies.
-ghost use Rattle.std.specs.Prelude.{◌≡◌, ◌-◌, ◌≤◌, [], IfErr, IfOk, OnErr, drop, false, length, take, true};
+ghost use Rattle.std.specs.Prelude.{◌≡◌, ◌-◌, ◌≤◌, [], IfErr, IfNone, IfOk, IfSome, OnErr, drop, false, length, take, true};
 ghost use Rattle.spa_fixed.specs.declared.fault.DeserializeError.TheVariants as refused;
-ghost use Rattle.spa_in_place.specs.InPlace.{IsFaultOf, RefusesListAt};
-ghost use Rattle.spa_rewrite.specs.Rewriting.{AreRewritten};
+ghost use Rattle.spa_in_place.specs.InPlace.{AsksMemory, IsFaultOf, RefusesListAt};
+ghost use Rattle.spa_leaf.specs.Reading.{OnMemory};
+ghost use Rattle.spa_rewrite.specs.Rewriting.{AreRewritten, RefusesList};
 ghost use Rattle.spa_rewrite.specs.Shorter.{ArePodsWithin, AreShorter};
 ghost use Rattle.spa_rewrite.specs.Steady.{AreSteadyWithin};
 ghost use Rattle.spa_scan.specs.Depth.{levels_looked_into};
 
 use crate::place::place_all;
 use spa_fixed::{DeserializeError, Fault};
-use spa_rewrite::{patch_all, rewrite_in_parts, steady_stretch, surplus_of_all};
+use spa_leaf::error_at;
+use spa_rewrite::{
+    Rejected, look_at_pods, patch_all, rewrite_in_parts, steady_stretch, surplus_of_all,
+};
 use spa_scan::canonical_stretch;
 use std::alloc::Global;
 
@@ -21,7 +25,8 @@ use std::alloc::Global;
 ///
 /// A look tells first which pods get shorter; then those are moved, and the others are patched where they lie. That takes no memory where structs
 /// and objects stand at most `LEVELS` deep in one another, not counting those that end where the one around them does. Where they stand deeper
-/// in a pod that gets shorter, or behind one, memory is asked for as `rewrite_in_parts` does.
+/// in a pod that gets shorter, or behind one, memory is asked for as `rewrite_in_parts` does. A malformed pod in which they don't is refused before
+/// any is asked for.
 #[tactic(auto, using(crate::proofs::InPlaceLemmas::parts_fit))]
 pub fn rewrite_in_place(
     alloc: Global,
@@ -32,8 +37,10 @@ pub fn rewrite_in_place(
     ensures behind { IfOk result (λ len. drop len bytes.new ≡ drop len bytes.old) }
     ensures unchanged { OnErr result (bytes.new ≡ bytes.old) }
     ensures refused { IfErr result (λ refusal. RefusesListAt bytes.old refusal.0 refusal.1) }
-    // Pods that nest in 1000 levels at most are never refused: for these memory can't run out.
+    // Pods that nest in 1000 levels at most are never refused: for these memory can't run out,
     ensures missed { IfErr result (λ _. ¬ (ArePodsWithin levels_looked_into bytes.old)) }
+    // nor for others, unless they are pods, or one, malformed or not, nests too deep to be looked into.
+    ensures memory { IfErr result (λ refusal. OnMemory (AsksMemory bytes.old) refusal.1) }
 {
     let len = bytes.len();
     let (first, rest) = canonical_stretch(bytes);
@@ -45,6 +52,9 @@ pub fn rewrite_in_place(
         place_rest(surplus, &mut bytes[to..]);
         return Ok(len - surplus);
     }
+    if let Some((pod, error)) = malformed(others) {
+        return Err((len - pod.len(), without_place(error)));
+    }
     let (start, written) = match rewrite_in_parts(alloc, others) {
         Ok((kept, written)) => (to + kept.len(), written),
         Err((left, error)) => return Err((len - left.len(), without_place(error))),
@@ -53,6 +63,22 @@ pub fn rewrite_in_place(
     let end = start + written.len();
     bytes[start..end].copy_from_slice(written.as_slice());
     Ok(end)
+}
+
+/// What is left of pods from a malformed one on, and its refusal: of the first that isn't accepted or nests too deep to be looked into, if it is
+/// malformed and doesn't.
+fn malformed(pods: &[u8]) -> Option<(&[u8], DeserializeError<&[u8]>)>
+    ensures refused { IfSome result (λ refusal. RefusesList pods.now refusal.0.now refusal.1) }
+    ensures fault { IfSome result (λ refusal. OnMemory ⊥ refusal.1) }
+    ensures asks { IfNone result (AsksMemory pods.now) }
+{
+    let Err((pod, rejected)) = look_at_pods(pods) else {
+        return None;
+    };
+    match rejected {
+        Rejected::Fault(place, why) => Some((pod, error_at(place, why))),
+        Rejected::TooDeep => None,
+    }
 }
 
 /// Makes pods that are so many bytes shorter then their rewritings, at their front.
@@ -91,6 +117,7 @@ pub fn rewrite_across(input: &[u8], out: &mut [u8]) -> bool
 fn without_place(error: DeserializeError<&[u8]>) -> DeserializeError<()>
     ensures same { IsFaultOf result error.entry }
     ensures memory { error.entry ≡ refused.OutOfMemory → result ≡ refused.OutOfMemory }
+    ensures fault { result ≡ refused.OutOfMemory → error.entry ≡ refused.OutOfMemory }
 {
     match error {
         DeserializeError::Nom(fault) => DeserializeError::Nom(Fault {

@@ -21,3 +21,4 @@ pub mod Levels
 pub mod Looks
 pub mod Faulted
 pub mod Accepted
+pub mod Lacking

@@ -1,18 +1,19 @@
 //! The rewriting of a pod is the encoding of its value.
 ghost use Rattle.std.specs.Prelude.{◌≡◌, ◌++◌, [], IfErr, IfNone, IfOk, IfSome, IsErrAnd, OnErr, OnOk};
 ghost use Rattle.spa_format.specs.Faults.{Stands};
-ghost use Rattle.spa_format.specs.Front.{HasFront, IsRefused, rest_of};
+ghost use Rattle.spa_format.specs.Front.{Begins, HasFront, IsRefused, rest_of};
 ghost use Rattle.spa_format.specs.Pod.{AreMembers};
 ghost use Rattle.spa_format.specs.Tree.{Tree, Trees};
 ghost use Rattle.spa_leaf.specs.Reading.{BeginsWith, IsShortAt, Names, OnFault, OnMemory};
 ghost use Rattle.spa_rewrite.specs.Look.{IsTooDeep};
-ghost use Rattle.spa_rewrite.specs.Rewriting.{AreRewritten, AreRewrittenInParts, IsLeft, IsRewriting, RefusesFront, RefusesList, TakesMembers, TakesStretch};
+ghost use Rattle.spa_rewrite.specs.Memory.{FrontAsksMemory};
+ghost use Rattle.spa_rewrite.specs.Rewriting.{AreRewritten, AreRewrittenInParts, IsLeft, IsRewriting, RefusesFront, RefusesFrontAt, RefusesList, TakesMembers, TakesStretch};
 ghost use Rattle.spa_rewrite.specs.Shorter.{ArePodsWithin};
 ghost use Rattle.spa_rewrite.specs.Steady.{TakesSteady};
 ghost use Rattle.spa_rewrite.specs.Tails.{KeepsStart};
 ghost use Rattle.spa_scan.specs.Depth.{levels_looked_into};
 
-use crate::look::{Rejected, look_at_pods};
+use crate::look::{Rejected, look_at_pod, look_at_pods};
 use crate::pod::rewrite_pod;
 use crate::steady::steady_stretch;
 use crate::tail::Tail;
@@ -28,7 +29,7 @@ use std::mem;
 /// Unless memory runs out, this succeeds exactly where the front that the first size word names is there and is a pod.
 /// The refusals are those of `PodDeserializer::deserialize_any_from`, but that a refusal for lack of memory can also be
 /// answered for a pod of fixed size, whose encoding takes memory. A size is never a cause: what was read can be
-/// written.
+/// written. A malformed pod is refused for its fault also where memory ran out, unless more than 1000 structs and objects stand in one another in it.
 pub fn rewrite(alloc: Global, input: &[u8]) -> Result<(&[u8], Vec<u8>), DeserializeError<&[u8]>>
     ensures rewriting { IfOk result (λ rewritten. IsRewriting input.now rewritten.1.items) }
     ensures rest { IfOk result (λ rewritten. rewritten.0.now ≡ rest_of input.now) }
@@ -36,15 +37,37 @@ pub fn rewrite(alloc: Global, input: &[u8]) -> Result<(&[u8], Vec<u8>), Deserial
     ensures refused { IfErr result (OnFault (IsRefused input.now)) }
     // and names a fault that stands.
     ensures named { IfErr result (Names (λ fault place. Stands fault place input.now)) }
-    // Where the front isn't there, the input is short; so a refusal for lack of memory says that it is there.
+    // Where the front isn't there, the input is short; so a refusal for lack of memory says that it is there,
     ensures short_first { ¬ (HasFront input.now) → IsErrAnd result (IsShortAt input.now) }
     ensures memory { IfErr result (OnMemory (HasFront input.now)) }
+    // and is a pod, or nests too deep to be looked into.
+    ensures asks { IfErr result (OnMemory (FrontAsksMemory input.now)) }
 {
     let mut left = input;
     let mut tail = Tail::behind(Vec::new(alloc));
     match rewrite_pod(alloc, &mut Vec::new(alloc), &mut left, &mut tail) {
         Ok(()) => Ok((left, tail.into_whole())),
-        Err(why) => Err(error_at(left, why)),
+        Err(why) => Err(refusal(input, left, why)),
+    }
+}
+
+/// The refusal of the pod at the front. Where memory ran out for its encoding, a look tells its fault, if it is malformed.
+#[cold]
+#[inline(never)]
+fn refusal<'a>(input: &'a [u8], place: &'a [u8], why: Refusal) -> DeserializeError<&'a [u8]>
+    requires { RefusesFrontAt input.now place.now why }
+    ensures refused { RefusesFront input.now result }
+    ensures asks { OnMemory (FrontAsksMemory input.now) result }
+{
+    match why {
+        Refusal::OutOfMemory => match look_at_pod(input) {
+            Ok(_) => error_at(input, why),
+            Err(rejected) => match rejected {
+                Rejected::Fault(inner, fault) => error_at(inner, fault),
+                Rejected::TooDeep => error_at(input, why),
+            },
+        },
+        _ => error_at(place, why),
     }
 }
 
@@ -67,9 +90,11 @@ pub fn rewrite_all<'a>(
     ensures front { IfErr result (λ refusal. OnFault (IsRefused refusal.0.now) refusal.1) }
     // and names a fault that stands there.
     ensures named { IfErr result (λ refusal. Names (λ fault place. Stands fault place refusal.0.now) refusal.1) }
-    // Where the front of what is left isn't there, it is short; so memory runs out only where that front is there.
+    // Where the front of what is left isn't there, it is short; so memory runs out only where that front is there,
     ensures short_first { IfErr result (λ refusal. ¬ (HasFront refusal.0.now) → IsShortAt refusal.0.now refusal.1) }
     ensures memory { IfErr result (λ refusal. OnMemory (HasFront refusal.0.now) refusal.1) }
+    // and is a pod, or nests too deep to be looked into.
+    ensures asks { IfErr result (λ refusal. OnMemory (FrontAsksMemory refusal.0.now) refusal.1) }
 {
     let alloc = *out.allocator();
     let mut bytes = mem::replace(out, Vec::new(alloc));
@@ -100,6 +125,7 @@ pub fn rewrite_in_parts(
     ensures parts { IfOk result (λ parts. AreRewrittenInParts input.now parts.0.now parts.1.items) }
     ensures rewritten { IfOk result (λ parts. AreRewritten input.now [] (parts.0.now ++ parts.1.items)) }
     ensures refused { IfErr result (λ refusal. RefusesList input.now refusal.0.now refusal.1) }
+    ensures asks { IfErr result (λ refusal. OnMemory (FrontAsksMemory refusal.0.now) refusal.1) }
 {
     let (first, rest) = canonical_stretch(input);
     let mut tail = Tail::behind(Vec::new(alloc));
@@ -162,6 +188,7 @@ fn rewrite_pods<'a>(
     ensures start { OnErr result (KeepsStart tail.old tail.new) }
     ensures left { IfErr result (λ refusal. IsLeft input.now refusal.0.now) }
     ensures refused { IfErr result (λ refusal. RefusesFront refusal.0.now refusal.1) }
+    ensures asks { IfErr result (λ refusal. OnMemory (FrontAsksMemory refusal.0.now) refusal.1) }
 {
     let Some(rest) = put_stretch(input, tail) else {
         return Err((input, error_at(input, Refusal::OutOfMemory)));
@@ -179,6 +206,7 @@ fn rewrite_others<'a>(
     ensures start { OnErr result (KeepsStart tail.old tail.new) }
     ensures left { IfErr result (λ refusal. IsLeft input.now refusal.0.now) }
     ensures refused { IfErr result (λ refusal. RefusesFront refusal.0.now refusal.1) }
+    ensures asks { IfErr result (λ refusal. OnMemory (FrontAsksMemory refusal.0.now) refusal.1) }
 {
     let mut left = input;
     let mut outer = Vec::new(alloc);
@@ -191,7 +219,7 @@ fn rewrite_others<'a>(
         }
         let mut behind = others;
         if let Err(why) = rewrite_pod(alloc, &mut outer, &mut behind, tail) {
-            return Err((others, error_at(behind, why)));
+            return Err((others, refusal(others, behind, why)));
         }
         let Some(rest) = put_stretch(behind, tail) else {
             return Err((behind, error_at(behind, Refusal::OutOfMemory)));
@@ -204,7 +232,7 @@ fn rewrite_others<'a>(
 /// that memory ran out.
 fn put_steady<'a>(left: &'a [u8], tail: &mut Tail) -> Option<&'a [u8]>
     ensures taken { IfSome result (λ rest. TakesSteady left.now tail.old rest.now tail.new) }
-    ensures front { IfNone result (HasFront left.now) }
+    ensures pod { IfNone result ((v : Tree) × Begins left.now v) }
     ensures kept { IfNone result (KeepsStart tail.old tail.new) }
 {
     let (steady, rest) = steady_stretch(left);
@@ -220,7 +248,7 @@ fn put_steady<'a>(left: &'a [u8], tail: &mut Tail) -> Option<&'a [u8]>
 /// Appends the first pods, as many as are their own rewritings, and gives what follows them. `None` says that memory ran out.
 fn put_stretch<'a>(left: &'a [u8], tail: &mut Tail) -> Option<&'a [u8]>
     ensures taken { IfSome result (λ rest. TakesStretch left.now tail.old rest.now tail.new) }
-    ensures front { IfNone result (HasFront left.now) }
+    ensures pod { IfNone result ((v : Tree) × Begins left.now v) }
     ensures kept { IfNone result (KeepsStart tail.old tail.new) }
 {
     let (stretch, rest) = canonical_stretch(left);

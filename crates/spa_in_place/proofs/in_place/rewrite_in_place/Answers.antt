@@ -3,7 +3,7 @@ use Rattle.std.proofs.lemmas.List.{take_rest}
 use Rattle.std.specs.Prelude.{[], ◌++◌, vec_len}
 use Rattle.spa_rewrite.specs.Rewriting.{AreRewritten, AreRewrittenInParts}
 use Rattle.spa_rewrite.specs.Shorter.{AreShorter}
-use Rattle.spa_in_place.proofs.InPlaceLemmas.{all_placed, others_left, patched_of, placed_room, refused_behind, rest_placed, start_of}
+use Rattle.spa_in_place.proofs.InPlaceLemmas.{all_placed, asks_behind, deep_memory, fault_memory, others_left, patched_of, placed_room, refused_behind, rest_placed, start_of}
 use Rattle.spa_rewrite.proofs.FirstPods.{others_deeper}
 use Rattle.spa_in_place.proofs.in_place.rewrite_in_place.Goals as goal
 
@@ -11,7 +11,7 @@ pub returns-in-Err-clause-refused : goal.returns-in-Err-clause-refused
 returns-in-Err-clause-refused c =
     refused_behind _ _ _ _ _ _ _ _ _ c.canonical_stretch.ensures.parts c.canonical_stretch.ensures.canonical
     c.steady_stretch.ensures.parts c.steady_stretch.ensures.steady c.in-Err.ensures.refused refl
-    c.without_place.ensures.same c.without_place.ensures.memory
+    c.without_place-in-Err.ensures.same c.without_place-in-Err.ensures.memory
 
 pub slice_bounds-copy_from_slice-end : goal.slice_bounds-copy_from_slice-end
 slice_bounds-copy_from_slice-end c =
@@ -93,3 +93,22 @@ returns-in-Some-clause-behind c =
     c.canonical_stretch.ensures.canonical c.steady_stretch.ensures.parts c.steady_stretch.ensures.steady c.in-Some.ensures.there c.patch_all.ensures
     c.patch_all.auto.bytes refl (take_rest now (length first + length steady)) c.place_rest.ensures.rewritten c.place_rest.ensures.behind in
     all.behind
+
+pub returns-in-Some-malformed-clause-refused : goal.returns-in-Some-malformed-clause-refused
+returns-in-Some-malformed-clause-refused c =
+    refused_behind _ _ _ _ _ _ _ _ _ c.canonical_stretch.ensures.parts c.canonical_stretch.ensures.canonical
+    c.steady_stretch.ensures.parts c.steady_stretch.ensures.steady c.in-Some-malformed.ensures.refused refl
+    c.without_place.ensures.same c.without_place.ensures.memory
+
+pub returns-in-Some-malformed-clause-missed : goal.returns-in-Some-malformed-clause-missed
+returns-in-Some-malformed-clause-missed c =
+    others_deeper _ _ _ _ _ _ c.canonical_stretch.ensures.parts c.canonical_stretch.ensures.canonical c.steady_stretch.ensures.parts
+    c.steady_stretch.ensures.steady c.in_default.ensures.missed
+
+pub returns-in-Some-malformed-clause-memory : goal.returns-in-Some-malformed-clause-memory
+returns-in-Some-malformed-clause-memory c = fault_memory _ _ _ c.in-Some-malformed.ensures.fault c.without_place.ensures.fault
+
+pub returns-in-Err-clause-memory : goal.returns-in-Err-clause-memory
+returns-in-Err-clause-memory c =
+    deep_memory _ _ (asks_behind _ _ _ _ _ c.canonical_stretch.ensures.parts c.canonical_stretch.ensures.canonical c.steady_stretch.ensures.parts
+    c.steady_stretch.ensures.steady c.in_default-malformed.ensures.asks)

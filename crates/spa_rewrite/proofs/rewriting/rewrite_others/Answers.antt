@@ -1,9 +1,7 @@
-use Rattle.std.proofs.Common.{◌≡◌, ◌+◌, ◌≤◌, [], ap, arith, length, length-append, sym, subst}
+use Rattle.std.proofs.Common.{◌≡◌, ◌+◌, ◌≤◌, [], ap, arith, length, length-append, sym}
 use Rattle.std.proofs.lemmas.Bool.{eqb-false, eqb-true}
 use Rattle.spa_format.specs.Words.{header_size}
-use Rattle.spa_rewrite.specs.Rewriting.{RefusesFront}
 use Rattle.spa_rewrite.proofs.Nesting.{rest_shorter}
-use Rattle.spa_rewrite.proofs.Refusals.{front_refused}
 use Rattle.spa_rewrite.proofs.Steps.{next_member, no_member_yet}
 use Rattle.spa_rewrite.proofs.Stretches.{left_of, members_taken, next_steady, next_stretch, steady_no_longer}
 use Rattle.spa_rewrite.proofs.rewriting.rewrite_others.Goals as goal
@@ -37,16 +35,11 @@ returns-in-Err-clause-left c =
     let some = eqb-false _ _ (sym c.if-is_empty.ensures) in
     left_of _ _ _ _ steady (λ e. some (ap length e))
 
-pub returns-in-Err-clause-refused : goal.returns-in-Err-clause-refused
-returns-in-Err-clause-refused c =
-    subst (RefusesFront c.in-Some.others.now) (sym c.error_at-in-Err.ensures)
-    (front_refused _ c.rewrite_pod.new.left c.in-Err.why c.in-Err.ensures.refused.says)
-
 pub returns-in_default-put_stretch-clause-left : goal.returns-in_default-put_stretch-clause-left
 returns-in_default-put_stretch-clause-left c =
     let steady = next_steady _ _ _ _ _ _ c.loop-others.invariant c.in-Some.ensures.taken in
     let next = next_member _ _ _ _ _ _ steady c.in_default-rewrite_pod.ensures.taken in
-    let there = c.in_default-put_stretch.ensures.front in
+    let there = c.in_default-put_stretch.ensures.pod.1.there in
     let header : header_size ≤ length c.rewrite_pod.new.left.now = there.header in
     left_of _ _ _ _ next
     (λ (e : c.rewrite_pod.new.left.now ≡ []). absurd (omega (arith, ap length e)))

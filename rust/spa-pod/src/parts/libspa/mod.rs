@@ -39,7 +39,7 @@ pub mod pod {
     pub use crate::parts::spa_value::{Bitmap, ChoiceValue, Held, Object, Property, PropertyFlags, Value, ValueArray, discard, same};
     pub(crate) use crate::parts::spa_value::laws as value_laws;
     pub use crate::{object, property};
-    pub use crate::parts::spa_view::{Pod, PodObject, PodObjectIter, PodProp, PodPropFlags, PodStruct, PodStructIter};
+    pub use crate::parts::spa_view::{FixedPod, FromPod, Pod, PodArray, PodChoice, PodElements, PodObject, PodObjectIter, PodProp, PodPropFlags, PodStruct, PodStructIter};
     pub(crate) use crate::parts::spa_view::laws as getter_laws;
 
     /// Building pods call by call.

@@ -5,7 +5,8 @@ use crate::shims::prelude::*;
 ///
 /// `None`, `Bool(v)`, `Id(v)`, `Int(v)`, `Long(v)`, `Float(v)`, `Double(v)`, `String(v)`, `Bytes(v)`,
 /// `Pointer(type, v)`, `Fd(v)`, `Rectangle(v)`, `Fraction(v)`, `Array(v)` of a slice of elements, `Value(v)` of a reference
-/// to a `Value`, `Pod(v)` of a view; `Array { .. }` and `Choice(shape, flags) { .. }` of forms of fixed size, `Struct { .. }` of any forms, and
+/// to a `Value`, `Pod(v)` of a view; `Array { .. }`, `Range { .. }`, `Step { .. }`, `Enum { .. }`, `Flags { .. }` and
+/// `Choice(shape, flags) { .. }` of forms of fixed size, a choice's default first, `Struct { .. }` of any forms, and
 /// `Object(type, id) { key => form, key, flags => form, .. }`, whose properties have no flags where none are given.
 ///
 /// It answers `Ok(())`, or the first refusal. Then the calls before the refused one keep their effect, and what was begun
@@ -71,6 +72,18 @@ macro_rules! builder_add {
             Ok(frame) => $crate::builder_members!($builder, frame, $($values)*),
             Err(refusal) => Err(refusal),
         }
+    };
+    ($builder:expr, Range { $($values:tt)* }) => {
+        $crate::builder_add!($builder, Choice($crate::macros::spa_builder::RANGE_SHAPE, 0) { $($values)* })
+    };
+    ($builder:expr, Step { $($values:tt)* }) => {
+        $crate::builder_add!($builder, Choice($crate::macros::spa_builder::STEP_SHAPE, 0) { $($values)* })
+    };
+    ($builder:expr, Enum { $($values:tt)* }) => {
+        $crate::builder_add!($builder, Choice($crate::macros::spa_builder::ENUM_SHAPE, 0) { $($values)* })
+    };
+    ($builder:expr, Flags { $($values:tt)* }) => {
+        $crate::builder_add!($builder, Choice($crate::macros::spa_builder::FLAGS_SHAPE, 0) { $($values)* })
     };
     ($builder:expr, Struct { $($members:tt)* }) => {
         match $builder.push_struct() {

@@ -17,3 +17,5 @@ mod values;
 pub use build_call::BuildCall;
 pub use builder::Builder;
 pub use calls::replay;
+/// The shape words that `builder_add!` names.
+pub use crate::parts::spa_fixed::{ENUM_SHAPE, FLAGS_SHAPE, RANGE_SHAPE, STEP_SHAPE};

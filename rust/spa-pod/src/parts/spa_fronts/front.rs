@@ -2,9 +2,9 @@
 
 use crate::shims::prelude::*;
 use crate::parts::spa_fronts::object_view::ObjectView;
-use crate::parts::spa_bytes::{Front, HEADER_LEN, SECOND_WORD, open, u32_at};
+use crate::parts::spa_bytes::{HEADER_LEN, SECOND_WORD, open, u32_at};
 use crate::parts::spa_fixed::DeserializeError;
-use crate::parts::spa_rewrite::{rewrite, surplus_of_all};
+use crate::parts::spa_rewrite::{Rejected, look_at_pod, rewrite};
 use crate::parts::spa_scan::canonical_front;
 use crate::parts::spa_utils::SpaTypes;
 
@@ -44,7 +44,7 @@ pub fn object_pod(input: &[u8]) -> Result<ObjectPod<'_>, NoObject> {
         return Err(NoObject::Unread);
     };
     if front.type_ != SpaTypes::Object.0 {
-        return Err(no_object(input, &front));
+        return Err(no_object(input));
     }
     if let Some(rest) = canonical_front(input) {
         let (pod, _) = input.split_at(input.len() - rest.len());
@@ -63,16 +63,21 @@ fn rewritten(input: &[u8]) -> Result<Vec<u8>, NoObject> {
     }
 }
 
-/// What a front of another type than an object's is. Memory is asked for only where structs stand more than 1000 deep in one another.
+/// What a front of another type than an object's is. Memory is asked for only where structs stand more than 1000 deep in one another, not counting
+/// those that end where the one around them does.
 #[inline(never)]
-fn no_object(input: &[u8], front: &Front<'_>) -> NoObject {
-    let (pod, _) = input.split_at(input.len() - front.rest.len());
-    if let Some(_surplus) = surplus_of_all(pod) {
-        return NoObject::Other;
+fn no_object(input: &[u8]) -> NoObject {
+    match look_at_pod(input) {
+        Ok(_) => NoObject::Other,
+        Err(rejected) => match rejected {
+            Rejected::Fault(_, _) => NoObject::Unread,
+            Rejected::TooDeep => deep_no_object(input),
+        },
     }
-    if front.type_ != SpaTypes::Struct.0 {
-        return NoObject::Unread;
-    }
+}
+
+/// What a front is that nests too deep to be looked into: it is rewritten to see.
+fn deep_no_object(input: &[u8]) -> NoObject {
     let Err(why) = rewritten(input) else {
         return NoObject::Other;
     };

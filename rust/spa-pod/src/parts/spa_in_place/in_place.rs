@@ -3,7 +3,10 @@
 use crate::shims::prelude::*;
 use crate::parts::spa_in_place::place::place_all;
 use crate::parts::spa_fixed::{DeserializeError, Fault};
-use crate::parts::spa_rewrite::{patch_all, rewrite_in_parts, steady_stretch, surplus_of_all};
+use crate::parts::spa_leaf::error_at;
+use crate::parts::spa_rewrite::{
+    Rejected, look_at_pods, patch_all, rewrite_in_parts, steady_stretch, surplus_of_all,
+};
 use crate::parts::spa_scan::canonical_stretch;
 
 /// Puts the rewritings of all pods that the bytes are at their front, and answers how many bytes these take: never more than the
@@ -14,7 +17,8 @@ use crate::parts::spa_scan::canonical_stretch;
 ///
 /// A look tells first which pods get shorter; then those are moved, and the others are patched where they lie. That takes no memory where structs
 /// and objects stand at most `LEVELS` deep in one another, not counting those that end where the one around them does. Where they stand deeper
-/// in a pod that gets shorter, or behind one, memory is asked for as `rewrite_in_parts` does.
+/// in a pod that gets shorter, or behind one, memory is asked for as `rewrite_in_parts` does. A malformed pod in which they don't is refused before
+/// any is asked for.
 pub fn rewrite_in_place(
     bytes: &mut [u8],
 ) -> Result<usize, (usize, DeserializeError<()>)> {
@@ -28,6 +32,9 @@ pub fn rewrite_in_place(
         place_rest(surplus, &mut bytes[to..]);
         return Ok(len - surplus);
     }
+    if let Some((pod, error)) = malformed(others) {
+        return Err((len - pod.len(), without_place(error)));
+    }
     let (start, written) = match rewrite_in_parts(others) {
         Ok((kept, written)) => (to + kept.len(), written),
         Err((left, error)) => return Err((len - left.len(), without_place(error))),
@@ -36,6 +43,18 @@ pub fn rewrite_in_place(
     let end = start + written.len();
     bytes[start..end].copy_from_slice(written.as_slice());
     Ok(end)
+}
+
+/// What is left of pods from a malformed one on, and its refusal: of the first that isn't accepted or nests too deep to be looked into, if it is
+/// malformed and doesn't.
+fn malformed(pods: &[u8]) -> Option<(&[u8], DeserializeError<&[u8]>)> {
+    let Err((pod, rejected)) = look_at_pods(pods) else {
+        return None;
+    };
+    match rejected {
+        Rejected::Fault(place, why) => Some((pod, error_at(place, why))),
+        Rejected::TooDeep => None,
+    }
 }
 
 /// Makes pods that are so many bytes shorter then their rewritings, at their front.

@@ -2,12 +2,17 @@
 use crate::shims::prelude::*;
 mod contents;
 mod entry;
+pub mod formats;
 mod id_entries;
+pub mod ids;
 mod key_entries;
+pub mod keys;
 pub mod laws;
 mod lookup;
 mod names;
+pub mod shapes;
 mod table;
+pub mod types;
 
 pub use entry::Expected;
 pub use lookup::{expected_under, ids_of, keys_of, name_of, number_of, path_of};

@@ -1,7 +1,7 @@
 //! What is read of the body of a struct or of an object, up to the next struct or object in it.
 
 use crate::shims::prelude::*;
-use crate::parts::spa_read::front::open_counted;
+use crate::parts::spa_read::front::open_in;
 use crate::parts::spa_read::leaves::read_leaf_into;
 use crate::parts::spa_read::refused::Refused;
 use crate::shims::flags::Flags;
@@ -106,7 +106,7 @@ fn pods_from(behind: &[u8], between: usize) -> usize {
 /// Reads pods up to the end of a body, where it answers nothing, or up to a struct or an object, which it answers opened and
 /// where it then stands.
 #[inline(always)]
-pub(crate) fn read_leaves<'de, G: Grows>(
+pub(crate) fn read_leaves<'de, G: Grows, const LENIENT: bool>(
     left: &mut &'de [u8],
     opened: &mut u64,
     to: &mut G,
@@ -118,7 +118,7 @@ pub(crate) fn read_leaves<'de, G: Grows>(
                 why: Refusal::Short,
             });
         };
-        let Some(front) = open_counted(place, opened) else {
+        let Some(front) = open_in::<LENIENT>(place, opened) else {
             return Err(Refused {
                 place,
                 why: Refusal::Short,
@@ -142,14 +142,18 @@ pub(crate) fn read_leaves<'de, G: Grows>(
 impl Inside {
     /// Reads on as the members of a struct or as the properties of an object.
     #[inline(always)]
-    pub(crate) fn read_on<'de>(
+    pub(crate) fn read_on<'de, const LENIENT: bool>(
         &mut self,
         left: &mut &'de [u8],
         opened: &mut u64,
     ) -> Result<Option<Front<'de>>, Refused<'de>> {
         match self {
-            Inside::Struct(members) => read_leaves(left, opened, members),
-            Inside::Object(object) => read_leaves(left, opened, object),
+            Inside::Struct(members) => read_leaves::<Vec<Value>, LENIENT>(
+                left, opened, members,
+            ),
+            Inside::Object(object) => read_leaves::<OpenObject, LENIENT>(
+                left, opened, object,
+            ),
         }
     }
 

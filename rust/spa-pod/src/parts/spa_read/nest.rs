@@ -72,12 +72,12 @@ impl<'de> Nest<'de> {
     /// Reads on to the next struct or object, which is begun, or to the end of the innermost, which is put into the one around
     /// it. Whether something is left to read: where not, the innermost is the outermost, and is read.
     #[inline(always)]
-    pub(crate) fn step(
+    pub(crate) fn step<const LENIENT: bool>(
         &mut self,
         left: &mut &'de [u8],
         opened: &mut u64,
     ) -> Result<bool, Refused<'de>> {
-        let Some(front) = self.inner.inside.read_on(left, opened)? else {
+        let Some(front) = self.inner.inside.read_on::<LENIENT>(left, opened)? else {
             *left = self.inner.rest;
             return self.end();
         };

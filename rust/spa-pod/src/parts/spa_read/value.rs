@@ -1,7 +1,7 @@
 //! Any value, read from the front of an input: the structs and objects in it by one loop over those that are begun.
 
 use crate::shims::prelude::*;
-use crate::parts::spa_read::front::open_counted;
+use crate::parts::spa_read::front::open_in;
 use crate::parts::spa_read::leaves::read_leaf;
 use crate::parts::spa_read::nest::{Nest, begin_reading};
 use crate::parts::spa_read::refused::Refused;
@@ -18,14 +18,32 @@ pub fn read_value<'de>(
     input: &'de [u8],
     opened: &mut u64,
 ) -> Result<(&'de [u8], Value), Refused<'de>> {
-    let Some(front) = open_counted(input, opened) else {
+    read_either::<false>(input, opened)
+}
+
+/// What follows the pod at the front of the input, and the value that the front conveys in the lenient reading.
+///
+/// Unless memory runs out, this succeeds exactly where the front that the first size word names is there and conveys a value. A refusal
+/// names a fault that stands in the lenient reading, and where; or it is `OutOfMemory`, where the front is there and its type takes memory.
+pub fn read_value_leniently(input: &[u8]) -> Result<(&[u8], Value), Refused<'_>> {
+    let mut opened = 0;
+    read_either::<true>(input, &mut opened)
+}
+
+/// What follows the pod at the front, and its value in either reading.
+#[inline(always)]
+fn read_either<'de, const LENIENT: bool>(
+    input: &'de [u8],
+    opened: &mut u64,
+) -> Result<(&'de [u8], Value), Refused<'de>> {
+    let Some(front) = open_in::<LENIENT>(input, opened) else {
         return Err(Refused {
             place: input,
             why: Refusal::Short,
         });
     };
     if front.type_ == SpaTypes::Struct.0 || front.type_ == SpaTypes::Object.0 {
-        return read_nested(input, front, opened);
+        return read_nested::<LENIENT>(input, front, opened);
     }
     match read_leaf(front.type_, front.body) {
         Ok(value) => Ok((front.rest, value)),
@@ -33,8 +51,8 @@ pub fn read_value<'de>(
     }
 }
 
-/// The same where a struct or an object is at the front, and is opened.
-fn read_nested<'de>(
+/// What follows a struct or an object at the front, which is opened, and its value.
+fn read_nested<'de, const LENIENT: bool>(
     input: &'de [u8],
     front: Front<'de>,
     opened: &mut u64,
@@ -45,7 +63,7 @@ fn read_nested<'de>(
     };
     let mut nest = Nest::new(outermost);
     loop {
-        match nest.step(&mut left, opened) {
+        match nest.step::<LENIENT>(&mut left, opened) {
             Ok(true) => {}
             Ok(false) => return Ok((left, nest.into_value())),
             Err(refused) => {

@@ -1,7 +1,7 @@
 //! The rewriting of a pod is the encoding of its value.
 
 use crate::shims::prelude::*;
-use crate::parts::spa_rewrite::look::{Rejected, look_at_pods};
+use crate::parts::spa_rewrite::look::{Rejected, look_at_pod, look_at_pods};
 use crate::parts::spa_rewrite::pod::rewrite_pod;
 use crate::parts::spa_rewrite::steady::steady_stretch;
 use crate::parts::spa_rewrite::tail::Tail;
@@ -16,13 +16,29 @@ use core::mem;
 /// Unless memory runs out, this succeeds exactly where the front that the first size word names is there and is a pod.
 /// The refusals are those of `PodDeserializer::deserialize_any_from`, but that a refusal for lack of memory can also be
 /// answered for a pod of fixed size, whose encoding takes memory. A size is never a cause: what was read can be
-/// written.
+/// written. A malformed pod is refused for its fault also where memory ran out, unless more than 1000 structs and objects stand in one another in it.
 pub fn rewrite(input: &[u8]) -> Result<(&[u8], Vec<u8>), DeserializeError<&[u8]>> {
     let mut left = input;
     let mut tail = Tail::behind(Vec::new());
     match rewrite_pod(&mut Vec::new(), &mut left, &mut tail) {
         Ok(()) => Ok((left, tail.into_whole())),
-        Err(why) => Err(error_at(left, why)),
+        Err(why) => Err(refusal(input, left, why)),
+    }
+}
+
+/// The refusal of the pod at the front. Where memory ran out for its encoding, a look tells its fault, if it is malformed.
+#[cold]
+#[inline(never)]
+fn refusal<'a>(input: &'a [u8], place: &'a [u8], why: Refusal) -> DeserializeError<&'a [u8]> {
+    match why {
+        Refusal::OutOfMemory => match look_at_pod(input) {
+            Ok(_) => error_at(input, why),
+            Err(rejected) => match rejected {
+                Rejected::Fault(inner, fault) => error_at(inner, fault),
+                Rejected::TooDeep => error_at(input, why),
+            },
+        },
+        _ => error_at(place, why),
     }
 }
 
@@ -127,7 +143,7 @@ fn rewrite_others<'a>(
         }
         let mut behind = others;
         if let Err(why) = rewrite_pod(&mut outer, &mut behind, tail) {
-            return Err((others, error_at(behind, why)));
+            return Err((others, refusal(others, behind, why)));
         }
         let Some(rest) = put_stretch(behind, tail) else {
             return Err((behind, error_at(behind, Refusal::OutOfMemory)));

@@ -3,7 +3,7 @@
 use crate::shims::prelude::*;
 use crate::parts::spa_fixed::DeserializeError;
 use crate::parts::spa_leaf::error_at;
-use crate::parts::spa_read::read_value;
+use crate::parts::spa_read::{read_value, read_value_leniently};
 use crate::parts::spa_value::Value;
 
 /// A type that is read from a pod.
@@ -64,6 +64,21 @@ impl<'de> PodDeserializer<'de> {
         match read_value(input, &mut opened) {
             Ok(read) => Ok(read),
             Err(refused) => Err(error_at(refused.place, refused.why)),
+        }
+    }
+
+    /// Reads what the front of the input conveys in the lenient reading (docs/FORMAT.md), and answers what follows the front. That also finds the value of
+    /// a None choice over an array, and the text of a string that ends in several NULs, at any depth: what `spa_pod_filter` and ALSA leave.
+    ///
+    /// Unless memory runs out, this succeeds exactly where the front that the first size word names is there and conveys a value. A pod conveys its
+    /// own value: where `deserialize_any_from` accepts, this gives the same. Refusals are those of that call, each where that fault stands in
+    /// the lenient reading.
+    pub fn deserialize_any_leniently_from(
+        input: &'de [u8],
+    ) -> Result<(&'de [u8], Value), DeserializeError<&'de [u8]>> {
+        match read_value_leniently(input) {
+            Ok(read) => Ok(read),
+            Err(fault) => Err(error_at(fault.place, fault.why)),
         }
     }
 

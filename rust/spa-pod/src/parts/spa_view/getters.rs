@@ -16,7 +16,7 @@ const POINTER_TYPE_AT: usize = 0;
 
 impl<'a> Pod<'a> {
     /// The value of a pod of fixed size. INVAL where the type isn't that of `T` or the size isn't its size.
-    fn get<T: CanonicalFixedSizedPod>(&self) -> Result<T, Errno> {
+    pub(crate) fn get<T: CanonicalFixedSizedPod>(&self) -> Result<T, Errno> {
         if !self.is_of::<T>() {
             return Err(Errno::INVAL);
         }

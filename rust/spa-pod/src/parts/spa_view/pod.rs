@@ -5,7 +5,7 @@ use crate::parts::spa_bytes::{HEADER_LEN, extent_of, u32_at};
 use crate::parts::spa_utils::SpaTypes;
 
 /// Where the size word and the type word of a pod stand.
-const SIZE_AT: usize = 0;
+pub(crate) const SIZE_AT: usize = 0;
 
 const TYPE_AT: usize = 4;
 

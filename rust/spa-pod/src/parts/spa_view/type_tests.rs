@@ -3,7 +3,7 @@
 use crate::shims::prelude::*;
 use crate::parts::spa_view::pod::Pod;
 use crate::parts::spa_bytes::{POINTER_LEN, SHORT_POINTER_LEN, u32_at};
-use crate::parts::spa_fixed::CanonicalFixedSizedPod;
+use crate::parts::spa_fixed::{CanonicalFixedSizedPod, NONE_SHAPE};
 use crate::parts::spa_utils::{Fd, Float32, Float64, Fraction, Id, Rectangle, SpaTypes};
 
 /// A string's body has its NUL at least.
@@ -13,12 +13,10 @@ const LEAST_STRING: u32 = 1;
 const TWO_WORDS: u32 = 8;
 
 /// What stands before a choice's values: its shape, its flags and the child header.
-const FOUR_WORDS: u32 = 16;
+pub(crate) const FOUR_WORDS: u32 = 16;
 
-/// Where a choice's pod has its shape word, and the shape word of a None choice.
+/// Where a choice's pod has its shape word.
 pub(crate) const CHOICE_SHAPE_AT: usize = 8;
-
-const NONE_SHAPE: u32 = 0;
 
 impl<'a> Pod<'a> {
     /// Whether the type is that of `T` and the size is its size.

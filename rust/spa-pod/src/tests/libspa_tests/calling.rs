@@ -11,9 +11,7 @@ mod taking_apart {
     use crate::parts::libspa::pod::parser::Parser;
     use crate::parser_get;
     use crate::parts::libspa::utils::{Errno, Id};
-
-    /// The key of a format's sample rate.
-    const RATE: Id = Id(65539);
+    use crate::parts::spa_names::keys;
 
     /// The sample rate of the format in a message: a struct of the number of a parameter, and the parameter.
     pub fn sample_rate(message: &[u8]) -> Result<i32, Errno> {
@@ -22,13 +20,8 @@ mod taking_apart {
         let mut parser = Parser::new(message);
         parser_get!(&mut parser, Struct { Id(&mut parameter), Pod(&mut format) })?;
 
-        let mut rate = 0;
-        let property = format.as_object()?.find_prop(RATE).ok_or(Errno::INVAL)?;
-        parser_get!(
-            &mut Parser::from_pod(property.value()),
-            Int(&mut rate)
-        )?;
-        Ok(rate)
+        let rate = format.as_object()?.get(Id(keys::FORMAT_AUDIO_RATE));
+        rate.ok_or(Errno::INVAL)
     }
 }
 

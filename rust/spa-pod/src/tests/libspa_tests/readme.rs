@@ -3,13 +3,12 @@
 use crate::shims::prelude::*;
 use crate::tests::libspa_tests::bytes::{assert_holds, assert_number, assert_spelt};
 use crate::tests::libspa_tests::readme::fixate::settle;
-use crate::tests::libspa_tests::readme::look::int_under;
+use crate::tests::libspa_tests::readme::look::sample_rate;
 use crate::tests::libspa_tests::readme::look_up::channels;
 use crate::tests::libspa_tests::readme::read::count;
 use crate::tests::libspa_tests::readme::result_codes::told;
 use crate::tests::libspa_tests::readme::rewrite::{all_rewritten, say_the_same};
 use crate::tests::libspa_tests::readme::write::{encoded_int, encoded_pair};
-use crate::parts::libspa::utils::Id;
 use crate::tests::spa_spelling::bytes_spelled;
 use crate::shims::memory::AllocError;
 use crate::shims::test::Fail;
@@ -79,11 +78,12 @@ mod look {
     use crate::shims::prelude::*;
     use crate::parts::libspa::pod::Pod;
     use crate::parts::libspa::utils::Id;
+    use crate::parts::spa_names::keys;
 
-    /// The Int under a key of the object at the front.
-    pub fn int_under(key: Id, bytes: &[u8]) -> Option<i32> {
-        let object = Pod::from_bytes(bytes)?.as_object().ok()?;
-        object.find_prop(key)?.value().get_int().ok()
+    /// The sample rate of the format at the front, also where fixation left a None choice of it.
+    pub fn sample_rate(format: &[u8]) -> Option<i32> {
+        let object = Pod::from_bytes(format)?.as_object().ok()?;
+        object.get(Id(keys::FORMAT_AUDIO_RATE))
     }
 }
 
@@ -266,11 +266,19 @@ fn refused_place(pods: &[u8]) -> usize {
     }
 }
 
-/// Keys, and the Ints under them in examples/buffers.pod.
-const UNDER: &[(u32, Option<i32>)] = &[(1, None), (2, Some(1)), (4, Some(4)), (5, None)];
+/// Formats, and the sample rate of each.
+const RATES: &[(&str, Option<i32>)] = &[
+    ("32 15 262147 4 65539 0 4 4 48000 0", Some(48000)),
+    ("48 15 262147 4 65539 0 20 19 0 0 4 4 44100 0", Some(44100)),
+    (
+        "56 15 262147 3 65539 0 28 19 1 0 4 4 48000 8000 96000 0",
+        None,
+    ),
+    ("32 15 262147 4 65540 0 4 4 2 0", None),
+];
 
-fn assert_under(found: Option<i32>, wanted: Option<i32>, key: u32) {
-    assert_eq!(found, wanted, "under {key}");
+fn assert_rate(found: Option<i32>, wanted: Option<i32>, words: &str) {
+    assert_eq!(found, wanted, "of {words}");
 }
 
 #[test]
@@ -279,10 +287,10 @@ fn looks() {
 }
 
 fn looks_answers() -> Result<(), Fail> {
-    let bytes = bytes_spelled(BUFFERS)?;
-    for (key, wanted) in UNDER {
-        let found = int_under(Id(*key), bytes.as_slice());
-        assert_under(found, *wanted, *key);
+    for (words, wanted) in RATES {
+        let format = bytes_spelled(*words)?;
+        let found = sample_rate(format.as_slice());
+        assert_rate(found, *wanted, *words);
     }
     Ok(())
 }

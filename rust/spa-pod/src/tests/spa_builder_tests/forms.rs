@@ -21,6 +21,7 @@ enum Form {
     EveryPlainForm,
     ObjectWithFlags,
     Lists,
+    Choices,
 }
 
 /// The words of each form, by the rules of the format.
@@ -63,6 +64,13 @@ const FORMS: &[(Form, &[u32])] = &[
         Form::Lists,
         &[
             96, 14, 16, 13, 4, 4, 1, 2, 16, 13, 8, 5, 9, 0, 20, 19, 0, 9, 4, 3, 7, 0, 4, 4, 8, 0,
+        ],
+    ),
+    (
+        Form::Choices,
+        &[
+            184, 15, 5, 3, 1, 0, 28, 19, 1, 0, 4, 4, 5, 2, 10, 0, 2, 0, 32, 19, 2, 0, 4, 4, 5, 2,
+            10, 4, 3, 0, 20, 19, 3, 0, 4, 3, 7, 0, 4, 0, 24, 19, 4, 0, 4, 3, 1, 2,
         ],
     ),
 ];
@@ -108,6 +116,15 @@ fn add_lists(builder: &mut Builder) -> Result<(), Errno> {
     })
 }
 
+fn add_choices(builder: &mut Builder) -> Result<(), Errno> {
+    builder_add!(builder, Object(5, 3) {
+        1 => Range { Int(5), Int(2), Int(10) },
+        2 => Step { Int(5), Int(2), Int(10), Int(4) },
+        3 => Enum { Id(Id(7)) },
+        4 => Flags { Id(Id(1)), Id(Id(2)) },
+    })
+}
+
 fn add(builder: &mut Builder, form: Form) -> Result<(), Errno> {
     match form {
         Form::Nothing => builder_add!(builder, None),
@@ -121,6 +138,7 @@ fn add(builder: &mut Builder, form: Form) -> Result<(), Errno> {
         Form::EveryPlainForm => add_every_plain_form(builder),
         Form::ObjectWithFlags => add_object_with_flags(builder),
         Form::Lists => add_lists(builder),
+        Form::Choices => add_choices(builder),
     }
 }
 

@@ -9,9 +9,10 @@ mod by_calls {
     use crate::shims::prelude::*;
     use crate::parts::spa_builder::Builder;
     use crate::builder_add;
+    use crate::parts::spa_names::{ids, keys, types};
     use crate::parts::spa_utils::{Errno, Fraction, Id, Rectangle};
 
-    /// A video format in the vector: of type 262147, for the parameter 4.
+    /// A video format in the vector.
     pub fn format_pod(bytes: Vec<u8>) -> Result<Vec<u8>, Errno> {
         let size = Rectangle {
             width: 320,
@@ -19,11 +20,11 @@ mod by_calls {
         };
         let rate = Fraction { num: 25, denom: 1 };
         let mut builder = Builder::new(bytes);
-        builder_add!(builder, Object(262147, 4) {
-            1 => Id(Id(2)),
-            2 => Id(Id(1)),
-            131075 => Rectangle(size),
-            131076 => Fraction(rate),
+        builder_add!(builder, Object(types::OBJECT_FORMAT, ids::PARAM_FORMAT) {
+            keys::FORMAT_MEDIA_TYPE => Id(Id(ids::MEDIA_TYPE_VIDEO)),
+            keys::FORMAT_MEDIA_SUBTYPE => Id(Id(ids::MEDIA_SUBTYPE_RAW)),
+            keys::FORMAT_VIDEO_SIZE => Rectangle(size),
+            keys::FORMAT_VIDEO_FRAMERATE => Fraction(rate),
         })?;
         Ok(builder.into_inner())
     }

@@ -7,6 +7,8 @@ mod dictionaries;
 #[cfg(test)]
 mod equality;
 #[cfg(test)]
+mod numbers;
+#[cfg(test)]
 mod plain_types;
 #[cfg(test)]
 mod results;

@@ -9,4 +9,6 @@ mod equality;
 #[cfg(test)]
 mod events;
 #[cfg(test)]
+mod looking;
+#[cfg(test)]
 mod viewing;

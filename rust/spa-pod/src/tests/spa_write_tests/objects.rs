@@ -184,6 +184,7 @@ fn made(form: Form) -> Result<Object, Errno> {
 /// What docs/CALLING.md shows, word for word.
 mod by_value {
     use crate::shims::prelude::*;
+    use crate::parts::spa_names::{ids, keys, types};
     use crate::parts::spa_utils::{Errno, Fraction, Id, Rectangle, SpaTypes};
     use crate::parts::spa_value::Object;
     use crate::{object, property};
@@ -191,12 +192,12 @@ mod by_value {
     /// The same format as a value.
     pub fn format_object() -> Result<Object, Errno> {
         object!(
-            SpaTypes(262147),
-            Id(4),
-            property!(Id(1), Id, Id(2))?,
-            property!(Id(2), Id, Id(1))?,
-            property!(Id(131075), Rectangle, Rectangle { width: 320, height: 240 })?,
-            property!(Id(131076), Fraction, Fraction { num: 25, denom: 1 })?,
+            SpaTypes(types::OBJECT_FORMAT),
+            Id(ids::PARAM_FORMAT),
+            property!(Id(keys::FORMAT_MEDIA_TYPE), Id, Id(ids::MEDIA_TYPE_VIDEO))?,
+            property!(Id(keys::FORMAT_MEDIA_SUBTYPE), Id, Id(ids::MEDIA_SUBTYPE_RAW))?,
+            property!(Id(keys::FORMAT_VIDEO_SIZE), Rectangle, Rectangle { width: 320, height: 240 })?,
+            property!(Id(keys::FORMAT_VIDEO_FRAMERATE), Fraction, Fraction { num: 25, denom: 1 })?,
         )
     }
 }

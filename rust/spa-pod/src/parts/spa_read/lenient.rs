@@ -1,0 +1,102 @@
+//! What the lenient reading reads in the place of a pod: the one step in which it differs from the exact reading.
+
+use crate::shims::prelude::*;
+use crate::parts::spa_bytes::{Front, HEADER_LEN, u32_at};
+use crate::parts::spa_leaf::{CHOICE_HEADER_LEN, VALUE_TYPE_AT};
+use crate::parts::spa_utils::SpaTypes;
+
+/// The shape word of a None choice.
+const NONE_SHAPE: u32 = 0;
+
+/// The byte that ends a text.
+const NUL: u8 = 0;
+
+/// What the lenient reading reads in the place of this pod.
+pub(crate) fn read_as<'de>(front: Front<'de>) -> Front<'de> {
+    if !is_none_choice(front.type_, front.body) {
+        return Front {
+            type_: front.type_,
+            body: body_as(front.type_, front.body),
+            rest: front.rest,
+        };
+    }
+    let (type_, body) = none_choice_as(front.body);
+    Front {
+        type_,
+        body,
+        rest: front.rest,
+    }
+}
+
+/// Whether it is a choice of shape 0 with room for its child header.
+fn is_none_choice(type_: u32, body: &[u8]) -> bool {
+    if type_ != SpaTypes::Choice.0 || body.len() < CHOICE_HEADER_LEN {
+        return false;
+    }
+    u32_at(body, 0) == NONE_SHAPE
+}
+
+/// The type and the body that are read in the place of a None choice of this body.
+fn none_choice_as(body: &[u8]) -> (u32, &[u8]) {
+    let type_ = u32_at(body, VALUE_TYPE_AT);
+    let end = CHOICE_HEADER_LEN + u32_at(body, HEADER_LEN) as usize;
+    if stays_choice(type_) {
+        return (SpaTypes::Choice.0, first_of(body, end));
+    }
+    if body.len() < end {
+        return (SpaTypes::Choice.0, &[]);
+    }
+    (type_, body_as(type_, &body[CHOICE_HEADER_LEN..end]))
+}
+
+/// Whether a None choice over this type is read as a choice.
+fn stays_choice(type_: u32) -> bool {
+    match SpaTypes(type_) {
+        SpaTypes::Bool => true,
+        SpaTypes::Id => true,
+        SpaTypes::Int => true,
+        SpaTypes::Long => true,
+        SpaTypes::Float => true,
+        SpaTypes::Double => true,
+        SpaTypes::Rectangle => true,
+        SpaTypes::Fraction => true,
+        SpaTypes::Fd => true,
+        SpaTypes::Choice => true,
+        _ => false,
+    }
+}
+
+/// So many first bytes, or all, where these are fewer.
+fn first_of(body: &[u8], len: usize) -> &[u8] {
+    if body.len() < len {
+        return body;
+    }
+    &body[..len]
+}
+
+/// What is read of a body of this type, which is no None choice.
+fn body_as(type_: u32, body: &[u8]) -> &[u8] {
+    if type_ == SpaTypes::String.0 {
+        return text_as(body);
+    }
+    body
+}
+
+/// What is read of a string's body: where it ends in NUL, what stands before the first NUL, and that.
+fn text_as(body: &[u8]) -> &[u8] {
+    let Some((last, _)) = body.split_last() else {
+        return body;
+    };
+    if *last != NUL {
+        return body;
+    }
+    match first_nul(body) {
+        Some(end) => &body[..end + 1],
+        None => unreachable!(),
+    }
+}
+
+/// Where the first NUL is.
+fn first_nul(body: &[u8]) -> Option<usize> {
+    body.iter().position(|byte| *byte == NUL)
+}

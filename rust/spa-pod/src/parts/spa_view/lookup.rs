@@ -1,0 +1,81 @@
+//! Values looked up by key, whether each stands there as it is or as a None choice.
+
+use crate::shims::prelude::*;
+use crate::parts::spa_view::pod::Pod;
+use crate::parts::spa_view::props::PodObject;
+use crate::parts::spa_fixed::CanonicalFixedSizedPod;
+use crate::parts::spa_utils::{Fd, Float32, Float64, Fraction, Id, Rectangle};
+use core::str;
+
+/// A type of values that are read where they lie: one of the ten types of fixed size, `&str` for texts, `&[u8]` for Bytes.
+pub trait FromPod<'a>: Sized {
+    /// The value that the pod says. None exactly where it says none of this type.
+    fn from_pod(pod: &Pod<'a>) -> Option<Self>;
+}
+
+/// One of the ten types of fixed size. A trait of this crate's own, so that what is written once for them overlaps no other type.
+pub trait FixedPod: CanonicalFixedSizedPod {}
+
+impl FixedPod for () {}
+
+impl FixedPod for bool {}
+
+impl FixedPod for Id {}
+
+impl FixedPod for i32 {}
+
+impl FixedPod for i64 {}
+
+impl FixedPod for Float32 {}
+
+impl FixedPod for Float64 {}
+
+impl FixedPod for Rectangle {}
+
+impl FixedPod for Fraction {}
+
+impl FixedPod for Fd {}
+
+/// The value of a body of its size.
+impl<'a, T: FixedPod> FromPod<'a> for T {
+    fn from_pod(pod: &Pod<'a>) -> Option<T> {
+        match pod.get::<T>() {
+            Ok(value) => Some(value),
+            Err(_) => None,
+        }
+    }
+}
+
+/// The text before the first NUL of a string whose last byte is NUL.
+impl<'a> FromPod<'a> for &'a str {
+    fn from_pod(pod: &Pod<'a>) -> Option<&'a str> {
+        let Ok(bytes) = pod.get_string_raw() else {
+            return None;
+        };
+        match str::from_utf8(bytes) {
+            Ok(text) => Some(text),
+            Err(_) => None,
+        }
+    }
+}
+
+/// The bytes of Bytes.
+impl<'a> FromPod<'a> for &'a [u8] {
+    fn from_pod(pod: &Pod<'a>) -> Option<&'a [u8]> {
+        match pod.get_bytes() {
+            Ok(bytes) => Some(bytes),
+            Err(_) => None,
+        }
+    }
+}
+
+impl<'a> PodObject<'a> {
+    /// The value under the key, which is that of the first property with it, or the value of the None choice there. None exactly
+    /// where no property has the key, or the first one's value is of another type.
+    pub fn get<T: FromPod<'a>>(&self, key: Id) -> Option<T> {
+        match self.find_prop(key) {
+            Some(prop) => T::from_pod(&prop.value().settled()),
+            None => None,
+        }
+    }
+}

@@ -1,0 +1,6 @@
+//! Tests of the lenient reading and of rewriting in it. There is nothing here but tests.
+use crate::shims::prelude::*;
+#[cfg(test)]
+mod rewriting;
+#[cfg(test)]
+mod rows;

@@ -168,7 +168,7 @@ settled_conveys (pointer t a) b h = of_itself (pointer t a) b (λ e. omega arith
 settled_conveys (struct vs) b h = of_itself (struct vs) b (λ e. omega arith) h
 settled_conveys (object t i ps) b h = of_itself (object t i ps) b (λ e. omega arith) h
 
--- The same of pods.
+-- What a pod is of, its settled view is of, and of a None choice the value.
 
 of_pod : (v : Tree) (b : List ℕ) → type_of v ≢ 19 → IsPod b v → IsPod (settled_bytes b) v
 of_pod v b n h = subst (λ z. IsPod z v) (sym (other_type b (λ e. n (sym h.its_type ∙ e)))) h

@@ -24,6 +24,6 @@ first_value key (property k f v ps) = if nat_eq k key then Some v else first_val
 abbrev pub StandsUnder : ℕ → Tree → List ℕ → Type 0
 StandsUnder key v object = IsSomeAnd (property_at key object) (λ p. Says v (settled_bytes (drop header_size p)))
 
--- the same in properties
+-- in properties the first value under the key is this one, or a None choice of it
 abbrev pub IsSettledUnder : ℕ → Tree → Properties → Type 0
 IsSettledUnder key v ps = IsSomeAnd (first_value key ps) (λ w. settled_of w ≡ v)

@@ -374,4 +374,3 @@ asks_behind input first rest steady others i k r s (inr d) =
 
 pub deep_memory : (P : Type 0) (e : DeserializeError ⊤) → P → OnMemory P e
 deep_memory P e h = on_memory P e (λ z. h)
-

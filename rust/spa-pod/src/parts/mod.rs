@@ -13,6 +13,7 @@ pub mod spa_format;
 pub mod spa_fronts;
 pub mod spa_in_place;
 pub mod spa_leaf;
+pub mod spa_lenient;
 pub mod spa_multiples;
 pub mod spa_names;
 pub mod spa_negotiate;

@@ -8,7 +8,6 @@ pub mod podtool_tests;
 pub mod spa_builder_tests;
 pub mod spa_callers;
 pub mod spa_fixed_tests;
-pub mod spa_lenient;
 pub mod spa_lenient_tests;
 pub mod spa_parser_tests;
 pub mod spa_pod_commands;

@@ -2,7 +2,7 @@
 use crate::shims::prelude::*;
 use crate::tests::spa_lenient_tests::rows::ROWS;
 use crate::parts::spa_fixed::DeserializeError;
-use crate::tests::spa_lenient::{rewrite_all_leniently, rewrite_leniently};
+use crate::parts::spa_lenient::{rewrite_all_leniently, rewrite_leniently};
 use crate::tests::spa_spelling::{bytes_of, nested_structs, push_spelling, push_words};
 use crate::parts::spa_typed_read::PodDeserializer;
 use crate::parts::spa_value::Held;

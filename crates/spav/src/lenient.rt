@@ -14,6 +14,7 @@ use std::alloc::Global;
 /// 0: `written` is their length, and what is behind them is as it was. -EINVAL: the input doesn't convey values one after another; nothing is
 /// conveyed at the byte `at`. -ENOSPC: it does, and `written`, the length of the encodings, is more than `out` has. -ENOMEM: memory was asked
 /// for and refused. Where the answer isn't 0, `out` is unchanged.
+#[tactic(auto, using(crate::proofs::Refusals::none_conveyed))]
 #[unsafe(no_mangle)]
 pub extern "C" fn spav_rewrite_leniently(
     alloc: Global,

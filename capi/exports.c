@@ -21,6 +21,13 @@ int32_t spav_rewrite(const void *in, size_t n, void *out, size_t cap, size_t *wr
 	return proved_spav_rewrite(some(in), n, some(out), cap, written, at);
 }
 
+int32_t proved_spav_rewrite_leniently(const void *, size_t, void *, size_t, size_t *, size_t *);
+int32_t spav_rewrite_leniently(const void *in, size_t n, void *out, size_t cap, size_t *written, size_t *at) {
+	if (lacks(in, n) || lacks(out, cap))
+		return -EFAULT;
+	return proved_spav_rewrite_leniently(some(in), n, some(out), cap, written, at);
+}
+
 int32_t proved_spav_rewrite_in_place(void *, size_t, size_t *, size_t *);
 int32_t spav_rewrite_in_place(void *bytes, size_t n, size_t *written, size_t *at) {
 	return lacks(bytes, n) ? -EFAULT : proved_spav_rewrite_in_place(some(bytes), n, written, at);

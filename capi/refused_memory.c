@@ -37,23 +37,28 @@ void __wrap_free(void *block) {
 
 #define SEE(fact) do { if (!(fact)) { fprintf(stderr, "line %d: %s\n", __LINE__, #fact); exit(1); } } while (0)
 
+/* A None choice over an Array of Ids in a struct, between texts with two NULs. */
+static const uint32_t lenient[] = { 4, 8, 0x6261, 0, 40, 14, 32, 19, 0, 5, 16, 13, 4, 3, 3, 4, 4, 8, 0x6261, 0 };
+
 /* A Bool as 7, and an object with a struct in it that holds such a Bool and a choice with surplus values. */
 static const uint32_t dirty[] = {
 	4, 2, 7, 9,
 	80, 15, 5, 3, 1, 0, 56, 14, 4, 2, 7, 9, 28, 19, 0, 5, 4, 4, 1, 2, 3, 0, 0, 14, 0, 14, 0, 14,
 };
 
+typedef int32_t rewriting(const void *in, size_t n, void *out, size_t cap, size_t *written, size_t *at);
+
 /* Into `cap` bytes. */
-static void refuse_each(const void *in, size_t n, size_t cap, bool may_ask) {
+static void refuse_each(rewriting *rewrite, const void *in, size_t n, size_t cap, bool may_ask) {
 	static uint8_t wanted[1024], out[1024], before[1024];
 	size_t len, written, at;
 	memset(before, 0xee, sizeof before);
 	refuse_at = 0;
-	SEE(spav_rewrite(in, n, wanted, cap, &len, &at) == 0 && held == 0);
+	SEE(rewrite(in, n, wanted, cap, &len, &at) == 0 && held == 0);
 	for (refuse_at = 1;; refuse_at++) {
 		asked = 0;
 		memset(out, 0xee, sizeof out);
-		int32_t answer = spav_rewrite(in, n, out, cap, &written, &at);
+		int32_t answer = rewrite(in, n, out, cap, &written, &at);
 		SEE(held == 0);
 		if (answer == 0)
 			SEE(written == len && !memcmp(out, wanted, len) && !memcmp(out + len, before, sizeof out - len));
@@ -213,10 +218,12 @@ int main(void) {
 	for (int i = 0; i < 2; i++) {
 		and_after = i == 1;
 		/* What gets shorter, into room for it all, and into just enough. */
-		refuse_each(dirty, sizeof dirty, sizeof dirty, false);
-		refuse_each(dirty, sizeof dirty, written, true);
-		refuse_each(own, written, written, false);
-		refuse_each(dirty, 16, 1024, false);
+		refuse_each(spav_rewrite, dirty, sizeof dirty, sizeof dirty, false);
+		refuse_each(spav_rewrite, dirty, sizeof dirty, written, true);
+		refuse_each(spav_rewrite, own, written, written, false);
+		refuse_each(spav_rewrite, dirty, 16, 1024, false);
+		refuse_each(spav_rewrite_leniently, dirty, sizeof dirty, sizeof dirty, true);
+		refuse_each(spav_rewrite_leniently, lenient, sizeof lenient, sizeof lenient, true);
 		refuse_check(dirty, sizeof dirty, false);
 		refuse_check(own, written, false);
 		refuse_check(dirty, 16, false);

@@ -92,6 +92,15 @@ enum spav_flag {
  *            canonical or `cap` is n or more */
 int32_t spav_rewrite(const void *in, size_t n, void *out, size_t cap, size_t *written, size_t *at) SPAV_MUST_USE SPAV_NONNULL(5, 6);
 
+/* Writes the encodings of the values that `in` conveys in the lenient reading of docs/FORMAT.md, one after another: PipeWire's programs send bytes that
+ * aren't pods of a value, and in which PipeWire's readers find one all the same, as a None choice over an array, or a string with several NULs. Of
+ * pods they are their rewritings. spav_rewrite is faster, and takes no memory, where all are pods. `cap` = n is room enough.
+ *   0        *written bytes were written
+ *   -EINVAL  `in` doesn't convey values one after another: nothing is conveyed at the byte *at
+ *   -ENOSPC  `cap` is less than *written, their length
+ *   -ENOMEM  memory was asked for and refused */
+int32_t spav_rewrite_leniently(const void *in, size_t n, void *out, size_t cap, size_t *written, size_t *at) SPAV_MUST_USE SPAV_NONNULL(5, 6);
+
 /* Puts the rewritings of the pods of which `bytes` consists at its front.
  *   0        *written bytes were written, n at most
  *   -EINVAL  `bytes` isn't pods one after another: the first that isn't accepted begins at the byte *at

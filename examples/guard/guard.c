@@ -1,7 +1,7 @@
 /* Stands between PipeWire's socket and its clients, and rewrites each message that passes, in both directions:
  *   guard [-d] [-v] [-n SEED] LISTEN CONNECT
- * listens at the path LISTEN and connects each client to the socket CONNECT. A message's pods are rewritten and forwarded with its file descriptors.
- * A message that isn't pods is forwarded as it came, or with -d dropped. -v prints each such fault. -n puts random bytes into padding before the
+ * listens at the path LISTEN and connects each client to the socket CONNECT. A message's pods are rewritten leniently and forwarded with its file
+ * descriptors. A message that conveys no values is forwarded as it came, or with -d dropped. -v prints each such fault. -n puts random bytes into padding before the
  * rewriting, as a careless client would. At SIGTERM or SIGINT it prints its counts.
  * Built over the installed library by: cc guard.c -o guard -pthread $(pkg-config --cflags --libs spav) */
 #define _GNU_SOURCE
@@ -28,9 +28,10 @@ static const char *behind;
 static _Atomic uint64_t messages, bytes_in, bytes_out, changed, refused, descriptors, nanoseconds, connections;
 static volatile sig_atomic_t is_ended;
 
-/* The call that this program is about. */
+/* The call that this program is about: almost all are pods, and what isn't may convey values all the same. */
 static int32_t rewrite(const void *in, size_t n, void *out, size_t cap, size_t *written, size_t *at) {
-	return spav_rewrite(in, n, out, cap, written, at);
+	int32_t answer = spav_rewrite(in, n, out, cap, written, at);
+	return answer == -EINVAL ? spav_rewrite_leniently(in, n, out, cap, written, at) : answer;
 }
 
 /* One direction of a connection: what was read of it and isn't forwarded yet, and room for a rewriting. */

@@ -1,9 +1,9 @@
--- Why a list of pods isn't rewritten where it lies.
-use Rattle.std.proofs.Common.{◌≡◌, ◌≢◌, ℕ, ◌+◌, ◌-◌, ◌<◌, ◌≤◌, inl, inr, List, [], ◌++◌, length, take, drop, refl, sym, ap, subst, ◌∙◌, arith, length-append, length-drop}
+-- Why a list of pods isn't rewritten in place, and why an input that conveys no values isn't.
+use Rattle.std.proofs.Common.{◌≡◌, ◌≢◌, ℕ, ◌-◌, ◌<◌, inl, inr, List, length, take, drop, refl, sym, ap, subst, ◌∙◌, arith, length-append, length-drop}
 use Rattle.std.specs.Prelude.{⊤, codes, slice_index}
 use Rattle.std.specs.Borrow.{Bor}
 use Rattle.std.proofs.lemmas.Bool.{cases_lt}
-use Rattle.std.proofs.lemmas.List.{nil_from_length, take_at}
+use Rattle.std.proofs.lemmas.List.{drop_at, nil_from_length, take_at}
 use Rattle.spa_fixed.specs.declared.fault.DeserializeError.{DeserializeError}
 use Rattle.spa_fixed.specs.declared.fault.DeserializeError.TheVariants as error
 use Rattle.spa_fixed.specs.declared.fault.FaultKind.{FaultKind}
@@ -12,6 +12,10 @@ use Rattle.spa_fixed.specs.Faults.{fault_kind_text, kind_text}
 use Rattle.spa_format.specs.Pod.{AreMembers}
 use Rattle.spa_leaf.specs.Reading.{OnFault}
 use Rattle.spa_in_place.specs.InPlace.{RefusesListAt}
+use Rattle.spa_format.specs.Lenient.{ConveyMembers}
+use Rattle.spa_read.specs.Reading.{ConveysNothing}
+use Rattle.spa_lenient.specs.Rewriting.{RefusesList}
+use Rattle.spav.specs.Lenient.{NoneAreConveyed}
 use Rattle.spav.specs.Lists.{IsForBytes, ListIsRefused}
 
 -- texts that begin otherwise are others
@@ -73,4 +77,29 @@ list_refused input at e r b =
       inside = inside;
       refused = fact_of _ r.told (λ o. named e b (r.same ∙ ap kind_text o)) r.front.refused;
       whole = fact_of _ e (λ o. named e b (ap kind_text o)) r.refused;
+    }
+
+for_bytes : {I : Type 0} (e : DeserializeError I) → IsForBytes e → e ≡ error.OutOfMemory → ⊥
+for_bytes e b o = subst IsForBytes o b
+
+pub none_conveyed : (input left : List ℕ) (e : DeserializeError (Bor (List ℕ))) → RefusesList input left e → IsForBytes e →
+    NoneAreConveyed input (length input - length left)
+none_conveyed input left e r b =
+    let l = r.behind in
+    let at = length input - length left in
+    let s = ap length l.2 ∙ length-append l.1 left in
+    let some : 0 < length left =
+    elim (cases_lt 0 (length left)) [
+      | inl i ↦ i
+      | inr i ↦ absurd (l.4 (nil_from_length left (omega arith)))
+    ] in
+    let long : length l.1 ≡ at = omega arith in
+    let front : take at input ≡ l.1 = ap (take at) l.2 ∙ take_at l.1 left at long in
+    let behind : drop at input ≡ left = ap (drop at) l.2 ∙ drop_at l.1 left at long in
+    record {
+      first = l.0;
+      before = subst (ConveyMembers l.0) (sym front) l.3;
+      inside = omega arith;
+      refused = subst (λ d. ConveysNothing d) (sym behind) (fact_of _ e (for_bytes e b) r.front.refused);
+      whole = fact_of _ e (for_bytes e b) r.refused;
     }

@@ -12,6 +12,7 @@ mod faults;
 mod filtering;
 mod fixation;
 mod in_place;
+mod lenient;
 mod lists;
 mod negotiation;
 mod questions;

@@ -5,6 +5,7 @@ mod raw {
     extern "C" {
         pub fn spav_abi() -> u32;
         pub fn spav_rewrite(input: *const u8, n: usize, out: *mut u8, cap: usize, written: *mut usize, at: *mut usize) -> i32;
+        pub fn spav_rewrite_leniently(input: *const u8, n: usize, out: *mut u8, cap: usize, written: *mut usize, at: *mut usize) -> i32;
         pub fn spav_rewrite_in_place(bytes: *mut u8, n: usize, written: *mut usize, at: *mut usize) -> i32;
         pub fn spav_check(input: *const u8, n: usize, at: *mut usize) -> i32;
         pub fn spav_fault(input: *const u8, n: usize, kind: *mut u32, top: *mut usize, at: *mut usize) -> i32;
@@ -89,6 +90,18 @@ impl std::error::Error for Error {}
 pub fn rewrite_into<'a>(input: &[u8], out: &'a mut [u8]) -> Result<&'a mut [u8], Error> {
     let (mut written, mut at) = (0, 0);
     let answer = unsafe { raw::spav_rewrite(input.as_ptr(), input.len(), out.as_mut_ptr(), out.len(), &mut written, &mut at) };
+    match answer {
+        0 => Ok(&mut out[..written]),
+        -22 => Err(Error::Refused(at)),
+        -28 => Err(Error::NoRoom(written)),
+        _ => Err(Error::OutOfMemory),
+    }
+}
+
+/// Writes the encodings of the values that the input conveys in the lenient reading to the front of `out`, and gives them.
+pub fn rewrite_leniently_into<'a>(input: &[u8], out: &'a mut [u8]) -> Result<&'a mut [u8], Error> {
+    let (mut written, mut at) = (0, 0);
+    let answer = unsafe { raw::spav_rewrite_leniently(input.as_ptr(), input.len(), out.as_mut_ptr(), out.len(), &mut written, &mut at) };
     match answer {
         0 => Ok(&mut out[..written]),
         -22 => Err(Error::Refused(at)),
@@ -680,6 +693,15 @@ mod tests {
         assert_eq!(rewrite_into(&noisy, &mut out), Ok(&mut bytes(&[4, 2, 1, 0, 4, 2, 1, 0])[..]));
         assert_eq!(out[32..], [9; 8]);
         assert_eq!(rewrite_into(&noisy, &mut out[..31]), Err(Error::NoRoom(32)));
+    }
+
+    #[test]
+    fn texts_with_several_nuls_are_rewritten_leniently() {
+        let (padded, mut out) = (bytes(&[4, 8, 0x6261, 0]), [9; 24]);
+        assert_eq!(rewrite_into(&padded, &mut out), Err(Error::Refused(0)));
+        assert_eq!(rewrite_leniently_into(&padded, &mut out), Ok(&mut bytes(&[3, 8, 0x6261, 0])[..]));
+        assert_eq!(out[16..], [9; 8]);
+        assert_eq!(rewrite_leniently_into(&padded, &mut out[..15]), Err(Error::NoRoom(16)));
     }
 
     #[test]

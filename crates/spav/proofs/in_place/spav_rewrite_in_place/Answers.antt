@@ -1,4 +1,3 @@
-use Rattle.spav.proofs.Refusals.{list_refused}
 use Rattle.spav.proofs.Written.{list_written}
 use Rattle.spav.proofs.in_place.spav_rewrite_in_place.Goals as goal
 

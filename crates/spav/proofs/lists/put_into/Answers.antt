@@ -1,4 +1,4 @@
-use Rattle.std.proofs.Common.{◌≤◌, arith}
+use Rattle.std.proofs.Common.{arith}
 use Rattle.spav.proofs.Written.{into_written}
 use Rattle.spav.proofs.lists.put_into.Goals as goal
 

@@ -1,0 +1,28 @@
+-- Inputs that convey values one after another, rewritten in the caller's memory: docs/FORMAT.md, "The lenient reading".
+use Rattle.std.specs.Prelude.{◌≡◌, ◌<◌, ℕ, List, length, take, drop}
+use Rattle.spa_format.specs.Encoding.{member_encodings}
+use Rattle.spa_format.specs.Lenient.{ConveyMembers}
+use Rattle.spa_format.specs.Tree.{Trees}
+use Rattle.spa_read.specs.Reading.{ConveysNothing}
+use Rattle.spav.specs.Lists.{IsWritten}
+
+-- the input conveys values one after another, and the front of the output became their encodings
+pub record ConveyedIsWritten (input : List ℕ) (count : ℕ) (old new : List ℕ) : Type 0 where
+  pub values : Trees
+  pub conveyed : ConveyMembers values input
+  pub written : IsWritten (member_encodings values) count old new
+
+-- the input conveys values one after another, whose encodings take so many bytes, and the output has fewer
+pub record ConveyedLacksRoom (input : List ℕ) (count : ℕ) (out : List ℕ) : Type 0 where
+  pub values : Trees
+  pub conveyed : ConveyMembers values input
+  pub counted : count ≡ length (member_encodings values)
+  pub short : length out < count
+
+-- The input conveys none: some first bytes, or none, convey values before this byte, and nothing is conveyed there.
+pub record NoneAreConveyed (input : List ℕ) (at : ℕ) : Type 0 where
+  pub first : Trees
+  pub before : ConveyMembers first (take at input)
+  pub inside : at < length input
+  pub refused : ConveysNothing (drop at input)
+  pub whole : (values : Trees) → ¬ (ConveyMembers values input)

@@ -34,18 +34,25 @@ pub(crate) const WANTING: &str = "pod: out of memory\n";
 /// What is wanted of a run: its status, what it says, and what it writes.
 type Wanted<'a> = (u8, &'a str, &'a [u8]);
 
-/// Compares a run by these words with what is wanted. Where memory is refused it says so and writes nothing, which is the test's
-/// error.
+/// Compares a run by these words with what is wanted. What it writes and what it says have these rooms, the first of which can be flushed
+/// where `flushes` is set. Where memory is refused it says so and writes nothing, which is the test's error.
 fn assert_run(
     rt: &impl Abort,
     alloc: Global,
     words: &[&str],
     mut input: Source<'_>,
-    output: Device<'_>,
-    mut faults: Device<'_>,
+    flushes: bool,
+    room: &mut [u8],
+    line_room: &mut [u8],
     wanted: Wanted<'_>,
 ) -> Result<(), AllocError> {
-    let (answer, mut output) = run(alloc, words, &mut input, &mut Broken, output);
+    let device = if flushes {
+        Device::new(room, PIECE)
+    } else {
+        Device::unflushed(room, PIECE)
+    };
+    let mut faults = Device::new(line_room, PIECE);
+    let (answer, mut output) = run(alloc, &*words, &mut input, &mut Broken, device);
     // Where the line can't be written, nothing changes.
     let _ = tell(&mut output, &mut faults, &answer);
     let is_refused = faults.taken() == WANTING.as_bytes() && wanted.1 != WANTING;
@@ -89,16 +96,15 @@ fn sources_break_off(rt: HostRuntime) -> Result<(), AllocError> {
     for words in WORDS {
         for (refusal, line) in rows {
             let (mut room, mut line_room) = ([0; ROOM], [0; ROOM]);
-            let output = Device::new(&mut room, PIECE);
-            let faults = Device::new(&mut line_room, PIECE);
             let input = Source::broken(&BOTH, refusal, PIECE);
             assert_run(
                 &rt,
                 rt.alloc(),
                 words,
                 input,
-                output,
-                faults,
+                true,
+                &mut room,
+                &mut line_room,
                 (1, line, &[]),
             )?;
         }
@@ -110,8 +116,6 @@ fn sources_break_off(rt: HostRuntime) -> Result<(), AllocError> {
 fn files_want_memory(rt: HostRuntime) -> Result<(), AllocError> {
     let words = ["filter", "broken", "nowhere"];
     let (mut room, mut line_room) = ([0; ROOM], [0; ROOM]);
-    let output = Device::new(&mut room, PIECE);
-    let faults = Device::new(&mut line_room, PIECE);
     // The standard input isn't read: this source would refuse.
     let input = Source::broken(&[], ErrorKind::UnexpectedEof, PIECE);
     assert_run(
@@ -119,8 +123,9 @@ fn files_want_memory(rt: HostRuntime) -> Result<(), AllocError> {
         rt.alloc(),
         &words,
         input,
-        output,
-        faults,
+        true,
+        &mut room,
+        &mut line_room,
         (1, WANTING, &[]),
     )
 }
@@ -132,16 +137,15 @@ const FAILED: &str = "pod: standard output: write failed\n";
 fn outputs_are_not_flushed(rt: HostRuntime) -> Result<(), AllocError> {
     for words in WORDS {
         let (mut room, mut line_room) = ([0; ROOM], [0; ROOM]);
-        let output = Device::unflushed(&mut room, PIECE);
-        let faults = Device::new(&mut line_room, PIECE);
         let input = Source::whole(&BOTH, PIECE);
         assert_run(
             &rt,
             rt.alloc(),
             words,
             input,
-            output,
-            faults,
+            false,
+            &mut room,
+            &mut line_room,
             (1, FAILED, &FIRST),
         )?;
     }
@@ -153,11 +157,18 @@ fn outputs_are_full(rt: HostRuntime) -> Result<(), AllocError> {
     for words in WORDS {
         for count in 0..6 {
             let (mut room, mut line_room) = ([0; ROOM], [0; ROOM]);
-            let output = Device::new(&mut room[..count], PIECE);
-            let faults = Device::new(&mut line_room, PIECE);
             let input = Source::whole(&BOTH, PIECE);
             let wanted = (1, FAILED, &FIRST[..count]);
-            assert_run(&rt, rt.alloc(), words, input, output, faults, wanted)?;
+            assert_run(
+                &rt,
+                rt.alloc(),
+                words,
+                input,
+                true,
+                &mut room[..count],
+                &mut line_room,
+                wanted,
+            )?;
         }
     }
     Ok(())
@@ -167,16 +178,15 @@ fn outputs_are_full(rt: HostRuntime) -> Result<(), AllocError> {
 fn refusals_that_cannot_be_said_change_nothing(rt: HostRuntime) -> Result<(), AllocError> {
     for words in WORDS {
         let (mut room, mut line_room) = ([0; ROOM], [0; 3]);
-        let output = Device::new(&mut room, PIECE);
-        let faults = Device::new(&mut line_room, PIECE);
         let input = Source::whole(&[1], PIECE);
         assert_run(
             &rt,
             rt.alloc(),
             words,
             input,
-            output,
-            faults,
+            true,
+            &mut room,
+            &mut line_room,
             (1, "pod", &[]),
         )?;
     }

@@ -91,9 +91,10 @@ fn answer_run(
     } else {
         Source::whole(bytes.as_slice(), ALL)
     };
-    let mut files = Spelt {
-        written: Vec::new(alloc),
-    };
+    // What is written to a file takes no memory then, as a file doesn't.
+    let mut kept = Vec::new(alloc);
+    kept.reserve(ROOM)?;
+    let mut files = Spelt { written: kept };
     let mut written = [0; ROOM];
     let device = Device::new(&mut written[..room.min(ROOM)], ALL);
     let (answer, mut device) = run(alloc, words.as_slice(), &mut input, &mut files, device);

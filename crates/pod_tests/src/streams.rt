@@ -31,6 +31,9 @@ impl Files for Broken {
 /// What is said where memory is refused.
 pub(crate) const WANTING: &str = "pod: out of memory\n";
 
+/// What is said where it is refused to what reads or changes the input.
+const INPUT_WANTING: &str = "pod: standard input: out of memory\n";
+
 /// What is wanted of a run: its status, what it says, and what it writes.
 type Wanted<'a> = (u8, &'a str, &'a [u8]);
 
@@ -55,9 +58,14 @@ fn assert_run(
     let (answer, mut output) = run(alloc, &*words, &mut input, &mut Broken, device);
     // Where the line can't be written, nothing changes.
     let _ = tell(&mut output, &mut faults, &answer);
-    let is_refused = faults.taken() == WANTING.as_bytes() && wanted.1 != WANTING;
+    let line = if faults.taken() == INPUT_WANTING.as_bytes() {
+        INPUT_WANTING
+    } else {
+        WANTING
+    };
+    let is_refused = faults.taken() == line.as_bytes() && wanted.1 != WANTING;
     let (status, said, written) = if is_refused {
-        (1, WANTING, &[][..])
+        (1, line, &[][..])
     } else {
         wanted
     };

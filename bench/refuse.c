@@ -19,8 +19,9 @@
 static void *(*real_malloc)(size_t);
 static void *(*real_realloc)(void *, size_t);
 static void *(*real_aligned_alloc)(size_t, size_t);
+static void (*real_free)(void *);
 static long refused, requests;
-static int mark, refuses_each;
+static int mark, refuses_each, keeps_all;
 
 // Where SAMPLE is a number above 0, only some requests are refused so: the first so many, as many of every other one, and so on.
 static long sample, next = 1, step = 1, count;
@@ -29,6 +30,7 @@ static void start(void) {
   real_malloc = dlsym(RTLD_NEXT, "malloc");
   real_realloc = dlsym(RTLD_NEXT, "realloc");
   real_aligned_alloc = dlsym(RTLD_NEXT, "aligned_alloc");
+  real_free = dlsym(RTLD_NEXT, "free");
   const char *given = getenv("REFUSED");
   refuses_each = strcmp(given, "each") == 0;
   refused = atol(given);
@@ -68,6 +70,7 @@ static int is_copy(void) {
     abort();
   if (copy == 0) {
     refuses_each = 0;
+    keeps_all = 1;
     alarm(SECONDS);
     if (dup2(wrote, STDOUT_FILENO) < 0 || dup2(wrote, STDERR_FILENO) < 0)
       abort();
@@ -108,6 +111,14 @@ static int is_refused(void) {
     say("x", 1);
   errno = ENOMEM;
   return 1;
+}
+
+// A copy gives nothing back, since each page that it writes would be copied first: of deep values that is most of its time.
+void free(void *given) {
+  if (!real_malloc)
+    start();
+  if (!keeps_all)
+    real_free(given);
 }
 
 void *malloc(size_t size) { return is_refused() ? NULL : real_malloc(size); }

@@ -33,6 +33,11 @@ int32_t spav_rewrite_in_place(void *bytes, size_t n, size_t *written, size_t *at
 	return lacks(bytes, n) ? -EFAULT : proved_spav_rewrite_in_place(some(bytes), n, written, at);
 }
 
+int32_t proved_spav_rewrite_in_place_leniently(void *, size_t, size_t *, size_t *);
+int32_t spav_rewrite_in_place_leniently(void *bytes, size_t n, size_t *written, size_t *at) {
+	return lacks(bytes, n) ? -EFAULT : proved_spav_rewrite_in_place_leniently(some(bytes), n, written, at);
+}
+
 int32_t proved_spav_check(const void *, size_t, size_t *);
 int32_t spav_check(const void *in, size_t n, size_t *at) { return lacks(in, n) ? -EFAULT : proved_spav_check(some(in), n, at); }
 

@@ -2,12 +2,15 @@
  * of its forms, and spa_format_audio_raw_parse, on the pod at the front and on all inside it. Each line of the input has a name, bytes, and their
  * rewriting, in hexadecimal digits, with bars between; `-` where nothing is to be rewritten, `=` where it is the library's. So are variants of
  * the bytes, each with one byte changed. Left out is what a rewriting is known to change: values behind those that a shape takes, the form `V` on a choice
- * of shape None, a pointer of 12 bytes, which these readers don't read, and of a truth value which number it is. */
+ * of shape None, a pointer of 12 bytes, which these readers don't read, and of a truth value which number it is. In what docs/DIFFERENCES.md says that
+ * they differ they have to: the form `V`, and spa_pod_filter where one of two sides is rewritten. */
 #include <errno.h>
 #include <stdio.h>
 #include <stdlib.h>
 #include <string.h>
 #include <spa/param/audio/format-utils.h>
+#include <spa/pod/builder.h>
+#include <spa/pod/filter.h>
 #include <spa/pod/iter.h>
 #include <spa/pod/parser.h>
 #include "spav.h"
@@ -190,6 +193,57 @@ static void compare(const char *name, const uint8_t *bytes, size_t n, const uint
 	}
 }
 
+/* Ends the program where the readers answer otherwise than docs/DIFFERENCES.md says. */
+static void differ(bool as_said, const char *what) {
+	if (!as_said) {
+		printf("readers: %s: not as docs/DIFFERENCES.md says\n", what);
+		exit(1);
+	}
+}
+
+/* The lenient rewriting of words, in memory of its own. */
+static struct spa_pod *rewriting_of(const uint32_t *words, size_t n) {
+	struct spa_pod *out = malloc(n);
+	size_t written, at;
+	if (!out || rewrite(words, n, out, n, &written, &at))
+		exit(2);
+	return out;
+}
+
+/* Whether spa_pod_filter gives an object of two, in which the text under a key is this one. */
+static bool is_filtered(const void *pod, const void *filter, const char *wanted) {
+	uint8_t room[256];
+	struct spa_pod_builder builder = SPA_POD_BUILDER_INIT(room, sizeof room);
+	struct spa_pod *both = NULL;
+	const char *text = NULL;
+	int answer = spa_pod_filter(&builder, &both, pod, filter);
+	differ(answer == 0 || answer == -EINVAL, "spa_pod_filter has another answer");
+	if (answer)
+		return false;
+	differ(spa_pod_parse_object(both, 5, NULL, 1, SPA_POD_String(&text)) == 1 && !strcmp(text, wanted), "spa_pod_filter finds another text");
+	return true;
+}
+
+/* What docs/DIFFERENCES.md says that C's readers find otherwise in a lenient rewriting. */
+static void compare_differences(void) {
+	/* An object of type 5 and id 3 with the text "ab" under 1, with one NUL behind it in a body of three bytes or with more in one of eight. */
+	static const uint32_t padded[] = { 32, 15, 5, 3, 1, 0, 8, 8, 0x6261, 0 }, exact[] = { 32, 15, 5, 3, 1, 0, 3, 8, 0x6261, 0 };
+	/* A None choice over an Array of two Ids. */
+	static const uint32_t choice[] = { 32, 19, 0, 0, 16, 13, 4, 3, 3, 4 };
+	struct spa_pod *rewritten = rewriting_of(padded, sizeof padded), *array = rewriting_of(choice, sizeof choice);
+	differ(!memcmp(rewritten, exact, sizeof exact), "another rewriting of the padded text");
+	differ(is_filtered(padded, padded, "ab") && is_filtered(rewritten, rewritten, "ab"), "spa_pod_filter refuses two sides that are alike");
+	differ(!is_filtered(padded, rewritten, "ab") && !is_filtered(rewritten, padded, "ab"), "spa_pod_filter takes a rewriting beside what was sent");
+	const struct spa_pod *found = NULL;
+	struct spa_pod_parser parser;
+	spa_pod_parser_init(&parser, choice, sizeof choice);
+	differ(spa_pod_parser_get(&parser, "V", &found, NULL) == 1 && found, "the form V finds no choice");
+	spa_pod_parser_init(&parser, array, (uint32_t)SPA_POD_SIZE(array));
+	differ(spa_pod_parser_get(&parser, "V", &found, NULL) < 0, "the form V finds a choice in an array");
+	free(rewritten);
+	free(array);
+}
+
 /* The bytes that hexadecimal digits spell. */
 static size_t bytes_of(const char *digits, uint8_t *bytes) {
 	size_t n = 0;
@@ -203,6 +257,7 @@ int main(void) {
 	static uint8_t bytes[INPUT], wanted[INPUT], out[INPUT];
 	static const uint8_t changes[] = { 0x01, 0x02, 0x08, 0x10, 0x80, 0xff };
 	size_t rows = 0, accepted = 0, variants = 0, accepted_variants = 0;
+	compare_differences();
 	while (fgets(line, sizeof line, stdin)) {
 		const char *name = strtok(line, "|"), *digits = strtok(NULL, "|"), *spelled = strtok(NULL, "|\n");
 		size_t n = bytes_of(digits, bytes), written = 0, at = 0;

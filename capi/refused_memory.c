@@ -89,14 +89,14 @@ static void refuse_check(const void *in, size_t n, bool may_ask) {
 	SEE(may_ask == (refuse_at > 1));
 }
 
-/* The same where the pods lie. */
-static void refuse_in_place(const void *in, size_t n, bool may_ask) {
+/* The same in place. */
+static void refuse_in_place(int32_t (*rewrite)(void *, size_t, size_t *, size_t *), const void *in, size_t n, bool may_ask) {
 	static uint8_t bytes[32768];
 	size_t written, at;
 	for (refuse_at = 1;; refuse_at++) {
 		asked = 0;
 		memcpy(bytes, in, n);
-		int32_t answer = spav_rewrite_in_place(bytes, n, &written, &at);
+		int32_t answer = rewrite(bytes, n, &written, &at);
 		SEE(held == 0);
 		if (asked < refuse_at) {
 			SEE(answer == 0);
@@ -144,12 +144,14 @@ static void refuse_deep_in_place(void) {
 		deep[2 * i + 1] = 14;
 	}
 	memcpy(deep + 2 * LEVELS, shrinking, sizeof shrinking);
-	refuse_in_place(deep, FEW, false);
+	refuse_in_place(spav_rewrite_in_place, deep, FEW, false);
+	refuse_in_place(spav_rewrite_in_place_leniently, deep, FEW, false);
 	for (uint32_t i = 0; i < LEVELS; i++) {
 		deep[2 * i] = MANY - 24 * i - 8;
 		memcpy(deep + FEW / 4 + 4 * i, number, sizeof number);
 	}
-	refuse_in_place(deep, MANY, true);
+	refuse_in_place(spav_rewrite_in_place, deep, MANY, true);
+	refuse_in_place(spav_rewrite_in_place_leniently, deep, MANY, true);
 }
 
 /* Two objects that meet: under one key an Enum and an Int, and one of them has a struct under another one. */
@@ -222,13 +224,16 @@ int main(void) {
 		refuse_each(spav_rewrite, dirty, sizeof dirty, written, true);
 		refuse_each(spav_rewrite, own, written, written, false);
 		refuse_each(spav_rewrite, dirty, 16, 1024, false);
-		refuse_each(spav_rewrite_leniently, dirty, sizeof dirty, sizeof dirty, true);
+		refuse_each(spav_rewrite_leniently, dirty, sizeof dirty, sizeof dirty, false);
+		refuse_each(spav_rewrite_leniently, dirty, sizeof dirty, written, true);
 		refuse_each(spav_rewrite_leniently, lenient, sizeof lenient, sizeof lenient, true);
 		refuse_check(dirty, sizeof dirty, false);
 		refuse_check(own, written, false);
 		refuse_check(dirty, 16, false);
-		refuse_in_place(dirty, 16, false);
-		refuse_in_place(dirty, sizeof dirty, false);
+		refuse_in_place(spav_rewrite_in_place, dirty, 16, false);
+		refuse_in_place(spav_rewrite_in_place, dirty, sizeof dirty, false);
+		refuse_in_place(spav_rewrite_in_place_leniently, dirty, sizeof dirty, false);
+		refuse_in_place(spav_rewrite_in_place_leniently, lenient, sizeof lenient, true);
 		refuse_deep_in_place();
 		refuse_deep();
 		refuse_joining(false);

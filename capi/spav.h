@@ -94,11 +94,12 @@ int32_t spav_rewrite(const void *in, size_t n, void *out, size_t cap, size_t *wr
 
 /* Writes the encodings of the values that `in` conveys in the lenient reading of docs/FORMAT.md, one after another: PipeWire's programs send bytes that
  * aren't pods of a value, and in which PipeWire's readers find one all the same, as a None choice over an array, or a string with several NULs. Of
- * pods they are their rewritings. spav_rewrite is faster, and takes no memory, where all are pods. `cap` = n is room enough.
+ * pods they are their rewritings, made as spav_rewrite makes them. `cap` = n is room enough.
  *   0        *written bytes were written
  *   -EINVAL  `in` doesn't convey values one after another: nothing is conveyed at the byte *at
  *   -ENOSPC  `cap` is less than *written, their length
- *   -ENOMEM  memory was asked for and refused */
+ *   -ENOMEM  memory was asked for and refused. None is asked for where `in` is pods, structs and objects stand at most 1000 deep in one another, and
+ *            `cap` is n or more */
 int32_t spav_rewrite_leniently(const void *in, size_t n, void *out, size_t cap, size_t *written, size_t *at) SPAV_MUST_USE SPAV_NONNULL(5, 6);
 
 /* Puts the rewritings of the pods of which `bytes` consists at its front.
@@ -106,6 +107,12 @@ int32_t spav_rewrite_leniently(const void *in, size_t n, void *out, size_t cap, 
  *   -EINVAL  `bytes` isn't pods one after another: the first that isn't accepted begins at the byte *at
  *   -ENOMEM  memory was asked for and refused. None is asked for where structs and objects stand at most 1000 deep in one another */
 int32_t spav_rewrite_in_place(void *bytes, size_t n, size_t *written, size_t *at) SPAV_MUST_USE SPAV_NONNULL(3, 4);
+
+/* Puts the encodings that spav_rewrite_leniently writes at the front of `bytes`.
+ *   0        *written bytes were written, n at most
+ *   -EINVAL  `bytes` doesn't convey values one after another: nothing is conveyed at the byte *at
+ *   -ENOMEM  memory was asked for and refused. None is asked for where `bytes` is pods, and structs and objects stand at most 1000 deep in one another */
+int32_t spav_rewrite_in_place_leniently(void *bytes, size_t n, size_t *written, size_t *at) SPAV_MUST_USE SPAV_NONNULL(3, 4);
 
 /* Whether spav_rewrite accepts `in`.
  *   0        it does

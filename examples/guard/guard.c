@@ -30,8 +30,7 @@ static volatile sig_atomic_t is_ended;
 
 /* The call that this program is about: almost all are pods, and what isn't may convey values all the same. */
 static int32_t rewrite(const void *in, size_t n, void *out, size_t cap, size_t *written, size_t *at) {
-	int32_t answer = spav_rewrite(in, n, out, cap, written, at);
-	return answer == -EINVAL ? spav_rewrite_leniently(in, n, out, cap, written, at) : answer;
+	return spav_rewrite_leniently(in, n, out, cap, written, at);
 }
 
 /* One direction of a connection: what was read of it and isn't forwarded yet, and room for a rewriting. */

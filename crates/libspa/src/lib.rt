@@ -33,7 +33,10 @@ pub mod pod {
     pub use spa_fixed::{CanonicalFixedSizedPod, ChoiceElement, FixedSizedPod};
     pub use spa_format::{laws, view_laws};
     pub use spa_in_place::rewrite_in_place;
-    pub use spa_lenient::{rewrite_all_leniently, rewrite_leniently};
+    pub use spa_lenient::{
+        rewrite_all_leniently, rewrite_in_place_leniently, rewrite_into_leniently,
+        rewrite_leniently,
+    };
     pub use spa_print::Printed;
     pub use spa_rewrite::{accept_all, is_canonical, rewrite, rewrite_all, rewrite_in_parts};
     pub use spa_scan::nests_within;

@@ -1,10 +1,13 @@
 -- The front of an input, rewritten leniently.
-use Rattle.std.proofs.Common.{ℕ, List}
+use Rattle.std.proofs.Common.{◌≡◌, ℕ, List, ap, subst, sym}
 use Rattle.std.specs.Borrow.{Bor}
 use Rattle.spa_fixed.specs.declared.fault.DeserializeError.{DeserializeError}
 use Rattle.spa_fixed.specs.declared.fault.DeserializeError.TheVariants as error
+use Rattle.spa_fixed.specs.declared.fault.Refusal.{Refusal}
+use Rattle.spa_fixed.specs.declared.fault.Refusal.TheVariants as refusal
 use Rattle.spa_format.specs.Front.{HasFront}
 use Rattle.spa_leaf.specs.Reading.{MayLackMemory, OnMemory}
+use Rattle.spa_leaf.specs.Refusing.{error_of}
 use Rattle.spa_read.specs.Reading.{RefusesInput}
 use Rattle.spa_read.proofs.Conveying.{conveys_pod}
 use Rattle.spa_rewrite.specs.Rewriting.{IsRewriting}
@@ -30,3 +33,8 @@ refused_read input e h = record {
 -- where memory ran out
 pub lacks_memory : (input : List ℕ) → HasFront input → RefusesFront input error.OutOfMemory
 lacks_memory input h = record { refused = tt; named = tt; short_first = λ n. absurd (n h); memory = h }
+
+-- what holds of the refusal for want of memory
+pub of_memory : (P : DeserializeError (Bor (List ℕ)) → Type 0) (place : Bor (List ℕ)) (why : Refusal) → why ≡ refusal.OutOfMemory →
+    P error.OutOfMemory → P (error_of place why)
+of_memory P place why e h = subst P (sym (ap (error_of place) e)) h

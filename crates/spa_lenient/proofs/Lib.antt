@@ -1,2 +1,4 @@
+pub mod Causes
 pub mod Fronts
+pub mod InPlace
 pub mod Lists

@@ -19,7 +19,7 @@ use Rattle.spa_write.proofs.MemberLists.{member_encodings_join}
 use Rattle.spa_lenient.specs.Rewriting.{AppendsFront, AreRewrittenLeniently, IsLeftLeniently, RefusesFront, RefusesList}
 
 -- pods convey their values
-members_convey : (vs : Trees) (b : List ℕ) → AreMembers vs b → ConveyMembers vs b
+pub members_convey : (vs : Trees) (b : List ℕ) → AreMembers vs b → ConveyMembers vs b
 members_convey no_trees b h = h
 members_convey (member v vs) b h = (h.0, h.1, h.2, pod_conveys h.0 v h.3, members_convey vs h.1 h.4)
 
@@ -73,6 +73,16 @@ to_end input left old now new h r =
 pub is_left : (input left old now : List ℕ) → IsUpTo input left old now → left ≢ [] → IsLeftLeniently input left
 is_left input left old now h n = (h.values, h.first, h.parts, h.convey, n)
 
+-- behind further pods
+pub left_further : (input left pod old now : List ℕ) → IsUpTo input left old now → IsLeft left pod → IsLeftLeniently input pod
+left_further input left pod old now h p = (
+  join_members h.values p.0,
+  h.first ++ p.1,
+  h.parts ∙ ap (λ l. h.first ++ l) p.2 ∙ sym (append_assoc h.first p.1 pod),
+  members_joined h.values p.0 h.first p.1 h.convey (members_convey p.0 p.1 p.3),
+  p.4,
+)
+
 pub refused_list : (input left : List ℕ) (e : DeserializeError (Bor (List ℕ))) → IsLeftLeniently input left → RefusesFront left e →
     RefusesList input left e
 refused_list input left e h f = record { behind = h; refused = whole input left e h f.refused; front = f }
@@ -103,10 +113,9 @@ some_left left pod h n = h.4 (nothing h.1 pod (sym h.2 ∙ n))
     nothing (x ∷ a) b e = cc
 
 -- where the pods before it are some, the front is there
-pub front_left : (left pod before after : List ℕ) (h : IsLeft left pod) → before ≡ take (length left - length pod) left →
-    IsLeft before after → HasFront left
-front_left left pod before after h e k =
-    let some : h.1 ≢ [] = λ n. some_left before after k (e ∙ before_left left pod h ∙ n) in
+pub front_left : (left pod before : List ℕ) (h : IsLeft left pod) → before ≡ take (length left - length pod) left → before ≢ [] → HasFront left
+front_left left pod before h e n =
+    let some : h.1 ≢ [] = λ z. n (e ∙ before_left left pod h ∙ z) in
     of_members h.0 h.1 pod left h.2 h.3 some
   where
     of_members : (vs : Trees) (first pod left : List ℕ) → left ≡ first ++ pod → AreMembers vs first → first ≢ [] → HasFront left

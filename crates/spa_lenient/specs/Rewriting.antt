@@ -1,11 +1,12 @@
 -- What a lenient rewriting is: docs/FORMAT.md, "The lenient reading".
-use Rattle.std.specs.Prelude.{◌≡◌, ◌≢◌, ◌++◌, List, [], ℕ}
+use Rattle.std.specs.Prelude.{⊤, ◌≡◌, ◌≢◌, ◌++◌, List, [], ℕ, drop, length}
 use Rattle.std.specs.Borrow.{Bor}
 use Rattle.spa_fixed.specs.declared.fault.DeserializeError.{DeserializeError}
 use Rattle.spa_format.specs.Tree.{Tree, Trees}
 use Rattle.spa_format.specs.Encoding.{encoding_of, member_encodings}
 use Rattle.spa_format.specs.Front.{HasFront}
 use Rattle.spa_format.specs.Lenient.{ConveyMembers}
+use Rattle.spa_in_place.specs.InPlace.{IsFaultOf}
 use Rattle.spa_leaf.specs.Reading.{IsShortAt, Names, OnFault, OnMemory}
 use Rattle.spa_read.specs.Reading.{ConveysAtFront, ConveysNothing, ConveysWith, StandsLeniently}
 
@@ -20,6 +21,10 @@ AppendsFront input rest old new = (v : Tree) × ConveysWith input v rest × (new
 -- the input conveys some values, one after another without remainder, and their encodings were appended
 abbrev pub AreRewrittenLeniently : List ℕ → List ℕ → List ℕ → Type 0
 AreRewrittenLeniently input old new = (vs : Trees) × ConveyMembers vs input × (new ≡ old ++ member_encodings vs)
+
+-- such encodings take so many bytes
+abbrev pub AreRewrittenLenientlyAs : List ℕ → ℕ → Type 0
+AreRewrittenLenientlyAs input len = (vs : Trees) × ConveyMembers vs input × (len ≡ length (member_encodings vs))
 
 -- some first bytes convey values one after another, or there are none, and this is left behind them
 abbrev pub IsLeftLeniently : List ℕ → List ℕ → Type 0
@@ -37,3 +42,9 @@ pub record RefusesList (input left : List ℕ) (e : DeserializeError (Bor (List 
   pub behind : IsLeftLeniently input left
   pub refused : OnFault ((vs : Trees) → ¬ (ConveyMembers vs input)) e
   pub front : RefusesFront left e
+
+-- The same of what is left behind so many bytes, without the place where the fault stands.
+pub record RefusesListAt (input : List ℕ) (at : ℕ) (e : DeserializeError ⊤) : Type 0 where
+  pub placed : DeserializeError (Bor (List ℕ))
+  pub list : RefusesList input (drop at input) placed
+  pub same : IsFaultOf e placed

@@ -1,19 +1,27 @@
 //! The lenient rewriting of a pod is the encoding of the value that it conveys.
-ghost use Rattle.std.specs.Prelude.{◌≡◌, IfErr, IfOk, OnErr, OnOk};
+ghost use Rattle.std.specs.Prelude.{◌≡◌, ◌≢◌, ◌+◌, ◌≤◌, ◌++◌, [], IfErr, IfOk, OnErr, OnOk, length};
+ghost use Rattle.spa_fixed.specs.declared.fault.Refusal.TheVariants as refusal;
+ghost use Rattle.spa_format.specs.Encoding.{encoding_of};
 ghost use Rattle.spa_format.specs.Front.{HasFront, rest_of};
 ghost use Rattle.spa_format.specs.Lenient.{ConveyMembers};
+ghost use Rattle.spa_format.specs.Pod.{AreMembers};
 ghost use Rattle.spa_format.specs.Tree.{Trees};
+ghost use Rattle.spa_format.specs.Writable.{IsWritable};
 ghost use Rattle.spa_leaf.specs.Reading.{IsShortAt, Names, OnFault, OnMemory};
+ghost use Rattle.spa_leaf.specs.Refusing.{error_of};
 ghost use Rattle.spa_lenient.specs.Rewriting.{AppendsFront, AreRewrittenLeniently, IsLeftLeniently, IsLenientRewriting, RefusesFront, RefusesList};
-ghost use Rattle.spa_read.specs.Reading.{ConveysNothing, StandsLeniently};
+ghost use Rattle.spa_read.specs.Reading.{ConveysNothing, RefusesLeniently, StandsLeniently};
+ghost use Rattle.spa_rewrite.specs.Rewriting.{AreRewritten};
+ghost use Rattle.spa_value.specs.View.{view};
 
-use spa_fixed::DeserializeError;
+use spa_fixed::{DeserializeError, Refusal};
 use spa_leaf::error_at;
-use spa_read::read_value_leniently;
+use spa_read::{Refused, read_value_leniently};
 use spa_rewrite::{rewrite, rewrite_all};
-use spa_value::discard;
+use spa_sink::GenError;
+use spa_value::{Value, discard};
 use spa_write::write_value;
-use std::alloc::Global;
+use std::alloc::{AllocError, AllocFailed, Global};
 
 /// The encoding of the value that the front of the input conveys in the lenient reading, and what follows that front.
 ///
@@ -29,13 +37,15 @@ pub fn rewrite_leniently(
     ensures rest { IfOk result (λ rewritten. rewritten.0.now ≡ rest_of input.now) }
     ensures refused { IfErr result (RefusesFront input.now) }
 {
-    if let Ok((rest, encoding)) = rewrite(alloc, input) {
-        return Ok((rest, encoding));
+    match rewrite(alloc, input) {
+        Ok(rewritten) => return Ok(rewritten),
+        Err(DeserializeError::OutOfMemory) => return Err(DeserializeError::OutOfMemory),
+        Err(_) => {}
     }
     let mut out = Vec::new(alloc);
     match append_leniently(input, &mut out) {
         Ok(rest) => Ok((rest, out)),
-        Err(error) => Err(error),
+        Err(refused) => Err(error_at(refused.place, refused.why)),
     }
 }
 
@@ -50,50 +60,105 @@ pub fn rewrite_all_leniently<'a>(
     out: &mut Vec<u8>,
 ) -> Result<(), (&'a [u8], DeserializeError<&'a [u8]>)>
     ensures rewritten { OnOk result (AreRewrittenLeniently input.now out.old.items out.new.items) }
+    ensures within { OnOk result (length out.new.items ≤ length out.old.items + length input.now) }
     ensures unchanged { OnErr result (out.new.items ≡ out.old.items) }
     ensures refused { IfErr result (λ refusal. RefusesList input.now refusal.0.now refusal.1) }
+{
+    match append_all(input, out) {
+        Ok(()) => Ok(()),
+        Err((left, refused)) => Err((left, error_at(refused.place, refused.why))),
+    }
+}
+
+/// Does what `rewrite_all_leniently` does, with the refused pod's place and cause apart.
+pub(crate) fn append_all<'a>(
+    input: &'a [u8],
+    out: &mut Vec<u8>,
+) -> Result<(), (&'a [u8], Refused<'a>)>
+    ensures rewritten { OnOk result (AreRewrittenLeniently input.now out.old.items out.new.items) }
+    ensures within { OnOk result (length out.new.items ≤ length out.old.items + length input.now) }
+    ensures unchanged { OnErr result (out.new.items ≡ out.old.items) }
+    ensures refused { IfErr result (λ refusal. RefusesList input.now refusal.0.now (error_of refusal.1.place refusal.1.why)) }
 {
     let start = out.len();
     let mut left = input;
     loop {
-        let Err((pod, _)) = rewrite_all(left, out) else {
-            return Ok(());
+        let pod = match rewrite_all(left, out) {
+            Ok(()) => return Ok(()),
+            Err((pod, DeserializeError::OutOfMemory)) => {
+                out.truncate(start);
+                return Err((pod, lacking_memory(pod)));
+            }
+            Err((pod, _)) => pod,
         };
         let (accepted, _) = left.split_at(left.len() - pod.len());
-        let Ok(()) = rewrite_all(accepted, out) else {
+        let Ok(()) = append_accepted(accepted, out) else {
             out.truncate(start);
-            return Err((left, DeserializeError::OutOfMemory));
+            return Err((left, lacking_memory(left)));
         };
         match append_leniently(pod, out) {
             Ok(rest) => left = rest,
-            Err(error) => {
+            Err(refused) => {
                 out.truncate(start);
-                return Err((pod, error));
+                return Err((pod, refused));
             }
         }
     }
 }
 
+/// The refusal of what begins there, for want of memory.
+fn lacking_memory(place: &[u8]) -> Refused<'_>
+    ensures { result.why ≡ refusal.OutOfMemory }
+{
+    Refused {
+        place,
+        why: Refusal::OutOfMemory,
+    }
+}
+
+/// Appends the rewritings of pods that are all accepted, unless memory runs out.
+fn append_accepted(pods: &[u8], out: &mut Vec<u8>) -> Result<(), AllocError>
+    requires { (values : Trees) × AreMembers values pods.now }
+    ensures rewritten { OnOk result (AreRewritten pods.now out.old.items out.new.items) }
+    ensures unchanged { OnErr result (out.new.items ≡ out.old.items) }
+    ensures some { OnErr result (pods.now ≢ []) }
+{
+    match rewrite_all(pods, out) {
+        Ok(()) => Ok(()),
+        Err((_, DeserializeError::OutOfMemory)) => Err(AllocError),
+        Err(_) => unreachable!(),
+    }
+}
+
 /// Appends the lenient rewriting of the front of the input, by its value, and answers what follows the front.
-fn append_leniently<'a>(
-    input: &'a [u8],
-    out: &mut Vec<u8>,
-) -> Result<&'a [u8], DeserializeError<&'a [u8]>>
+fn append_leniently<'a>(input: &'a [u8], out: &mut Vec<u8>) -> Result<&'a [u8], Refused<'a>>
     ensures appended { IfOk result (λ rest. AppendsFront input.now rest.now out.old.items out.new.items) }
     ensures unchanged { OnErr result (out.new.items ≡ out.old.items) }
-    ensures refused { IfErr result (RefusesFront input.now) }
+    ensures refused { IfErr result (λ refused. RefusesFront input.now (error_of refused.place refused.why)) }
 {
-    let alloc = *out.allocator();
-    let (rest, value) = match read_value_leniently(alloc, input) {
-        Ok(read) => read,
-        Err(refused) => return Err(error_at(refused.place, refused.why)),
-    };
-    let start = out.len();
-    let written = write_value(alloc, out, &value);
+    let (rest, value) = read_value_leniently(*out.allocator(), input)?;
+    let written = append_value(&value, out);
     discard(value);
-    if written.is_err() {
-        out.truncate(start);
-        return Err(DeserializeError::OutOfMemory);
+    match written {
+        Ok(()) => Ok(rest),
+        Err(_) => Err(lacking_memory(input)),
     }
-    Ok(rest)
+}
+
+/// Appends the encoding of a value that can be written, unless memory runs out.
+fn append_value(value: &Value, out: &mut Vec<u8>) -> Result<(), AllocError>
+    requires { IsWritable (view value.now) }
+    ensures appended { OnOk result (out.new.items ≡ out.old.items ++ encoding_of (view value.now)) }
+    ensures unchanged { OnErr result (out.new.items ≡ out.old.items) }
+{
+    let start = out.len();
+    let alloc = *out.allocator();
+    match write_value(alloc, out, value) {
+        Ok(_) => Ok(()),
+        Err(GenError::OutOfMemory) => {
+            out.truncate(start);
+            Err(AllocError)
+        }
+        Err(_) => unreachable!(),
+    }
 }

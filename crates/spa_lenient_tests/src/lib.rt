@@ -2,6 +2,8 @@
 #![tactic(auto)]
 
 #[cfg(test)]
+mod in_place;
+#[cfg(test)]
 mod rewriting;
 #[cfg(test)]
 mod rows;

@@ -24,14 +24,17 @@ fn wanted_said(
     }
 }
 
-fn bytes_said(alloc: Global, bytes: &[u8]) -> Result<String, AllocError> {
+pub(crate) fn bytes_said(alloc: Global, bytes: &[u8]) -> Result<String, AllocError> {
     let mut text = String::new(alloc);
     push_spelling(&mut text, bytes)?;
     Ok(text)
 }
 
 /// A refusal, as a row has it.
-fn refusal_said(alloc: Global, error: &DeserializeError<&[u8]>) -> Result<String, AllocError> {
+pub(crate) fn refusal_said(
+    alloc: Global,
+    error: &DeserializeError<&[u8]>,
+) -> Result<String, AllocError> {
     match error {
         DeserializeError::Nom(fault) => format!(in alloc; "{:?}", fault.kind),
         DeserializeError::OutOfMemory => Err(AllocError),
@@ -75,7 +78,7 @@ fn list_said(alloc: Global, before: &[u32], input: &[u8]) -> Result<String, Allo
     }
 }
 
-fn assert_said(rt: &impl Abort, found: &str, wanted: &str, place: &str) {
+pub(crate) fn assert_said(rt: &impl Abort, found: &str, wanted: &str, place: &str) {
     assert_eq!(rt; found, wanted, "at {place}");
 }
 
@@ -110,18 +113,24 @@ fn fronts_are_rewritten(rt: HostRuntime) -> Result<(), Fail> {
 }
 
 /// An exact pod, and its rewriting.
-const TRUTH: (&[u32], &[u32]) = (&[4, 2, 7, 9], &[4, 2, 1, 0]);
+pub(crate) const TRUTH: (&[u32], &[u32]) = (&[4, 2, 7, 9], &[4, 2, 1, 0]);
 
 /// Bytes that an output has.
 const HELD: &[u32] = &[5, 6];
+
+/// A pod of these words between two that are accepted exactly.
+pub(crate) fn between_pods(alloc: Global, words: &[u32]) -> Result<Vec<u8>, AllocError> {
+    let mut list = bytes_of(alloc, TRUTH.0)?;
+    push_words(&mut list, words)?;
+    push_words(&mut list, TRUTH.0)?;
+    Ok(list)
+}
 
 /// Each row between two pods that are accepted exactly, behind what the output has.
 #[test]
 fn lists_are_rewritten(rt: HostRuntime) -> Result<(), Fail> {
     for (name, words, wanted) in ROWS {
-        let mut input = bytes_of(rt.alloc(), TRUTH.0)?;
-        push_words(&mut input, words)?;
-        push_words(&mut input, TRUTH.0)?;
+        let input = between_pods(rt.alloc(), words)?;
         let found = list_said(rt.alloc(), HELD, input.as_slice())?;
         let said = list_wanted(rt.alloc(), words.len(), wanted)?;
         assert_said(&rt, found.as_str(), said.as_str(), name);
@@ -160,7 +169,7 @@ fn the_second_of_two_conveys_nothing(rt: HostRuntime) -> Result<(), Fail> {
 }
 
 /// How deep structs are nested in the deepest example.
-const DEPTH: u32 = 20000;
+pub(crate) const DEPTH: u32 = 20000;
 
 /// A text with several NULs in the innermost of many structs.
 #[test]

@@ -1,46 +1,29 @@
 -- Why a list of pods isn't rewritten in place, and why an input that conveys no values isn't.
-use Rattle.std.proofs.Common.{◌≡◌, ◌≢◌, ℕ, ◌-◌, ◌<◌, inl, inr, List, length, take, drop, refl, sym, ap, subst, ◌∙◌, arith, length-append, length-drop}
-use Rattle.std.specs.Prelude.{⊤, codes, slice_index}
+use Rattle.std.proofs.Common.{◌≡◌, ℕ, ◌-◌, ◌<◌, inl, inr, List, length, take, drop, refl, sym, ap, subst, ◌∙◌, arith, length-append, length-drop}
+use Rattle.std.specs.Prelude.{⊤, codes}
 use Rattle.std.specs.Borrow.{Bor}
 use Rattle.std.proofs.lemmas.Bool.{cases_lt}
 use Rattle.std.proofs.lemmas.List.{drop_at, nil_from_length, take_at}
 use Rattle.spa_fixed.specs.declared.fault.DeserializeError.{DeserializeError}
 use Rattle.spa_fixed.specs.declared.fault.DeserializeError.TheVariants as error
-use Rattle.spa_fixed.specs.declared.fault.FaultKind.{FaultKind}
-use Rattle.spa_fixed.specs.declared.fault.FaultKind.TheVariants as fault_kind
-use Rattle.spa_fixed.specs.Faults.{fault_kind_text, kind_text}
+use Rattle.spa_fixed.specs.Faults.{kind_text}
 use Rattle.spa_format.specs.Pod.{AreMembers}
 use Rattle.spa_leaf.specs.Reading.{OnFault}
 use Rattle.spa_in_place.specs.InPlace.{RefusesListAt}
 use Rattle.spa_format.specs.Lenient.{ConveyMembers}
 use Rattle.spa_read.specs.Reading.{ConveysNothing}
 use Rattle.spa_lenient.specs.Rewriting.{RefusesList}
+use Rattle.spa_lenient.specs.Rewriting as lenient
+use Rattle.spa_lenient.proofs.Causes.{named_memory}
 use Rattle.spav.specs.Lenient.{NoneAreConveyed}
 use Rattle.spav.specs.Lists.{IsForBytes, ListIsRefused}
 
--- texts that begin otherwise are others
-begins_otherwise : (xs ys : List ℕ) → slice_index xs 0 ≢ slice_index ys 0 → xs ≡ ys → ⊥
-begins_otherwise xs ys n e = n (ap (λ l. slice_index l 0) e)
-
-fault_named : (k : FaultKind) → fault_kind_text k ≡ codes "OutOfMemory" → ⊥
-fault_named fault_kind.Short e = begins_otherwise (codes "Short") (codes "OutOfMemory") (λ h. omega (arith, h)) e
-fault_named fault_kind.Tag e = begins_otherwise (codes "Tag") (codes "OutOfMemory") (λ h. omega (arith, h)) e
-fault_named fault_kind.Text e = begins_otherwise (codes "Text") (codes "OutOfMemory") (λ h. omega (arith, h)) e
+for_bytes : {I : Type 0} (e : DeserializeError I) → IsForBytes e → e ≡ error.OutOfMemory → ⊥
+for_bytes e b o = subst IsForBytes o b
 
 -- no refusal for what the bytes are has the name of the one for lack of memory
 named : (e : DeserializeError ⊤) → IsForBytes e → kind_text e ≡ codes "OutOfMemory" → ⊥
-named (error.Nom f) b e = fault_named f.kind e
-named error.UnsupportedType b e = begins_otherwise (codes "UnsupportedType") (codes "OutOfMemory") (λ h. omega (arith, h)) e
-named error.InvalidType b e = begins_otherwise (codes "InvalidType") (codes "OutOfMemory") (λ h. omega (arith, h)) e
-named error.PropertyMissing b e = begins_otherwise (codes "PropertyMissing") (codes "OutOfMemory") (λ h. omega (arith, h)) e
-named (error.PropertyWrongKey k) b e = begins_otherwise (codes "PropertyWrongKey") (codes "OutOfMemory") (λ h. omega (arith, h)) e
-named error.InvalidChoiceType b e = begins_otherwise (codes "InvalidChoiceType") (codes "OutOfMemory") (λ h. omega (arith, h)) e
-named error.MissingChoiceValues b e = begins_otherwise (codes "MissingChoiceValues") (codes "OutOfMemory") (λ h. omega (arith, h)) e
-named error.WrongSize b e = begins_otherwise (codes "WrongSize") (codes "OutOfMemory") (λ h. omega (arith, h)) e
-named error.UnreadMembers b e = begins_otherwise (codes "UnreadMembers") (codes "OutOfMemory") (λ h. omega (arith, h)) e
-named error.NoElementLeft b e = begins_otherwise (codes "NoElementLeft") (codes "OutOfMemory") (λ h. omega (arith, h)) e
-named error.FailedReader b e = begins_otherwise (codes "FailedReader") (codes "OutOfMemory") (λ h. omega (arith, h)) e
-named error.OutOfMemory b e = absurd b
+named e b k = for_bytes e b (named_memory e k)
 
 -- what a refusal says that isn't for lack of memory
 fact_of : {I : Type 0} (F : Type 0) (e : DeserializeError I) → (e ≡ error.OutOfMemory → ⊥) → OnFault F e → F
@@ -79,12 +62,9 @@ list_refused input at e r b =
       whole = fact_of _ e (λ o. named e b (ap kind_text o)) r.refused;
     }
 
-for_bytes : {I : Type 0} (e : DeserializeError I) → IsForBytes e → e ≡ error.OutOfMemory → ⊥
-for_bytes e b o = subst IsForBytes o b
-
-pub none_conveyed : (input left : List ℕ) (e : DeserializeError (Bor (List ℕ))) → RefusesList input left e → IsForBytes e →
+none_there : (input left : List ℕ) (e : DeserializeError (Bor (List ℕ))) → RefusesList input left e → (e ≡ error.OutOfMemory → ⊥) →
     NoneAreConveyed input (length input - length left)
-none_conveyed input left e r b =
+none_there input left e r n =
     let l = r.behind in
     let at = length input - length left in
     let s = ap length l.2 ∙ length-append l.1 left in
@@ -100,6 +80,24 @@ none_conveyed input left e r b =
       first = l.0;
       before = subst (ConveyMembers l.0) (sym front) l.3;
       inside = omega arith;
-      refused = subst (λ d. ConveysNothing d) (sym behind) (fact_of _ e (for_bytes e b) r.front.refused);
-      whole = fact_of _ e (for_bytes e b) r.refused;
+      refused = subst (λ d. ConveysNothing d) (sym behind) (fact_of _ e n r.front.refused);
+      whole = fact_of _ e n r.refused;
     }
+
+pub none_conveyed : (input left : List ℕ) (e : DeserializeError (Bor (List ℕ))) → RefusesList input left e → IsForBytes e →
+    NoneAreConveyed input (length input - length left)
+none_conveyed input left e r b = none_there input left e r (for_bytes e b)
+
+-- the same behind so many bytes
+pub none_conveyed_at : (input : List ℕ) (at : ℕ) (e : DeserializeError ⊤) → lenient.RefusesListAt input at e → IsForBytes e → NoneAreConveyed input at
+none_conveyed_at input at e r b =
+    let l = r.list.behind in
+    let left = drop at input in
+    let d = length-drop at input in
+    let inside : at < length input =
+    elim (cases_lt at (length input)) [
+      | inl i ↦ i
+      | inr i ↦ absurd (l.4 (nil_from_length left (omega arith)))
+    ] in
+    let n : length input - length left ≡ at = omega arith in
+    subst (NoneAreConveyed input) n (none_there input left r.placed r.list (λ o. named e b (r.same ∙ ap kind_text o)))

@@ -1,22 +1,52 @@
-//! Inputs in the lenient reading, rewritten into the caller's memory.
-ghost use Rattle.std.specs.Prelude.{◌≡◌};
-ghost use Rattle.spav.specs.Answers.{IsDone, IsInvalid, IsNoRoom, IsRewritten};
+//! Inputs in the lenient reading, rewritten into the caller's memory, or in place.
+ghost use Rattle.std.specs.Prelude.{◌≡◌, ◌≤◌, ◌⊎◌, length};
+ghost use Rattle.spa_lenient.specs.Rewriting.{RefusesList};
+ghost use Rattle.spa_rewrite.specs.Shorter.{ArePodsWithin};
+ghost use Rattle.spa_scan.specs.Depth.{levels_looked_into};
+ghost use Rattle.spav.specs.Answers.{IsChecked, IsDone, IsInvalid, IsNoMemory, IsNoRoom, IsRewritten};
 ghost use Rattle.spav.specs.Lenient.{ConveyedIsWritten, ConveyedLacksRoom, NoneAreConveyed};
 
-use crate::answers::{INVALID, NO_MEMORY};
+use crate::answers::{DONE, INVALID, NO_MEMORY};
 use crate::lists::put_front;
 use spa_fixed::DeserializeError;
-use spa_lenient::rewrite_all_leniently;
+use spa_lenient::{rewrite_all_leniently, rewrite_in_place_leniently, rewrite_into_leniently};
 use std::alloc::Global;
 
 /// Writes the encodings of all values that the input conveys in the lenient reading, one after another, to the front of `out`.
 ///
 /// 0: `written` is their length, and what is behind them is as it was. -EINVAL: the input doesn't convey values one after another; nothing is
 /// conveyed at the byte `at`. -ENOSPC: it does, and `written`, the length of the encodings, is more than `out` has. -ENOMEM: memory was asked
-/// for and refused. Where the answer isn't 0, `out` is unchanged.
-#[tactic(auto, using(crate::proofs::Refusals::none_conveyed))]
+/// for and refused, which isn't asked for where the input is pods that nest in 1000 levels at most and `out` is as long. Where the answer isn't
+/// 0, `out` is unchanged.
 #[unsafe(no_mangle)]
 pub extern "C" fn spav_rewrite_leniently(
+    alloc: Global,
+    input: &[u8],
+    out: &mut [u8],
+    written: &mut usize,
+    at: &mut usize,
+) -> i32
+    ensures done { IsDone result → ConveyedIsWritten input.now written.new out.old out.new }
+    ensures refused { IsInvalid result → NoneAreConveyed input.now at.new }
+    ensures room { IsNoRoom result → ConveyedLacksRoom input.now written.new out.old }
+    ensures across { IsNoMemory result → length input.now ≤ length out.old → ¬ (ArePodsWithin levels_looked_into input.now) }
+    ensures answers { IsRewritten result }
+    ensures unchanged { ¬ (IsDone result) → out.new ≡ out.old }
+{
+    if out.len() < input.len() {
+        return write_shorter(alloc, input, out, written, at);
+    }
+    match rewrite_into_leniently(alloc, input, out) {
+        Ok(len) => {
+            *written = len;
+            DONE
+        }
+        Err((left, error)) => refused(input, left, error, at),
+    }
+}
+
+/// Does the same by means of memory, where the output may be shorter than the input.
+fn write_shorter(
     alloc: Global,
     input: &[u8],
     out: &mut [u8],
@@ -32,9 +62,53 @@ pub extern "C" fn spav_rewrite_leniently(
     let mut rewritten = Vec::new(alloc);
     match rewrite_all_leniently(input, &mut rewritten) {
         Ok(()) => put_front(rewritten.as_slice(), out, written),
-        Err((_left, DeserializeError::OutOfMemory)) => NO_MEMORY,
-        Err((left, _)) => {
+        Err((left, error)) => refused(input, left, error, at),
+    }
+}
+
+/// What is answered to a refusal, and the byte at which nothing is conveyed.
+#[tactic(auto, using(crate::proofs::Refusals::none_conveyed))]
+fn refused(input: &[u8], left: &[u8], error: DeserializeError<&[u8]>, at: &mut usize) -> i32
+    requires { RefusesList input.now left.now error }
+    ensures refused { IsInvalid result → NoneAreConveyed input.now at.new }
+    ensures answers { IsNoMemory result ⊎ IsInvalid result }
+{
+    match error {
+        DeserializeError::OutOfMemory => NO_MEMORY,
+        _ => {
             *at = input.len() - left.len();
+            INVALID
+        }
+    }
+}
+
+/// Puts the bytes' lenient rewritings at their front.
+///
+/// 0: `written` is their length, never more than the bytes had, and what is behind them is as it was. -EINVAL: the bytes don't convey values
+/// one after another; nothing is conveyed at the byte `at`. -ENOMEM: memory was asked for and refused, which isn't asked for where they are
+/// pods that nest in 1000 levels at most. Where the answer isn't 0, nothing is changed.
+#[tactic(auto, using(crate::proofs::Refusals::none_conveyed_at))]
+#[unsafe(no_mangle)]
+pub extern "C" fn spav_rewrite_in_place_leniently(
+    alloc: Global,
+    bytes: &mut [u8],
+    written: &mut usize,
+    at: &mut usize,
+) -> i32
+    ensures done { IsDone result → ConveyedIsWritten bytes.old written.new bytes.old bytes.new }
+    ensures refused { IsInvalid result → NoneAreConveyed bytes.old at.new }
+    ensures shallow { IsNoMemory result → ¬ (ArePodsWithin levels_looked_into bytes.old) }
+    ensures answers { IsChecked result }
+    ensures unchanged { ¬ (IsDone result) → bytes.new ≡ bytes.old }
+{
+    match rewrite_in_place_leniently(alloc, bytes) {
+        Ok(len) => {
+            *written = len;
+            DONE
+        }
+        Err((_behind, DeserializeError::OutOfMemory)) => NO_MEMORY,
+        Err((behind, _)) => {
+            *at = behind;
             INVALID
         }
     }

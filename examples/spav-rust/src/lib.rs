@@ -7,6 +7,7 @@ mod raw {
         pub fn spav_rewrite(input: *const u8, n: usize, out: *mut u8, cap: usize, written: *mut usize, at: *mut usize) -> i32;
         pub fn spav_rewrite_leniently(input: *const u8, n: usize, out: *mut u8, cap: usize, written: *mut usize, at: *mut usize) -> i32;
         pub fn spav_rewrite_in_place(bytes: *mut u8, n: usize, written: *mut usize, at: *mut usize) -> i32;
+        pub fn spav_rewrite_in_place_leniently(bytes: *mut u8, n: usize, written: *mut usize, at: *mut usize) -> i32;
         pub fn spav_check(input: *const u8, n: usize, at: *mut usize) -> i32;
         pub fn spav_fault(input: *const u8, n: usize, kind: *mut u32, top: *mut usize, at: *mut usize) -> i32;
         pub fn spav_is_canonical(input: *const u8, n: usize) -> i32;
@@ -114,6 +115,16 @@ pub fn rewrite_leniently_into<'a>(input: &[u8], out: &'a mut [u8]) -> Result<&'a
 pub fn rewrite_in_place(bytes: &mut [u8]) -> Result<&mut [u8], Error> {
     let (mut written, mut at) = (0, 0);
     match unsafe { raw::spav_rewrite_in_place(bytes.as_mut_ptr(), bytes.len(), &mut written, &mut at) } {
+        0 => Ok(&mut bytes[..written]),
+        -22 => Err(Error::Refused(at)),
+        _ => Err(Error::OutOfMemory),
+    }
+}
+
+/// Puts the encodings of the values that the bytes convey in the lenient reading at their front, and gives them.
+pub fn rewrite_in_place_leniently(bytes: &mut [u8]) -> Result<&mut [u8], Error> {
+    let (mut written, mut at) = (0, 0);
+    match unsafe { raw::spav_rewrite_in_place_leniently(bytes.as_mut_ptr(), bytes.len(), &mut written, &mut at) } {
         0 => Ok(&mut bytes[..written]),
         -22 => Err(Error::Refused(at)),
         _ => Err(Error::OutOfMemory),
@@ -702,6 +713,12 @@ mod tests {
         assert_eq!(rewrite_leniently_into(&padded, &mut out), Ok(&mut bytes(&[3, 8, 0x6261, 0])[..]));
         assert_eq!(out[16..], [9; 8]);
         assert_eq!(rewrite_leniently_into(&padded, &mut out[..15]), Err(Error::NoRoom(16)));
+        let mut list = padded.clone();
+        list.extend(bytes(&[4, 8, 0x61626162, 0]));
+        let sent = list.clone();
+        assert_eq!(rewrite_in_place_leniently(&mut list), Err(Error::Refused(16)));
+        assert_eq!(list, sent);
+        assert_eq!(rewrite_in_place_leniently(&mut list[..16]), Ok(&mut bytes(&[3, 8, 0x6261, 0])[..]));
     }
 
     #[test]

@@ -32,7 +32,10 @@ pub mod pod {
     pub(crate) use crate::parts::spa_format::laws;
     pub(crate) use crate::parts::spa_format::view_laws;
     pub use crate::parts::spa_in_place::rewrite_in_place;
-    pub use crate::parts::spa_lenient::{rewrite_all_leniently, rewrite_leniently};
+    pub use crate::parts::spa_lenient::{
+        rewrite_all_leniently, rewrite_in_place_leniently, rewrite_into_leniently,
+        rewrite_leniently,
+    };
     pub use crate::parts::spa_print::Printed;
     pub use crate::parts::spa_rewrite::{accept_all, is_canonical, rewrite, rewrite_all, rewrite_in_parts};
     pub use crate::parts::spa_scan::nests_within;

@@ -1,12 +1,14 @@
 //! The lenient rewriting of a pod is the encoding of the value that it conveys.
 
 use crate::shims::prelude::*;
-use crate::parts::spa_fixed::DeserializeError;
+use crate::parts::spa_fixed::{DeserializeError, Refusal};
 use crate::parts::spa_leaf::error_at;
-use crate::parts::spa_read::read_value_leniently;
+use crate::parts::spa_read::{Refused, read_value_leniently};
 use crate::parts::spa_rewrite::{rewrite, rewrite_all};
-use crate::parts::spa_value::discard;
+use crate::parts::spa_sink::GenError;
+use crate::parts::spa_value::{Value, discard};
 use crate::parts::spa_write::write_value;
+use crate::shims::memory::{AllocError, AllocFailed};
 
 /// The encoding of the value that the front of the input conveys in the lenient reading, and what follows that front.
 ///
@@ -17,13 +19,15 @@ use crate::parts::spa_write::write_value;
 pub fn rewrite_leniently(
     input: &[u8],
 ) -> Result<(&[u8], Vec<u8>), DeserializeError<&[u8]>> {
-    if let Ok((rest, encoding)) = rewrite(input) {
-        return Ok((rest, encoding));
+    match rewrite(input) {
+        Ok(rewritten) => return Ok(rewritten),
+        Err(DeserializeError::OutOfMemory) => return Err(DeserializeError::OutOfMemory),
+        Err(_) => {}
     }
     let mut out = Vec::new();
     match append_leniently(input, &mut out) {
         Ok(rest) => Ok((rest, out)),
-        Err(error) => Err(error),
+        Err(refused) => Err(error_at(refused.place, refused.why)),
     }
 }
 
@@ -37,42 +41,80 @@ pub fn rewrite_all_leniently<'a>(
     input: &'a [u8],
     out: &mut Vec<u8>,
 ) -> Result<(), (&'a [u8], DeserializeError<&'a [u8]>)> {
+    match append_all(input, out) {
+        Ok(()) => Ok(()),
+        Err((left, refused)) => Err((left, error_at(refused.place, refused.why))),
+    }
+}
+
+/// Does what `rewrite_all_leniently` does, with the refused pod's place and cause apart.
+pub(crate) fn append_all<'a>(
+    input: &'a [u8],
+    out: &mut Vec<u8>,
+) -> Result<(), (&'a [u8], Refused<'a>)> {
     let start = out.len();
     let mut left = input;
     loop {
-        let Err((pod, _)) = rewrite_all(left, out) else {
-            return Ok(());
+        let pod = match rewrite_all(left, out) {
+            Ok(()) => return Ok(()),
+            Err((pod, DeserializeError::OutOfMemory)) => {
+                out.truncate(start);
+                return Err((pod, lacking_memory(pod)));
+            }
+            Err((pod, _)) => pod,
         };
         let (accepted, _) = left.split_at(left.len() - pod.len());
-        let Ok(()) = rewrite_all(accepted, out) else {
+        let Ok(()) = append_accepted(accepted, out) else {
             out.truncate(start);
-            return Err((left, DeserializeError::OutOfMemory));
+            return Err((left, lacking_memory(left)));
         };
         match append_leniently(pod, out) {
             Ok(rest) => left = rest,
-            Err(error) => {
+            Err(refused) => {
                 out.truncate(start);
-                return Err((pod, error));
+                return Err((pod, refused));
             }
         }
     }
 }
 
-/// Appends the lenient rewriting of the front of the input, by its value, and answers what follows the front.
-fn append_leniently<'a>(
-    input: &'a [u8],
-    out: &mut Vec<u8>,
-) -> Result<&'a [u8], DeserializeError<&'a [u8]>> {
-    let (rest, value) = match read_value_leniently(input) {
-        Ok(read) => read,
-        Err(refused) => return Err(error_at(refused.place, refused.why)),
-    };
-    let start = out.len();
-    let written = write_value(out, &value);
-    discard(value);
-    if written.is_err() {
-        out.truncate(start);
-        return Err(DeserializeError::OutOfMemory);
+/// The refusal of what begins there, for want of memory.
+fn lacking_memory(place: &[u8]) -> Refused<'_> {
+    Refused {
+        place,
+        why: Refusal::OutOfMemory,
     }
-    Ok(rest)
+}
+
+/// Appends the rewritings of pods that are all accepted, unless memory runs out.
+fn append_accepted(pods: &[u8], out: &mut Vec<u8>) -> Result<(), AllocError> {
+    match rewrite_all(pods, out) {
+        Ok(()) => Ok(()),
+        Err((_, DeserializeError::OutOfMemory)) => Err(AllocError),
+        Err(_) => unreachable!(),
+    }
+}
+
+/// Appends the lenient rewriting of the front of the input, by its value, and answers what follows the front.
+fn append_leniently<'a>(input: &'a [u8], out: &mut Vec<u8>) -> Result<&'a [u8], Refused<'a>> {
+    let (rest, value) = read_value_leniently(input)?;
+    let written = append_value(&value, out);
+    discard(value);
+    match written {
+        Ok(()) => Ok(rest),
+        Err(_) => Err(lacking_memory(input)),
+    }
+}
+
+/// Appends the encoding of a value that can be written, unless memory runs out.
+fn append_value(value: &Value, out: &mut Vec<u8>) -> Result<(), AllocError> {
+    let start = out.len();
+    match write_value(out, value) {
+        Ok(_) => Ok(()),
+        Err(GenError::OutOfMemory) => {
+            out.truncate(start);
+            Err(AllocError)
+        }
+        Err(_) => unreachable!(),
+    }
 }

@@ -23,14 +23,16 @@ fn wanted_said(
     }
 }
 
-fn bytes_said(bytes: &[u8]) -> Result<String, AllocError> {
+pub(crate) fn bytes_said(bytes: &[u8]) -> Result<String, AllocError> {
     let mut text = String::new();
     push_spelling(&mut text, bytes)?;
     Ok(text)
 }
 
 /// A refusal, as a row has it.
-fn refusal_said(error: &DeserializeError<&[u8]>) -> Result<String, AllocError> {
+pub(crate) fn refusal_said(
+    error: &DeserializeError<&[u8]>,
+) -> Result<String, AllocError> {
     match error {
         DeserializeError::Nom(fault) => crate::try_format!("{:?}", fault.kind),
         DeserializeError::OutOfMemory => Err(AllocError),
@@ -74,7 +76,7 @@ fn list_said(before: &[u32], input: &[u8]) -> Result<String, AllocError> {
     }
 }
 
-fn assert_said(found: &str, wanted: &str, place: &str) {
+pub(crate) fn assert_said(found: &str, wanted: &str, place: &str) {
     assert_eq!(found, wanted, "at {place}");
 }
 
@@ -115,10 +117,18 @@ fn fronts_are_rewritten_answers() -> Result<(), Fail> {
 }
 
 /// An exact pod, and its rewriting.
-const TRUTH: (&[u32], &[u32]) = (&[4, 2, 7, 9], &[4, 2, 1, 0]);
+pub(crate) const TRUTH: (&[u32], &[u32]) = (&[4, 2, 7, 9], &[4, 2, 1, 0]);
 
 /// Bytes that an output has.
 const HELD: &[u32] = &[5, 6];
+
+/// A pod of these words between two that are accepted exactly.
+pub(crate) fn between_pods(words: &[u32]) -> Result<Vec<u8>, AllocError> {
+    let mut list = bytes_of(TRUTH.0)?;
+    push_words(&mut list, words)?;
+    push_words(&mut list, TRUTH.0)?;
+    Ok(list)
+}
 
 /// Each row between two pods that are accepted exactly, behind what the output has.
 #[test]
@@ -128,9 +138,7 @@ fn lists_are_rewritten() {
 
 fn lists_are_rewritten_answers() -> Result<(), Fail> {
     for (name, words, wanted) in ROWS {
-        let mut input = bytes_of(TRUTH.0)?;
-        push_words(&mut input, words)?;
-        push_words(&mut input, TRUTH.0)?;
+        let input = between_pods(words)?;
         let found = list_said(HELD, input.as_slice())?;
         let said = list_wanted(words.len(), wanted)?;
         assert_said(found.as_str(), said.as_str(), name);
@@ -172,7 +180,7 @@ fn the_second_of_two_conveys_nothing_answers() -> Result<(), Fail> {
 }
 
 /// How deep structs are nested in the deepest example.
-const DEPTH: u32 = 20000;
+pub(crate) const DEPTH: u32 = 20000;
 
 /// A text with several NULs in the innermost of many structs.
 #[test]

@@ -1,6 +1,6 @@
 use Rattle.std.proofs.Common.{◌≡◌, length}
 use Rattle.spa_lenient.proofs.Lists.{IsUpTo}
-use Rattle.spa_lenient.proofs.rewriting.rewrite_all_leniently.Given as goal
+use Rattle.spa_lenient.proofs.rewriting.append_all.Given as goal
 
 abbrev pub invariant-loop-pod : goal.invariant-loop-pod
 invariant-loop-pod l = IsUpTo l.fn.input l.left l.fn.out.items l.out.items × (l.start ≡ length l.fn.out.items)

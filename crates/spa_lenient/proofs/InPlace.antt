@@ -1,0 +1,80 @@
+-- Lists that are rewritten leniently into room of their own length.
+use Rattle.std.proofs.Common.{◌≡◌, ℕ, ◌+◌, ◌-◌, ◌≤◌, List, length, drop, refl, sym, ap, ◌∙◌, subst, arith, length-append}
+use Rattle.std.specs.Prelude.{⊤}
+use Rattle.std.proofs.lemmas.List.{drop_at}
+use Rattle.std.specs.Borrow.{Bor}
+use Rattle.spa_fixed.specs.declared.fault.DeserializeError.{DeserializeError}
+use Rattle.spa_fixed.specs.declared.fault.DeserializeError.TheVariants as error
+use Rattle.spa_format.specs.Tree.{Trees, no_trees, member}
+use Rattle.spa_format.specs.Encoding.{encoding_of, member_encodings}
+use Rattle.spa_format.specs.Front.{HasFront}
+use Rattle.spa_format.specs.Lenient.{ConveyMembers}
+use Rattle.spa_format.specs.Typed.{IsBytes}
+use Rattle.spa_format.proofs.Exacted.{no_longer_conveyed}
+use Rattle.spa_format.proofs.Origin.{IsBytes-first, IsBytes-others}
+use Rattle.spa_leaf.specs.Reading.{OnMemory}
+use Rattle.spa_in_place.specs.InPlace.{IsFaultOf}
+use Rattle.spa_in_place.specs.InPlace as exact
+use Rattle.spa_rewrite.specs.Rewriting.{AreRewritten}
+use Rattle.spa_rewrite.specs.Shorter.{AreRewrittenAs}
+use Rattle.spa_lenient.specs.Rewriting.{AreRewrittenLeniently, AreRewrittenLenientlyAs, IsLeftLeniently, RefusesList, RefusesListAt}
+use Rattle.spa_lenient.proofs.Causes.{named_memory}
+use Rattle.spa_lenient.proofs.Fronts.{lacks_memory}
+use Rattle.spa_lenient.proofs.Lists.{members_convey}
+
+-- pods are rewritten as by their values
+pub exactly_all : (input old new : List ℕ) → AreRewritten input old new → AreRewrittenLeniently input old new
+exactly_all input old new r = (r.0, members_convey r.0 input r.1, r.2)
+
+pub exactly_as : (input : List ℕ) (len : ℕ) → AreRewrittenAs input len → AreRewrittenLenientlyAs input len
+exactly_as input len r = (r.values, members_convey r.values input r.members, r.long)
+
+-- no encodings are longer than what conveys the values
+members_shorter : (vs : Trees) (b : List ℕ) → IsBytes b → ConveyMembers vs b → length (member_encodings vs) ≤ length b
+members_shorter no_trees b f h = omega arith
+members_shorter (member v vs) b f h =
+    let front = no_longer_conveyed h.0 v (IsBytes-first b h.0 h.1 h.2 f) h.3 in
+    let others = members_shorter vs h.1 (IsBytes-others b h.0 h.1 h.2 f) h.4 in
+    let e = ap length h.2 ∙ length-append h.0 h.1 in
+    let l = length-append (encoding_of v) (member_encodings vs) in
+    omega arith
+
+pub as_shorter : (input : List ℕ) (len : ℕ) → IsBytes input → AreRewrittenLenientlyAs input len → len ≤ length input
+as_shorter input len f r = let s = members_shorter r.0 input f r.1 in let l = r.2 in omega arith
+
+pub are_shorter : (input old new : List ℕ) → IsBytes input → AreRewrittenLeniently input old new → length new ≤ length old + length input
+are_shorter input old new f r =
+    let s = members_shorter r.0 input f r.1 in
+    let l = ap length r.2 ∙ length-append old (member_encodings r.0) in
+    omega arith
+
+-- Refusals.
+
+left_there : (input left : List ℕ) → IsLeftLeniently input left → drop (length input - length left) input ≡ left
+left_there input left h =
+    let e = ap length h.2 ∙ length-append h.1 left in
+    let n : length input - length left ≡ length h.1 = omega arith in
+    ap (drop (length input - length left)) h.2 ∙ drop_at h.1 left (length input - length left) (sym n)
+
+pub refused_at : (input left : List ℕ) (placed : DeserializeError (Bor (List ℕ))) (e : DeserializeError ⊤) → RefusesList input left placed →
+    IsFaultOf e placed → RefusesListAt input (length input - length left) e
+refused_at input left placed e r s = record {
+  placed = placed;
+  list = subst (λ l. RefusesList input l placed) (sym (left_there input left r.behind)) r;
+  same = s;
+}
+
+-- where memory ran out already for the exact rewriting
+pub lacks_memory_at : (input : List ℕ) (at : ℕ) → exact.RefusesListAt input at error.OutOfMemory → RefusesListAt input at error.OutOfMemory
+lacks_memory_at input at r =
+    let l = r.behind in
+    let front : HasFront (drop at input) = subst (OnMemory (HasFront (drop at input))) (named_memory r.told (sym r.same)) r.front.memory in
+    record {
+      placed = error.OutOfMemory;
+      list = record {
+        behind = (l.0, l.1, l.2, members_convey l.0 l.1 l.3, l.4);
+        refused = tt;
+        front = lacks_memory (drop at input) front;
+      };
+      same = refl;
+    }

@@ -1,0 +1,110 @@
+//! The lenient rewritings of all pods of a buffer, in place or in a buffer of the caller's.
+ghost use Rattle.std.specs.Prelude.{◌≡◌, ◌<◌, ◌≤◌, ◌++◌, [], List, ℕ, IfErr, IfOk, OnErr, drop, length, take};
+ghost use Rattle.std.specs.Borrow.{Bor};
+ghost use Rattle.spa_in_place.specs.InPlace.{IsFaultOf};
+ghost use Rattle.spa_leaf.specs.Refusing.{error_of};
+ghost use Rattle.spa_lenient.specs.Rewriting.{AreRewrittenLeniently, AreRewrittenLenientlyAs, RefusesList, RefusesListAt};
+ghost use Rattle.spa_rewrite.specs.Shorter.{ArePodsWithin};
+ghost use Rattle.spa_scan.specs.Depth.{levels_looked_into};
+
+use crate::rewriting::{append_all, rewrite_all_leniently};
+use spa_fixed::{DeserializeError, Fault, FaultKind, Refusal};
+use spa_in_place::{rewrite_in_place, rewrite_into};
+use std::alloc::Global;
+
+/// Puts the lenient rewritings of all pods that the bytes consist of at their front, and answers how many bytes these take: never more than
+/// there were. The bytes behind them stay as they were.
+///
+/// The call is refused exactly as `rewrite_all_leniently`, and then no byte is changed. A refusal gives how many bytes stand before the
+/// refused pod, and what is wrong with that one, without the place inside it: a lenient read of the bytes from there on gives that too.
+///
+/// Pods that are accepted exactly are rewritten as `rewrite_in_place` does, which takes no memory where structs and objects stand at most `LEVELS`
+/// deep in one another. Where one isn't, memory is asked for the rewritings of all and for the value of that one.
+pub fn rewrite_in_place_leniently(
+    alloc: Global,
+    bytes: &mut [u8],
+) -> Result<usize, (usize, DeserializeError<()>)>
+    ensures rewritten { IfOk result (λ len. AreRewrittenLeniently bytes.old [] (take len bytes.new)) }
+    ensures within { IfOk result (λ len. len ≤ length bytes.old) }
+    ensures behind { IfOk result (λ len. drop len bytes.new ≡ drop len bytes.old) }
+    ensures unchanged { OnErr result (bytes.new ≡ bytes.old) }
+    ensures refused { IfErr result (λ refusal. RefusesListAt bytes.old refusal.0 refusal.1) }
+    // Pods that nest in 1000 levels at most are never refused: for these no memory is asked for.
+    ensures missed { IfErr result (λ _. ¬ (ArePodsWithin levels_looked_into bytes.old)) }
+{
+    match rewrite_in_place(alloc, bytes) {
+        Ok(len) => return Ok(len),
+        Err((at, DeserializeError::OutOfMemory)) => {
+            return Err((at, DeserializeError::OutOfMemory));
+        }
+        Err(_) => {}
+    }
+    let all = bytes.len();
+    let mut rewritten = Vec::new(alloc);
+    if let Err((left, refused)) = append_all(bytes, &mut rewritten) {
+        return Err((all - left.len(), cause_of(refused.why)));
+    }
+    put_first(rewritten.as_slice(), bytes);
+    Ok(rewritten.len())
+}
+
+/// Puts the lenient rewritings of all pods that the input consists of at the front of an output that is at least as long as the input, and answers
+/// how many bytes they take: never more than the input has. What is behind them stays as it was. To a shorter output it writes nothing, and
+/// only answers that.
+///
+/// The call is refused exactly as `rewrite_all_leniently`, and then nothing is written. Pods that are accepted exactly are rewritten as `rewrite_into`
+/// does, without memory, where structs and objects stand at most `LEVELS` deep in one another; else memory is asked for the rewritings of all.
+pub fn rewrite_into_leniently<'a>(
+    alloc: Global,
+    input: &'a [u8],
+    out: &mut [u8],
+) -> Result<usize, (&'a [u8], DeserializeError<&'a [u8]>)>
+    ensures counted { IfOk result (AreRewrittenLenientlyAs input.now) }
+    ensures within { IfOk result (λ len. len ≤ length input.now) }
+    ensures rewritten { IfOk result (λ len. length input.now ≤ length out.old → AreRewrittenLeniently input.now [] (take len out.new)) }
+    ensures behind { IfOk result (λ len. drop len out.new ≡ drop len out.old) }
+    ensures short { length out.old < length input.now → out.new ≡ out.old }
+    ensures unchanged { OnErr result (out.new ≡ out.old) }
+    ensures refused { IfErr result (λ refusal. RefusesList input.now refusal.0.now refusal.1) }
+    // Pods that nest in 1000 levels at most are never refused: for these no memory is asked for.
+    ensures missed { IfErr result (λ _. ¬ (ArePodsWithin levels_looked_into input.now)) }
+{
+    if let Some(len) = rewrite_into(input, out) {
+        return Ok(len);
+    }
+    let mut rewritten = Vec::new(alloc);
+    rewrite_all_leniently(input, &mut rewritten)?;
+    if input.len() <= out.len() {
+        put_first(rewritten.as_slice(), out);
+    }
+    Ok(rewritten.len())
+}
+
+/// Puts bytes at the front of an output that is at least as long.
+fn put_first(bytes: &[u8], out: &mut [u8])
+    requires { length bytes.now ≤ length out.old }
+    ensures { out.new ≡ bytes.now ++ drop (length bytes.now) out.old }
+{
+    out[..bytes.len()].copy_from_slice(bytes);
+}
+
+/// The cause of a refusal, without the place.
+fn cause_of(why: Refusal) -> DeserializeError<()>
+    ensures { (place : Bor (List ℕ)) → IsFaultOf result (error_of place why) }
+{
+    match why {
+        Refusal::Short => DeserializeError::Nom(Fault {
+            input: (),
+            kind: FaultKind::Short,
+        }),
+        Refusal::Text => DeserializeError::Nom(Fault {
+            input: (),
+            kind: FaultKind::Text,
+        }),
+        Refusal::InvalidType => DeserializeError::InvalidType,
+        Refusal::InvalidChoiceType => DeserializeError::InvalidChoiceType,
+        Refusal::MissingChoiceValues => DeserializeError::MissingChoiceValues,
+        Refusal::WrongSize => DeserializeError::WrongSize,
+        Refusal::OutOfMemory => DeserializeError::OutOfMemory,
+    }
+}

@@ -1,0 +1,9 @@
+use Rattle.std.proofs.Common.{arith}
+use Rattle.spav.proofs.Written.{conveyed_written}
+use Rattle.spav.proofs.lenient.spav_rewrite_leniently.Goals as goal
+
+pub returns-in-Ok-clause-done : goal.returns-in-Ok-clause-done
+returns-in-Ok-clause-done c = λ _.
+    let room = c.if-out-input.false in
+    let within = c.in-Ok.ensures.within in
+    conveyed_written _ _ _ _ (c.in-Ok.ensures.rewritten (omega arith)) (omega arith) c.rewrite_into_leniently.auto.out c.in-Ok.ensures.behind

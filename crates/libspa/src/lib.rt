@@ -73,8 +73,8 @@ pub mod pod {
         pub use spa_typed_read::{
             ArrayPodDeserializer, DeserializeAs, DeserializeMembers, DeserializeProperties,
             DeserializeSuccess, ExactDeserialize, Never, ObjectOf, ObjectPodDeserializer, Optional,
-            PodDeserialize, PodDeserializer, Required, Skipped, StructOf, StructPodDeserializer,
-            Visit, Visitor, laws,
+            PodDeserialize, PodDeserializer, Required, Settled, Skipped, StructOf,
+            StructPodDeserializer, Visit, Visitor, laws,
         };
         pub use spa_visitors::{
             BitmapVisitor, BoolVisitor, BytesVisitor, ChoiceBoolVisitor, ChoiceDoubleVisitor,

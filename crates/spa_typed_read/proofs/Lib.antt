@@ -6,6 +6,7 @@ pub mod Fronts
 pub mod Looked
 pub mod Lookups
 pub mod Placed
+pub mod SettledReads
 pub mod Stepping
 pub mod Visits
 pub mod Written

@@ -15,7 +15,6 @@ use Rattle.spa_leaf.specs.Reading.{BeginsWith, IsRead, IsShortAt, OnMemory, Refu
 use Rattle.spa_format.specs.Faults.{Stands}
 use Rattle.spa_fixed.specs.declared.fault.DeserializeError.TheVariants as error
 use Rattle.spa_leaf.specs.Refusing.{StandsInMembers, StandsInProperties}
-use Rattle.spa_scan.specs.Depth.{levels_looked_into}
 use Rattle.spa_typed_read.specs.Exactly.{AreNoMembers, RefusesMembers}
 use Rattle.spa_rewrite.specs.Look.{IsTooDeep}
 use Rattle.spa_typed_read.specs.Lookup.{HoldsDeep, RefusesProperties}

@@ -4,13 +4,14 @@ use Rattle.std.specs.Borrow.{Bor}
 use Rattle.spa_format.specs.Tree.{Tree, Trees, member, struct}
 use Rattle.spa_format.specs.Pod.{AreMembers}
 use Rattle.spa_format.specs.Front.{HasFront, Begins}
-use Rattle.spa_format.specs.Tree.{struct_type}
+use Rattle.spa_format.specs.Kind.{Kind, type_number}
+use Rattle.spa_format.specs.Tree.{choice_type, struct_type}
 use Rattle.spa_format.specs.Words.{body_of, word_at}
 use Rattle.spa_fixed.specs.declared.fault.DeserializeError.{DeserializeError}
 use Rattle.spa_fixed.specs.declared.fault.DeserializeError.TheVariants as error
-use Rattle.spa_leaf.specs.Reading.{IsRead, IsShortAt, Names, OnFault, OnMemory}
+use Rattle.spa_leaf.specs.Reading.{IsRead, IsShortAt, Names, OnFault, OnMemory, RefusesInput}
 use Rattle.spa_leaf.specs.Refusing.{StandsInMembers}
-use Rattle.spa_typed_read.specs.Asking.{LacksFront}
+use Rattle.spa_typed_read.specs.Asking.{LacksFront, RefusesAsked, of_type}
 
 -- the input begins with no value that is read as one of this type
 abbrev pub IsUnread : {X : Type 0} → (Tree → X → Type 0) → List ℕ → Type 0
@@ -66,3 +67,14 @@ pub record ReadsStruct {X : Type 0} (reads : Trees → X → Type 0) (v : Tree) 
   pub members : Trees
   pub is : v ≡ struct members
   pub are : reads members x
+
+-- a choice is at the front of the input, whether it is a pod or not
+abbrev pub BeginsChoice : List ℕ → Type 0
+BeginsChoice b = HasFront b × (word_at b 4 ≡ choice_type)
+
+-- A value of this kind, or a None choice of one, isn't read. Where no choice is there, it is refused as a value of the kind is. A choice is
+-- refused for a fault that stands in it, or, where it is a pod of which no value is read, as unsupported.
+pub data RefusesSettled {X : Type 0} (k : Kind) (reads : Tree → X → Type 0) (b : List ℕ) (e : DeserializeError (Bor (List ℕ))) : Type 0 where
+  no_choice : ¬ (BeginsChoice b) → RefusesAsked (of_type (type_number k)) ⊥ b e → RefusesSettled k reads b e
+  malformed : BeginsChoice b → RefusesInput b e → OnMemory ⊥ e → RefusesSettled k reads b e
+  other_choice : BeginsChoice b → (v : Tree) → Begins b v → IsUnread reads b → e ≡ error.UnsupportedType → RefusesSettled k reads b e

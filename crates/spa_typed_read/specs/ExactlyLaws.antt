@@ -1,18 +1,21 @@
 -- The laws of types whose reads are refused exactly, for the built-in ones.
-use Rattle.std.specs.Prelude.{◌≡◌, ℕ, List, ⊤}
+use Rattle.std.specs.Prelude.{◌≡◌, ◌≢◌, ℕ, List, ⊤, refl}
+use Rattle.std.proofs.Common.{sym, ap, ◌∙◌, subst}
 use Rattle.std.specs.Borrow.{Bor}
-use Rattle.spa_format.specs.Tree.{Tree}
-use Rattle.spa_format.specs.Front.{HasFront, IsRefused}
+use Rattle.spa_format.specs.Tree.{Tree, fixed, string, bytes, bitmap, array, choice, pointer, struct, object, choice_type, type_of}
+use Rattle.spa_format.specs.Front.{Begins, HasFront, IsRefused}
+use Rattle.spa_format.proofs.Refused as format
 use Rattle.spa_format.specs.Words.{word_at}
 use Rattle.spa_fixed.specs.declared.fault.DeserializeError.{DeserializeError}
 use Rattle.spa_fixed.specs.declared.fault.DeserializeError.TheVariants as error
-use Rattle.spa_format.specs.Kind.{Kind, Fixed}
+use Rattle.spa_format.specs.Kind.{Kind, Fixed, kind_of, type_number}
 use Rattle.spa_utils.specs.declared.choice.ChoiceEnum.{ChoiceEnum}
 use Rattle.spa_utils.specs.declared.choice.ChoiceEnum.TheVariants as E
 use Rattle.spa_utils.specs.declared.choice.Choice.{Choice}
 use Rattle.spa_fixed.specs.Choices.{choice_enum_tree, choice_tree}
 use Rattle.spa_typed_read.specs.Asking.{Asked, choice_of, IsAsked, RefusesAsked, asked_type}
-use Rattle.spa_typed_read.specs.Exactly.{IsUnread, RefusesExactly}
+use Rattle.spa_typed_read.specs.Exactly.{BeginsChoice, IsUnread, RefusesExactly, RefusesSettled, malformed, no_choice, other_choice}
+use Rattle.spa_view.specs.Settled.{settled_of}
 use Rattle.spa_leaf.specs.Reading.{MayLackMemory, OnFault, OnMemory, RefusesInput}
 
 -- what a refusal says is weakened
@@ -136,3 +139,43 @@ choice_asked k f v c h = of_values k f v c.0.0 c.1 h
     of_values k f v n (E.Step x a b s) h = (_, _, _, _, h)
     of_values k f v n (E.Enum x xs) h = (_, _, _, _, h)
     of_values k f v n (E.Flags x xs) h = (_, _, _, _, h)
+
+-- what is no choice is itself, settled
+itself : (v : Tree) → type_of v ≢ choice_type → settled_of v ≡ v
+itself (fixed x) n = refl
+itself (string s) n = refl
+itself (bytes s) n = refl
+itself (bitmap s) n = refl
+itself (array k xs) n = refl
+itself (choice s f k x xs) n = absurd (n refl)
+itself (pointer t a) n = refl
+itself (struct vs) n = refl
+itself (object t i ps) n = refl
+
+-- where no choice is there, a value that is read so is of the kind
+of_its_kind : (k : Kind) (x : Fixed) (b : List ℕ) (v : Tree) → kind_of x ≡ k → ¬ (BeginsChoice b) → Begins b v → settled_of v ≡ fixed x →
+    type_of v ≡ type_number k
+of_its_kind k x b v i n g h =
+    let other : type_of v ≢ choice_type = λ t. n (g.there, (format.begun b v g).0 ∙ t) in
+    ap type_of (sym (itself v other) ∙ h) ∙ ap type_number i
+
+-- such a read is refused exactly where no such value is there
+pub settled_exactly : {X : Type 0} (k : Kind) (says : X → Fixed) → ((x : X) → kind_of (says x) ≡ k) →
+    (b : List ℕ) (e : DeserializeError (Bor (List ℕ))) → RefusesSettled k (λ v (x : X). settled_of v ≡ fixed (says x)) b e →
+    RefusesExactly (λ v (x : X). settled_of v ≡ fixed (says x)) ⊥ b e
+settled_exactly {X = X} k says of_kind b e (no_choice n r) = record {
+  unread = fault_to _ (IsUnread (λ v (x : X). settled_of v ≡ fixed (says x)) b) e
+      (λ no v x g h. no v g (of_its_kind k (says x) b v (of_kind x) n g h)) r.refused;
+  short_first = r.short_first;
+  memory = memory_to _ (⊥ × HasFront b) e (λ m. (m.0, m.1)) r.memory;
+}
+settled_exactly {X = X} k says of_kind b e (malformed c r m) = record {
+  unread = fault_to (IsRefused b) (IsUnread (λ v (x : X). settled_of v ≡ fixed (says x)) b) e (λ no v x g h. no v g) r.refused;
+  short_first = r.short_first;
+  memory = memory_to ⊥ (⊥ × HasFront b) e (λ n. absurd n) m;
+}
+settled_exactly {X = X} k says of_kind b e (other_choice c _ _ u i) = record {
+  unread = fault_there (IsUnread (λ v (x : X). settled_of v ≡ fixed (says x)) b) e u;
+  short_first = λ s. absurd (s c.0);
+  memory = subst (OnMemory (⊥ × HasFront b)) (sym i) tt;
+}

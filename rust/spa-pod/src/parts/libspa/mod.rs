@@ -66,7 +66,7 @@ pub mod pod {
     /// Reading values.
     pub mod deserialize {
         pub use crate::parts::spa_fixed::{DeserializeError, Fault, FaultKind};
-        pub use crate::parts::spa_typed_read::{ArrayPodDeserializer, DeserializeAs, DeserializeMembers, DeserializeProperties, DeserializeSuccess, ExactDeserialize, Never, ObjectOf, ObjectPodDeserializer, Optional, PodDeserialize, PodDeserializer, Required, Skipped, StructOf, StructPodDeserializer, Visit, Visitor};
+        pub use crate::parts::spa_typed_read::{ArrayPodDeserializer, DeserializeAs, DeserializeMembers, DeserializeProperties, DeserializeSuccess, ExactDeserialize, Never, ObjectOf, ObjectPodDeserializer, Optional, PodDeserialize, PodDeserializer, Required, Settled, Skipped, StructOf, StructPodDeserializer, Visit, Visitor};
         pub(crate) use crate::parts::spa_typed_read::laws;
         pub use crate::parts::spa_visitors::{
             BitmapVisitor, BoolVisitor, BytesVisitor, ChoiceBoolVisitor, ChoiceDoubleVisitor,

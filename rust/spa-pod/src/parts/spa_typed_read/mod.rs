@@ -12,6 +12,7 @@ mod object_content;
 mod passing;
 mod pods;
 mod properties;
+mod settled;
 mod typed;
 mod visitor;
 
@@ -24,4 +25,5 @@ pub use members::StructPodDeserializer;
 pub use object_content::{DeserializeProperties, ObjectOf, Optional, Required};
 pub use passing::Skipped;
 pub use properties::ObjectPodDeserializer;
+pub use settled::Settled;
 pub use visitor::{Never, Visit, Visitor};

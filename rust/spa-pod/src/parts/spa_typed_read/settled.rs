@@ -1,0 +1,51 @@
+//! Values that are read through None choices, which fixation leaves in their places.
+
+use crate::shims::prelude::*;
+use crate::parts::spa_typed_read::deserializer::{DeserializeSuccess, PodDeserialize, PodDeserializer};
+use crate::parts::spa_typed_read::exact::ExactDeserialize;
+use crate::parts::spa_fixed::DeserializeError;
+use crate::parts::spa_leaf::error_at;
+use crate::parts::spa_rewrite::{Rejected, look_at_pod};
+use crate::parts::spa_utils::SpaTypes;
+use crate::parts::spa_view::{FixedPod, FromPod, Pod};
+
+/// A value of one of the ten types of fixed size, read settled: as it stands there, or as the value of a None choice. Fixation leaves a None
+/// choice of a value where a format has the value, so `Required<KEY, Settled<i32>>` reads a property of any format that is fixated. It
+/// asks for no memory. A None choice over a text or over bytes is no pod, so these are read as they are.
+pub struct Settled<T>(pub T);
+
+/// The pod at the front, where it is a choice's.
+#[inline(always)]
+fn choice_at(input: &[u8]) -> Option<Pod<'_>> {
+    let pod = Pod::from_bytes(input)?;
+    if pod.type_().0 != SpaTypes::Choice.0 {
+        return None;
+    }
+    Some(pod)
+}
+
+/// Refusals: where no choice is there, those of the type. Of a choice: `InvalidType`, `InvalidChoiceType`, `MissingChoiceValues` and `WrongSize`
+/// where that fault stands in it, and else `UnsupportedType`, for another shape or over another type.
+impl<'de, T: FixedPod> PodDeserialize<'de> for Settled<T> {
+    fn deserialize(
+        deserializer: PodDeserializer<'de>,
+    ) -> Result<(Settled<T>, DeserializeSuccess<'de>), DeserializeError<&'de [u8]>> {
+        let Some(pod) = choice_at(deserializer.input) else {
+            return match deserializer.fixed_pod::<T>() {
+                Ok((value, success)) => Ok((Settled(value), success)),
+                Err(e) => Err(e),
+            };
+        };
+        match look_at_pod(deserializer.input) {
+            Ok(accepted) => match T::from_pod(&pod.settled()) {
+                Some(value) => Ok((Settled(value), deserializer.after(accepted.rest))),
+                None => Err(DeserializeError::UnsupportedType),
+            },
+            Err(Rejected::Fault(place, why)) => Err(error_at(place, why)),
+            Err(Rejected::TooDeep) => Err(DeserializeError::UnsupportedType),
+        }
+    }
+}
+
+impl<'de, T: FixedPod> ExactDeserialize<'de> for Settled<T> {
+}

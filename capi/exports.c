@@ -114,6 +114,29 @@ int32_t spav_string(const void *in, size_t n, uint32_t key, char *out, size_t ca
 	return proved_spav_string(some(in), n, key, some(out), cap, len);
 }
 
+int32_t proved_spav_read(const void *, size_t, struct spav_item *, size_t, size_t *, uint32_t *, size_t *);
+int32_t spav_read(const void *in, size_t n, struct spav_item *out, size_t room, size_t *count, uint32_t *kind, size_t *at) {
+	if (lacks(in, n) || lacks(out, room))
+		return -EFAULT;
+	return proved_spav_read(some(in), n, some(out), room, count, kind, at);
+}
+
+int32_t proved_spav_item(const void *, size_t, struct spav_item *);
+int32_t spav_item(const void *in, size_t n, struct spav_item *item) { return lacks(in, n) ? -EFAULT : proved_spav_item(some(in), n, item); }
+
+int32_t proved_spav_find(const void *, size_t, uint32_t, size_t *);
+int32_t spav_find(const void *in, size_t n, uint32_t key, size_t *at) { return lacks(in, n) ? -EFAULT : proved_spav_find(some(in), n, key, at); }
+
+int32_t proved_spav_member(const void *, size_t, size_t, size_t *);
+int32_t spav_member(const void *in, size_t n, size_t number, size_t *at) {
+	return lacks(in, n) ? -EFAULT : proved_spav_member(some(in), n, number, at);
+}
+
+int32_t proved_spav_elements(const void *, size_t, struct spav_elements *);
+int32_t spav_elements(const void *in, size_t n, struct spav_elements *elements) {
+	return lacks(in, n) ? -EFAULT : proved_spav_elements(some(in), n, elements);
+}
+
 #define JOIN(name) \
 	int32_t proved_##name(const void *, size_t, const void *, size_t, void *, size_t, size_t *, uint32_t *); \
 	int32_t name(const void *a, size_t n, const void *b, size_t m, void *out, size_t cap, size_t *written, uint32_t *key_or_side) { \

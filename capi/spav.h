@@ -169,7 +169,7 @@ int32_t spav_front(const void *in, size_t n, uint32_t *type, uint32_t *size, siz
  *   -EINVAL  no object is at the front */
 int32_t spav_object(const void *in, size_t n, uint32_t *type, uint32_t *id) SPAV_MUST_USE SPAV_NONNULL(3, 4);
 
-/* The value of the first property with the key in the object at the front of `in`.
+/* The value of the first property with the key in the object at the front of `in`, which may stand in a None choice, as fixation leaves it.
  *   0        *value, or the pair, is it
  *   -EINVAL  no object is at the front
  *   -ENOENT  no property has the key
@@ -190,6 +190,62 @@ int32_t spav_fraction(const void *in, size_t n, uint32_t key, uint32_t *num, uin
  *   -EPROTO  the value is no string, or one whose last byte isn't NUL
  *   -EINVAL, -ENOENT  as above */
 int32_t spav_string(const void *in, size_t n, uint32_t key, char *out, size_t cap, size_t *len) SPAV_MUST_USE SPAV_NONNULL(6);
+
+/* What was read of a pod, of an element of an array, or of a value of a choice. */
+struct spav_item {
+	uint32_t type;       /* its type */
+	uint32_t key, flags; /* those of the property whose value it is, or 0 */
+	uint32_t child;      /* the type of an array's elements, or of a choice's values, else 0 */
+	size_t depth;        /* how many structs, objects, arrays and choices it stands in */
+	/* The two numbers of a pod of the type
+	 *   Bool, Id, Int, Float       0 or 1, the Id, the Int's 32 bits, the Float's bits; 0
+	 *   Long, Double, Fd           its 64 bits; 0
+	 *   Rectangle, Fraction        width and height, numerator and denominator
+	 *   String, Bytes, Bitmap      the byte of `in` at which they begin, and how many they are, without a text's NUL
+	 *   Pointer                    its type, the address
+	 *   Array                      the byte of `in` at which its elements begin, and how many they are
+	 *   Choice                     its shape, and how many values that takes
+	 *   Object                     its type, its id
+	 *   None, Struct               0; 0 */
+	uint64_t first, second;
+};
+
+/* Reads all that the pods of which `in` consists hold: an item for each pod, for each inside it, and for each element of an array and each value of a
+ * choice. An item comes before those inside it, and these before what follows it. No memory is asked for.
+ *   0        *count items were written
+ *   -ENOSPC  there are *count, more than `room`: `out` is full of the first of them
+ *   -EINVAL  `in` isn't pods one after another: the first fault is of the kind *kind, at the byte *at, as of spav_fault
+ *   -ELOOP   structs and objects stand more than 1000 deep in one another */
+int32_t spav_read(const void *in, size_t n, struct spav_item *out, size_t room, size_t *count, uint32_t *kind, size_t *at)
+	SPAV_MUST_USE SPAV_NONNULL(5, 6, 7);
+
+/* The item of the pod at the front of `in`, or, where that is a None choice, of its value.
+ *   0        *item is it
+ *   -EINVAL  no pod is at the front */
+int32_t spav_item(const void *in, size_t n, struct spav_item *item) SPAV_MUST_USE SPAV_NONNULL(3);
+
+/* Where a value begins in `in`, for the calls that read the pod at the front of what they are given: that of the first property with the key in the
+ * object at the front, that of the member of this number in the struct at the front, the first of which is 0.
+ *   0        *at is the byte
+ *   -EINVAL  no object, or no struct, is at the front
+ *   -ENOENT  no property has the key, or the struct has no such member */
+int32_t spav_find(const void *in, size_t n, uint32_t key, size_t *at) SPAV_MUST_USE SPAV_NONNULL(4);
+int32_t spav_member(const void *in, size_t n, size_t number, size_t *at) SPAV_MUST_USE SPAV_NONNULL(4);
+
+/* The elements of an array, or the values that a choice takes, the default first. */
+struct spav_elements {
+	uint32_t type;         /* SPAV_TYPE_Array or SPAV_TYPE_Choice */
+	uint32_t shape, flags; /* those of a choice, else 0 */
+	uint32_t element_type;
+	uint32_t element_size; /* in bytes */
+	size_t count;
+	size_t at; /* the byte of `in` at which the first begins; the others follow it without padding */
+};
+
+/* The elements of the array at the front of `in`, or the values of the choice there.
+ *   0        *elements are they
+ *   -EINVAL  neither is at the front */
+int32_t spav_elements(const void *in, size_t n, struct spav_elements *elements) SPAV_MUST_USE SPAV_NONNULL(3);
 
 /* Negotiation. The rules are those of docs/NEGOTIATION.md. What follows the two objects at the fronts of `a` and `b` doesn't count. */
 

@@ -3,3 +3,4 @@ mod Refusals
 mod Runs
 mod Written
 mod Searches
+mod ItemsRead

@@ -69,6 +69,14 @@ IsOther answer = IsFailure 71 answer
 abbrev pub IsUnfound : ℤ → Type 0
 IsUnfound answer = IsInvalid answer ⊎ IsMissing answer
 
+-- what a search for the place of a property or a member answers
+abbrev pub IsFound : ℤ → Type 0
+IsFound answer = IsDone answer ⊎ IsUnfound answer
+
+-- what a reading of all that pods hold answers
+abbrev pub IsListRead : ℤ → Type 0
+IsListRead answer = IsPut answer ⊎ IsInvalid answer ⊎ IsTooDeep answer
+
 -- what a read of a property answers
 abbrev pub IsRead : ℤ → Type 0
 IsRead answer = IsDone answer ⊎ IsOther answer ⊎ IsUnfound answer

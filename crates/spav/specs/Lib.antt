@@ -2,6 +2,7 @@ pub mod Answers
 pub mod Building
 pub mod Faults
 pub mod Filtering
+pub mod Items
 pub mod Lenient
 pub mod Lists
 pub mod Negotiation

@@ -4,6 +4,7 @@ use Rattle.spa_format.specs.Words.{body_of, header_size, word_at}
 use Rattle.spa_format.specs.Kind.{Kind, Fixed, content}
 use Rattle.spa_format.specs.Front.{HasFront, front_of}
 use Rattle.spa_format.specs.Walk.{first_with_key, properties_of, property_walk}
+use Rattle.spa_view.specs.Settled.{settled_bytes}
 use Rattle.spa_view.specs.Tests.{IsNulEnded, IsObjectPod, IsOfKind, before_nul}
 
 -- the front is there, and is an object's pod by its type and its size
@@ -21,12 +22,12 @@ pub record SaysObject (input : List ℕ) (type id : ℕ) : Type 0 where
 abbrev pub property_under : ℕ → List ℕ → Option (List ℕ)
 property_under key input = first_with_key key (property_walk (properties_of (front_of input)))
 
--- this is the pod of that property's value
+-- this is the pod of that property's value, or of the value of the None choice there
 pub record IsUnder (key : ℕ) (input pod : List ℕ) : Type 0 where
   pub object : BeginsObject input
   pub property : List ℕ
   pub first : property_under key input ≡ Some property
-  pub value : pod ≡ drop header_size property
+  pub value : pod ≡ settled_bytes (drop header_size property)
 
 -- an object is at the front, and no property of it has this key
 pub record HasNoneUnder (key : ℕ) (input : List ℕ) : Type 0 where

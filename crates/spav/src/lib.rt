@@ -12,6 +12,7 @@ mod faults;
 mod filtering;
 mod fixation;
 mod in_place;
+mod items;
 mod lenient;
 mod lists;
 mod negotiation;

@@ -61,7 +61,7 @@ pub extern "C" fn spav_object(input: &[u8], type_: &mut u32, id: &mut u32) -> i3
     DONE
 }
 
-/// The value of the first property with the key in the object at the front, or what is answered where there is none.
+/// The value of the first property with the key in the object at the front, settled, or what is answered where there is none.
 fn value_under(input: &[u8], key: u32) -> Result<Pod<'_>, i32>
     ensures found { IfOk result (λ pod. IsUnder key input.now (pod_bytes pod)) }
     ensures refused { IfErr result (λ answer. IsInvalid answer → ¬ (BeginsObject input.now)) }
@@ -75,7 +75,7 @@ fn value_under(input: &[u8], key: u32) -> Result<Pod<'_>, i32>
         return Err(INVALID);
     };
     match object.find_prop(Id(key)) {
-        Some(property) => Ok(property.value()),
+        Some(property) => Ok(property.value().settled()),
         None => Err(MISSING),
     }
 }

@@ -1,0 +1,164 @@
+/* What libspav reads of pods is what PipeWire's own readers find: the items of spav_read beside its iterators, values under keys beside
+ * spa_pod_parser_get_object, the elements of arrays and choices beside spa_pod_get_array and spa_pod_get_values. Each line of the input is a pod in
+ * hexadecimal digits. It prints how many items and values agreed. */
+#include <errno.h>
+#include <stdio.h>
+#include <stdlib.h>
+#include <string.h>
+#include <spa/pod/iter.h>
+#include <spa/pod/parser.h>
+#include "spav.h"
+
+enum { INPUT = 1 << 14 };
+
+#define SEE(fact) do { if (!(fact)) { printf("reads: line %d: %s, in %s\n", __LINE__, #fact, line); exit(1); } } while (0)
+
+static char line[4 * INPUT];
+static struct spav_item items[INPUT];
+static size_t count, next, values;
+static const uint8_t *input;
+
+/* The numbers of a body of a type of fixed size. */
+static void see_fixed(const struct spav_item *item, const void *body) {
+	uint32_t words[2] = { 0, 0 };
+	uint64_t wide = 0;
+	switch (item->type) {
+	case SPA_TYPE_None:
+		break;
+	case SPA_TYPE_Bool:
+		memcpy(words, body, 4);
+		words[0] = words[0] != 0;
+		break;
+	case SPA_TYPE_Id:
+	case SPA_TYPE_Int:
+	case SPA_TYPE_Float:
+		memcpy(words, body, 4);
+		break;
+	case SPA_TYPE_Rectangle:
+	case SPA_TYPE_Fraction:
+		memcpy(words, body, 8);
+		break;
+	default:
+		memcpy(&wide, body, 8);
+		SEE(item->first == wide && item->second == 0);
+		return;
+	}
+	SEE(item->first == words[0] && item->second == words[1]);
+}
+
+/* The items of elements, which follow that of their pod. */
+static void see_elements(const struct spav_item *of, const void *bodies, uint32_t type, uint32_t size, uint32_t n) {
+	SEE(of->second == n && of->child == type);
+	for (uint32_t i = 0; i < n; i++) {
+		const struct spav_item *item = &items[next++];
+		SEE(next <= count && item->type == type && item->depth == of->depth + 1 && item->key == 0 && item->flags == 0 && item->child == 0);
+		see_fixed(item, SPA_PTROFF(bodies, i * size, const void));
+	}
+}
+
+static void see_pod(const struct spa_pod *pod, uint32_t key, uint32_t flags, size_t depth) {
+	static const uint32_t least[] = { 1, 3, 4 };
+	const struct spav_item *item = &items[next++];
+	const uint8_t *body = SPA_POD_BODY_CONST(pod);
+	uint32_t n, shape, size = SPA_POD_BODY_SIZE(pod);
+	const struct spa_pod *member;
+	const struct spa_pod_prop *property;
+	SEE(next <= count && item->type == pod->type && item->key == key && item->flags == flags && item->depth == depth);
+	if (pod->type == SPA_TYPE_Array) {
+		const void *bodies = spa_pod_get_array(pod, &n);
+		SEE(input + item->first == bodies);
+		see_elements(item, bodies, SPA_POD_ARRAY_VALUE_TYPE(pod), SPA_POD_ARRAY_VALUE_SIZE(pod), SPA_POD_ARRAY_VALUE_SIZE(pod) ? n : 0);
+		return;
+	}
+	if (pod->type == SPA_TYPE_Choice) {
+		const struct spa_pod *first = spa_pod_get_values(pod, &n, &shape);
+		SEE(item->first == shape);
+		see_elements(item, SPA_POD_BODY_CONST(first), first->type, first->size, shape < SPA_N_ELEMENTS(least) ? SPA_MIN(n, least[shape]) : n);
+		return;
+	}
+	SEE(item->child == 0);
+	if (pod->type == SPA_TYPE_String)
+		SEE(input + item->first == body && item->second == strlen((const char *)body));
+	else if (pod->type == SPA_TYPE_Bytes || pod->type == SPA_TYPE_Bitmap)
+		SEE(input + item->first == body && item->second == size);
+	else if (pod->type == SPA_TYPE_Pointer) {
+		uint64_t address = 0;
+		memcpy(&address, body + 8, size - 8);
+		SEE(item->first == ((const struct spa_pod_pointer_body *)body)->type && item->second == address);
+	} else if (pod->type == SPA_TYPE_Struct) {
+		SEE(item->first == 0 && item->second == 0);
+		SPA_POD_STRUCT_FOREACH(pod, member)
+			see_pod(member, 0, 0, depth + 1);
+	} else if (pod->type == SPA_TYPE_Object) {
+		SEE(item->first == SPA_POD_OBJECT_TYPE(pod) && item->second == SPA_POD_OBJECT_ID(pod));
+		SPA_POD_OBJECT_FOREACH((const struct spa_pod_object *)pod, property)
+			see_pod(&property->value, property->key, property->flags, depth + 1);
+	} else
+		see_fixed(item, body);
+}
+
+/* One getter beside the parser's form, which sees through None choices. */
+#define SEE_UNDER(get, form, type) do { \
+	type ours, theirs; \
+	memset(&ours, 0, sizeof ours); \
+	memset(&theirs, 0, sizeof theirs); \
+	uint32_t kind = SPA_POD_OBJECT_TYPE(pod); \
+	int there = spa_pod_parse_object(pod, kind, NULL, key, SPA_POD_##form(&theirs)); \
+	int32_t answer = get(pod, n, key, &ours); \
+	SEE((there >= 0) == (answer == 0) && !memcmp(&ours, &theirs, sizeof ours)); \
+	values += answer == 0; \
+} while (0)
+
+/* The values under each key. */
+static void see_values(const struct spa_pod *pod, size_t n) {
+	const struct spa_pod_prop *property;
+	SPA_POD_OBJECT_FOREACH((const struct spa_pod_object *)pod, property) {
+		uint32_t key = property->key;
+		struct spav_elements elements;
+		size_t at;
+		if (spa_pod_find_prop(pod, NULL, key) != property)
+			continue;
+		SEE(spav_find(pod, n, key, &at) == 0 && input + at == (const uint8_t *)&property->value);
+		SEE_UNDER(spav_bool, Bool, bool);
+		SEE_UNDER(spav_id, Id, uint32_t);
+		SEE_UNDER(spav_int, Int, int32_t);
+		SEE_UNDER(spav_long, Long, int64_t);
+		SEE_UNDER(spav_float, Float, float);
+		SEE_UNDER(spav_double, Double, double);
+		SEE_UNDER(spav_fd, Fd, int64_t);
+		if (spav_elements(input + at, n - at, &elements) == 0) {
+			uint32_t had, shape;
+			const void *first = elements.type == SPA_TYPE_Array ? spa_pod_get_array(&property->value, &had)
+				: SPA_POD_BODY_CONST(spa_pod_get_values(&property->value, &had, &shape));
+			SEE(input + at + elements.at == first && elements.count <= had);
+		}
+	}
+}
+
+int main(void) {
+	static uint8_t bytes[INPUT];
+	size_t read = 0;
+	while (fgets(line, sizeof line, stdin)) {
+		size_t n = 0, at;
+		uint32_t kind;
+		for (unsigned byte; n < INPUT && sscanf(line + 2 * n, "%2x", &byte) == 1; n++)
+			bytes[n] = (uint8_t)byte;
+		uint8_t *copy = malloc(n ? n : 1);
+		if (!copy)
+			return 2;
+		memcpy(copy, bytes, n);
+		input = copy;
+		const struct spa_pod *pod = (const struct spa_pod *)copy;
+		if (spav_read(copy, n, items, INPUT, &count, &kind, &at) == 0 && n) {
+			next = 0;
+			see_pod(pod, 0, 0, 0);
+			SEE(next == count);
+			read += count;
+			if (pod->type == SPA_TYPE_Object)
+				see_values(pod, n);
+		}
+		free(copy);
+	}
+	printf("reads: %zu items, %zu values under keys agree\n", read, values);
+	return 0;
+}

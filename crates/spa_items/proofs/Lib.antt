@@ -1,0 +1,4 @@
+pub mod Overlays
+pub mod Firsts
+pub mod Listed
+pub mod Placed

@@ -1,0 +1,178 @@
+-- The items of a pod, and of those that stand one after another.
+use Rattle.std.proofs.Common.{◌≡◌, ◌≢◌, ℕ, suc, ◌+◌, ◌-◌, ◌*◌, ◌<◌, ◌≤◌, List, [], ◌∷◌, ◌++◌, length, take, drop, map, refl, sym, ap, subst, ◌∙◌, arith, length-take, length-drop}
+use Rattle.std.specs.Prelude.{Bool, true, false, if◌then◌else◌}
+use Rattle.std.specs.Simd.{first_chunks}
+use Rattle.std.proofs.lemmas.Bool.{ne_eqb}
+use Rattle.spa_events.specs.Events.{is_object, is_struct}
+use Rattle.spa_format.specs.Front.{HasFront, front_of}
+use Rattle.spa_format.specs.Walk.{extent_behind, walk_behind}
+use Rattle.spa_format.specs.Words.{body_of, extent, word_at}
+use Rattle.spa_format.proofs.WalkLemmas.{walk_behind-end, walk_behind-there}
+use Rattle.spa_items.specs.Contents.{content, element, element_count, elements, values_of, word_or}
+use Rattle.spa_items.specs.Items.{before, head, items_along, items_in, items_inside, items_of, items_within, overlaid}
+use Rattle.spa_items.specs.Puts.{AreElements, ArePut, IsFirst, first_of, item_of}
+use Rattle.spa_items.specs.declared.elements.Elements.{Elements}
+use Rattle.spa_items.specs.declared.item.Item.{Item}
+use Rattle.spa_items.specs.declared.listing.First.{First}
+use Rattle.spa_items.proofs.Overlays.{ArePutOf, all_put, begun, both_put, more_put, none_put}
+
+none_within : (depth : ℕ) (keyed : Bool) (at : ℕ) (p : List ℕ) → items_within 0 depth keyed at p ≡ []
+unfolding items_within
+none_within depth keyed at p = refl
+
+one_within : (n depth : ℕ) (keyed : Bool) (at : ℕ) (p : List ℕ) → let pod = drop (before keyed) p in
+    items_within (suc n) depth keyed at p
+    ≡ head keyed depth at p ∷ items_inside (items_within n (depth + 1)) (word_at pod 4) (depth + 1) (at + before keyed + 8) (body_of pod)
+unfolding items_within
+one_within n depth keyed at p = refl
+
+-- no levels are left
+pub nothing_listed : (levels depth : ℕ) (keyed : Bool) (at : ℕ) (p : List ℕ) (place : ℕ) (old : List Item) → levels ≡ 0 →
+    ArePut place (items_within levels depth keyed at p) old place old
+nothing_listed levels depth keyed at p place old e =
+    subst (λ xs. ArePut place xs old place old) (sym (ap (λ n. items_within n depth keyed at p) e ∙ none_within depth keyed at p)) (none_put place old)
+
+-- the item of the first pod is that of its parts
+its_head : (keyed : Bool) (depth at body_at : ℕ) (b : List ℕ) (f : First) → IsFirst keyed b f → body_at ≡ at + before keyed + 8 →
+    item_of depth body_at f ≡ head keyed depth at (first_of keyed b)
+its_head keyed depth at body_at b f i e =
+    let p = first_of keyed b in
+    let t = word_at (drop (before keyed) p) 4 in
+    let make : ℕ → ℕ → ℕ → ℕ → List ℕ → Item = λ k l y x c.
+    let w = content y x c in record { type_ = y; key = k; flags = l; child = word_or (values_of y c) 4; depth = depth; first = w.first; second = w.second } in
+    ap (λ k. make k f.flags f.type_ body_at f.body.now) i.its_key
+    ∙ ap (λ l. make (if keyed then word_at p 0 else 0) l f.type_ body_at f.body.now) i.its_flags
+    ∙ ap (λ y. make (if keyed then word_at p 0 else 0) (if keyed then word_at p 4 else 0) y body_at f.body.now) i.its_type
+    ∙ ap (λ x. make (if keyed then word_at p 0 else 0) (if keyed then word_at p 4 else 0) t x f.body.now) e
+    ∙ ap (λ c. make (if keyed then word_at p 0 else 0) (if keyed then word_at p 4 else 0) t (at + before keyed + 8) c) i.its_body
+
+-- the item of the pod at the front
+pub front_head : (at : ℕ) (b : List ℕ) (f : First) → IsFirst false b f → item_of 0 (at + 8) f ≡ head false 0 at (front_of b)
+front_head at b f i =
+    let e : at + 8 ≡ at + 0 + 8 = omega arith in
+    let n : 0 + extent (word_at b 0) ≡ extent (word_at b 0) = omega arith in
+    its_head false 0 at (at + 8) b f i e ∙ ap (λ k. head false 0 at (take k b)) n
+
+pub has_first : (b : List ℕ) (f : First) → IsFirst false b f → HasFront b
+has_first b f i = let t = i.there in record { header = omega arith; whole = omega arith }
+
+pub none_there : (b : List ℕ) → length b < extent_behind 0 b → ¬ (HasFront b)
+none_there b h f = let w = f.whole in absurd (omega arith)
+
+-- a pod's item is put, and those inside it
+pub listed : (levels n depth : ℕ) (keyed : Bool) (at k body_at : ℕ) (b : List ℕ) (f : First) (x : Item) (xs : List Item) (place m : ℕ) (old mid new : List Item) → levels ≡ suc n → IsFirst keyed b f → k ≡ before keyed → body_at ≡ at + k + 8 →
+    x ≡ item_of depth body_at f → xs ≡ items_inside (items_within n (depth + 1)) f.type_ (depth + 1) body_at f.body.now →
+    ArePut place (x ∷ []) old (place + 1) mid →
+    ArePut (place + 1) xs mid m new →
+    ArePut place (items_within levels depth keyed at (first_of keyed b)) old m new
+listed levels n depth keyed at k body_at b f x xs place m old mid new el i ek eb ex exs a c =
+    let e : body_at ≡ at + before keyed + 8 = eb ∙ ap (λ j. at + j + 8) ek in
+    let inside : ℕ → ℕ → List ℕ → List Item = λ t x y. items_inside (items_within n (depth + 1)) t (depth + 1) x y in
+    let same =
+    ap (λ y. y ∷ xs) (ex ∙ its_head keyed depth at body_at b f i e)
+    ∙ ap (λ ys. head keyed depth at (first_of keyed b) ∷ ys) exs
+    ∙ ap (λ t. head keyed depth at (first_of keyed b) ∷ inside t body_at f.body.now) i.its_type
+    ∙ ap (λ x. head keyed depth at (first_of keyed b) ∷ inside (word_at (drop (before keyed) (first_of keyed b)) 4) x f.body.now) e
+    ∙ ap (λ y. head keyed depth at (first_of keyed b) ∷ inside (word_at (drop (before keyed) (first_of keyed b)) 4) (at + before keyed + 8) y) i.its_body
+    ∙ sym (one_within n depth keyed at (first_of keyed b))
+    ∙ ap (λ l. items_within l depth keyed at (first_of keyed b)) (sym el) in
+    subst (λ ys. ArePut place ys old m new) same (both_put place (place + 1) m (x ∷ []) xs old mid new a c)
+
+-- the items of pods are those of the first, and then those of the others
+pub next_listed : (levels depth : ℕ) (keyed : Bool) (at : ℕ) (b : List ℕ) (f : First) → IsFirst keyed b f →
+    items_in levels depth keyed at b
+    ≡ items_within levels depth keyed at (first_of keyed b) ++ items_in levels depth keyed (at + (length b - length f.rest.now)) f.rest.now
+next_listed levels depth keyed at b f i =
+    let n = extent_behind (before keyed) b in
+    let read = items_within levels depth keyed in
+    let h = i.there in
+    let lt = length-take n b in
+    let ld = length-drop n b in
+    let lr = ap length i.its_rest in
+    let e : at + length (take n b) ≡ at + (length b - length f.rest.now) = omega arith in
+    ap (items_along read at) (walk_behind-there (before keyed) b h)
+    ∙ ap (λ x. read at (take n b) ++ items_along read x (walk_behind (before keyed) (drop n b))) e
+    ∙ ap (λ r. read at (take n b) ++ items_along read (at + (length b - length f.rest.now)) (walk_behind (before keyed) r)) (sym i.its_rest)
+
+pub none_listed : (levels depth : ℕ) (keyed : Bool) (at : ℕ) (b : List ℕ) → length b < extent_behind (before keyed) b → items_in levels depth keyed at b ≡ []
+none_listed levels depth keyed at b h = ap (items_along (items_within levels depth keyed) at) (walk_behind-end (before keyed) b h)
+
+-- The elements that are still to be listed.
+
+pub elements_begun : (place type depth size count : ℕ) (bytes : List ℕ) (old : List Item) → let all = map (element type depth) (first_chunks size count bytes) in
+    ArePutOf place all (map (element type depth) (first_chunks size (count - 0) bytes)) old (place + 0) old
+elements_begun place type depth size count bytes old =
+    let all = map (element type depth) (first_chunks size count bytes) in
+    let e : count ≡ count - 0 = omega arith in
+    let p : place ≡ place + 0 = omega arith in
+    subst (λ n. ArePutOf place all (map (element type depth) (first_chunks size n bytes)) old (place + 0) old) e
+    (subst (λ k. ArePutOf place all all old k old) p (begun place all old))
+
+room_left : (n size l : ℕ) → suc n * size ≤ l → (size ≤ l) × (n * size ≤ l - size)
+room_left n size l h = let e : suc n * size ≡ size + n * size = grind arith in (omega arith, omega arith)
+
+pub element_room : (count done size l : ℕ) → done < count → (count - done) * size ≤ l → (size ≤ l) × ((count - (done + 1)) * size ≤ l - size)
+element_room count done size l h r =
+    let e : count - done ≡ suc (count - (done + 1)) = omega arith in
+    room_left (count - (done + 1)) size l (subst (λ n. n * size ≤ l) e r)
+
+pub element_listed : (place type depth size count done : ℕ) (left first others : List ℕ) (x : Item) (all old mid new : List Item) → done < count → x ≡ element type depth first → first ≡ take size left → others ≡ drop size left →
+    ArePutOf place all (map (element type depth) (first_chunks size (count - done) left)) old (place + done) mid →
+    ArePut (place + done) (x ∷ []) mid (place + done + 1) new →
+    ArePutOf place all (map (element type depth) (first_chunks size (count - (done + 1)) others)) old (place + (done + 1)) new
+element_listed place type depth size count done left first others x all old mid new h ex ef eo a p =
+    let m = count - (done + 1) in
+    let e : count - done ≡ suc m = omega arith in
+    let k : place + done + 1 ≡ place + (done + 1) = omega arith in
+    let b = subst (λ n. ArePutOf place all (map (element type depth) (first_chunks size n left)) old (place + done) mid) e a in
+    let q = subst (λ y. ArePut (place + done) (y ∷ []) mid (place + done + 1) new) (ex ∙ ap (element type depth) ef) p in
+    subst (λ x. ArePutOf place all (map (element type depth) (first_chunks size m x)) old (place + (done + 1)) new) (sym eo)
+    (subst (λ x. ArePutOf place all (map (element type depth) (first_chunks size m (drop size left))) old x new) k
+    (more_put place (place + done) (place + done + 1) all (element type depth (take size left) ∷ []) (map (element type depth) (first_chunks size m (drop size left))) old mid new b q))
+
+pub elements_listed : (place type depth size count done : ℕ) (bytes left : List ℕ) (old new : List Item) → count ≤ done →
+    ArePutOf place (map (element type depth) (first_chunks size count bytes)) (map (element type depth) (first_chunks size (count - done) left)) old (place + done) new →
+    ArePut place (map (element type depth) (first_chunks size count bytes)) old (place + done) new
+elements_listed place type depth size count done bytes left old new h a =
+    let e : count - done ≡ 0 = omega arith in
+    all_put place (place + done) (map (element type depth) (first_chunks size count bytes)) (map (element type depth) (first_chunks size (count - done) left)) old new a
+    (ap (λ k. map (element type depth) (first_chunks size k left)) e)
+
+-- the elements of a body, by their parts
+pub their_parts : (type depth : ℕ) (b : List ℕ) (them : Elements) → AreElements type b them →
+    map (element them.type_ depth) (first_chunks them.size them.count them.bytes.now) ≡ elements type depth b
+their_parts type depth b them a =
+    ap (λ t. map (element t depth) (first_chunks them.size them.count them.bytes.now)) a.its_type
+    ∙ ap (λ s. map (element (word_or (values_of type b) 4) depth) (first_chunks s them.count them.bytes.now)) a.its_size
+    ∙ ap (λ n. map (element (word_or (values_of type b) 4) depth) (first_chunks (word_or (values_of type b) 0) n them.bytes.now)) a.its_count
+    ∙ ap (λ x. map (element (word_or (values_of type b) 4) depth) (first_chunks (word_or (values_of type b) 0) (element_count type b) x)) a.its_bytes
+
+-- what is inside a struct, an object, or another pod
+pub in_struct : (n depth at type : ℕ) (b : List ℕ) → type ≡ 14 → items_in n depth false at b ≡ items_inside (items_within n depth) type depth at b
+in_struct n depth at type b e = ap (λ t. items_inside (items_within n depth) t depth at b) (sym e)
+
+struct_or : (x y : Bool) (xs ys zs : List Item) → x ≡ false → y ≡ true → ys ≡ (if x then xs else (if y then ys else zs))
+struct_or true y xs ys zs h i = absurd (let f = h in cc)
+struct_or false true xs ys zs h i = refl
+struct_or false false xs ys zs h i = absurd (let f = i in cc)
+
+neither : (x y : Bool) (xs ys zs : List Item) → x ≡ false → y ≡ false → zs ≡ (if x then xs else (if y then ys else zs))
+neither true y xs ys zs h i = absurd (let f = h in cc)
+neither false true xs ys zs h i = absurd (let f = i in cc)
+neither false false xs ys zs h i = refl
+
+pub in_object : (n depth at type : ℕ) (b ps : List ℕ) → type ≢ 14 → is_object type (length b) ≡ true → ps ≡ drop 8 b →
+    items_in n depth true (at + 8) ps ≡ items_inside (items_within n depth) type depth at b
+in_object n depth at type b ps ne e ep =
+    ap (items_in n depth true (at + 8)) ep
+    ∙ struct_or (is_struct type) (is_object type (length b)) (items_in n depth false at b) (items_in n depth true (at + 8) (drop 8 b)) (elements type depth b) (ne_eqb type 14 ne) e
+
+pub in_other : (n depth at type : ℕ) (b : List ℕ) → type ≢ 14 → is_object type (length b) ≡ false →
+    elements type depth b ≡ items_inside (items_within n depth) type depth at b
+in_other n depth at type b ne e =
+    neither (is_struct type) (is_object type (length b)) (items_in n depth false at b) (items_in n depth true (at + 8) (drop 8 b)) (elements type depth b) (ne_eqb type 14 ne) e
+
+pub all_listed : (input : List ℕ) (old new : List Item) (m : ℕ) → ArePut 0 (items_in (length input) 0 false 0 input) old m new →
+    (m ≡ length (items_of input)) × (new ≡ overlaid (items_of input) old)
+unfolding items_of
+all_listed input old new m a = (let c = a.counted in omega arith, a.written)

@@ -1,0 +1,90 @@
+-- What is read of one pod: docs/FORMAT.md, "Items".
+use Rattle.std.specs.Prelude.{ℕ, ◌+◌, ◌-◌, ◌/◌, List, [], length, drop, map, min, if◌then◌else◌, nat_eq, nat_le}
+use Rattle.std.specs.Simd.{first_chunks}
+use Rattle.spa_format.specs.Kind.{bool_kind, id_kind, int_kind, long_kind, float_kind, double_kind, rectangle_kind, fraction_kind, fd_kind, type_number}
+use Rattle.spa_format.specs.Tree.{string_type, bytes_type, bitmap_type, array_type, object_type, pointer_type, choice_type, shape_number, none_choice, range_choice, step_choice}
+use Rattle.spa_format.specs.Words.{header_size, word_at, wide_at}
+use Rattle.spa_items.specs.declared.item.Content.{Content}
+use Rattle.spa_items.specs.declared.item.Item.{Item}
+
+-- the word at this place, or 0 where the bytes end before
+abbrev pub word_or : List ℕ → ℕ → ℕ
+word_or b i = if nat_le (i + 4) (length b) then word_at b i else 0
+
+-- the same with eight bytes
+abbrev pub wide_or : List ℕ → ℕ → ℕ
+wide_or b i = if nat_le (i + 8) (length b) then wide_at b i else 0
+
+abbrev pub both : ℕ → ℕ → Content
+both x y = record { first = x; second = y }
+
+-- what a body of a kind of fixed size has; any other type has nothing
+abbrev pub fixed_content : ℕ → List ℕ → Content
+fixed_content type b =
+    if nat_eq type (type_number bool_kind) then both (if nat_eq (word_or b 0) 0 then 0 else 1) 0
+    else (if nat_eq type (type_number id_kind) then both (word_or b 0) 0
+    else (if nat_eq type (type_number int_kind) then both (word_or b 0) 0
+    else (if nat_eq type (type_number float_kind) then both (word_or b 0) 0
+    else (if nat_eq type (type_number long_kind) then both (wide_or b 0) 0
+    else (if nat_eq type (type_number double_kind) then both (wide_or b 0) 0
+    else (if nat_eq type (type_number fd_kind) then both (wide_or b 0) 0
+    else (if nat_eq type (type_number rectangle_kind) then both (word_or b 0) (word_or b 4)
+    else (if nat_eq type (type_number fraction_kind) then both (word_or b 0) (word_or b 4)
+    else both 0 0))))))))
+
+-- the child header of an array's body or a choice's, and what follows it; a body of another type has none
+abbrev pub values_of : ℕ → List ℕ → List ℕ
+values_of type b =
+    if nat_eq type array_type then b
+    else (if nat_eq type choice_type then drop header_size b
+    else [])
+
+-- how many of so many values a choice of this shape takes
+abbrev pub values_taken : ℕ → ℕ → ℕ
+values_taken shape n =
+    if nat_eq shape (shape_number none_choice) then min n 1
+    else (if nat_eq shape (shape_number range_choice) then min n 3
+    else (if nat_eq shape (shape_number step_choice) then min n 4
+    else n))
+
+-- how many whole values follow a child header; none where their size is 0
+abbrev pub values_behind : List ℕ → ℕ
+values_behind c = (length c - header_size) / word_or c 0
+
+-- how many elements an array has, or how many values a choice takes
+abbrev pub element_count : ℕ → List ℕ → ℕ
+element_count type b =
+    if nat_eq type choice_type then values_taken (word_or b 0) (values_behind (values_of type b))
+    else values_behind (values_of type b)
+
+-- The two numbers of a pod of this type, whose body begins at the byte `at`: a value of fixed size; where a text, bytes or a bitmap begin, and how
+-- many bytes they are; a pointer's type and address; where an array's elements begin, and how many they are; a choice's shape, and how many values it
+-- takes; an object's type and id.
+abbrev pub content : (type at : ℕ) → List ℕ → Content
+content type at b =
+    if nat_eq type string_type then both at (length b - 1)
+    else (if nat_eq type bytes_type then both at (length b)
+    else (if nat_eq type bitmap_type then both at (length b)
+    else (if nat_eq type pointer_type then both (word_or b 0) (if nat_eq (length b) 12 then word_or b 8 else wide_or b 8)
+    else (if nat_eq type array_type then both (at + header_size) (element_count type b)
+    else (if nat_eq type choice_type then both (word_or b 0) (element_count type b)
+    else (if nat_eq type object_type then both (word_or b 0) (word_or b 4)
+    else fixed_content type b))))))
+
+-- the item of a value without key
+abbrev pub element : (type depth : ℕ) → List ℕ → Item
+element type depth b =
+    let c = fixed_content type b in record {
+      type_ = type;
+      key = 0;
+      flags = 0;
+      child = 0;
+      depth = depth;
+      first = c.first;
+      second = c.second;
+    }
+
+-- the items of the elements of an array, or of the values that a choice takes
+abbrev pub elements : (type depth : ℕ) → List ℕ → List Item
+elements type depth b =
+    let c = values_of type b in map (element (word_or c 4) depth) (first_chunks (word_or c 0) (element_count type b) (drop header_size c))

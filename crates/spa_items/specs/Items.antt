@@ -1,0 +1,60 @@
+-- What is read of pods one after another, and of all inside them: docs/FORMAT.md, "Items".
+use Rattle.std.specs.Prelude.{ℕ, zero, suc, ◌+◌, Bool, true, false, List, [], ◌∷◌, ◌++◌, length, drop, if◌then◌else◌}
+use Rattle.spa_events.specs.Events.{is_object, is_struct}
+use Rattle.spa_format.specs.Walk.{walk_behind}
+use Rattle.spa_format.specs.Words.{body_of, header_size, word_at}
+use Rattle.spa_items.specs.Contents.{content, elements, values_of, word_or}
+use Rattle.spa_items.specs.declared.item.Item.{Item}
+
+-- how many bytes stand before a pod: a property's key and flags, or none
+abbrev pub before : Bool → ℕ
+before keyed = if keyed then header_size else 0
+
+-- the item of a pod with those bytes, which begin at the byte `at`
+abbrev pub head : (keyed : Bool) → (depth at : ℕ) → List ℕ → Item
+head keyed depth at p =
+    let pod = drop (before keyed) p in
+    let type = word_at pod 4 in
+    let c = content type (at + before keyed + header_size) (body_of pod) in record {
+      type_ = type;
+      key = if keyed then word_at p 0 else 0;
+      flags = if keyed then word_at p 4 else 0;
+      child = word_or (values_of type (body_of pod)) 4;
+      depth = depth;
+      first = c.first;
+      second = c.second;
+    }
+
+-- What a reading gives of pods one after another, the first of which begins at the byte `at`. It is given where each begins, and the pod.
+abbrev pub items_along : (ℕ → List ℕ → List Item) → ℕ → List (List ℕ) → List Item
+items_along read at [] = []
+items_along read at (p ∷ ps) = read at p ++ items_along read (at + length p) ps
+
+-- What it gives inside a pod whose body begins at this byte: of the members of a struct, of the properties of an object, else the elements.
+abbrev pub items_inside : (Bool → ℕ → List ℕ → List Item) → (type depth at : ℕ) → List ℕ → List Item
+items_inside read type depth at b =
+    if is_struct type then items_along (read false) at (walk_behind 0 b)
+    else (if is_object type (length b) then items_along (read true) (at + header_size) (walk_behind header_size (drop header_size b))
+    else elements type depth b)
+
+-- the items of a pod, with key and flags where it is a property's, and of all inside it, so many levels deep at most
+unfoldable pub items_within : (levels depth : ℕ) → Bool → ℕ → List ℕ → List Item
+items_within zero depth keyed at p = []
+items_within (suc n) depth keyed at p =
+    let pod = drop (before keyed) p in
+    head keyed depth at p
+    ∷ items_inside (items_within n (depth + 1)) (word_at pod 4) (depth + 1) (at + before keyed + header_size) (body_of pod)
+
+-- the items of pods that stand in these bytes one after another
+abbrev pub items_in : (levels depth : ℕ) → Bool → ℕ → List ℕ → List Item
+items_in levels depth keyed at b = items_along (items_within levels depth keyed) at (walk_behind (before keyed) b)
+
+-- The items of an input: of the pods of which it consists, each before what is inside it. There are no more levels than bytes.
+unfoldable pub items_of : List ℕ → List Item
+items_of input = items_in (length input) 0 false 0 input
+
+-- these items are put over the first of a list, as far as it goes
+abbrev pub overlaid : List Item → List Item → List Item
+overlaid [] old = old
+overlaid (x ∷ xs) [] = []
+overlaid (x ∷ xs) (o ∷ os) = x ∷ overlaid xs os

@@ -1,0 +1,4 @@
+pub mod Contents
+pub mod Items
+pub mod Places
+pub mod Puts

@@ -1,0 +1,54 @@
+-- Items that are put from a place of an output on.
+use Rattle.std.specs.Prelude.{◌≡◌, ℕ, zero, suc, ◌+◌, ◌≤◌, Bool, List, [], ◌∷◌, length, take, drop, if◌then◌else◌}
+use Rattle.spa_format.specs.Words.{body_of, header_size, word_at}
+use Rattle.spa_format.specs.Walk.{extent_behind}
+use Rattle.spa_items.specs.Contents.{content, element_count, values_of, word_or}
+use Rattle.spa_items.specs.Items.{before, overlaid}
+use Rattle.spa_items.specs.declared.elements.Elements.{Elements}
+use Rattle.spa_items.specs.declared.item.Item.{Item}
+use Rattle.spa_items.specs.declared.listing.First.{First}
+
+-- these items are put over a list from this place on, as far as it goes
+abbrev pub put_from : ℕ → List Item → List Item → List Item
+put_from zero xs old = overlaid xs old
+put_from (suc n) xs [] = []
+put_from (suc n) xs (o ∷ os) = o ∷ put_from n xs os
+
+-- so they were put, and this is the place behind them
+pub record ArePut (place : ℕ) (xs old : List Item) (behind : ℕ) (new : List Item) : Type 0 where
+  pub counted : behind ≡ place + length xs
+  pub written : new ≡ put_from place xs old
+
+-- the first pod of these bytes, with what stands before it
+abbrev pub first_of : Bool → List ℕ → List ℕ
+first_of keyed b = take (extent_behind (before keyed) b) b
+
+-- the first pod is there, and these are its parts
+pub record IsFirst (keyed : Bool) (b : List ℕ) (first : First) : Type 0 where
+  pub there : extent_behind (before keyed) b ≤ length b
+  pub its_key : first.key ≡ if keyed then word_at (first_of keyed b) 0 else 0
+  pub its_flags : first.flags ≡ if keyed then word_at (first_of keyed b) 4 else 0
+  pub its_type : first.type_ ≡ word_at (drop (before keyed) (first_of keyed b)) 4
+  pub its_body : first.body.now ≡ body_of (drop (before keyed) (first_of keyed b))
+  pub its_rest : first.rest.now ≡ drop (extent_behind (before keyed) b) b
+  pub fits : length first.body.now + before keyed + header_size + length first.rest.now ≤ length b
+
+-- these are the elements of an array, or the values that a choice takes
+pub record AreElements (type : ℕ) (b : List ℕ) (them : Elements) : Type 0 where
+  pub its_type : them.type_ ≡ word_or (values_of type b) 4
+  pub its_size : them.size ≡ word_or (values_of type b) 0
+  pub its_count : them.count ≡ element_count type b
+  pub its_bytes : them.bytes.now ≡ drop header_size (values_of type b)
+
+-- the item of a pod with these parts, whose body begins at this byte
+abbrev pub item_of : (depth body_at : ℕ) → First → Item
+item_of depth body_at first =
+    let c = content first.type_ body_at first.body.now in record {
+      type_ = first.type_;
+      key = first.key;
+      flags = first.flags;
+      child = word_or (values_of first.type_ first.body.now) 4;
+      depth = depth;
+      first = c.first;
+      second = c.second;
+    }

@@ -1,0 +1,136 @@
+//! The numbers in a pod's body.
+ghost use Rattle.std.specs.Prelude.{◌≡◌, ◌+◌, ◌<◌, ◌^◌, length};
+ghost use Rattle.spa_format.specs.Tree.{pointer_type};
+ghost use Rattle.spa_format.specs.Words.{header_size};
+ghost use Rattle.spa_items.specs.Contents as c;
+
+use crate::elements::element_count;
+use crate::item::Content;
+use spa_bytes::{HEADER_LEN, SECOND_WORD, SHORT_POINTER_LEN, u32_at, u64_at};
+use spa_utils::SpaTypes;
+
+/// Where a pointer's body has the address.
+const ADDRESS_AT: usize = 8;
+
+/// The word at a place, or 0 where the bytes end before.
+pub(crate) fn word_or(bytes: &[u8], at: usize) -> u32
+    requires { at + 4 < 2 ^ 64 }
+    ensures { result ≡ c.word_or bytes.now at }
+{
+    if at + 4 <= bytes.len() {
+        return u32_at(bytes, at);
+    }
+    0
+}
+
+/// The number in eight bytes, or 0 where the bytes end before.
+fn wide_or(bytes: &[u8], at: usize) -> u64
+    requires { at + 8 < 2 ^ 64 }
+    ensures { result ≡ c.wide_or bytes.now at }
+{
+    if at + 8 <= bytes.len() {
+        return u64_at(bytes, at);
+    }
+    0
+}
+
+/// One word of a body.
+fn word(body: &[u8]) -> Content
+    ensures { result ≡ c.both (c.word_or body.now 0) 0 }
+{
+    Content {
+        first: u64::from(word_or(body, 0)),
+        second: 0,
+    }
+}
+
+/// Eight bytes of a body.
+fn wide(body: &[u8]) -> Content
+    ensures { result ≡ c.both (c.wide_or body.now 0) 0 }
+{
+    Content {
+        first: wide_or(body, 0),
+        second: 0,
+    }
+}
+
+/// Two words of a body.
+fn words(body: &[u8]) -> Content
+    ensures { result ≡ c.both (c.word_or body.now 0) (c.word_or body.now 4) }
+{
+    Content {
+        first: u64::from(word_or(body, 0)),
+        second: u64::from(word_or(body, SECOND_WORD)),
+    }
+}
+
+/// What a body of a type of fixed size has; of any other type nothing.
+pub(crate) fn fixed_content(type_: u32, body: &[u8]) -> Content
+    ensures { result ≡ c.fixed_content type_ body.now }
+{
+    match SpaTypes(type_) {
+        SpaTypes::Bool => Content {
+            first: u64::from(word_or(body, 0) != 0),
+            second: 0,
+        },
+        SpaTypes::Id => word(body),
+        SpaTypes::Int => word(body),
+        SpaTypes::Float => word(body),
+        SpaTypes::Long => wide(body),
+        SpaTypes::Double => wide(body),
+        SpaTypes::Fd => wide(body),
+        SpaTypes::Rectangle => words(body),
+        SpaTypes::Fraction => words(body),
+        _ => Content {
+            first: 0,
+            second: 0,
+        },
+    }
+}
+
+/// The type and the address of a pointer.
+fn pointer(body: &[u8]) -> Content
+    ensures { result ≡ c.content pointer_type 0 body.now }
+{
+    let address = if body.len() == SHORT_POINTER_LEN {
+        u64::from(word_or(body, ADDRESS_AT))
+    } else {
+        wide_or(body, ADDRESS_AT)
+    };
+    Content {
+        first: u64::from(word_or(body, 0)),
+        second: address,
+    }
+}
+
+/// The two numbers of a pod, whose body begins at the byte `at`.
+pub(crate) fn content(type_: u32, at: usize, body: &[u8]) -> Content
+    requires { at + header_size < 2 ^ 64 }
+    ensures { result ≡ c.content type_ at body.now }
+{
+    match SpaTypes(type_) {
+        SpaTypes::String => Content {
+            first: at as u64,
+            second: body.len().saturating_sub(1) as u64,
+        },
+        SpaTypes::Bytes => Content {
+            first: at as u64,
+            second: body.len() as u64,
+        },
+        SpaTypes::Bitmap => Content {
+            first: at as u64,
+            second: body.len() as u64,
+        },
+        SpaTypes::Pointer => pointer(body),
+        SpaTypes::Array => Content {
+            first: (at + HEADER_LEN) as u64,
+            second: element_count(type_, body) as u64,
+        },
+        SpaTypes::Choice => Content {
+            first: u64::from(word_or(body, 0)),
+            second: element_count(type_, body) as u64,
+        },
+        SpaTypes::Object => words(body),
+        _ => fixed_content(type_, body),
+    }
+}

@@ -1,0 +1,145 @@
+//! The elements of arrays, and the values of choices.
+ghost use Rattle.std.specs.Prelude.{◌≡◌, ◌+◌, ◌*◌, ◌≤◌, ◌<◌, ◌^◌, ◌∷◌, [], drop, length};
+ghost use Rattle.spa_format.specs.Words.{header_size};
+ghost use Rattle.spa_items.specs.Contents as c;
+ghost use Rattle.spa_items.specs.Puts.{AreElements, ArePut};
+
+use crate::contents::{fixed_content, word_or};
+use crate::item::Item;
+use spa_bytes::{HEADER_LEN, SECOND_WORD};
+use spa_fixed::{NONE_SHAPE, RANGE_SHAPE, STEP_SHAPE};
+use spa_utils::SpaTypes;
+
+/// Values of one type and size, one after another.
+#[derive(Clone, Copy)]
+pub(crate) struct Elements<'a> {
+    pub(crate) type_: u32,
+    pub(crate) size: usize,
+    pub(crate) count: usize,
+    pub(crate) bytes: &'a [u8],
+}
+
+/// The child header of an array or a choice, and what follows it; of any other pod nothing.
+pub(crate) fn values_of(type_: u32, body: &[u8]) -> &[u8]
+    ensures { result.now ≡ c.values_of type_ body.now }
+{
+    match SpaTypes(type_) {
+        SpaTypes::Array => body,
+        SpaTypes::Choice => behind(body),
+        _ => &[],
+    }
+}
+
+/// What follows a header, nothing where it isn't whole.
+fn behind(bytes: &[u8]) -> &[u8]
+    ensures { result.now ≡ drop header_size bytes.now }
+{
+    if bytes.len() < HEADER_LEN {
+        return &[];
+    }
+    &bytes[HEADER_LEN..]
+}
+
+/// How many of so many values a choice of a shape takes.
+fn values_taken(shape: u32, count: usize) -> usize
+    ensures taken { result ≡ c.values_taken shape count }
+    ensures few { result ≤ count }
+{
+    match shape {
+        NONE_SHAPE => count.min(1),
+        RANGE_SHAPE => count.min(3),
+        STEP_SHAPE => count.min(4),
+        _ => count,
+    }
+}
+
+/// How many whole values follow a child header.
+fn values_behind(values: &[u8]) -> usize
+    ensures behind { result ≡ c.values_behind values.now }
+    ensures fit { result * c.word_or values.now 0 ≤ length (drop header_size values.now) }
+    ensures few { result ≤ length (drop header_size values.now) }
+{
+    let size = word_or(values, 0) as usize;
+    if size == 0 {
+        return 0;
+    }
+    behind(values).len() / size
+}
+
+/// How many elements an array has, or how many values a choice takes.
+pub(crate) fn element_count(type_: u32, body: &[u8]) -> usize
+    ensures count { result ≡ c.element_count type_ body.now }
+    ensures fit { let values = c.values_of type_ body.now in result * c.word_or values 0 ≤ length (drop header_size values) }
+    ensures few { result ≤ length (drop header_size (c.values_of type_ body.now)) }
+{
+    let count = values_behind(values_of(type_, body));
+    if SpaTypes(type_) == SpaTypes::Choice {
+        return values_taken(word_or(body, 0), count);
+    }
+    count
+}
+
+/// The elements of an array, or the values that a choice takes.
+fn elements_of(type_: u32, body: &[u8]) -> Elements<'_>
+    ensures them { AreElements type_ body.now result }
+    ensures fit { result.count * result.size ≤ length result.bytes.now }
+    ensures few { result.count ≤ length result.bytes.now }
+    ensures within { length result.bytes.now ≤ length body.now }
+{
+    let values = values_of(type_, body);
+    Elements {
+        type_: word_or(values, SECOND_WORD),
+        size: word_or(values, 0) as usize,
+        count: element_count(type_, body),
+        bytes: behind(values),
+    }
+}
+
+/// The item of an element.
+fn element(type_: u32, depth: usize, bytes: &[u8]) -> Item
+    ensures { result ≡ c.element type_ depth bytes.now }
+{
+    let content = fixed_content(type_, bytes);
+    Item {
+        type_,
+        key: 0,
+        flags: 0,
+        child: 0,
+        depth,
+        first: content.first,
+        second: content.second,
+    }
+}
+
+/// Puts an item at a place of the output, where it is that long.
+pub(crate) fn put(out: &mut [Item], place: usize, item: Item)
+    ensures { ArePut place (item ∷ []) out.old (place + 1) out.new }
+{
+    if place < out.len() {
+        out[place] = item;
+    }
+}
+
+/// Puts the items of the elements of an array, or of the values that a choice takes, and gives the place behind them.
+pub(crate) fn put_elements(
+    out: &mut [Item],
+    place: usize,
+    depth: usize,
+    type_: u32,
+    body: &[u8],
+) -> usize
+    requires room { place + length body.now < 2 ^ 64 }
+    ensures put { ArePut place (c.elements type_ depth body.now) out.old result out.new }
+    ensures few { result ≤ place + length body.now }
+{
+    let elements = elements_of(type_, body);
+    let mut done = 0;
+    let mut left = elements.bytes;
+    while done < elements.count {
+        let (first, others) = left.split_at(elements.size);
+        put(out, place + done, element(elements.type_, depth, first));
+        left = others;
+        done += 1;
+    }
+    place + done
+}

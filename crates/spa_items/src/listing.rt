@@ -1,0 +1,204 @@
+//! The items of pods, and of all inside them.
+ghost use Rattle.std.specs.Prelude.{◌≡◌, ◌+◌, ◌≤◌, ◌<◌, ◌^◌, IfNone, IfSome, List, drop, false, if◌then◌else◌, length, ℕ};
+ghost use Rattle.spa_events.specs.Events.{is_object};
+ghost use Rattle.spa_format.specs.Front.{HasFront, front_of};
+ghost use Rattle.spa_format.specs.Walk.{extent_behind};
+ghost use Rattle.spa_format.specs.Words.{header_size, word_at};
+ghost use Rattle.spa_items.specs.Items.{before, head, items_in, items_of, items_within, overlaid};
+ghost use Rattle.spa_items.specs.Puts.{ArePut, IsFirst, first_of, item_of};
+
+use crate::contents::{content, word_or};
+use crate::elements::{put, put_elements, values_of};
+use crate::item::Item;
+use spa_bytes::{HEADER_LEN, SECOND_WORD, open, u32_at};
+use spa_utils::SpaTypes;
+
+/// Where pods one after another stand.
+#[derive(Clone, Copy)]
+struct Level {
+    /// How many more levels are listed.
+    levels: usize,
+    /// How many structs and objects they stand in.
+    depth: usize,
+    /// Whether a key and flags stand before each.
+    keyed: bool,
+    /// The byte of the input at which the first of them begins.
+    at: usize,
+}
+
+/// The first of pods one after another.
+#[derive(Clone, Copy)]
+pub(crate) struct First<'a> {
+    pub(crate) key: u32,
+    flags: u32,
+    type_: u32,
+    body: &'a [u8],
+    pub(crate) rest: &'a [u8],
+}
+
+/// Puts an item for each pod of the input, for each inside one, and for each element and value, over the first items of `out`, as far as it goes,
+/// and says how many they are: an item comes before those inside it, and these before what follows it.
+///
+/// It takes no memory, and calls itself as deep as structs and objects stand in one another.
+pub fn list_items(input: &[u8], out: &mut [Item]) -> usize
+    ensures count { result ≡ length (items_of input.now) }
+    ensures items { out.new ≡ overlaid (items_of input.now) out.old }
+{
+    let level = Level {
+        levels: input.len(),
+        depth: 0,
+        keyed: false,
+        at: 0,
+    };
+    list_pods(out, 0, level, input)
+}
+
+/// The item of the pod at the front, which begins at the byte `at` of what it is read from, without those inside it.
+pub fn front_item(input: &[u8], at: usize) -> Option<Item>
+    requires within { at + header_size + header_size < 2 ^ 64 }
+    ensures item { IfSome result (λ item. item ≡ head false 0 at (front_of input.now)) }
+    ensures there { IfSome result (λ _. HasFront input.now) }
+    ensures none { IfNone result (¬ (HasFront input.now)) }
+{
+    let Some(first) = first_pod(false, input) else {
+        return None;
+    };
+    Some(head(0, at + HEADER_LEN, first))
+}
+
+/// Lists pods one after another from a place of the output on, and gives the place behind them.
+#[cycle(listing)]
+fn list_pods(out: &mut [Item], start: usize, level: Level, pods: &[u8]) -> usize
+    requires room { start + length pods.now < 2 ^ 64 }
+    requires within { level.at + length pods.now < 2 ^ 63 }
+    requires deep { level.depth + level.levels < 2 ^ 64 }
+    ensures put { ArePut start (items_in level.levels level.depth level.keyed level.at pods.now) out.old result out.new }
+    ensures few { result ≤ start + length pods.now }
+{
+    let mut place = start;
+    let mut at = level.at;
+    let mut left = pods;
+    while let Some(first) = first_pod(level.keyed, left) {
+        place = list_pod(out, place, Level { at, ..level }, first);
+        at += left.len() - first.rest.len();
+        left = first.rest;
+    }
+    place
+}
+
+/// Lists one pod and all inside it.
+#[cycle(listing)]
+fn list_pod(out: &mut [Item], place: usize, level: Level, first: First<'_>) -> usize
+    requires room { place + length first.body.now + 1 < 2 ^ 64 }
+    requires within { level.at + before level.keyed + header_size + length first.body.now < 2 ^ 63 }
+    requires deep { level.depth + level.levels < 2 ^ 64 }
+    ensures put { (b : List ℕ) → IsFirst level.keyed b first.entry →
+        ArePut place (items_within level.levels level.depth level.keyed level.at (first_of level.keyed b)) out.old result out.new }
+    ensures few { result ≤ place + 1 + length first.entry.body.now }
+{
+    if level.levels == 0 {
+        return place;
+    }
+    let body_at = level.at + len_before(level.keyed) + HEADER_LEN;
+    put(out, place, head(level.depth, body_at, first));
+    let inside = Level {
+        levels: level.levels - 1,
+        depth: level.depth + 1,
+        keyed: false,
+        at: body_at,
+    };
+    if first.type_ == SpaTypes::Struct.0 {
+        return list_pods(out, place + 1, inside, first.body);
+    }
+    if !holds_properties(first.type_, first.body) {
+        return put_elements(out, place + 1, inside.depth, first.type_, first.body);
+    }
+    let (_, properties) = first.body.split_at(HEADER_LEN);
+    let keyed = Level {
+        keyed: true,
+        at: body_at + HEADER_LEN,
+        ..inside
+    };
+    list_pods(out, place + 1, keyed, properties)
+}
+
+/// Whether it is the body of an object, with its type and id.
+fn holds_properties(type_: u32, body: &[u8]) -> bool
+    ensures { result ≡ is_object type_ (length body.now) }
+{
+    match SpaTypes(type_) {
+        SpaTypes::Object => body.len() >= HEADER_LEN,
+        _ => false,
+    }
+}
+
+/// How many bytes stand before a pod: a property's key and flags, or none.
+fn len_before(keyed: bool) -> usize
+    ensures { result ≡ before keyed }
+{
+    if keyed { HEADER_LEN } else { 0 }
+}
+
+/// The item of a pod whose body begins at this byte.
+fn head(depth: usize, body_at: usize, first: First<'_>) -> Item
+    requires { body_at + header_size < 2 ^ 64 }
+    ensures { result ≡ item_of depth body_at first.entry }
+{
+    let content = content(first.type_, body_at, first.body);
+    Item {
+        type_: first.type_,
+        key: first.key,
+        flags: first.flags,
+        child: word_or(values_of(first.type_, first.body), SECOND_WORD),
+        depth,
+        first: content.first,
+        second: content.second,
+    }
+}
+
+/// The first of the pods, where it is there.
+pub(crate) fn first_pod(keyed: bool, pods: &[u8]) -> Option<First<'_>>
+    ensures first { IfSome result (IsFirst keyed pods.now) }
+    ensures none { IfNone result (length pods.now < extent_behind (before keyed) pods.now) }
+{
+    let Some(pod) = behind_key(keyed, pods) else {
+        return None;
+    };
+    let Some(front) = open(pod) else {
+        return None;
+    };
+    Some(First {
+        key: word_before(keyed, pods, 0),
+        flags: word_before(keyed, pods, SECOND_WORD),
+        type_: front.type_,
+        body: front.body,
+        rest: front.rest,
+    })
+}
+
+/// The bytes behind a key and flags, where these stand before a pod.
+fn behind_key(keyed: bool, pods: &[u8]) -> Option<&[u8]>
+    ensures there { IfSome result (λ pod. before keyed ≤ length pods.now) }
+    ensures behind { IfSome result (λ pod. pod.now ≡ drop (before keyed) pods.now) }
+    ensures none { IfNone result (length pods.now < before keyed) }
+{
+    if !keyed {
+        return Some(pods);
+    }
+    if pods.len() < HEADER_LEN {
+        return None;
+    }
+    Some(&pods[HEADER_LEN..])
+}
+
+/// A word of the key and flags, or 0 where none stand before a pod.
+fn word_before(keyed: bool, pods: &[u8], at: usize) -> u32
+    requires order { at ≤ 4 }
+    requires there { before keyed ≤ length pods.now }
+    ensures { result ≡ if keyed then word_at pods.now at else 0 }
+{
+    if !keyed {
+        return 0;
+    }
+    u32_at(pods, at)
+}

@@ -1,0 +1,219 @@
+//! What the caller's pods hold, read into the caller's memory.
+ghost use Rattle.std.specs.Prelude.{◌≡◌, IfNone, IfSome, ℕ};
+ghost use Rattle.spa_format.specs.Front.{HasFront};
+ghost use Rattle.spa_format.specs.Pod.{AreMembers};
+ghost use Rattle.spa_format.specs.Tree.{Trees};
+ghost use Rattle.spa_view.specs.View.{pod_bytes};
+ghost use Rattle.spav.specs.Answers.{IsChanged, IsDone, IsFound, IsInvalid, IsListRead, IsMissing, IsNoRoom, IsTooDeep};
+ghost use Rattle.spav.specs.Faults.{FaultStands, NestsTooDeep};
+ghost use Rattle.spav.specs.Items.{ArePast, AreRead, BeginsNoElements, BeginsStruct, HasElements, HasMemberAt, HasNoElements, HasNoMember, HasNoValue, HasValueAt, SaysElements, SaysItem};
+ghost use Rattle.spav.specs.Reading.{BeginsObject};
+
+use crate::answers::{DONE, INVALID, MISSING, NO_ROOM, TOO_DEEP, YES};
+use crate::faults::spav_fault;
+use spa_bytes::{HEADER_LEN, SECOND_WORD, u32_at};
+use spa_items::{Item, front_item, list_items, place_of_key, place_of_number};
+use spa_utils::SpaTypes;
+use spa_view::{Pod, body_bytes, whole_bytes};
+
+/// The elements of an array, or the values that a choice takes.
+#[repr(C)]
+#[derive(Clone, Copy)]
+pub struct Elements {
+    /// The type of the pod: Array or Choice.
+    pub type_: u32,
+    /// The shape of a choice; of an array 0.
+    pub shape: u32,
+    /// The flags of a choice; of an array 0.
+    pub flags: u32,
+    /// The type of the elements.
+    pub element_type: u32,
+    /// The size of one, in bytes.
+    pub element_size: u32,
+    /// How many they are.
+    pub count: usize,
+    /// The byte of the pod at which they begin.
+    pub at: usize,
+}
+
+/// Where the value of a None choice begins in its pod.
+const NONE_VALUE_AT: usize = 16;
+
+/// Where the elements of an array begin in its pod, and the values of a choice in its own.
+const ARRAY_ELEMENTS_AT: usize = 16;
+
+const CHOICE_VALUES_AT: usize = 24;
+
+/// Where the properties of an object begin in its pod.
+const PROPERTIES_AT: usize = 16;
+
+/// Writes the items of the pods of which the input consists, and of all that is inside them, to the front of `out`.
+///
+/// 0: `count` is how many they are, and what is behind them is as it was. -ENOSPC: `count` is more than `out` has, which is full of the first of
+/// them. -EINVAL: the input isn't pods one after another; the first fault, of the kind `kind`, stands at the byte `at`. -ELOOP: structs and objects
+/// stand more than 1000 deep in one another. Where the answer is neither 0 nor -ENOSPC, `out` is unchanged.
+#[unsafe(no_mangle)]
+pub extern "C" fn spav_read(
+    input: &[u8],
+    out: &mut [Item],
+    count: &mut usize,
+    kind: &mut u32,
+    at: &mut usize,
+) -> i32
+    ensures done { IsDone result → AreRead input.now count.new out.old out.new }
+    ensures pods { IsDone result → (values : Trees) × AreMembers values input.now }
+    ensures room { IsNoRoom result → ArePast input.now count.new out.new }
+    ensures refused { IsInvalid result → (top : ℕ) × FaultStands input.now kind.new top at.new }
+    ensures deep { IsTooDeep result → NestsTooDeep input.now }
+    ensures answers { IsListRead result }
+    ensures unchanged { IsInvalid result → out.new ≡ out.old }
+    ensures kept { IsTooDeep result → out.new ≡ out.old }
+{
+    let mut top = 0;
+    let answer = spav_fault(input, kind, &mut top, at);
+    if answer == YES {
+        return INVALID;
+    }
+    if answer != DONE {
+        return TOO_DEEP;
+    }
+    *count = list_items(input, out);
+    if *count > out.len() {
+        return NO_ROOM;
+    }
+    DONE
+}
+
+/// The item of the pod at the front, or of the value of the None choice there.
+///
+/// 0: done. -EINVAL: no pod is at the front, and nothing is written.
+#[unsafe(no_mangle)]
+pub extern "C" fn spav_item(input: &[u8], item: &mut Item) -> i32
+    ensures said { IsDone result → SaysItem input.now item.new }
+    ensures refused { IsInvalid result → ¬ (HasFront input.now) }
+    ensures answers { IsChanged result }
+    ensures unchanged { IsInvalid result → item.new ≡ item.old }
+{
+    let Some(pod) = Pod::from_bytes(input) else {
+        return INVALID;
+    };
+    let settled = pod.settled();
+    let at = if settled.extent() < pod.extent() {
+        NONE_VALUE_AT
+    } else {
+        0
+    };
+    match front_item(whole_bytes(&settled), at) {
+        Some(found) => {
+            *item = found;
+            DONE
+        }
+        None => INVALID,
+    }
+}
+
+/// The byte of the input at which the value of the first property with a key begins, in the object at the front.
+///
+/// 0: done. -EINVAL: no object is at the front. -ENOENT: no property has the key. Where the answer isn't 0, nothing is written.
+#[unsafe(no_mangle)]
+pub extern "C" fn spav_find(input: &[u8], key: u32, at: &mut usize) -> i32
+    ensures found { IsDone result → HasValueAt key input.now at.new }
+    ensures missing { IsMissing result → HasNoValue key input.now }
+    ensures refused { IsInvalid result → ¬ (BeginsObject input.now) }
+    ensures answers { IsFound result }
+    ensures unchanged { ¬ (IsDone result) → at.new ≡ at.old }
+{
+    let Some(pod) = Pod::from_bytes(input) else {
+        return INVALID;
+    };
+    if !pod.is_object() {
+        return INVALID;
+    }
+    let (_, properties) = body_bytes(&pod).split_at(HEADER_LEN);
+    match place_of_key(properties, key) {
+        Some(place) => {
+            *at = PROPERTIES_AT + place + HEADER_LEN;
+            DONE
+        }
+        None => MISSING,
+    }
+}
+
+/// The byte of the input at which the member of a number begins, in the struct at the front. The first has the number 0.
+///
+/// 0: done. -EINVAL: no struct is at the front. -ENOENT: it has no such member. Where the answer isn't 0, nothing is written.
+#[unsafe(no_mangle)]
+pub extern "C" fn spav_member(input: &[u8], number: usize, at: &mut usize) -> i32
+    ensures found { IsDone result → HasMemberAt number input.now at.new }
+    ensures missing { IsMissing result → HasNoMember number input.now }
+    ensures refused { IsInvalid result → ¬ (BeginsStruct input.now) }
+    ensures answers { IsFound result }
+    ensures unchanged { ¬ (IsDone result) → at.new ≡ at.old }
+{
+    let Some(pod) = Pod::from_bytes(input) else {
+        return INVALID;
+    };
+    if !pod.is_struct() {
+        return INVALID;
+    }
+    match place_of_number(body_bytes(&pod), number) {
+        Some(place) => {
+            *at = HEADER_LEN + place;
+            DONE
+        }
+        None => MISSING,
+    }
+}
+
+/// The elements of the array at the front, or the values that the choice there takes.
+///
+/// 0: done. -EINVAL: neither is at the front, and nothing is written.
+#[unsafe(no_mangle)]
+pub extern "C" fn spav_elements(input: &[u8], elements: &mut Elements) -> i32
+    ensures said { IsDone result → SaysElements input.now elements.new }
+    ensures refused { IsInvalid result → BeginsNoElements input.now }
+    ensures answers { IsChanged result }
+    ensures unchanged { IsInvalid result → elements.new ≡ elements.old }
+{
+    let Some(pod) = Pod::from_bytes(input) else {
+        return INVALID;
+    };
+    match elements_of(&pod) {
+        Some(found) => {
+            *elements = found;
+            DONE
+        }
+        None => INVALID,
+    }
+}
+
+/// The elements of an array, or the values that a choice takes.
+fn elements_of(pod: &Pod<'_>) -> Option<Elements>
+    ensures some { IfSome result (HasElements (pod_bytes pod.now)) }
+    ensures none { IfNone result (HasNoElements (pod_bytes pod.now)) }
+{
+    if let Ok(array) = pod.as_array() {
+        return Some(Elements {
+            type_: SpaTypes::Array.0,
+            shape: 0,
+            flags: 0,
+            element_type: array.element_type().0,
+            element_size: array.element_size(),
+            count: array.len(),
+            at: ARRAY_ELEMENTS_AT,
+        });
+    }
+    let Ok(choice) = pod.as_choice() else {
+        return None;
+    };
+    let values = choice.values();
+    Some(Elements {
+        type_: SpaTypes::Choice.0,
+        shape: choice.shape(),
+        flags: u32_at(body_bytes(pod), SECOND_WORD),
+        element_type: values.element_type().0,
+        element_size: values.element_size(),
+        count: values.len(),
+        at: CHOICE_VALUES_AT,
+    })
+}

@@ -1,0 +1,5 @@
+//! What is made of recordings: pods one after another, read exactly or leniently, of which some may be refused.
+#![tactic(auto)]
+
+pub mod going_on;
+pub mod reading;

@@ -24,7 +24,7 @@ use Rattle.spa_leaf.proofs.Refusals.{says_through}
 use Rattle.spa_scan.specs.Canonical.{AreCanonical, BeginsCanonical, IsStretch}
 use Rattle.spa_scan.specs.Depth.{depth_of, levels_looked_into}
 use Rattle.spa_scan.proofs.Frames.{no_stretch, stretch_parts}
-use Rattle.spa_rewrite.specs.Look.{AreAccepted, AreLooked, IsAccepted, IsRejected, StopsAt}
+use Rattle.spa_rewrite.specs.Look.{AreAccepted, AreLooked, IsAccepted, IsAcceptedAsked, IsRejected, StopsAt}
 use Rattle.spa_rewrite.specs.Rewriting.{IsLeft, RefusesFront, RefusesList}
 use Rattle.spa_rewrite.specs.Nesting.{AreCanonicalInside}
 use Rattle.spa_rewrite.specs.Shorter.{ArePodsWithin, BeginsShorter, IsShorterBody}
@@ -34,12 +34,12 @@ use Rattle.spa_rewrite.specs.declared.look.Rejected.{Rejected}
 use Rattle.spa_rewrite.specs.declared.look.Rejected.TheVariants as rejected
 use Rattle.spa_rewrite.proofs.FirstPods.{accepted_behind, left_behind_pods}
 use Rattle.spa_rewrite.proofs.Levels.{deep_begun}
-use Rattle.spa_rewrite.proofs.Looks.{Awaits, first_own, goes_on, inside_own, own_opened, passes_pod, some_left, stands_opened}
+use Rattle.spa_rewrite.proofs.Looks.{AreOther, Awaits, first_own, goes_on, inside_own, own_opened, passes_pod, some_left, stands_opened}
 use Rattle.spa_rewrite.proofs.Refusals.{front_refused}
 use Rattle.spa_rewrite.proofs.Rewritten.{member_encodings-push}
 use Rattle.spa_rewrite.proofs.ShorterLemmas.{CountsOn, counts_all, counts_more, counts_none, first_within, shorter_inside, shorter_opened, within_behind}
 use Rattle.spa_rewrite.proofs.Stretches.{FirstMembers, list_refused, no_first_member}
-use Rattle.spa_rewrite.proofs.SteadyFound.{leaf_depth}
+use Rattle.spa_rewrite.proofs.SteadyFound.{leaf_depth, never}
 use Rattle.spa_rewrite.proofs.Steps.{parted}
 
 -- no struct or object begins there
@@ -63,44 +63,49 @@ pub own_rest : (here rest : List ℕ) → rest ≡ rest_of here → BeginsCanoni
 own_rest here rest e c = subst (BeginsCanonical here) (sym e) c
 
 -- a pod without members is passed
-pub goes_over : (all keyed canonical now : Bool) (pods left here body rest : List ℕ) (type : ℕ) (Then : Bool → ℕ → Type 0) (waiting surplus n : ℕ) →
-    Awaits all pods Then waiting keyed left canonical surplus → IsBehindKey keyed left here → Opens here type body rest → type ≢ struct_type →
+pub goes_over : (asked all keyed canonical now : Bool) (pods left here body rest : List ℕ) (type : ℕ) (Then : Bool → ℕ → Type 0) (waiting surplus n : ℕ) →
+    Awaits asked all pods Then waiting keyed left canonical surplus → IsBehindKey keyed left here → Opens here type body rest → type ≢ struct_type →
     (type ≡ object_type → length body < header_size) → IsShorterBody type body n → (now ≡ true → canonical ≡ true) →
     (now ≡ true → BeginsCanonical here (rest_of here)) →
     (now ≡ false → (canonical ≡ false) ⊎ ((r : List ℕ) (c : BeginsCanonical here r) → levels_looked_into < depth_of c.value)) →
-    Awaits all pods Then waiting keyed rest now (surplus + n) × (n + length rest ≤ length left)
-goes_over all keyed canonical now pods left here body rest type Then waiting surplus n w k o s l b c own differs =
+    Awaits asked all pods Then waiting keyed rest now (surplus + n) × (n + length rest ≤ length left)
+goes_over asked all keyed canonical now pods left here body rest type Then waiting surplus n w k o s l b c own differs =
     let some = some_left keyed left here k o.there in
     let p =
     passes_pod keyed now left here rest n w.bytes some k (shorter_opened here body rest type n o b) (λ e. own_rest here rest o.its_rest (own e)) in
-    let d : now ≡ false → ¬ (AreCanonicalInside all pods) = λ e.
+    let d : now ≡ false → AreOther asked all pods = λ e.
     elim (differs e) [
       | inl f ↦ w.differs f
-      | inr f ↦ λ k'. leaf_differs here body rest type o s l f rest (first_own keyed left here rest w.bytes some k o.its_rest (w.kept k')).first
+      | inr f ↦ λ _ k'. leaf_differs here body rest type o s l f rest (first_own keyed left here rest w.bytes some k o.its_rest (w.kept k')).first
     ] in
-    (goes_on all keyed canonical now now pods left rest Then waiting surplus n w p c (λ e. e) d, p.room)
+    (goes_on asked all keyed canonical now now pods left rest Then waiting surplus n w p c (λ e. e) d, p.room)
 
 -- a pod without members is accepted
-pub leaf_exactly : (input rest : List ℕ) (result : Bool) → rest ≡ rest_of input → (result ≡ true → BeginsCanonical input (rest_of input)) →
-    (result ≡ false → (true ≡ false) ⊎ ((r : List ℕ) (c : BeginsCanonical input r) → levels_looked_into < depth_of c.value)) →
+pub leaf_exactly : (asked result : Bool) (input rest : List ℕ) → rest ≡ rest_of input → (result ≡ true → BeginsCanonical input (rest_of input)) →
+    (result ≡ false → (asked ≡ false) ⊎ ((r : List ℕ) (c : BeginsCanonical input r) → levels_looked_into < depth_of c.value)) →
     (((r : List ℕ) (c : BeginsCanonical input r) → levels_looked_into < depth_of c.value) → (r : List ℕ) → ¬ (BeginsCanonical input r)) →
-    Decides result (BeginsCanonical input rest)
-leaf_exactly input rest result e own differs never = (
+    asked ≡ true → Decides result (BeginsCanonical input rest)
+leaf_exactly asked result input rest e own differs none a = (
   λ t. own_rest input rest e (own t),
   λ c.
       true_from_ne_false result (λ f.
       elim (differs f) [
-        | inl n ↦ cc
-        | inr d ↦ never d rest c
+        | inl n ↦ never asked a n
+        | inr d ↦ none d rest c
       ]),
 )
 
+pub leaf_unasked : (asked result : Bool) → (result ≡ true → asked ≡ true) → asked ≡ false → result ≡ false
+leaf_unasked asked true o e = absurd (never asked (o refl) e)
+leaf_unasked asked false o e = refl
+
 -- what is found in a struct or an object is found of it
-pub inside_exactly : (type : ℕ) (input body rest inside : List ℕ) (inner canonical : Bool) (n : ℕ) → IsBytes input → Opens input type body rest →
-    IsInside type body inner inside → AreLooked inner inside canonical n → BeginsShorter input rest n × Decides canonical (BeginsCanonical input rest)
-inside_exactly type input body rest inside inner canonical n h o i l = (
+pub inside_exactly : (asked : Bool) (type : ℕ) (input body rest inside : List ℕ) (inner canonical : Bool) (n : ℕ) → IsBytes input → Opens input type body rest →
+    IsInside type body inner inside → AreLooked asked inner inside canonical n →
+    BeginsShorter input rest n × (asked ≡ true → Decides canonical (BeginsCanonical input rest))
+inside_exactly asked type input body rest inside inner canonical n h o i l = (
   shorter_opened input body rest type n o (shorter_inside type body inside inner n i l.shorter),
-  (λ e. own_opened type input body rest inside inner h o i (l.exactly.0 e), λ c. l.exactly.1 (inside_own type input body rest rest inside inner h o i c)),
+  λ a. (λ e. own_opened type input body rest inside inner h o i ((l.exactly a).0 e), λ c. (l.exactly a).1 (inside_own type input body rest rest inside inner h o i c)),
 )
 
 pub inside_stops : (type : ℕ) (input body rest inside place : List ℕ) (inner : Bool) (why : Refusal) → Opens input type body rest → IsInside type body inner inside →
@@ -133,19 +138,19 @@ rejected_first left r l s w =
     let shallow = f.shallow in
     omega arith
 
--- how many first bytes are canonical pods
-pub data OwnBytes (pods left : List ℕ) (canonical : ℕ) : Type 0 where
-  own_all : canonical + length left ≡ length pods → IsStretch pods left → OwnBytes pods left canonical
+-- how many first bytes are canonical pods: all so far, or fewer
+pub data OwnBytes (pods left : List ℕ) (canonical : ℕ) : Bool → Type 0 where
+  own_all : canonical + length left ≡ length pods → IsStretch pods left → OwnBytes pods left canonical true
   own_some : canonical + length left < length pods → AreCanonical (take canonical pods) → ((rest : List ℕ) → ¬ (BeginsCanonical (drop canonical pods) rest)) →
-      OwnBytes pods left canonical
+      OwnBytes pods left canonical false
 
 -- so much is found of the first pods, and this is left
-pub record IsLookedAt (pods left : List ℕ) (canonical surplus : ℕ) : Type 0 where
+pub record IsLookedAt (pods left : List ℕ) (all : Bool) (canonical surplus : ℕ) : Type 0 where
   pub counts : CountsOn false levels_looked_into pods left surplus
   pub first : FirstMembers pods left
-  pub own : OwnBytes pods left canonical
+  pub own : OwnBytes pods left canonical all
 
-pub none_looked_at : (pods : List ℕ) → IsLookedAt pods pods 0 0
+pub none_looked_at : (pods : List ℕ) → IsLookedAt pods pods true 0 0
 none_looked_at pods = record {
   counts = counts_none false levels_looked_into pods;
   first = no_first_member pods;
@@ -160,8 +165,8 @@ fewer_left pod rest v b =
     let f = length-take-le (extent (word_at pod 0)) pod h in
     omega arith
 
-pub accepted_fewer : (left : List ℕ) (pod : AcceptedPod) → IsAccepted left pod → length pod.rest.now < length left
-accepted_fewer left pod a = fewer_left left pod.rest.now a.shorter.value a.shorter.begins
+pub accepted_fewer : (asked : Bool) (left : List ℕ) (pod : AcceptedPod) → IsAcceptedAsked asked left pod → length pod.rest.now < length left
+accepted_fewer asked left pod a = fewer_left left pod.rest.now a.shorter.value a.shorter.begins
 
 -- one more of the canonical ones
 stretch_more : (pods left rest : List ℕ) → IsStretch pods left → BeginsCanonical left rest → IsStretch pods rest
@@ -177,33 +182,33 @@ stretch_more pods left rest s c =
       },
     )
 
-own_more : (pods left rest : List ℕ) (canonical begin end result : ℕ) (is : Bool) → OwnBytes pods left canonical → begin ≡ length pods - length left →
-    end ≡ length pods - length rest → length rest < length left → length left ≤ length pods → rest ≡ rest_of left → Decides is (BeginsCanonical left rest) →
-    (is ≡ true → canonical ≡ begin → result ≡ end) → (is ≡ false → result ≡ canonical) → (canonical ≢ begin → result ≡ canonical) →
-    OwnBytes pods rest result
-own_more pods left rest canonical begin end result true (own_all e s) b d l r f x more differs behind =
-    let same = more refl (omega arith) in
-    own_all (omega arith) (stretch_more pods left rest s (x.0 refl))
-own_more pods left rest canonical begin end result false (own_all e s) b d l r f x more differs behind =
-    let same = differs refl in
+own_more : (pods left rest : List ℕ) (canonical result : ℕ) (all is : Bool) → OwnBytes pods left canonical all → length rest < length left → length left ≤ length pods →
+    rest ≡ rest_of left → (all ≡ true → Decides is (BeginsCanonical left rest)) → (all ≡ false → is ≡ false) →
+    (is ≡ true → result ≡ length pods - length rest) → (is ≡ false → result ≡ canonical) → OwnBytes pods rest result is
+own_more pods left rest canonical result true true (own_all e s) l r f x u more same =
+    let m = more refl in
+    own_all (omega arith) (stretch_more pods left rest s ((x refl).0 refl))
+own_more pods left rest canonical result true false (own_all e s) l r f x u more same =
+    let k = same refl in
     let n : canonical ≡ length pods - length left = omega arith in
     let long = ap length s.1 ∙ length-append s.0 left in
     let here : drop canonical pods ≡ left = ap (drop canonical) s.1 ∙ drop_at s.0 left canonical (omega arith) in
     let none : (t : List ℕ) → ¬ (BeginsCanonical (drop canonical pods) t) = λ t c.
     let k : BeginsCanonical left t = subst (λ y. BeginsCanonical y t) here c in
-    let e : false ≡ true = x.1 (subst (BeginsCanonical left) (k.begins.follows ∙ sym f) k) in
+    let e : false ≡ true = (x refl).1 (subst (BeginsCanonical left) (k.begins.follows ∙ sym f) k) in
     cc in
-    subst (OwnBytes pods rest) (sym same) (own_some (omega arith) (stretch_parts pods left canonical s n).1 none)
-own_more pods left rest canonical begin end result is (own_some e c n) b d l r f x more differs behind =
-    let same = behind (omega arith) in
-    subst (OwnBytes pods rest) (sym same) (own_some (omega arith) c n)
+    subst (λ c. OwnBytes pods rest c false) (sym k) (own_some (omega arith) (stretch_parts pods left canonical s n).1 none)
+own_more pods left rest canonical result false true (own_some e c n) l r f x u more same = absurd (never true refl (u refl))
+own_more pods left rest canonical result false false (own_some e c n) l r f x u more same =
+    let k = same refl in
+    subst (λ c. OwnBytes pods rest c false) (sym k) (own_some (omega arith) c n)
 
 -- the next pod is accepted
-pub more_looked_at : (pods left : List ℕ) (pod : AcceptedPod) (canonical surplus begin end result : ℕ) → IsLookedAt pods left canonical surplus → 0 < length left →
-    IsAccepted left pod → length pod.rest.now < length left → begin ≡ length pods - length left → end ≡ length pods - length pod.rest.now →
-    (pod.canonical ≡ true → canonical ≡ begin → result ≡ end) → (pod.canonical ≡ false → result ≡ canonical) → (canonical ≢ begin → result ≡ canonical) →
-    IsLookedAt pods pod.rest.now result (surplus + pod.surplus)
-more_looked_at pods left pod canonical surplus begin end result w l a s b d more differs behind =
+pub more_looked_at : (pods left : List ℕ) (pod : AcceptedPod) (all : Bool) (canonical surplus result : ℕ) → IsLookedAt pods left all canonical surplus →
+    0 < length left → IsAcceptedAsked all left pod → length pod.rest.now < length left →
+    (pod.canonical ≡ true → result ≡ length pods - length pod.rest.now) → (pod.canonical ≡ false → result ≡ canonical) →
+    IsLookedAt pods pod.rest.now pod.canonical result (surplus + pod.surplus)
+more_looked_at pods left pod all canonical surplus result w l a s more same =
     let p = a.shorter in
     let v = p.value in
     let rest = pod.rest.now in
@@ -217,15 +222,15 @@ more_looked_at pods left pod canonical surplus begin end result w l a s b d more
         parts = h.parts ∙ ap (λ y. h.first ++ y) (parted left v rest p.begins) ∙ sym (append_assoc h.first (front_of left) rest);
         members = members_push h.values v h.first (front_of left) h.members p.begins.begins.pod;
       };
-      own = own_more pods left rest canonical begin end result pod.canonical w.own b d s (omega arith) p.begins.follows a.exactly more differs behind;
+      own = own_more pods left rest canonical result all pod.canonical w.own s (omega arith) p.begins.follows a.exactly a.unasked more same;
     }
 
-pub all_looked_at : (pods left : List ℕ) (canonical surplus : ℕ) → IsLookedAt pods left canonical surplus → length left ≡ 0 →
+pub all_looked_at : (pods left : List ℕ) (all : Bool) (canonical surplus : ℕ) → IsLookedAt pods left all canonical surplus → length left ≡ 0 →
     AreAccepted pods (record { canonical = canonical; surplus = surplus })
-all_looked_at pods left canonical surplus w z = of_own w.own
+all_looked_at pods left all canonical surplus w z = of_own all w.own
   where
-    of_own : OwnBytes pods left canonical → AreAccepted pods (record { canonical = canonical; surplus = surplus })
-    of_own (own_all e s) = record {
+    of_own : (all : Bool) → OwnBytes pods left canonical all → AreAccepted pods (record { canonical = canonical; surplus = surplus })
+    of_own true (own_all e s) = record {
       shorter = counts_all false levels_looked_into pods left surplus w.counts z;
       within = omega arith;
       first = (stretch_parts pods left canonical s (omega arith)).1;
@@ -234,16 +239,16 @@ all_looked_at pods left canonical surplus w z = of_own w.own
           let h = c.begins.begins.there.header in
           absurd (omega arith);
     }
-    of_own (own_some e c n) = record {
+    of_own false (own_some e c n) = record {
       shorter = counts_all false levels_looked_into pods left surplus w.counts z;
       within = omega arith;
       first = c;
       most = n;
     }
 
-pub rejected_behind : (pods left : List ℕ) (canonical surplus : ℕ) (r : Rejected) → IsLookedAt pods left canonical surplus → 0 < length left → IsRejected left r →
+pub rejected_behind : (pods left : List ℕ) (all : Bool) (canonical surplus : ℕ) (r : Rejected) → IsLookedAt pods left all canonical surplus → 0 < length left → IsRejected left r →
     ¬ (ArePodsWithin levels_looked_into pods)
-rejected_behind pods left canonical surplus r w l s a = rejected_first left r l s (w.counts.within a)
+rejected_behind pods left all canonical surplus r w l s a = rejected_first left r l s (w.counts.within a)
 
 -- The public refusal of a fault.
 pub fault_front : (input : List ℕ) (place : Bor (List ℕ)) (why : Refusal) → Says (λ k. Stands k place.now input) ⊥ why → RefusesFront input (error_of place why)
@@ -278,3 +283,7 @@ shorter_left left pod rest v l b =
     let a = ap length l.2 ∙ length-append l.1 pod in
     let f = fewer_left pod rest v b in
     omega arith
+
+-- the pod was asked for whether it is canonical
+pub asked_accepted : (input : List ℕ) (pod : AcceptedPod) → IsAcceptedAsked true input pod → IsAccepted input pod
+asked_accepted input pod a = record { shorter = a.shorter; exactly = a.exactly refl }

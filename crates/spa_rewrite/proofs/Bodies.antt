@@ -417,18 +417,6 @@ as_they_are number elements a b h n w t =
       encoding = subst (λ x. TailAppends a x b) c.same t;
     }
 
--- the parts behind a header
-pub parts_taken : (header elements : List ℕ) (number size : ℕ) (a b c d : Tail) → TailAppends a header b →
-    TakesElements number elements b c → TailAppends c (padding size) d → TakesParts header number elements size a d
-parts_taken header elements number size a b c d p t q = record {
-  kind = t.kind;
-  its_number = t.its_number;
-  values = t.values;
-  its_values = t.its_values;
-  encoding = appends_both a b d header (fixed_bodies t.values ++ padding size) p
-      (appends_both b c d (fixed_bodies t.values) (padding size) t.encoding q);
-}
-
 -- a body for whose encoding there is no memory
 pub body_unwritten : {T : Type 0} (r : Result T GenError) (q : Result T Refusal) (type : ℕ) (body : List ℕ) (a b : Tail) →
     IfErr r (λ e. LacksMemory e a b) → IfErr q (λ why. (why ≡ refusal.OutOfMemory) × (r ≡ Err OutOfMemory)) →

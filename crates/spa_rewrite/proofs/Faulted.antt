@@ -150,14 +150,6 @@ pub no_elements : (body : List ℕ) (number len : ℕ) → number ≡ word_at bo
     header_size ≤ length body → IsInvalidType array_type body
 no_elements body number len e f l h = of_elements refl h (λ k t. let a = f k (e ∙ t) in let b = size_fits k in omega arith)
 
-pub no_values : (body : List ℕ) (number len : ℕ) → number ≡ word_at body 12 → ((k : Kind) → number ≡ type_number k → len ≡ body_size k) →
-    (len ≡ 0) ⊎ (8 < len) → choice_header_size ≤ length body → IsInvalidType choice_type body
-no_values body number len e f l h =
-    of_values refl h (λ k some t. let a = f k (e ∙ t) in let b = size_fits k in elim l [
-      | inl z ↦ omega arith
-      | inr z ↦ omega arith
-    ])
-
 -- the sizes of a choice's body aren't right
 pub wrong_choice : (body : List ℕ) (k : Kind) → choice_header_size ≤ length body → word_at body 12 ≡ type_number k → 0 < body_size k →
     (word_at body 8 ≢ body_size k) ⊎ ((length body - 16) % body_size k ≢ 0) → IsWrongSize choice_type body

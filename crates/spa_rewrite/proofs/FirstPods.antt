@@ -35,7 +35,3 @@ pub accepted_behind : (input first rest : List ℕ) (vs : Trees) → input ≡ f
 accepted_behind input first rest vs i m r =
     let all = join_members vs r.0 in
     (all, subst (AreMembers all) (sym i) (members_joined vs r.0 first rest m r.1))
-
-pub list_behind : (input first rest left : List ℕ) (vs : Trees) (told : DeserializeError (Bor (List ℕ))) → input ≡ first ++ rest → AreMembers vs first →
-    RefusesList rest left told → RefusesList input left told
-list_behind input first rest left vs told i m r = list_refused input left told (left_behind_pods input first rest left vs i m r.behind) r.front

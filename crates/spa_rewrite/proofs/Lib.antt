@@ -16,7 +16,6 @@ pub mod PatchSteps
 pub mod PatchedBodies
 pub mod ShorterLemmas
 pub mod FirstPods
-pub mod Counts
 pub mod Levels
 pub mod Looks
 pub mod Faulted

@@ -19,10 +19,12 @@ use Rattle.spa_scan.specs.Depth.{depth_of}
 use Rattle.spa_scan.proofs.Frames.{body_bytes, canonical_front, none_left, none_left_either, object_of, one_more, one_more_property, padded_of}
 use Rattle.spa_scan.proofs.Made.{made_body, made_members, made_properties}
 use Rattle.spa_scan.proofs.Shallow.{shallow_object, shallow_struct}
-use Rattle.spa_rewrite.specs.Look.{AreLooked, NestMore, OpensInside, Passes, StandsInside, nest_behind, nest_inside, nest_last}
+use Rattle.spa_rewrite.specs.Look.{AreLooked, IsFound, NestMore, OpensInside, Passes, StandsInside, nest_behind, nest_inside, nest_last}
 use Rattle.spa_rewrite.specs.Nesting.{AreCanonicalInside}
 use Rattle.spa_rewrite.specs.Shorter.{AreShorterInside, BeginsShorter}
 use Rattle.spa_rewrite.specs.Steady.{BeginsSteady, IsBehindKey, IsInside}
+use Rattle.spa_rewrite.specs.declared.look.Found.{Found}
+use Rattle.spa_rewrite.specs.declared.look.Found.TheVariants as found
 use Rattle.spa_rewrite.specs.declared.steady.Inside.{Inside}
 use Rattle.spa_rewrite.proofs.ShorterLemmas.{shorter_inside, shorter_none, shorter_opened, shorter_room, shorter_step, whole_keyed, whole_list}
 use Rattle.spa_rewrite.proofs.SteadyFound.{never}
@@ -142,13 +144,13 @@ passes_none keyed canonical left h = record {
 }
 
 -- and some more
-pub passes_more : (keyed canonical : Bool) (pods left rest : List ℕ) → Passes keyed canonical pods left 0 → Passes keyed canonical left rest 0 →
-    Passes keyed canonical pods rest 0
-passes_more keyed canonical pods left rest p q =
+pub passes_more : (keyed canonical : Bool) (pods left rest : List ℕ) (n m : ℕ) → Passes keyed canonical pods left n → Passes keyed canonical left rest m →
+    Passes keyed canonical pods rest (n + m)
+passes_more keyed canonical pods left rest n m p q =
     let a = p.room in
     let b = q.room in
     record {
-      shorter = λ m s. subst (AreShorterInside keyed pods) (let e : 0 + (0 + m) ≡ 0 + m = omega arith in e) (p.shorter (0 + m) (q.shorter m s));
+      shorter = λ k s. subst (AreShorterInside keyed pods) (let e : n + (m + k) ≡ n + m + k = omega arith in e) (p.shorter (m + k) (q.shorter k s));
       own = λ e c. p.own e (q.own e c);
       kept = λ c. q.kept (p.kept c);
       stands = λ k place s. p.stands k place (q.stands k place s);
@@ -185,33 +187,38 @@ steady_shorter here rest s = let l = s.long in record { value = s.value; begins 
 pub some_left : (keyed : Bool) (left here : List ℕ) → IsBehindKey keyed left here → HasFront here → 0 < length left
 some_left keyed left here k h = let d = behind_shorter keyed left here k in let e = h.header in omega arith
 
+-- where it is asked, not all are canonical
+abbrev pub AreOther : Bool → Bool → List ℕ → Type 0
+AreOther asked all pods = asked ≡ true → ¬ (AreCanonicalInside all pods)
+
 -- What is found further on holds of all: of what is left, once that is accepted and shorter by so much, the rest follows.
-pub record Awaits (all : Bool) (pods : List ℕ) (Then : Bool → ℕ → Type 0) (waiting : ℕ) (keyed : Bool) (left : List ℕ) (canonical : Bool) (surplus : ℕ) : Type 0 where
+pub record Awaits (asked all : Bool) (pods : List ℕ) (Then : Bool → ℕ → Type 0) (waiting : ℕ) (keyed : Bool) (left : List ℕ) (canonical : Bool) (surplus : ℕ) : Type 0 where
   pub bytes : IsBytes left
-  pub ends : (m : ℕ) (c : Bool) → (c ≡ true → canonical ≡ true) → (c ≡ false → ¬ (AreCanonicalInside all pods)) →
+  pub ends : (m : ℕ) (c : Bool) → (c ≡ true → canonical ≡ true) → (c ≡ false → AreOther asked all pods) →
       AreShorterInside keyed left m → (c ≡ true → AreCanonicalInside keyed left) → Then c (surplus + m)
-  pub differs : canonical ≡ false → ¬ (AreCanonicalInside all pods)
+  pub differs : canonical ≡ false → AreOther asked all pods
   pub kept : AreCanonicalInside all pods → AreCanonicalInside keyed left
   pub stands : (k : Fault) (place : List ℕ) → StandsInside keyed left place k → StandsInside all pods place k
   pub deep : (n : ℕ) → NestMore n keyed left → NestMore (n + waiting) all pods
 
 -- what holds once the innermost list ends, where these wait, the innermost first
-abbrev pub Onward : Bool → List ℕ → List Inside → Bool → ℕ → Type 0
-Onward all pods [] = AreLooked all pods
-Onward all pods (next ∷ outer) = Awaits all pods (Onward all pods outer) (length outer) next.keyed next.pods.now
+abbrev pub Onward : Bool → Bool → List ℕ → List Inside → Bool → ℕ → Type 0
+Onward asked all pods [] = AreLooked asked all pods
+Onward asked all pods (next ∷ outer) = Awaits asked all pods (Onward asked all pods outer) (length outer) next.keyed next.pods.now
 
 -- these wait, and this is left of the innermost list
-abbrev pub AwaitsAll : Bool → List ℕ → List Inside → Bool → List ℕ → Bool → ℕ → Type 0
-AwaitsAll all pods outer = Awaits all pods (Onward all pods outer) (length outer)
+abbrev pub AwaitsAll : Bool → Bool → List ℕ → List Inside → Bool → List ℕ → Bool → ℕ → Type 0
+AwaitsAll asked all pods outer = Awaits asked all pods (Onward asked all pods outer) (length outer)
 
-pub begins_look : (all : Bool) (pods : List ℕ) → IsBytes pods → AwaitsAll all pods [] all pods true 0
-begins_look all pods h = record {
+pub begins_look : (asked all : Bool) (pods : List ℕ) → IsBytes pods → AwaitsAll asked all pods [] all pods asked 0
+begins_look asked all pods h = record {
   bytes = h;
   ends = λ m c o d s own. record {
     shorter = subst (AreShorterInside all pods) (let e : m ≡ 0 + m = omega arith in e) s;
-    exactly = (own, λ k. kept_true c d k);
+    exactly = λ a. (own, λ k. kept_true c (λ e. d e a) k);
+    unasked = λ e. stays_unasked c o e;
   };
-  differs = λ e. absurd (never true refl e);
+  differs = λ e a. absurd (never asked a e);
   kept = λ c. c;
   stands = λ k place s. s;
   deep = λ n d. subst (λ x. NestMore x all pods) (let e : n ≡ n + 0 = omega arith in e) d;
@@ -221,11 +228,15 @@ begins_look all pods h = record {
     kept_true true d k = refl
     kept_true false d k = absurd (d refl k)
 
+    stays_unasked : (c : Bool) → (c ≡ true → asked ≡ true) → asked ≡ false → c ≡ false
+    stays_unasked true o e = absurd (never asked (o refl) e)
+    stays_unasked false o e = refl
+
 -- accepted pods are passed
-pub goes_on : (all keyed canonical own now : Bool) (pods left rest : List ℕ) (Then : Bool → ℕ → Type 0) (waiting surplus n : ℕ) →
-    Awaits all pods Then waiting keyed left canonical surplus → Passes keyed own left rest n → (now ≡ true → canonical ≡ true) → (now ≡ true → own ≡ true) →
-    (now ≡ false → ¬ (AreCanonicalInside all pods)) → Awaits all pods Then waiting keyed rest now (surplus + n)
-goes_on all keyed canonical own now pods left rest Then waiting surplus n w p c o d = record {
+pub goes_on : (asked all keyed canonical own now : Bool) (pods left rest : List ℕ) (Then : Bool → ℕ → Type 0) (waiting surplus n : ℕ) →
+    Awaits asked all pods Then waiting keyed left canonical surplus → Passes keyed own left rest n → (now ≡ true → canonical ≡ true) → (now ≡ true → own ≡ true) →
+    (now ≡ false → AreOther asked all pods) → Awaits asked all pods Then waiting keyed rest now (surplus + n)
+goes_on asked all keyed canonical own now pods left rest Then waiting surplus n w p c o d = record {
   bytes = p.bytes;
   ends = λ m f t x s k.
       subst (Then f) (let e : surplus + (n + m) ≡ surplus + n + m = omega arith in e)
@@ -237,11 +248,10 @@ goes_on all keyed canonical own now pods left rest Then waiting surplus n w p c 
 }
 
 -- such that all are of the same kind as before
-pub goes_on_alike : (all keyed canonical : Bool) (pods left rest : List ℕ) (Then : Bool → ℕ → Type 0) (waiting surplus : ℕ) →
-    Awaits all pods Then waiting keyed left canonical surplus → Passes keyed canonical left rest 0 → Awaits all pods Then waiting keyed rest canonical surplus
-goes_on_alike all keyed canonical pods left rest Then waiting surplus w p =
-    subst (Awaits all pods Then waiting keyed rest canonical) (let e : surplus + 0 ≡ surplus = omega arith in e)
-    (goes_on all keyed canonical canonical canonical pods left rest Then waiting surplus 0 w p (λ e. e) (λ e. e) w.differs)
+pub goes_on_alike : (asked all keyed canonical : Bool) (pods left rest : List ℕ) (Then : Bool → ℕ → Type 0) (waiting surplus n : ℕ) →
+    Awaits asked all pods Then waiting keyed left canonical surplus → Passes keyed canonical left rest n → Awaits asked all pods Then waiting keyed rest canonical (surplus + n)
+goes_on_alike asked all keyed canonical pods left rest Then waiting surplus n w p =
+    goes_on asked all keyed canonical canonical canonical pods left rest Then waiting surplus n w p (λ e. e) (λ e. e) w.differs
 
 inside_bytes : (type : ℕ) (body inside : List ℕ) (inner : Bool) → IsBytes body → IsInside type body inner inside → IsBytes inside
 inside_bytes type body inside true h i = subst IsBytes (sym i.2) (IsBytes-drop header_size body h)
@@ -287,11 +297,11 @@ inside_own type here body rest behind inside false h o i c =
     subst AreCanonical (sym i.1) s.1.pods
 
 -- a struct or an object is opened
-opened : (all keyed inner canonical : Bool) (pods left inside rest : List ℕ) (Then : Bool → ℕ → Type 0) (waiting more surplus : ℕ) →
-    Awaits all pods Then waiting keyed left canonical surplus → OpensInside keyed left inner inside rest →
+opened : (asked all keyed inner canonical : Bool) (pods left inside rest : List ℕ) (Then : Bool → ℕ → Type 0) (waiting more surplus : ℕ) →
+    Awaits asked all pods Then waiting keyed left canonical surplus → OpensInside keyed left inner inside rest →
     ((n : ℕ) → NestMore n inner inside → NestMore (n + more) all pods) →
-    Awaits all pods (Awaits all pods Then waiting keyed rest) more inner inside canonical surplus
-opened all keyed inner canonical pods left inside rest Then waiting more surplus w x deeper =
+    Awaits asked all pods (Awaits asked all pods Then waiting keyed rest) more inner inside canonical surplus
+opened asked all keyed inner canonical pods left inside rest Then waiting more surplus w x deeper =
     let at = x.here in
     let o = x.opens in
     let i = x.its_inside in
@@ -301,7 +311,7 @@ opened all keyed inner canonical pods left inside rest Then waiting more surplus
       bytes = inside_bytes x.type x.body inside inner (body_bytes at x.body rest x.type h o) i;
       ends = λ m c t d s own.
           let one = shorter_opened at x.body rest x.type m o (shorter_inside x.type x.body inside inner m i s) in
-          goes_on all keyed canonical c c pods left rest Then waiting surplus m w
+          goes_on asked all keyed canonical c c pods left rest Then waiting surplus m w
           (passes_pod keyed c left at rest m w.bytes some x.its_key one (λ e. own_opened x.type at x.body rest inside inner h o i (own e)))
           t (λ e. e) d;
       differs = w.differs;
@@ -311,34 +321,34 @@ opened all keyed inner canonical pods left inside rest Then waiting more surplus
     }
 
 -- what follows it waits
-pub goes_in : (all keyed inner canonical : Bool) (pods left inside rest : List ℕ) (Then : Bool → ℕ → Type 0) (waiting surplus : ℕ) →
-    Awaits all pods Then waiting keyed left canonical surplus → OpensInside keyed left inner inside rest → rest ≢ [] →
-    Awaits all pods (Awaits all pods Then waiting keyed rest) (suc waiting) inner inside canonical surplus
-goes_in all keyed inner canonical pods left inside rest Then waiting surplus w x r =
-    opened all keyed inner canonical pods left inside rest Then waiting (suc waiting) surplus w x (λ n d.
+pub goes_in : (asked all keyed inner canonical : Bool) (pods left inside rest : List ℕ) (Then : Bool → ℕ → Type 0) (waiting surplus : ℕ) →
+    Awaits asked all pods Then waiting keyed left canonical surplus → OpensInside keyed left inner inside rest → rest ≢ [] →
+    Awaits asked all pods (Awaits asked all pods Then waiting keyed rest) (suc waiting) inner inside canonical surplus
+goes_in asked all keyed inner canonical pods left inside rest Then waiting surplus w x r =
+    opened asked all keyed inner canonical pods left inside rest Then waiting (suc waiting) surplus w x (λ n d.
     subst (λ m. NestMore m all pods) (let e : suc n + waiting ≡ n + suc waiting = omega arith in e) (w.deep (suc n) (nest_inside n keyed inner left inside rest x r d)))
 
+none_own : (keyed : Bool) (left : List ℕ) → length left ≡ 0 → AreCanonicalInside keyed left
+none_own true left z = none_left_either left z
+none_own false left z = none_left left z
+
 -- the innermost list has ended
-pub list_ends : (all keyed canonical : Bool) (pods left : List ℕ) (Then : Bool → ℕ → Type 0) (waiting surplus : ℕ) →
-    Awaits all pods Then waiting keyed left canonical surplus → length left ≡ 0 → Then canonical surplus
-list_ends all keyed canonical pods left Then waiting surplus w z =
+pub list_ends : (asked all keyed canonical : Bool) (pods left : List ℕ) (Then : Bool → ℕ → Type 0) (waiting surplus : ℕ) →
+    Awaits asked all pods Then waiting keyed left canonical surplus → length left ≡ 0 → Then canonical surplus
+list_ends asked all keyed canonical pods left Then waiting surplus w z =
     subst (Then canonical) (let e : surplus + 0 ≡ surplus = omega arith in e)
     (w.ends 0 canonical (λ e. e) w.differs (shorter_none keyed left z) (λ _. none_own keyed left z))
-  where
-    none_own : (keyed : Bool) (left : List ℕ) → length left ≡ 0 → AreCanonicalInside keyed left
-    none_own true left z = none_left_either left z
-    none_own false left z = none_left left z
 
 -- nothing follows it
-pub goes_in_last : (all keyed inner canonical : Bool) (pods left inside rest : List ℕ) (Then : Bool → ℕ → Type 0) (waiting surplus : ℕ) →
-    Awaits all pods Then waiting keyed left canonical surplus → OpensInside keyed left inner inside rest → length rest ≡ 0 →
-    Awaits all pods Then waiting inner inside canonical surplus
-goes_in_last all keyed inner canonical pods left inside rest Then waiting surplus w x z =
+pub goes_in_last : (asked all keyed inner canonical : Bool) (pods left inside rest : List ℕ) (Then : Bool → ℕ → Type 0) (waiting surplus : ℕ) →
+    Awaits asked all pods Then waiting keyed left canonical surplus → OpensInside keyed left inner inside rest → length rest ≡ 0 →
+    Awaits asked all pods Then waiting inner inside canonical surplus
+goes_in_last asked all keyed inner canonical pods left inside rest Then waiting surplus w x z =
     let r = nil_from_length rest z in
-    let n = opened all keyed inner canonical pods left inside rest Then waiting waiting surplus w x (λ m d. w.deep m (nest_last m keyed inner left inside rest x r d)) in
+    let n = opened asked all keyed inner canonical pods left inside rest Then waiting waiting surplus w x (λ m d. w.deep m (nest_last m keyed inner left inside rest x r d)) in
     record {
       bytes = n.bytes;
-      ends = λ m c t d s own. list_ends all keyed c pods rest Then waiting (surplus + m) (n.ends m c t d s own) z;
+      ends = λ m c t d s own. list_ends asked all keyed c pods rest Then waiting (surplus + m) (n.ends m c t d s own) z;
       differs = n.differs;
       kept = n.kept;
       stands = n.stands;
@@ -382,3 +392,22 @@ opened_shorter keyed inner left inside rest x =
 pub opens_inside : (keyed inner : Bool) (left at body rest inside : List ℕ) (type : ℕ) → IsBehindKey keyed left at → Opens at type body rest →
     IsInside type body inner inside → OpensInside keyed left inner inside rest
 opens_inside keyed inner left at body rest inside type k o i = record { here = at; type = type; body = body; its_key = k; opens = o; its_inside = i }
+
+-- canonical ones were passed, and nothing is left
+pub passed_all : (asked keyed : Bool) (pods left : List ℕ) → asked ≡ true → Passes keyed true pods left 0 → length left ≡ 0 → AreLooked asked keyed pods asked 0
+passed_all asked keyed pods left a p z = record {
+  shorter = subst (AreShorterInside keyed pods) (let e : 0 + 0 ≡ 0 = omega arith in e) (p.shorter 0 (shorter_none keyed left z));
+  exactly = λ _. (λ _. p.own refl (none_own keyed left z), λ _. a);
+  unasked = λ e. e;
+}
+
+-- what is found behind canonical ones
+pub found_behind : (asked keyed : Bool) (waiting : ℕ) (pods left : List ℕ) (f : Found) → Passes keyed true pods left 0 → IsFound asked waiting keyed left f →
+    IsFound asked waiting keyed pods f
+found_behind asked keyed waiting pods left (found.Fits canonical surplus) p l = record {
+  shorter = subst (AreShorterInside keyed pods) (let e : 0 + surplus ≡ surplus = omega arith in e) (p.shorter surplus l.shorter);
+  exactly = λ a. (λ e. p.own refl ((l.exactly a).0 e), λ k. (l.exactly a).1 (p.kept k));
+  unasked = l.unasked;
+}
+found_behind asked keyed waiting pods left (found.Stops place) p s = record { refused = s.refused; alone = s.alone; stands = λ k x. p.stands k place.now (s.stands k x) }
+found_behind asked keyed waiting pods left found.TooDeep p d = p.deep waiting d

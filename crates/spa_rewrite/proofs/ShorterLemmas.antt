@@ -57,9 +57,6 @@ shorter_none false left z = record { values = no_trees; members = nil_from_lengt
 pub steady_front : (input rest : List ℕ) → BeginsSteady input rest → BeginsShorter input rest 0
 steady_front input rest s = let l = s.long in record { value = s.value; begins = s.begins; long = omega arith }
 
-pub steady_body : (type : ℕ) (body : List ℕ) → IsSteadyBody type body → IsShorterBody type body 0
-steady_body type body s = let l = s.long in record { value = s.value; its_type = s.its_type; its_body = s.its_body; long = omega arith }
-
 -- a pod that is opened
 pub shorter_opened : (input body rest : List ℕ) (type n : ℕ) → Opens input type body rest → IsShorterBody type body n → BeginsShorter input rest n
 shorter_opened input body rest type n o s =
@@ -158,16 +155,6 @@ first_within levels true left here k l s = subst (FirstWithin levels true) (sym 
 never : (b : Bool) → b ≡ true → b ≡ false → ⊥
 never b t f = let e : true ≡ false = sym t ∙ f in cc
 
--- what is left has a key and flags, if any have
-pub within_key : (levels : ℕ) (keyed : Bool) (left : List ℕ) → keyed ≡ true → length left < header_size → 0 < length left →
-    ¬ (AreInsideWithin levels keyed left)
-within_key levels false left e s l a = never false e refl
-within_key levels true left e s l a = of_properties a.values a.properties
-  where
-    of_properties : (ps : Properties) → AreProperties ps left → ⊥
-    of_properties no_properties m = let z = ap length m in omega arith
-    of_properties (property key flags v ps) m = let r = m.0 in omega arith
-
 pub counts_more : (keyed : Bool) (levels : ℕ) (pods left here rest : List ℕ) (surplus n : ℕ) → CountsOn keyed levels pods left surplus →
     0 < length left → IsBehindKey keyed left here → rest ≡ rest_of here → BeginsShorter here rest n → CountsOn keyed levels pods rest (surplus + n)
 counts_more keyed levels pods left here rest surplus n w l k e c =
@@ -184,13 +171,6 @@ counts_more keyed levels pods left here rest surplus n w l k e c =
     behind_shorter : (keyed : Bool) (left here : List ℕ) → IsBehindKey keyed left here → length here ≤ length left
     behind_shorter false left here k = let z = ap length k in omega arith
     behind_shorter true left here k = let z = ap length k.1 ∙ length-drop 8 left in omega arith
-
--- one that isn't shorter
-pub counts_steady : (keyed : Bool) (levels : ℕ) (pods left here rest : List ℕ) (surplus : ℕ) → CountsOn keyed levels pods left surplus →
-    0 < length left → IsBehindKey keyed left here → BeginsSteady here rest → CountsOn keyed levels pods rest surplus
-counts_steady keyed levels pods left here rest surplus w l k s =
-    subst (CountsOn keyed levels pods rest) (let e : surplus + 0 ≡ surplus = omega arith in e)
-    (counts_more keyed levels pods left here rest surplus 0 w l k s.begins.follows (steady_front here rest s))
 
 -- none is left
 pub counts_all : (keyed : Bool) (levels : ℕ) (pods left : List ℕ) (surplus : ℕ) → CountsOn keyed levels pods left surplus → length left ≡ 0 →
@@ -219,18 +199,6 @@ shorter_behind input first rest n e c s =
       values = join_members c.values s.values;
       members = subst (AreMembers (join_members c.values s.values)) (sym e) (members_joined c.values s.values first rest c.members s.members);
       long = omega arith;
-    }
-
--- the body of the first
-pub first_body_within : (levels : ℕ) (keyed : Bool) (here body rest : List ℕ) (type : ℕ) → FirstWithin levels keyed here → Opens here type body rest →
-    IsBodyWithin levels type body
-first_body_within levels keyed here body rest type f o =
-    let q = of_whole_front here (type_of f.value) (IsBody f.value) f.pod in
-    record {
-      value = f.value;
-      its_type = sym q.0 ∙ sym o.its_type;
-      its_body = subst (IsBody f.value) (sym o.its_body) q.1;
-      shallow = f.shallow;
     }
 
 -- the body of a struct or of an object
@@ -307,15 +275,3 @@ shorter_choice body kept n h e =
     let p = ap padded_size size in
     let l = h.shorter in
     record { value = choice s f k h.default h.values; its_type = refl; its_body = h.its_choice; long = omega arith }
-
-pub no_choice_body : (body : List ℕ) → ((s : Shape) (f : ℕ) (k : Kind) (x : Fixed) (xs : List Fixed) → ¬ (IsChoice s f k x xs body)) →
-    (v : Tree) → type_of v ≡ choice_type → ¬ (IsBody v body)
-no_choice_body body n v e b =
-    let o = choice_only v e in
-    n o.0 o.1 o.2 o.3 o.4 (subst (λ x. IsBody x body) o.5 b)
-
--- no struct or object stands in the body of another type
-pub leaf_within : (levels type : ℕ) (body : List ℕ) → type ≢ struct_type → (type ≡ object_type → length body < header_size) →
-    ((v : Tree) → type_of v ≡ type → depth_of v ≡ 0 → ¬ (IsBody v body)) → ¬ (IsBodyWithin levels type body)
-leaf_within levels type body s o n w =
-    n w.value w.its_type (leaf_depth w.value body (λ e. s (sym w.its_type ∙ e)) (λ e. o (sym w.its_type ∙ e)) w.its_body) w.its_body

@@ -264,22 +264,6 @@ choice_sizes body kept h s =
     let l = sym (ap padded_size e) ∙ s.long in
     omega arith
 
-pub fixed_of_body : (type : ℕ) (body : List ℕ) (s : IsSteadyBody type body) → depth_of s.value ≡ 0 → type ≢ string_type → type ≢ bytes_type →
-    type ≢ bitmap_type → type ≢ array_type → type ≢ pointer_type → type ≢ choice_type →
-    (k : Kind) × (type ≡ type_number k) × (length body ≡ body_size k)
-fixed_of_body type body s d n8 n9 n12 n13 n17 n19 = of_value s.value s.its_type s.its_body d
-  where
-    of_value : (v : Tree) → type_of v ≡ type → IsBody v body → depth_of v ≡ 0 → (k : Kind) × (type ≡ type_number k) × (length body ≡ body_size k)
-    of_value (fixed x) e b z = (kind_of x, sym e, b.whole)
-    of_value (string x) e b z = absurd (n8 (sym e))
-    of_value (bytes x) e b z = absurd (n9 (sym e))
-    of_value (bitmap x) e b z = absurd (n12 (sym e))
-    of_value (array k xs) e b z = absurd (n13 (sym e))
-    of_value (choice c f k x xs) e b z = absurd (n19 (sym e))
-    of_value (pointer t a) e b z = absurd (n17 (sym e))
-    of_value (struct vs) e b z = absurd (omega arith)
-    of_value (object t i ps) e b z = absurd (omega arith)
-
 -- pods behind others of such pods
 pub steady_behind : (vs : Trees) (first rest : List ℕ) (levels : ℕ) → AreMembers vs first → AreSteadyWithin levels (first ++ rest) →
     AreSteadyWithin levels rest
@@ -291,10 +275,3 @@ steady_behind (member v vs) first rest levels m s =
     let h = f.0.header in
     let behind = steady_left levels false all all (m.1 ++ rest) refl f.2 (omega arith) s in
     steady_behind vs m.1 rest levels m.4 behind
-
--- pods that are their own rewritings are as long
-pub shallow_steady : (levels : ℕ) (body : List ℕ) → AreShallow levels body → AreSteadyWithin levels body
-shallow_steady levels body s = record {
-  pods = record { values = s.pods.values; members = s.pods.members; long = sym (ap length s.pods.same) };
-  shallow = s.shallow;
-}

@@ -101,34 +101,8 @@ pub record FirstMembers (input left : List ℕ) : Type 0 where
 pub no_first_member : (input : List ℕ) → FirstMembers input input
 no_first_member input = record { values = no_trees; first = []; parts = refl; members = refl }
 
-pub first_stretch : (input left first rest : List ℕ) → FirstMembers input left →
-    left ≡ first ++ rest → AreCanonical first → FirstMembers input rest
-first_stretch input left first rest h e k = record {
-  values = join_members h.values k.values;
-  first = h.first ++ first;
-  parts = h.parts ∙ ap (λ l. h.first ++ l) e ∙ sym (append_assoc h.first first rest);
-  members = members_joined h.values k.values h.first first h.members k.members;
-}
-
-pub first_pod : (input left rest : List ℕ) (a b : Tail) → FirstMembers input left →
-    TakesFront left a rest b → FirstMembers input rest
-first_pod input left rest a b h t = record {
-  values = join_members h.values (member t.value no_trees);
-  first = h.first ++ front_of left;
-  parts = h.parts ∙ ap (λ l. h.first ++ l) (parted left t.value rest t.begins)
-      ∙ sym (append_assoc h.first (front_of left) rest);
-  members = members_push h.values t.value h.first (front_of left) h.members t.begins.begins.pod;
-}
-
 pub first_left : (input left : List ℕ) → FirstMembers input left → left ≢ [] → IsLeft input left
 first_left input left h n = (h.values, h.first, h.parts, h.members, n)
-
-pub all_first : (input left : List ℕ) → FirstMembers input left → length left ≡ 0 →
-    (vs : Trees) × AreMembers vs input
-all_first input left h e =
-    let same : input ≡ h.first =
-    h.parts ∙ ap (λ l. h.first ++ l) (nil_from_length left e) ∙ append-nil h.first in
-    (h.values, subst (AreMembers h.values) (sym same) h.members)
 
 -- the rewritings that are all that a vector holds
 pub rewritten_apart : (input out : List ℕ) (a b : Tail) → start_bytes a ≡ [] → tail_bytes a ≡ [] →
@@ -152,24 +126,6 @@ next_steady body left rest a b c h t =
       members = members_joined h.values vs h.first t.first h.members t.steady.members;
       encodings = subst (λ l. TailAppends a l c) (sym (member_encodings-join h.values vs)) both;
     }
-
-pub first_steady : (input left first rest : List ℕ) → FirstMembers input left →
-    left ≡ first ++ rest → AreSteady first → FirstMembers input rest
-first_steady input left first rest h e k = record {
-  values = join_members h.values k.values;
-  first = h.first ++ first;
-  parts = h.parts ∙ ap (λ l. h.first ++ l) e ∙ sym (append_assoc h.first first rest);
-  members = members_joined h.values k.values h.first first h.members k.members;
-}
-
--- there is a pod
-pub steady_front_there : (input first rest : List ℕ) → input ≡ first ++ rest → AreSteady first → 0 < length first → HasFront input
-steady_front_there input first rest e k l = of_values k.values k.members
-  where
-    of_values : (vs : Trees) → AreMembers vs first → HasFront input
-    of_values no_trees m = absurd (let z = ap length m in omega arith)
-    of_values (member v vs) m =
-        (front_of_whole input m.0 (m.1 ++ rest) (type_of v) (IsBody v) (e ∙ ap (λ x. x ++ rest) m.2 ∙ append_assoc m.0 m.1 rest) m.3).0
 
 pub steady_taken : (input first rest : List ℕ) (a b : Tail) → input ≡ first ++ rest → AreSteady first → AppendsPatched a first b →
     TakesSteady input a rest b

@@ -118,16 +118,6 @@ all_truths words left a b h e =
       encoding = h.encoding;
     }
 
--- bodies of the type of truth values
-pub truths_whole : (number : ℕ) (elements : List ℕ) → AreOfNumber number elements → number ≡ 2 → AreWhole 4 elements
-truths_whole number elements w e =
-    subst (λ k. AreWhole (body_size k) elements) (same_kind w.kind bool_kind (sym w.its_number ∙ e)) w.whole
-
-pub truths_taken : (number : ℕ) (elements : List ℕ) (a b : Tail) → number ≡ 2 → TakesTruths elements a b →
-    TakesElements number elements a b
-truths_taken number elements a b e t =
-    record { kind = bool_kind; its_number = e; values = t.values; its_values = t.its_values; encoding = t.encoding }
-
 -- the first words are as they are written, and the others as they were
 pub record AreTurned (old now : List ℕ) (at : ℕ) : Type 0 where
   pub filled : AreFilled old now at

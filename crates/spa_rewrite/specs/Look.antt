@@ -48,10 +48,11 @@ pub record IsTooDeep (input : List ℕ) : Type 0 where
   pub opens : OpensInside false input inner inside rest
   pub more : NestMore levels_looked_into inner inside
 
--- They are accepted, and their encodings are so many bytes shorter; whether they are canonical.
-pub record AreLooked (keyed : Bool) (pods : List ℕ) (canonical : Bool) (surplus : ℕ) : Type 0 where
+-- They are accepted, and their encodings are so many bytes shorter; whether they are canonical, if that is asked.
+pub record AreLooked (asked keyed : Bool) (pods : List ℕ) (canonical : Bool) (surplus : ℕ) : Type 0 where
   pub shorter : AreShorterInside keyed pods surplus
-  pub exactly : Decides canonical (AreCanonicalInside keyed pods)
+  pub exactly : asked ≡ true → Decides canonical (AreCanonicalInside keyed pods)
+  pub unasked : asked ≡ false → canonical ≡ false
 
 -- No pod begins there, for a fault that is in no member or property of it: a fault that stands at its front stands in them.
 pub record StopsAt (keyed : Bool) (pods place : List ℕ) : Type 0 where
@@ -60,10 +61,10 @@ pub record StopsAt (keyed : Bool) (pods place : List ℕ) : Type 0 where
   pub stands : (k : Fault) → StandsAtFront k place → StandsInside keyed pods place k
 
 -- what is found in members or properties, where so many lists can wait
-abbrev pub IsFound : ℕ → Bool → List ℕ → Found → Type 0
-IsFound waiting keyed pods (found.Fits canonical surplus) = AreLooked keyed pods canonical surplus
-IsFound waiting keyed pods (found.Stops place) = StopsAt keyed pods place.now
-IsFound waiting keyed pods found.TooDeep = NestMore waiting keyed pods
+abbrev pub IsFound : Bool → ℕ → Bool → List ℕ → Found → Type 0
+IsFound asked waiting keyed pods (found.Fits canonical surplus) = AreLooked asked keyed pods canonical surplus
+IsFound asked waiting keyed pods (found.Stops place) = StopsAt keyed pods place.now
+IsFound asked waiting keyed pods found.TooDeep = NestMore waiting keyed pods
 
 -- The first members or properties are accepted and were passed, and this follows them: what is found of it holds of all.
 pub record Passes (keyed canonical : Bool) (left rest : List ℕ) (surplus : ℕ) : Type 0 where
@@ -79,6 +80,12 @@ pub record Passes (keyed canonical : Bool) (left rest : List ℕ) (surplus : ℕ
 pub record IsAccepted (input : List ℕ) (pod : AcceptedPod) : Type 0 where
   pub shorter : BeginsShorter input pod.rest.now pod.surplus
   pub exactly : Decides pod.canonical (BeginsCanonical input pod.rest.now)
+
+-- the same, where only an answer to a question says that it is canonical
+pub record IsAcceptedAsked (asked : Bool) (input : List ℕ) (pod : AcceptedPod) : Type 0 where
+  pub shorter : BeginsShorter input pod.rest.now pod.surplus
+  pub exactly : asked ≡ true → Decides pod.canonical (BeginsCanonical input pod.rest.now)
+  pub unasked : asked ≡ false → pod.canonical ≡ false
 
 -- why it isn't: a fault that stands, or too many levels
 abbrev pub IsRejected : List ℕ → Rejected → Type 0

@@ -29,8 +29,9 @@ pub fn nests_within(input: &[u8], levels: u32) -> bool
     }
 }
 
-/// The same of the body of a pod of this type.
+/// The same of the body of a pod of this type: no call of its own for a pod that holds no others.
 #[cycle(nesting)]
+#[inline(always)]
 fn body_nests_within(type_: u32, body: &[u8], levels: u32) -> bool
     ensures exactly { (v : Tree) → type_of v ≡ type_ → IsBody v body.now → Decides result (depth_of v ≤ levels) }
     ensures deeper { result ≡ false → IsDeepBody levels type_ body.now }

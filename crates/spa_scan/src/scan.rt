@@ -5,7 +5,7 @@ ghost use Rattle.spa_scan.specs.Canonical.{AreCanonical, AreCanonicalProperties,
 ghost use Rattle.spa_scan.specs.Depth.{AreShallow, AreShallowProperties, IsShallowBody, depth_of, levels_looked_into};
 
 use crate::array::{is_array, is_choice};
-use crate::front::{TWO_WORDS, fixed_front, fixed_len, fixed_property, padded_front};
+use crate::front::{fixed_front, fixed_property, padded_front};
 use crate::text::is_text;
 use spa_bytes::{HEADER_LEN, POINTER_LEN, SECOND_WORD, u32_at};
 use spa_utils::SpaTypes;
@@ -71,10 +71,10 @@ pub fn leaf_front(input: &[u8]) -> Option<&[u8]>
     leaf_body_front(input)
 }
 
-/// Whether a look at the bodies of this type can tell more than one at the pod's first words.
+/// Whether pods of this type hold no others.
 #[inline(always)]
 fn is_looked_into(type_: u32) -> bool {
-    type_ != SpaTypes::Struct.0 && type_ != SpaTypes::Object.0 && fixed_len(type_) > TWO_WORDS
+    type_ != SpaTypes::Struct.0 && type_ != SpaTypes::Object.0
 }
 
 /// The same as `leaf_front`, of a pod that isn't of fixed size.

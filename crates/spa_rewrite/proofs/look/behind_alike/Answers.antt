@@ -6,4 +6,4 @@ pub loop-rest-init : goal.loop-rest-init
 loop-rest-init c = passes_none _ _ _ (λ i. omega (arith, c.type_inv.pods i))
 
 pub loop-rest-preserved : goal.loop-rest-preserved
-loop-rest-preserved c = passes_more _ _ _ _ _ c.loop-rest.invariant c.in-Some.ensures.passed
+loop-rest-preserved c = passes_more _ _ _ _ _ 0 0 c.loop-rest.invariant c.in-Some.ensures.passed

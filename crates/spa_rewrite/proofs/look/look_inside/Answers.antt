@@ -10,134 +10,145 @@ use Rattle.spa_rewrite.proofs.Looks.{AwaitsAll, Onward, begins_look, goes_in, go
 use Rattle.spa_rewrite.proofs.SteadyLemmas.{left_shorter}
 use Rattle.spa_rewrite.proofs.look.look_inside.Goals as goal
 
-pub loop-behind-init : goal.loop-behind-init
-loop-behind-init c =
+pub loop-left-init : goal.loop-left-init
+loop-left-init c =
     let bytes : IsBytes c.args.pods.now = λ i. omega (arith, c.type_inv.pods i) in
-    (begins_look _ _ bytes, omega arith, omega arith)
+    (begins_look _ _ _ bytes, omega arith, omega arith)
 
 pub returns-then-waiting-eq0 : goal.returns-then-waiting-eq0
 returns-then-waiting-eq0 c =
-    let passed = goes_on_alike _ _ _ _ _ _ _ _ _ c.loop-behind.invariant.0 c.behind_first-behind.ensures in
-    let frames = c.loop-behind.frames in
-    subst (λ w. Onward c.args.are_keyed c.args.pods.now (reverse (take w frames)) c.loop-behind.canonical c.loop-behind.surplus)
-    c.if-waiting-eq0.true (list_ends _ _ _ _ _ _ _ _ passed (eqb-true _ _ (sym c.is_empty.ensures ∙ c.if-is_empty.true)))
+    let passed = c.loop-left.invariant.0 in
+    let frames = c.loop-left.frames in
+    subst (λ w. Onward c.args.are_canonical c.args.are_keyed c.args.pods.now (reverse (take w frames)) c.loop-left.canonical c.loop-left.surplus)
+    c.if-waiting-eq0.true (list_ends _ _ _ _ _ _ _ _ _ passed (eqb-true _ _ (sym c.is_empty.ensures ∙ c.if-is_empty.true)))
 
-pub loop-behind-preserved-then-is_empty : goal.loop-behind-preserved-then-is_empty
-loop-behind-preserved-then-is_empty c =
-    let passed = goes_on_alike _ _ _ _ _ _ _ _ _ c.loop-behind.invariant.0 c.behind_first-behind.ensures in
-    let frames = c.loop-behind.frames in
-    let w = c.loop-behind.waiting in
+pub loop-left-preserved-then-is_empty : goal.loop-left-preserved-then-is_empty
+loop-left-preserved-then-is_empty c =
+    let passed = c.loop-left.invariant.0 in
+    let frames = c.loop-left.frames in
+    let w = c.loop-left.waiting in
     let some = c.if-waiting-eq0.false in
-    let within = c.loop-behind.invariant.1 in
+    let within = c.loop-left.invariant.1 in
     let none : Inside = record { keyed = false; pods = record { ref_ptr = (0, 0); now = [] } } in
     let e = popped frames w (w - 1) none (omega arith) (omega arith) in
-    let ended = list_ends _ _ _ _ _ _ _ _ passed (eqb-true _ _ (sym c.is_empty.ensures ∙ c.if-is_empty.true)) in
+    let ended = list_ends _ _ _ _ _ _ _ _ _ passed (eqb-true _ _ (sym c.is_empty.ensures ∙ c.if-is_empty.true)) in
     let l = ap left_waiting e in
-    let r = c.behind_first-behind.ensures.room in
-    let room = c.loop-behind.invariant.2 in
-    (subst (λ o. Onward c.args.are_keyed c.args.pods.now o c.loop-behind.canonical c.loop-behind.surplus) e ended, omega arith, omega arith)
+    let room = c.loop-left.invariant.2 in
+    (subst (λ o. Onward c.args.are_canonical c.args.are_keyed c.args.pods.now o c.loop-left.canonical c.loop-left.surplus) e ended, omega arith, omega arith)
 
 pub returns-in_default : goal.returns-in_default
 returns-in_default c =
-    let passed = goes_on_alike _ _ _ _ _ _ _ _ _ c.loop-behind.invariant.0 c.behind_first-behind.ensures in
+    let passed = c.loop-left.invariant.0 in
     let some = eqb-false _ 0 (sym c.is_empty.ensures ∙ c.if-is_empty.false) in
     let short = c.in_default.ensures.short in
     stops_in _ _ _ _ _ passed.stands (stops_key _ _ short.0 short.1 (omega (arith, some)))
 
 pub returns-in_default-open : goal.returns-in_default-open
 returns-in_default-open c =
-    let passed = goes_on_alike _ _ _ _ _ _ _ _ _ c.loop-behind.invariant.0 c.behind_first-behind.ensures in
+    let passed = c.loop-left.invariant.0 in
     let some = eqb-false _ 0 (sym c.is_empty.ensures ∙ c.if-is_empty.false) in
     stops_in _ _ _ _ _ passed.stands (stops_first _ _ _ c.in-Some.ensures.there (omega (arith, some)) (short_there _ c.in_default-open.ensures.short))
 
 pub returns-in_default-leaf_surplus : goal.returns-in_default-leaf_surplus
 returns-in_default-leaf_surplus c =
-    let passed = goes_on_alike _ _ _ _ _ _ _ _ _ c.loop-behind.invariant.0 c.behind_first-behind.ensures in
+    let passed = c.loop-left.invariant.0 in
     let some = eqb-false _ 0 (sym c.is_empty.ensures ∙ c.if-is_empty.false) in
     let other = c.in_default-inside_of.ensures in
     stops_in _ _ _ _ _ passed.stands
     (stops_first _ _ _ c.in-Some.ensures.there (omega (arith, some))
     (leaf_there _ _ _ _ c.in-Some-open.ensures.there other.other other.short c.in_default-leaf_surplus.ensures.missed))
 
-pub loop-behind-smaller-in_default-inside_of : goal.loop-behind-smaller-in_default-inside_of
-loop-behind-smaller-in_default-inside_of c =
+pub loop-left-smaller-in_default-inside_of : goal.loop-left-smaller-in_default-inside_of
+loop-left-smaller-in_default-inside_of c =
     let e = left_shorter _ _ _ _ _ _ c.in-Some.ensures.there c.in-Some-open.ensures.there in
-    let r = c.behind_first-behind.ensures.room in
     omega arith
 
-pub loop-behind-preserved-in_default-inside_of : goal.loop-behind-preserved-in_default-inside_of
-loop-behind-preserved-in_default-inside_of c =
-    let passed = goes_on_alike _ _ _ _ _ _ _ _ _ c.loop-behind.invariant.0 c.behind_first-behind.ensures in
+pub loop-left-preserved-in_default-inside_of : goal.loop-left-preserved-in_default-inside_of
+loop-left-preserved-in_default-inside_of c =
+    let passed = c.loop-left.invariant.0 in
     let other = c.in_default-inside_of.ensures in
     let stays = c.stays_canonical-canonical.ensures in
     let over =
-    goes_over _ _ _ _ _ _ _ _ _ _ _ _ _ _ passed c.in-Some.ensures.there c.in-Some-open.ensures.there other.other other.short
+    goes_over _ _ _ _ _ _ _ _ _ _ _ _ _ _ _ passed c.in-Some.ensures.there c.in-Some-open.ensures.there other.other other.short
     c.in-Some-leaf_surplus.ensures.there stays.so_far stays.own stays.differs in
     let fewer = over.1 in
-    let r = c.behind_first-behind.ensures.room in
-    let room = c.loop-behind.invariant.2 in
-    (over.0, c.loop-behind.invariant.1, omega arith)
+    let room = c.loop-left.invariant.2 in
+    (over.0, c.loop-left.invariant.1, omega arith)
 
-pub loop-behind-smaller-then-is_empty-2 : goal.loop-behind-smaller-then-is_empty-2
-loop-behind-smaller-then-is_empty-2 c =
+pub loop-left-smaller-then-is_empty-2 : goal.loop-left-smaller-then-is_empty-2
+loop-left-smaller-then-is_empty-2 c =
     let x = opens_inside _ _ _ _ _ _ _ _ c.in-Some.ensures.there c.in-Some-open.ensures.there c.in-Some-inside_of.ensures.there in
     let e = opened_shorter _ _ _ _ _ x in
-    let r = c.behind_first-behind.ensures.room in
     omega arith
 
-pub loop-behind-preserved-then-is_empty-2 : goal.loop-behind-preserved-then-is_empty-2
-loop-behind-preserved-then-is_empty-2 c =
-    let passed = goes_on_alike _ _ _ _ _ _ _ _ _ c.loop-behind.invariant.0 c.behind_first-behind.ensures in
+pub loop-left-preserved-then-is_empty-2 : goal.loop-left-preserved-then-is_empty-2
+loop-left-preserved-then-is_empty-2 c =
+    let passed = c.loop-left.invariant.0 in
     let x = opens_inside _ _ _ _ _ _ _ _ c.in-Some.ensures.there c.in-Some-open.ensures.there c.in-Some-inside_of.ensures.there in
     let e = opened_shorter _ _ _ _ _ x in
-    let r = c.behind_first-behind.ensures.room in
-    let room = c.loop-behind.invariant.2 in
-    let none = eqb-true _ _ (sym c.is_empty-in-loop-behind.ensures ∙ c.if-is_empty-2.true) in
-    (goes_in_last _ _ _ _ _ _ _ _ _ _ _ passed x none, c.loop-behind.invariant.1, omega arith)
+    let room = c.loop-left.invariant.2 in
+    let none = eqb-true _ _ (sym c.is_empty-in-loop-left.ensures ∙ c.if-is_empty-2.true) in
+    (goes_in_last _ _ _ _ _ _ _ _ _ _ _ _ passed x none, c.loop-left.invariant.1, omega arith)
 
 pub returns-then-waiting-frames : goal.returns-then-waiting-frames
 returns-then-waiting-frames c =
-    let passed = goes_on_alike _ _ _ _ _ _ _ _ _ c.loop-behind.invariant.0 c.behind_first-behind.ensures in
+    let passed = c.loop-left.invariant.0 in
     let x = opens_inside _ _ _ _ _ _ _ _ c.in-Some.ensures.there c.in-Some-open.ensures.there c.in-Some-inside_of.ensures.there in
-    let some = eqb-false _ 0 (sym c.is_empty-in-loop-behind.ensures ∙ c.if-is_empty-2.false) in
-    let frames = c.loop-behind.frames in
-    let w = c.loop-behind.waiting in
-    let same = c.loop-behind.auto.frames in
+    let some = eqb-false _ 0 (sym c.is_empty-in-loop-left.ensures ∙ c.if-is_empty-2.false) in
+    let frames = c.loop-left.frames in
+    let w = c.loop-left.waiting in
+    let same = c.loop-left.auto.frames in
     let full = c.if-waiting-frames.true in
-    let within = c.loop-behind.invariant.1 in
+    let within = c.loop-left.invariant.1 in
     let long : 0 + length (reverse (take w frames)) ≡ length c.args.frames.now =
     (let l = length-reverse (take w frames) ∙ length-take-le w frames within in omega arith) in
     subst (λ n. NestMore n c.args.are_keyed c.args.pods.now) long
     (passed.deep 0 (nest_here _ _ _ _ _ x (λ e. some (ap length e))))
 
-pub loop-behind-smaller : goal.loop-behind-smaller
-loop-behind-smaller c =
+pub loop-left-smaller : goal.loop-left-smaller
+loop-left-smaller c =
     let x = opens_inside _ _ _ _ _ _ _ _ c.in-Some.ensures.there c.in-Some-open.ensures.there c.in-Some-inside_of.ensures.there in
     let e = opened_shorter _ _ _ _ _ x in
-    let r = c.behind_first-behind.ensures.room in
-    let frames = c.loop-behind.frames in
-    let w = c.loop-behind.waiting in
-    let next : Inside = record { keyed = c.loop-behind.keyed; pods = c.in-Some-open.front.rest } in
+    let frames = c.loop-left.frames in
+    let w = c.loop-left.waiting in
+    let next : Inside = record { keyed = c.loop-left.keyed; pods = c.in-Some-open.front.rest } in
     let l = ap left_waiting (pushed frames (set frames w next) w next refl c.if-waiting-frames.false) in
     omega arith
 
-pub loop-behind-preserved : goal.loop-behind-preserved
-loop-behind-preserved c =
-    let passed = goes_on_alike _ _ _ _ _ _ _ _ _ c.loop-behind.invariant.0 c.behind_first-behind.ensures in
+pub loop-left-preserved : goal.loop-left-preserved
+loop-left-preserved c =
+    let passed = c.loop-left.invariant.0 in
     let x = opens_inside _ _ _ _ _ _ _ _ c.in-Some.ensures.there c.in-Some-open.ensures.there c.in-Some-inside_of.ensures.there in
-    let some = eqb-false _ 0 (sym c.is_empty-in-loop-behind.ensures ∙ c.if-is_empty-2.false) in
+    let some = eqb-false _ 0 (sym c.is_empty-in-loop-left.ensures ∙ c.if-is_empty-2.false) in
     let e = opened_shorter _ _ _ _ _ x in
-    let r = c.behind_first-behind.ensures.room in
-    let room = c.loop-behind.invariant.2 in
-    let frames = c.loop-behind.frames in
-    let w = c.loop-behind.waiting in
-    let next : Inside = record { keyed = c.loop-behind.keyed; pods = c.in-Some-open.front.rest } in
+    let room = c.loop-left.invariant.2 in
+    let frames = c.loop-left.frames in
+    let w = c.loop-left.waiting in
+    let next : Inside = record { keyed = c.loop-left.keyed; pods = c.in-Some-open.front.rest } in
     let p = pushed frames (set frames w next) w next refl c.if-waiting-frames.false in
     let l = ap left_waiting p in
-    let in_it = goes_in _ _ _ _ _ _ _ _ _ _ _ passed x (λ n. some (ap length n)) in (
+    let in_it = goes_in _ _ _ _ _ _ _ _ _ _ _ _ passed x (λ n. some (ap length n)) in (
       subst
-          (λ o. AwaitsAll c.args.are_keyed c.args.pods.now o c.in-Some-inside_of.inner.keyed c.in-Some-inside_of.inner.pods.now c.loop-behind.canonical c.loop-behind.surplus)
+          (λ o. AwaitsAll c.args.are_canonical c.args.are_keyed c.args.pods.now o c.in-Some-inside_of.inner.keyed c.in-Some-inside_of.inner.pods.now c.loop-left.canonical c.loop-left.surplus)
           (sym p) in_it,
       omega (arith, length-set {A = Inside}),
       omega arith,
     )
+
+pub loop-left-preserved-then-rest-left : goal.loop-left-preserved-then-rest-left
+loop-left-preserved-then-rest-left c =
+    let p = c.behind_first-more.ensures in
+    let r = p.room in
+    let room = c.loop-left.invariant.2 in
+    (goes_on_alike _ _ _ _ _ _ _ _ _ _ _ c.loop-left.invariant.0 p, c.loop-left.invariant.1, omega arith)
+
+pub loop-left-smaller-then-is_empty : goal.loop-left-smaller-then-is_empty
+loop-left-smaller-then-is_empty c =
+    let frames = c.loop-left.frames in
+    let w = c.loop-left.waiting in
+    let some = c.if-waiting-eq0.false in
+    let within = c.loop-left.invariant.1 in
+    let none : Inside = record { keyed = false; pods = record { ref_ptr = (0, 0); now = [] } } in
+    let e = popped frames w (w - 1) none (omega arith) (omega arith) in
+    let l = ap left_waiting e in
+    omega arith

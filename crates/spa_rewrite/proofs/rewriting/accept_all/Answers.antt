@@ -2,14 +2,11 @@ use Rattle.std.proofs.Common.{subst, sym}
 use Rattle.spa_rewrite.specs.Look.{IsRejected}
 use Rattle.spa_rewrite.specs.Rewriting.{RefusesFront}
 use Rattle.spa_rewrite.proofs.Accepted.{accepted_all, behind_left, fault_front, missed_behind, refused_behind, shorter_left}
-use Rattle.spa_rewrite.proofs.Stretches.{first_steady, first_stretch, no_first_member}
+use Rattle.spa_rewrite.proofs.Stretches.{no_first_member}
 use Rattle.spa_rewrite.proofs.rewriting.accept_all.Goals as goal
 
 pub loop-pod-init : goal.loop-pod-init
-loop-pod-init c =
-    let first = c.canonical_stretch.ensures in
-    let second = c.steady_stretch.ensures in
-    first_steady _ _ _ _ (first_stretch _ _ _ _ (no_first_member c.args.input.now) first.parts first.canonical) second.parts second.steady
+loop-pod-init c = no_first_member c.args.input.now
 
 pub returns-in_default-clause-accepted : goal.returns-in_default-clause-accepted
 returns-in_default-clause-accepted c =

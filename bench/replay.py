@@ -32,7 +32,11 @@ MOVED = {
     "crates/libspa_tests/src/parser": ("spa_parser_tests",),
     "crates/spa_part_tests/src/values": ("spa_fixed_tests", "spa_value_tests"),
     "crates/spa_part_tests/src/viewing": ("spa_view_tests",),
-    "crates/spa_part_tests": ("spa_read_tests", "spa_write_tests"),
+    "crates/spa_part_tests": ("reading_rows", "spa_write_tests"),
+    "crates/spa_read_tests/src/reading": ("reading_rows",),
+    "crates/spa_read_tests/src/counting": ("reading_rows",),
+    "crates/spa_read_tests/src/comparing": ("reading_rows",),
+    "crates/spa_tests/": ("reading_rows",),
     "crates/spa_negotiate/": ("spa_negotiate_objects",),
 }
 

@@ -13,14 +13,13 @@ cp "$root"/examples/*.pod "$room/in/"
 python3 - "$root" "$room/in" <<'PY'
 import pathlib, sys
 root, room = map(pathlib.Path, sys.argv[1:])
-for name, lines in (("lists", 3), ("fixations", 3), ("built", 4)):
-    text = (root / f"crates/spa_tests/src/tables/{name}.rt").read_text()
-    rows = text[text.index('r#"') + 3 : text.index('"#;')].split("\n")
-    for i in range(0, len(rows), lines):
-        parts = rows[i + (name == "built")].split()
-        given = b"".join(bytes.fromhex(it[1:]) if it[0] == "x" else int(it).to_bytes(4, "little") for it in parts)
+for i, row in enumerate((root / "crates/reading_rows/stdin").read_text().split("\n")):
+    label, _, words = row.rpartition(":")
+    name = label.split(" ")[0]
+    if name in ("list", "fixate", "built"):
+        given = b"".join(bytes.fromhex(it[1:]) if it[0] == "x" else int(it).to_bytes(4, "little") for it in words.split())
         if 0 < len(given) <= 400:
-            (room / f"{name}-{i // lines}").write_bytes(given)
+            (room / f"{name}-{i}").write_bytes(given)
 PY
 if [ "${compile[0]}" = clang ]; then
   mkdir -p "$room/paths"

@@ -1,9 +1,9 @@
 //! Sizes that are wrong: they are refused by name, and before any memory is asked for. No test here takes memory of
 //! its own: `rt try --test --fail-alloc 1` refuses the first request of all, and finds the same answers.
-use crate::compare::assert_said;
 use spa_typed_read::PodDeserializer;
 use spa_value::discard;
 use std::alloc::Global;
+use std::process::Abort;
 
 /// Inputs, and the name of their refusal. A pod's first word is its size, its second one its type: 13 is an array, 19 a choice,
 /// 14 a struct, 15 an object.
@@ -90,9 +90,14 @@ fn answer_to(alloc: Global, input: &[u8]) -> &'static str {
     }
 }
 
+/// Compares an answer with the wanted one.
+fn assert_answer(rt: &impl Abort, found: &str, wanted: &str, input: &[u8]) {
+    assert_eq!(rt; found, wanted, "at {input:?}");
+}
+
 #[test]
 fn wrong_sizes_are_refused_before_memory_is_asked_for(rt: HostRuntime) {
     for (input, wanted) in ROWS {
-        assert_said(&rt, answer_to(rt.alloc(), input), wanted, "a wrong size");
+        assert_answer(&rt, answer_to(rt.alloc(), input), wanted, input);
     }
 }

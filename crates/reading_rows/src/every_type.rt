@@ -1,9 +1,7 @@
-//! Readers other than the untyped one, on pods that are cut or changed.
-use spa_parser::Parser;
+//! Reads by each built-in type, of pods that are cut.
 use spa_typed_read::{PodDeserialize, PodDeserializer};
 use spa_utils::{Choice, Fd, Float32, Float64, Fraction, Id, Rectangle};
 use spa_value::{Bitmap, Value};
-use spa_view::Pod;
 use std::alloc::Global;
 
 /// Whether reading this type finds the front short.
@@ -68,10 +66,4 @@ pub(crate) fn is_short_for_every_type(alloc: Global, input: &[u8]) -> bool {
         && are_borrowed_short(alloc, input)
         && are_lists_short(alloc, input)
         && are_choices_short(alloc, input)
-}
-
-/// Whether the parser takes a pod from the input exactly where it has a view.
-pub(crate) fn parser_and_view_agree(alloc: Global, input: &[u8]) -> bool {
-    let mut parser = Parser::new(alloc, input);
-    parser.get_pod().is_ok() == Pod::from_bytes(input).is_some()
 }

@@ -1,5 +1,5 @@
 use Rattle.std.proofs.Common.{◌+◌, ◌*◌, ◌≤◌, length}
-use Rattle.spa_tests.proofs.oracle.+oracle.Given as goal
+use Rattle.reading_rows.proofs.oracle.+oracle.Given as goal
 
 abbrev pub decreases-read : goal.decreases-read
 decreases-read l = 2 * length l.input.now

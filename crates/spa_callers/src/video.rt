@@ -17,6 +17,7 @@ use libspa::pod::builder::{Builder, builder_add};
 use libspa::pod::laws::encodings_read_back;
 use libspa::pod::parser::{Parser, parser_get};
 use libspa::utils::{Errno, Fraction, Id, Rectangle};
+use spa_names::{ids, keys, types};
 use std::alloc::Global;
 
 /// A video format: a size and a rate, under the number of how pixels are laid out.
@@ -39,10 +40,10 @@ fn add_format(builder: &mut Builder, format: &VideoFormat) -> Result<(), Errno>
     values_are_made_call_by_call();
     objects_of_numbers_can_be_written();
     calls_go_on();
-    builder_add!(builder, Object(262147, 4) {
-        131073 => Id(format.layout),
-        131075 => Rectangle(format.size),
-        131076 => Fraction(format.rate),
+    builder_add!(builder, Object(types::OBJECT_FORMAT, ids::PARAM_FORMAT) {
+        keys::FORMAT_VIDEO_FORMAT => Id(format.layout),
+        keys::FORMAT_VIDEO_SIZE => Rectangle(format.size),
+        keys::FORMAT_VIDEO_FRAMERATE => Fraction(format.rate),
     })
 }
 
@@ -61,10 +62,10 @@ fn take_format(parser: &mut Parser<'_>, format: &mut VideoFormat) -> Result<(), 
     ensures { (f : VideoFormat) → NextIs (video_tree f) parser.old → IsOk result × (format.new ≡ f) }
 {
     let mut id = Id(0);
-    parser_get!(&mut *parser, Object(262147, &mut id) {
-        131073 => Id(&mut format.layout),
-        131075 => Rectangle(&mut format.size),
-        131076 => Fraction(&mut format.rate),
+    parser_get!(&mut *parser, Object(types::OBJECT_FORMAT, &mut id) {
+        keys::FORMAT_VIDEO_FORMAT => Id(&mut format.layout),
+        keys::FORMAT_VIDEO_SIZE => Rectangle(&mut format.size),
+        keys::FORMAT_VIDEO_FRAMERATE => Fraction(&mut format.rate),
     })
 }
 

@@ -15,7 +15,8 @@ use Rattle.libspa.specs.View.{view}
 use Rattle.libspa.specs.Writable.{HasNul, IsTooLarge, IsWritable}
 use Rattle.libspa.specs.Views.{property_views}
 use Rattle.libspa.specs.Property.{Property}
-use Rattle.spa_uses.specs.Control.{BeginsNoControl, IsControl, IsNoControl, IsObject, volume_key}
+use Rattle.spa_names.specs.declared.keys.TheConstants.{PROP_VOLUME}
+use Rattle.spa_uses.specs.Control.{BeginsNoControl, IsControl, IsNoControl, IsObject}
 use Rattle.spa_uses.proofs.Lists.{key_there, same_first}
 
 -- what is no object
@@ -24,17 +25,17 @@ of_no_object v n c r = n (subst IsObject (sym r.tree) tt)
 
 -- an object without a volume
 pub without_volume : (v : Tree) (t i : ℕ) (ps : List Property) → v ≡ object t i (property_views ps) →
-    All (λ (q : Property). q.key ≢ volume_key) ps → IsNoControl v
+    All (λ (q : Property). q.key ≢ PROP_VOLUME) ps → IsNoControl v
 without_volume v t i ps e none c r =
-    key_there volume_key c.flags.0 (fixed (float c.volume.0)) ps (property_views c.before.properties.items) (property_views c.behind.properties.items)
+    key_there PROP_VOLUME c.flags.0 (fixed (float c.volume.0)) ps (property_views c.before.properties.items) (property_views c.behind.properties.items)
     (cc (sym e ∙ r.tree)) none
 
 -- one whose first volume isn't a Float
 pub of_other_volume : (v : Tree) (t i : ℕ) (ps qs : List Property) (p : Property) → v ≡ object t i (property_views (ps ++ p ∷ qs)) →
-    All (λ (q : Property). q.key ≢ volume_key) ps → p.key ≡ volume_key → ((n : ℕ) → view p.value ≢ fixed (float n)) → IsNoControl v
+    All (λ (q : Property). q.key ≢ PROP_VOLUME) ps → p.key ≡ PROP_VOLUME → ((n : ℕ) → view p.value ≢ fixed (float n)) → IsNoControl v
 of_other_volume v t i ps qs p e none k other c r =
     other c.volume.0
-    (same_first volume_key c.flags.0 (fixed (float c.volume.0)) ps c.before.properties.items p qs (property_views c.behind.properties.items)
+    (same_first PROP_VOLUME c.flags.0 (fixed (float c.volume.0)) ps c.before.properties.items p qs (property_views c.behind.properties.items)
     (cc (sym e ∙ r.tree)) k none r.first)
 
 -- the one value of a front is read as no control

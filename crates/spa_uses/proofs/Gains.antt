@@ -14,8 +14,9 @@ use Rattle.libspa.specs.Reading.{IsShortAt, OnFault, OnMemory}
 use Rattle.libspa.specs.Tree.{Tree, Properties, fixed, no_properties, property}
 use Rattle.libspa.specs.Visiting.{LeavesExactlyIn}
 use Rattle.libspa.specs.Words.{header_size, word_at}
-use Rattle.spa_uses.specs.Control.{volume_key}
-use Rattle.spa_uses.specs.Gain.{DeclinesGain, IsGain, RefusesGain, gain_properties, props_type}
+use Rattle.spa_names.specs.declared.keys.TheConstants.{PROP_VOLUME}
+use Rattle.spa_names.specs.declared.types.TheConstants.{OBJECT_PROPS}
+use Rattle.spa_uses.specs.Gain.{DeclinesGain, IsGain, RefusesGain, gain_properties}
 use Rattle.spa_uses.specs.declared.gain.Gain.{Gain}
 use Rattle.spa_uses.proofs.Captures.{no_memory}
 
@@ -34,9 +35,9 @@ module _ (parts : (b : List ℕ) (k f : ℕ) (v : Tree) (ps : Properties) → Ar
     (header_size ≤ length b) × (k ≡ word_at b 0) × (f ≡ word_at b 4) × Begins (drop header_size b) v
     × AreProperties ps (rest_of (drop header_size b))) where
   gain_parts : (t i : ℕ) (b : List ℕ) (ps : Properties) (g : Gain) → AreProperties ps b → IsGain t i ps g →
-      (header_size ≤ length b) × (volume_key ≡ word_at b 0) × (g.flags.0 ≡ word_at b 4)
+      (header_size ≤ length b) × (PROP_VOLUME ≡ word_at b 0) × (g.flags.0 ≡ word_at b 4)
       × Begins (drop header_size b) (fixed (float g.volume.0)) × (rest_of (drop header_size b) ≡ [])
-  gain_parts t i b ps g m is = parts b volume_key g.flags.0 (fixed (float g.volume.0)) no_properties (subst (λ qs. AreProperties qs b) is.its_properties m)
+  gain_parts t i b ps g m is = parts b PROP_VOLUME g.flags.0 (fixed (float g.volume.0)) no_properties (subst (λ qs. AreProperties qs b) is.its_properties m)
 
   no_gain : (t i : ℕ) (b : List ℕ) (e : DeserializeError (Bor (List ℕ))) → RefusesGain t b e → OnFault (NoneRead (IsGain t i) b) e
   no_gain t i b e (inl other) = fault_there (NoneRead (IsGain t i) b) e (λ ps g m h. other.0 h.its_type)
@@ -69,7 +70,7 @@ module _ (parts : (b : List ℕ) (k f : ℕ) (v : Tree) (ps : Properties) → Ar
   }
 
   -- it leaves properties only behind a volume
-  pub gain_left : (lent now : ObjectReader) (flags : ℕ) (P : Tree → Type 0) → TakesProperty lent now volume_key flags P →
+  pub gain_left : (lent now : ObjectReader) (flags : ℕ) (P : Tree → Type 0) → TakesProperty lent now PROP_VOLUME flags P →
       LeavesExactlyIn IsGain lent now
   gain_left lent now flags P t = record {
     good = λ _. t.good;
@@ -79,13 +80,13 @@ module _ (parts : (b : List ℕ) (k f : ℕ) (v : Tree) (ps : Properties) → Ar
 module _ (whole : (b : List ℕ) (k f : ℕ) (v : Tree) (ps : Properties) → header_size ≤ length b → k ≡ word_at b 0 → f ≡ word_at b 4 →
     Begins (drop header_size b) v → AreProperties ps (rest_of (drop header_size b)) → AreProperties (property k f v ps) b) where
   -- where all are read, they are the gain's
-  pub gain_taken : (lent now : ObjectReader) (g : Gain) → lent.type ≡ props_type → lent.id ≡ g.id →
-      TakesProperty lent now volume_key g.flags.0 (λ v. v ≡ fixed (float g.volume.0)) → AtEnd now.reader →
+  pub gain_taken : (lent now : ObjectReader) (g : Gain) → lent.type ≡ OBJECT_PROPS → lent.id ≡ g.id →
+      TakesProperty lent now PROP_VOLUME g.flags.0 (λ v. v ≡ fixed (float g.volume.0)) → AtEnd now.reader →
       AllProperties lent (λ ps. IsGain lent.type lent.id ps g)
   gain_taken lent now g its_type its_id t end = record {
     properties = gain_properties g;
     are =
-        whole lent.reader.left volume_key g.flags.0 (fixed (float g.volume.0)) no_properties t.header t.its_key t.its_flags
+        whole lent.reader.left PROP_VOLUME g.flags.0 (fixed (float g.volume.0)) no_properties t.header t.its_key t.its_flags
         (subst (Begins (drop header_size lent.reader.left)) t.value.holds t.value.begins) (sym t.value.follows ∙ end.none_left);
     holds = record { its_type = its_type; its_id = its_id; its_properties = refl };
   }

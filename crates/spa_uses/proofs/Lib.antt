@@ -5,3 +5,4 @@ pub mod Controls
 pub mod Captures
 pub mod Gains
 pub mod Latencies
+pub mod Streams

@@ -7,18 +7,15 @@ use Rattle.libspa.specs.Front.{Begins}
 use Rattle.libspa.specs.Tree.{Tree, fixed, object, join_properties, property}
 use Rattle.libspa.specs.Writable.{IsWritable}
 use Rattle.libspa.specs.Views.{property_views}
+use Rattle.spa_names.specs.declared.keys.TheConstants.{PROP_VOLUME}
 use Rattle.spa_uses.specs.declared.control.Control.{Control}
-
--- the key of a volume, which PipeWire calls SPA_PROP_volume
-abbrev pub volume_key : ℕ
-volume_key = 65539
 
 -- the object of a control with this volume, by its bits: the properties before it, the volume's, and those behind it
 abbrev pub tree_with : Control → ℕ → Tree
 tree_with c volume =
     object c.type_ c.id
     (join_properties (property_views c.before.properties.items)
-    (property volume_key c.flags.0 (fixed (kind.float volume)) (property_views c.behind.properties.items)))
+    (property PROP_VOLUME c.flags.0 (fixed (kind.float volume)) (property_views c.behind.properties.items)))
 
 -- with its own
 abbrev pub control_tree : Control → Tree
@@ -27,7 +24,7 @@ control_tree c = tree_with c c.volume.0
 -- a value is read as this control: it is the control's object, and none of the properties before is a volume
 pub record IsControl (c : Control) (v : Tree) : Type 0 where
   pub tree : v ≡ control_tree c
-  pub first : All (λ p. p.key ≢ volume_key) c.before.properties.items
+  pub first : All (λ p. p.key ≢ PROP_VOLUME) c.before.properties.items
 
 -- the value is an object
 abbrev pub IsObject : Tree → Type 0

@@ -1,3 +1,4 @@
 pub mod Capture
 pub mod Control
 pub mod Gain
+pub mod Stream

@@ -4,7 +4,8 @@ ghost use Rattle.libspa.specs.Kind as kind;
 ghost use Rattle.libspa.specs.Reading.{OnFault};
 ghost use Rattle.libspa.specs.Tree.{Tree, fixed, object};
 ghost use Rattle.libspa.specs.View.{object_view, view};
-ghost use Rattle.spa_uses.specs.Control.{BeginsNoControl, IsChanged, IsControl, IsNoControl, IsUnwritable, control_tree, volume_key};
+ghost use Rattle.spa_uses.specs.Control.{BeginsNoControl, IsChanged, IsControl, IsNoControl, IsUnwritable, control_tree};
+ghost use Rattle.spa_names.specs.declared.keys.TheConstants as keys;
 ghost use Rattle.spa_uses.specs.declared.control.Control.{Control};
 
 use libspa::pod::deserialize::{
@@ -16,10 +17,8 @@ use libspa::pod::value_laws::{
 };
 use libspa::pod::{Held, Object, Property, PropertyFlags, Value, discard};
 use libspa::utils::Float32;
+use spa_names::keys;
 use std::alloc::{AllocError, Global};
-
-/// The key of a volume, which PipeWire calls `SPA_PROP_volume`.
-pub(crate) const VOLUME: u32 = 65539;
 
 /// Properties that are kept as they are. What they hold may be nested deep, so they are let go by a loop.
 pub struct Kept {
@@ -80,7 +79,7 @@ impl Control {
             mut behind,
         } = self;
         before.properties.push(Property {
-            key: VOLUME,
+            key: keys::PROP_VOLUME,
             flags,
             value: Value::Float(volume),
         })?;
@@ -175,11 +174,11 @@ fn float_of(value: &Value) -> Option<Float32>
 
 /// Where the first volume stands.
 fn volume_place(properties: &[Property]) -> Option<usize>
-    ensures { result ≡ position (λ p. p.key == volume_key) properties.now }
+    ensures { result ≡ position (λ p. p.key == keys.PROP_VOLUME) properties.now }
 {
     properties
         .iter()
-        .position(|property| property.key == VOLUME)
+        .position(|property| property.key == keys::PROP_VOLUME)
 }
 
 /// The encoding of the object at the front with its first volume changed to this one, and all else as it was. None exactly where

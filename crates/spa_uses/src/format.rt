@@ -6,12 +6,20 @@ ghost use Rattle.libspa.specs.Kind as kind;
 ghost use Rattle.libspa.specs.Listed.{optional_property};
 ghost use Rattle.libspa.specs.Tree.{array, fixed, no_properties, object, property};
 ghost use Rattle.libspa.specs.Writable.{IsWritable};
+ghost use Rattle.spa_names.specs.declared.ids.TheConstants as ids;
+ghost use Rattle.spa_names.specs.declared.keys.TheConstants as keys;
+ghost use Rattle.spa_names.specs.declared.types.TheConstants as types;
+ghost use Rattle.spa_uses.specs.declared.format.TheConstants.{CURVE};
 
 use crate::curve::Curve;
 use arrayvec::ArrayVec;
 use libspa::pod::deserialize::{DeserializeAs, ObjectOf, Optional, Required};
 use libspa::pod::serialize::{GenError, Maybe, PodOutput, SerializeAs, laws, write_object};
 use libspa::utils::Id;
+use spa_names::{ids, keys, types};
+
+/// The key of the curve, which is a program's own.
+const CURVE: u32 = 65550;
 
 /// An audio format.
 #[derive(Drop)]
@@ -23,14 +31,21 @@ pub struct AudioFormat {
     pub curve: Curve,
 }
 
-type Last = (Required<65541, Vec<Id>>, (Required<65550, Curve>, ()));
+type Last = (
+    Required<{ keys::FORMAT_AUDIO_POSITION }, Vec<Id>>,
+    (Required<CURVE, Curve>, ()),
+);
 
-type Behind = (Required<65539, i32>, (Optional<65540, i32>, Last));
+type Behind = (
+    Required<{ keys::FORMAT_AUDIO_RATE }, i32>,
+    (Optional<{ keys::FORMAT_AUDIO_CHANNELS }, i32>, Last),
+);
 
-/// Read as an object of type 262147 and id 4 with these properties in any order, and refused exactly where no such object is
-/// there.
+type Properties = (Required<{ keys::FORMAT_AUDIO_FORMAT }, Id>, Behind);
+
+/// Read as a format with these properties in any order, and refused exactly where no such object is there.
 impl DeserializeAs for AudioFormat {
-    type Content = ObjectOf<262147, 4, (Required<65537, Id>, Behind)>;
+    type Content = ObjectOf<{ types::OBJECT_FORMAT }, { ids::PARAM_FORMAT }, Properties>;
 
     ghost content = { λ f. record { 0 = (record { 0 = f.encoding }, (record { 0 = f.rate }, (record { 0 = f.channels }, (record { 0 = f.positions }, (record { 0 = f.curve }, tt))))) } };
 
@@ -48,12 +63,15 @@ impl DeserializeAs for AudioFormat {
 
 /// Written as this object, its properties in this order, wherever it can be.
 impl SerializeAs for AudioFormat {
-    ghost says = { λ f. object 262147 4 (property 65537 0 (fixed (kind.id f.encoding.0)) (property 65539 0 (fixed (kind.int f.rate)) (optional_property 65540 (λ n. fixed (kind.int n)) f.channels (property 65541 0 (array kind.id_kind (map (λ x. kind.id x.0) f.positions.items)) (property 65550 0 (⟦<Curve as SerializeAs>⟧.says f.curve) no_properties))))) };
+    ghost says = { λ f. object types.OBJECT_FORMAT ids.PARAM_FORMAT (property keys.FORMAT_AUDIO_FORMAT 0 (fixed (kind.id f.encoding.0)) (property keys.FORMAT_AUDIO_RATE 0 (fixed (kind.int f.rate)) (optional_property keys.FORMAT_AUDIO_CHANNELS (λ n. fixed (kind.int n)) f.channels (property keys.FORMAT_AUDIO_POSITION 0 (array kind.id_kind (map (λ x. kind.id x.0) f.positions.items)) (property CURVE 0 (⟦<Curve as SerializeAs>⟧.says f.curve) no_properties))))) };
 
     fn write_as<O: PodOutput>(&self, out: &mut O) -> Result<(), GenError> {
-        let last = ((65541, &self.positions), ((65550, &self.curve), ()));
-        let behind = ((65539, &self.rate), ((65540, Maybe(&self.channels)), last));
-        write_object(out, 262147, 4, &((65537, &self.encoding), behind))
+        let last = ((CURVE, &self.curve), ());
+        let last = ((keys::FORMAT_AUDIO_POSITION, &self.positions), last);
+        let last = ((keys::FORMAT_AUDIO_CHANNELS, Maybe(&self.channels)), last);
+        let behind = ((keys::FORMAT_AUDIO_RATE, &self.rate), last);
+        let properties = ((keys::FORMAT_AUDIO_FORMAT, &self.encoding), behind);
+        write_object(out, types::OBJECT_FORMAT, ids::PARAM_FORMAT, &properties)
     }
 }
 

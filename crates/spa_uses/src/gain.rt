@@ -7,7 +7,6 @@ ghost use Rattle.libspa.specs.Visiting.{LeavesExactlyIn, RefusesObject};
 ghost use Rattle.spa_uses.specs.Gain.{DeclinesGain, IsGain, gain_tree};
 ghost use Rattle.spa_uses.specs.declared.gain.Gain.{Gain};
 
-use crate::control::VOLUME;
 use libspa::pod::PropertyFlags;
 use libspa::pod::deserialize::laws::{members_are_fronts, readers_go_further};
 use libspa::pod::deserialize::{
@@ -15,9 +14,7 @@ use libspa::pod::deserialize::{
     PodDeserialize, PodDeserializer, StructPodDeserializer, Visit, Visitor,
 };
 use libspa::utils::Float32;
-
-/// The type of properties, which PipeWire calls `SPA_TYPE_OBJECT_Props`.
-const PROPS: u32 = 262146;
+use spa_names::{keys, types};
 
 /// A volume and nothing else, as a device's properties say it.
 #[derive(Clone, Copy, Debug)]
@@ -76,11 +73,11 @@ impl<'de> Visitor<'de> for GainVisitor {
     ) -> Result<Gain, DeserializeError<&'de [u8]>> {
         members_are_fronts();
         readers_go_further();
-        if reader.type_() != PROPS {
+        if reader.type_() != types::OBJECT_PROPS {
             return Err(DeserializeError::UnsupportedType);
         }
         let id = reader.id();
-        let (volume, flags) = reader.deserialize_property_key::<Float32>(VOLUME)?;
+        let (volume, flags) = reader.deserialize_property_key::<Float32>(keys::PROP_VOLUME)?;
         Ok(Gain { id, volume, flags })
     }
 }

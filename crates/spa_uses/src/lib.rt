@@ -11,6 +11,7 @@ mod level;
 mod mode;
 mod screen;
 mod song;
+mod stream;
 mod tagged;
 
 pub use capture::Capture;
@@ -23,4 +24,5 @@ pub use level::{Level, Pair};
 pub use mode::{Mode, Size, put_mode, read_mode, sent};
 pub use screen::{Device, Screen};
 pub use song::{Cover, Song};
+pub use stream::{StreamFormat, ranges_of_rates_are_refused, read_stream_format};
 pub use tagged::{Tagged, is_number, tagged_number};

@@ -4,6 +4,7 @@ use crate::compare::{assert_holds, assert_said};
 use crate::reading::built::BUILT;
 use crate::reading::elements::{Early, First, Levels, marks_said, steps_said};
 use crate::reading::objects::{Asking, device_said};
+use crate::reading::settled::{SETTLED, settled_said, stream_said};
 use crate::reading::structs::{Idle, Stubborn, screen_said};
 use crate::reading::visitors::called;
 use spa_fixed::DeserializeError;
@@ -116,6 +117,10 @@ fn own(alloc: Global, name: &str, input: &[u8]) -> Result<String, AllocError> {
         "first mark" => verdict::<First>(alloc, input),
         "capture" => answer::<Capture>(alloc, input),
         "gain" => answer::<Gain>(alloc, input),
+        "settled int" => settled_said::<i32>(alloc, input),
+        "settled id" => settled_said::<Id>(alloc, input),
+        "settled rectangle" => settled_said::<Rectangle>(alloc, input),
+        "stream" => stream_said(alloc, input),
         "capture and gain" => verdict::<StructOf<(Capture, (Gain, ()))>>(alloc, input),
         _ => call_said(alloc, name, input),
     }
@@ -277,7 +282,7 @@ gain | 16 14 4 4 3 0 | Tag
 capture and gain | 64 14 16 14 8 10 640 480 32 15 262146 2 65539 16 4 6 1036831949 0 | accepted
 capture and gain | 64 14 16 14 8 10 640 480 32 15 262146 2 65540 16 4 6 1036831949 0 | not 65540"#;
 
-const TABLES: &[&str] = &[READ, CALLS, OWN, VISITED, BUILT];
+const TABLES: &[&str] = &[READ, CALLS, OWN, VISITED, SETTLED, BUILT];
 
 /// The tables: they are named here alone, as a function that names a long table is proved with all of it.
 fn tables() -> &'static [&'static str] {

@@ -5,6 +5,7 @@ mod built;
 mod declining;
 mod elements;
 mod objects;
+mod settled;
 mod structs;
 mod telling;
 mod visitors;

@@ -10,10 +10,8 @@ use crate::parts::libspa::pod::value_laws::{
 };
 use crate::parts::libspa::pod::{Held, Object, Property, PropertyFlags, Value, discard};
 use crate::parts::libspa::utils::Float32;
+use crate::parts::spa_names::keys;
 use crate::shims::memory::AllocError;
-
-/// The key of a volume, which PipeWire calls `SPA_PROP_volume`.
-pub(crate) const VOLUME: u32 = 65539;
 
 /// Properties that are kept as they are. What they hold may be nested deep, so they are let go by a loop.
 pub struct Kept {
@@ -69,7 +67,7 @@ impl Control {
             mut behind,
         } = self;
         before.properties.try_push(Property {
-            key: VOLUME,
+            key: keys::PROP_VOLUME,
             flags,
             value: Value::Float(volume),
         })?;
@@ -153,7 +151,7 @@ fn float_of(value: &Value) -> Option<Float32> {
 fn volume_place(properties: &[Property]) -> Option<usize> {
     properties
         .iter()
-        .position(|property| property.key == VOLUME)
+        .position(|property| property.key == keys::PROP_VOLUME)
 }
 
 /// The encoding of the object at the front with its first volume changed to this one, and all else as it was. None exactly where

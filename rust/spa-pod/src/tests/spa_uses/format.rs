@@ -6,6 +6,10 @@ use crate::shims::array::ArrayVec;
 use crate::parts::libspa::pod::deserialize::{DeserializeAs, ObjectOf, Optional, Required};
 use crate::parts::libspa::pod::serialize::{GenError, Maybe, PodOutput, SerializeAs, laws, write_object};
 use crate::parts::libspa::utils::Id;
+use crate::parts::spa_names::{ids, keys, types};
+
+/// The key of the curve, which is a program's own.
+const CURVE: u32 = 65550;
 
 /// An audio format.
 pub struct AudioFormat {
@@ -16,14 +20,21 @@ pub struct AudioFormat {
     pub curve: Curve,
 }
 
-type Last = (Required<65541, Vec<Id>>, (Required<65550, Curve>, ()));
+type Last = (
+    Required<{ keys::FORMAT_AUDIO_POSITION }, Vec<Id>>,
+    (Required<CURVE, Curve>, ()),
+);
 
-type Behind = (Required<65539, i32>, (Optional<65540, i32>, Last));
+type Behind = (
+    Required<{ keys::FORMAT_AUDIO_RATE }, i32>,
+    (Optional<{ keys::FORMAT_AUDIO_CHANNELS }, i32>, Last),
+);
 
-/// Read as an object of type 262147 and id 4 with these properties in any order, and refused exactly where no such object is
-/// there.
+type Properties = (Required<{ keys::FORMAT_AUDIO_FORMAT }, Id>, Behind);
+
+/// Read as a format with these properties in any order, and refused exactly where no such object is there.
 impl DeserializeAs for AudioFormat {
-    type Content = ObjectOf<262147, 4, (Required<65537, Id>, Behind)>;
+    type Content = ObjectOf<{ types::OBJECT_FORMAT }, { ids::PARAM_FORMAT }, Properties>;
 
     fn of_content(ObjectOf(all): Self::Content) -> AudioFormat {
         let (encoding, (rate, (channels, (positions, (curve, ()))))) = all;
@@ -40,9 +51,12 @@ impl DeserializeAs for AudioFormat {
 /// Written as this object, its properties in this order, wherever it can be.
 impl SerializeAs for AudioFormat {
     fn write_as<O: PodOutput>(&self, out: &mut O) -> Result<(), GenError> {
-        let last = ((65541, &self.positions), ((65550, &self.curve), ()));
-        let behind = ((65539, &self.rate), ((65540, Maybe(&self.channels)), last));
-        write_object(out, 262147, 4, &((65537, &self.encoding), behind))
+        let last = ((CURVE, &self.curve), ());
+        let last = ((keys::FORMAT_AUDIO_POSITION, &self.positions), last);
+        let last = ((keys::FORMAT_AUDIO_CHANNELS, Maybe(&self.channels)), last);
+        let behind = ((keys::FORMAT_AUDIO_RATE, &self.rate), last);
+        let properties = ((keys::FORMAT_AUDIO_FORMAT, &self.encoding), behind);
+        write_object(out, types::OBJECT_FORMAT, ids::PARAM_FORMAT, &properties)
     }
 }
 

@@ -1,7 +1,6 @@
 //! An object that is read by a visitor of its own, since a declaration says nothing of a property's flags.
 
 use crate::shims::prelude::*;
-use crate::tests::spa_uses::control::VOLUME;
 use crate::parts::libspa::pod::PropertyFlags;
 use crate::parts::libspa::pod::deserialize::laws::{members_are_fronts, readers_go_further};
 use crate::parts::libspa::pod::deserialize::{
@@ -9,9 +8,7 @@ use crate::parts::libspa::pod::deserialize::{
     PodDeserialize, PodDeserializer, StructPodDeserializer, Visit, Visitor,
 };
 use crate::parts::libspa::utils::Float32;
-
-/// The type of properties, which PipeWire calls `SPA_TYPE_OBJECT_Props`.
-const PROPS: u32 = 262146;
+use crate::parts::spa_names::{keys, types};
 
 /// A volume and nothing else, as a device's properties say it.
 #[derive(Clone, Copy, Debug)]
@@ -50,11 +47,11 @@ impl<'de> Visitor<'de> for GainVisitor {
     ) -> Result<Gain, DeserializeError<&'de [u8]>> {
         members_are_fronts();
         readers_go_further();
-        if reader.type_() != PROPS {
+        if reader.type_() != types::OBJECT_PROPS {
             return Err(DeserializeError::UnsupportedType);
         }
         let id = reader.id();
-        let (volume, flags) = reader.deserialize_property_key::<Float32>(VOLUME)?;
+        let (volume, flags) = reader.deserialize_property_key::<Float32>(keys::PROP_VOLUME)?;
         Ok(Gain { id, volume, flags })
     }
 }

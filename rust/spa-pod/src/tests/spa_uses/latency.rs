@@ -8,6 +8,7 @@ use crate::parts::libspa::pod::deserialize::{
 use crate::parts::libspa::pod::laws::encodings_read_back;
 use crate::parts::libspa::pod::serialize::{GenError, PodOutput, SerializeAs, write_object};
 use crate::parts::libspa::utils::Float32;
+use crate::parts::spa_names::{ids, keys, types};
 
 /// How long a node takes, which PipeWire calls a process latency.
 #[derive(Clone, Copy)]
@@ -22,13 +23,20 @@ pub struct Latency {
 
 /// The properties that it is read from.
 type Properties = (
-    Required<1, Float32>,
-    (Required<2, i32>, (Required<3, i64>, ())),
+    Required<{ keys::PARAM_PROCESS_LATENCY_QUANTUM }, Float32>,
+    (
+        Required<{ keys::PARAM_PROCESS_LATENCY_RATE }, i32>,
+        (Required<{ keys::PARAM_PROCESS_LATENCY_NS }, i64>, ()),
+    ),
 );
 
-/// Read as an object of type 262156 and id 16 with these properties in any order, and refused exactly where no such object is there.
+/// Read as an object of this type and id with these properties in any order, and refused exactly where no such object is there.
 impl DeserializeAs for Latency {
-    type Content = ObjectOf<262156, 16, Properties>;
+    type Content = ObjectOf<
+        { types::OBJECT_PARAM_PROCESS_LATENCY },
+        { ids::PARAM_PROCESS_LATENCY },
+        Properties,
+    >;
 
     fn of_content(ObjectOf((quantum, (rate, (ns, ())))): Self::Content) -> Latency {
         Latency {
@@ -42,8 +50,15 @@ impl DeserializeAs for Latency {
 /// Written as this object, its properties in this order, wherever it can be.
 impl SerializeAs for Latency {
     fn write_as<O: PodOutput>(&self, out: &mut O) -> Result<(), GenError> {
-        let behind = ((2, &self.rate), ((3, &self.ns), ()));
-        write_object(out, 262156, 16, &((1, &self.quantum), behind))
+        let last = ((keys::PARAM_PROCESS_LATENCY_NS, &self.ns), ());
+        let behind = ((keys::PARAM_PROCESS_LATENCY_RATE, &self.rate), last);
+        let properties = ((keys::PARAM_PROCESS_LATENCY_QUANTUM, &self.quantum), behind);
+        write_object(
+            out,
+            types::OBJECT_PARAM_PROCESS_LATENCY,
+            ids::PARAM_PROCESS_LATENCY,
+            &properties,
+        )
     }
 }
 

@@ -5,6 +5,7 @@ use crate::tests::spa_typed_tests::compare::{assert_holds, assert_said};
 use crate::tests::spa_typed_tests::reading::built::BUILT;
 use crate::tests::spa_typed_tests::reading::elements::{Early, First, Levels, marks_said, steps_said};
 use crate::tests::spa_typed_tests::reading::objects::{Asking, device_said};
+use crate::tests::spa_typed_tests::reading::settled::{SETTLED, settled_said, stream_said};
 use crate::tests::spa_typed_tests::reading::structs::{Idle, Stubborn, screen_said};
 use crate::tests::spa_typed_tests::reading::visitors::called;
 use crate::parts::spa_fixed::DeserializeError;
@@ -114,6 +115,10 @@ fn own(name: &str, input: &[u8]) -> Result<String, AllocError> {
         "first mark" => verdict::<First>(input),
         "capture" => answer::<Capture>(input),
         "gain" => answer::<Gain>(input),
+        "settled int" => settled_said::<i32>(input),
+        "settled id" => settled_said::<Id>(input),
+        "settled rectangle" => settled_said::<Rectangle>(input),
+        "stream" => stream_said(input),
         "capture and gain" => verdict::<StructOf<(Capture, (Gain, ()))>>(input),
         _ => call_said(name, input),
     }
@@ -275,7 +280,7 @@ gain | 16 14 4 4 3 0 | Tag
 capture and gain | 64 14 16 14 8 10 640 480 32 15 262146 2 65539 16 4 6 1036831949 0 | accepted
 capture and gain | 64 14 16 14 8 10 640 480 32 15 262146 2 65540 16 4 6 1036831949 0 | not 65540"#;
 
-const TABLES: &[&str] = &[READ, CALLS, OWN, VISITED, BUILT];
+const TABLES: &[&str] = &[READ, CALLS, OWN, VISITED, SETTLED, BUILT];
 
 /// The tables: they are named here alone, as a function that names a long table is proved with all of it.
 fn tables() -> &'static [&'static str] {

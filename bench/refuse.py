@@ -26,7 +26,16 @@ HERE = pathlib.Path(__file__).resolve().parent
 PROGRAMS = ("podtool", "pod")
 
 # The words of pod that take one input, the printing one first, and those for a pair.
-WORDS = (("json",), ("json", "--pretty"), ("show",), ("rewrite",), ("fixate",), ("check",))
+WORDS = (
+    ("json",),
+    ("json", "--pretty"),
+    ("show",),
+    ("rewrite",),
+    ("rewrite", "--lenient"),
+    ("rewrite", "--keep-going"),
+    ("fixate",),
+    ("check",),
+)
 AGREEING = ("meet", "filter")
 SECONDS = int(os.environ.get("SECONDS", "600"))
 # How long a test is tried of which only some requests are refused.

@@ -4,3 +4,5 @@ mod Requested
 mod Paired
 mod Running
 mod Shown
+mod Told
+mod Worked

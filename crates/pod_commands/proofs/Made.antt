@@ -2,6 +2,9 @@
 use Rattle.std.proofs.Common.{◌≡◌, ◌∙◌, ◌∷◌, ◌++◌, ◌+◌, ◌<◌, ◌≤◌, [], add-one, append_assoc, append-nil, arith, ap, drop, drop-cons, get_or, inl, inr, length, length-drop, refl, sym, subst, List, ℕ, Option}
 use Rattle.std.proofs.lemmas.List.{nil_from_length}
 use Rattle.std.specs.Borrow.{Bor}
+use Rattle.std.specs.Prelude.{Result, Ok, Err, IfOk}
+use Rattle.spa_recordings.specs.GoingOn.{MakesOf}
+use Rattle.spa_recordings.specs.declared.reading.Reading.TheVariants.{Exact}
 use Rattle.spa_device.specs.Whole.{IsAllOf}
 use Rattle.pod_commands.specs.Inputs.{AreMade, IsKnown, StopsAt, content_of, left_behind}
 use Rattle.pod_commands.specs.declared.answer.Failure.{Failure}
@@ -61,12 +64,18 @@ module _ (Makes : List ℕ → List ℕ → Type 0) (Stops : List ℕ → List �
       (subst (λ l. StopsAt Makes Stops so.expected holds l more why) (sym e)
       (inl (bytes, known_all so.expected now holds name.now bytes so.known all, s)))
 
--- the next name, and the names behind it
-pub next_left : (xs : List (Bor (List ℕ))) (i : ℕ) (d : Bor (List ℕ)) → i < length xs → drop i xs ≡ get_or xs i d ∷ drop (i + 1) xs
+-- the next one of a list, and those behind it
+pub next_left : {X : Type 0} (xs : List X) (i : ℕ) (d : X) → i < length xs → drop i xs ≡ get_or xs i d ∷ drop (i + 1) xs
 next_left xs i d h = rw (add-one, drop-cons xs i d) refl
 
-pub none_left : (xs : List (Bor (List ℕ))) (i : ℕ) → length xs ≤ i → drop i xs ≡ []
+pub none_left : {X : Type 0} (xs : List X) (i : ℕ) → length xs ≤ i → drop i xs ≡ []
 none_left xs i h = let l = length-drop i xs in nil_from_length (drop i xs) (omega (arith, l, h))
+
+-- what is made of bytes as they are
+pub exactly : {V E : Type 0} (r : Result V E) (items : V → List ℕ) (Makes : List ℕ → List ℕ → Type 0) (input : List ℕ) →
+    IfOk r (λ v. Makes input (items v)) → IfOk r (λ v. MakesOf Exact Makes input (items v))
+exactly (Ok v) items Makes input h = (input, refl, h)
+exactly (Err e) items Makes input h = tt
 
 -- one name, and two
 pub one_name : (xs : List (Bor (List ℕ))) (d : Bor (List ℕ)) → length xs ≡ 1 → xs ≡ get_or xs 0 d ∷ []

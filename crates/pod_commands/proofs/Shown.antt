@@ -23,13 +23,13 @@ use Rattle.pod_commands.proofs.Running.{untouched}
 use Rattle.pod_commands.proofs.Made.{MadeSoFar}
 use Rattle.pod_commands.proofs.Made as step
 
-appends_more : (a b c : Option (List ℕ)) (xs ys : List ℕ) → Appends a b xs → Appends b c ys → Appends a c (xs ++ ys)
+pub appends_more : (a b c : Option (List ℕ)) (xs ys : List ℕ) → Appends a b xs → Appends b c ys → Appends a c (xs ++ ys)
 appends_more None b c xs ys k l = tt
 appends_more (Some a) None c xs ys k l = absurd k
 appends_more (Some a) (Some b) None xs ys k l = absurd l
 appends_more (Some a) (Some b) (Some c) xs ys k l = l ∙ ap (λ zs. zs ++ ys) k ∙ append_assoc a xs ys
 
-appends_nothing : (a : Option (List ℕ)) → Appends a a []
+pub appends_nothing : (a : Option (List ℕ)) → Appends a a []
 appends_nothing None = tt
 appends_nothing (Some a) = sym (append-nil a)
 

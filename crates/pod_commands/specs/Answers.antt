@@ -1,7 +1,8 @@
 -- What a run writes, and what it says of that: docs/PROVED.md, "The programs".
-use Rattle.std.specs.Prelude.{◌≡◌, ◌⊎◌, ⊤, ℕ, codes, List, [], ◌∷◌, ◌++◌, Option, Some, None, Ok, if◌then◌else◌, take}
+use Rattle.std.specs.Prelude.{◌≡◌, ◌≢◌, ◌⊎◌, ⊤, ℕ, codes, List, [], ◌∷◌, ◌++◌, Option, Some, None, Ok, if◌then◌else◌, take}
 use Rattle.std.specs.Borrow.{Bor}
 use Rattle.std.specs.Io.KnownBytes.{Appends, Keeps}
+use Rattle.std.specs.Fmt.{decimal}
 use Rattle.std.specs.Str.{bytes_eq}
 use Rattle.clap.specs.Faults.{fault_of}
 use Rattle.clap.specs.Kinds.{IsAmong}
@@ -12,6 +13,10 @@ use Rattle.clap.specs.declared.error.kind.ErrorKind.{ErrorKind}
 use Rattle.clap.specs.declared.error.kind.ErrorKind.TheVariants as kind
 use Rattle.spa_device.specs.Whole.{IsAllOf}
 use Rattle.spa_pod_commands.specs.Answers as pods
+use Rattle.spa_recordings.specs.GoingOn.{MakesOf}
+use Rattle.spa_recordings.specs.declared.going_on.Refused.{Refused as OfRefused}
+use Rattle.spa_recordings.specs.declared.going_on.RefusedPod.{RefusedPod}
+use Rattle.spa_recordings.specs.declared.reading.Reading.{Reading}
 use Rattle.spa_text_commands.specs.Answers as text
 use Rattle.spa_text_commands.specs.Differences.{Differ, RefusesEither, SayTheSame}
 use Rattle.spa_text_commands.specs.declared.answer.Failure.{Failure as TextFailure}
@@ -20,13 +25,16 @@ use Rattle.spa_meet_commands.specs.Lists.{AreListsRefused, ListsGive}
 use Rattle.spa_meet_commands.specs.declared.answer.Failure.{Failure as MeetFailure}
 use Rattle.spa_meet_commands.specs.declared.pair.Work.{Work}
 use Rattle.pod_commands.specs.Inputs.{AreMade, OfOne, OfTwo, StopsAt}
-use Rattle.pod_commands.specs.Making.{Makes, RefusesIn, ShowsAs, ShowsBegin}
+use Rattle.pod_commands.specs.Making.{Makes, RefusesBy, ShowsAs, ShowsBegin}
 use Rattle.pod_commands.specs.Program.{program}
 use Rattle.pod_commands.specs.Requests.{Asks, AsksNothing, dash}
+use Rattle.pod_commands.specs.Working.{AreWorked}
 use Rattle.pod_commands.specs.declared.answer.Answer.{Answer}
-use Rattle.pod_commands.specs.declared.answer.Answer.TheVariants.{Done, Differs, Refused, Misused, Said}
+use Rattle.pod_commands.specs.declared.answer.Answer.TheVariants.{Done, Differs, Passed, Refused, Misused, Said}
 use Rattle.pod_commands.specs.declared.answer.Failure.{Failure}
 use Rattle.pod_commands.specs.declared.answer.Failure.TheVariants.{Pods, Texts, Compared, Pair, Lists, OutOfMemory, Unread, Unwritten}
+use Rattle.pod_commands.specs.declared.request.Fate.{Fate}
+use Rattle.pod_commands.specs.declared.request.Fate.TheVariants.{Stops, GoesOn}
 use Rattle.pod_commands.specs.declared.request.Making.{Making}
 use Rattle.pod_commands.specs.declared.request.Request.{Request}
 use Rattle.pod_commands.specs.declared.request.Word.{Word}
@@ -75,6 +83,7 @@ abbrev pub OnAnswer : Answer → (IfDone IfDiffers : Type 0) → (Failure → Ty
 OnAnswer Done IfDone IfDiffers IfRefused = IfDone
 OnAnswer Differs IfDone IfDiffers IfRefused = IfDiffers
 OnAnswer (Refused why) IfDone IfDiffers IfRefused = IfRefused why
+OnAnswer (Passed pods) IfDone IfDiffers IfRefused = ⊥
 OnAnswer Misused IfDone IfDiffers IfRefused = ⊥
 OnAnswer (Said error) IfDone IfDiffers IfRefused = ⊥
 
@@ -95,9 +104,10 @@ abbrev pub IsUnread : Failure → Type 0
 IsUnread why = (why ≡ OutOfMemory) ⊎ ((name : Bor (List ℕ)) × (why ≡ Unread name))
 
 -- the work on several inputs stops at one of them, which isn't read or is refused
-abbrev pub AreUnmade : Making → (remaining : Option (List ℕ)) → (holds : List ℕ → Option (List ℕ)) → List (Bor (List ℕ)) → Failure → Type 0
-AreUnmade making remaining holds names why =
-    IsUnread why ⊎ ((out : List ℕ) × StopsAt (Makes making) (λ name input made. RefusesIn making name input) remaining holds names out why)
+abbrev pub AreUnmade : Reading → Making → (remaining : Option (List ℕ)) → (holds : List ℕ → Option (List ℕ)) → List (Bor (List ℕ)) → Failure → Type 0
+AreUnmade reading making remaining holds names why =
+    IsUnread why
+    ⊎ ((out : List ℕ) × StopsAt (MakesOf reading (Makes making)) (λ name input made. RefusesBy reading making name input) remaining holds names out why)
 
 -- Why not all inputs are shown, and what was written: what follows the whole pods of one is refused behind their lines and those of the
 -- inputs before it.
@@ -156,13 +166,30 @@ IsAgreed work answer remaining (n ∷ m ∷ []) o =
     (Refuses (AgreeTwo work remaining o.before n.now m.now) (AreTwoApart work remaining o.before n.now m.now) o)
 IsAgreed work answer remaining _ o = IsMisuse answer o
 
+-- what it says of work on inputs that are read so and refused whole
+abbrev pub IsMadeWhole : Reading → Making → Answer → (remaining : Option (List ℕ)) → List (Bor (List ℕ)) → Outlet → Type 0
+IsMadeWhole reading making answer remaining names o =
+    OnAnswer answer (Gives (AreMade (MakesOf reading (Makes making)) remaining o.before names) o) ⊥
+    (Refuses (AreMade (MakesOf reading (Makes making)) remaining o.before names) (AreUnmade reading making remaining o.before names) o)
+
+-- what it says of work that goes on behind refused pods: these are some, or there are none
+abbrev pub IsMadeInPart : Reading → OfRefused → Making → Answer → (remaining : Option (List ℕ)) → List (Bor (List ℕ)) → Outlet → Type 0
+IsMadeInPart reading refused making Done remaining names o = Gives (λ out. AreWorked reading refused making remaining o.before names out []) o
+IsMadeInPart reading refused making (Passed pods) remaining names o =
+    (pods.items ≢ []) × Gives (λ out. AreWorked reading refused making remaining o.before names out pods.items) o
+IsMadeInPart reading refused making (Refused why) remaining names o =
+    Refuses (λ out. (pods : List RefusedPod) × AreWorked reading refused making remaining o.before names out pods) IsUnread o why
+IsMadeInPart reading refused making _ remaining names o = ⊥
+
+abbrev pub IsMadeBy : Reading → Fate → Making → Answer → (remaining : Option (List ℕ)) → List (Bor (List ℕ)) → Outlet → Type 0
+IsMadeBy reading Stops making answer remaining names o = IsMadeWhole reading making answer remaining names o
+IsMadeBy reading (GoesOn refused) making answer remaining names o = IsMadeInPart reading refused making answer remaining names o
+
 -- what it says of a word's work on inputs of these names, where this is left of the standard input
 abbrev pub IsDone : Word → Answer → (remaining : Option (List ℕ)) → List (Bor (List ℕ)) → Outlet → Type 0
 IsDone Show answer remaining names o =
     OnAnswer answer (Gives (AreMade ShowsAs remaining o.before names) o) ⊥ (IsNotShown remaining o.before names o)
-IsDone (Make making) answer remaining names o =
-    OnAnswer answer (Gives (AreMade (Makes making) remaining o.before names) o) ⊥
-    (Refuses (AreMade (Makes making) remaining o.before names) (AreUnmade making remaining o.before names) o)
+IsDone (Make making manner) answer remaining names o = IsMadeBy manner.reading manner.fate making answer remaining names o
 IsDone Diff answer remaining names o = IsCompared answer remaining names o
 IsDone (Agree work) answer remaining names o = IsAgreed work answer remaining names o
 
@@ -191,6 +218,7 @@ status_of_kind _ = 2
 abbrev pub status_of : Answer → ℕ
 status_of Done = 0
 status_of Differs = 1
+status_of (Passed pods) = 1
 status_of (Refused why) = 1
 status_of Misused = 2
 status_of (Said error) = status_of_kind (kind_of error)
@@ -214,6 +242,18 @@ failure_text (Lists ours theirs why) = name_text ours.now ++ (codes ", " ++ (nam
 failure_text OutOfMemory = codes "out of memory"
 failure_text (Unread name) = name_text name.now ++ codes ": read failed"
 failure_text (Unwritten target) = target_text target ++ codes ": write failed"
+
+-- the line that is written of a refused pod
+abbrev pub line_of_pod : RefusedPod → List ℕ
+line_of_pod pod = codes "pod: " ++ (name_text pod.name.now ++ (codes ": byte " ++ (decimal pod.place ++ (codes ": " ++ (pod.kind.now ++ 10 ∷ [])))))
+
+-- a line of each, and one with their number
+abbrev pub lines_of_pods : List RefusedPod → List ℕ
+lines_of_pods [] = []
+lines_of_pods (pod ∷ pods) = line_of_pod pod ++ lines_of_pods pods
+
+abbrev pub count_line : ℕ → List ℕ
+count_line n = codes "pod: refused pods: " ++ (decimal n ++ 10 ∷ [])
 
 -- the line that is written of a refusal
 abbrev pub line_of : Failure → List ℕ

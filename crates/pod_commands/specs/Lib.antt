@@ -5,3 +5,4 @@ pub mod Program
 pub mod Requests
 pub mod Sending
 pub mod Showing
+pub mod Working

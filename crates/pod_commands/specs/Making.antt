@@ -1,10 +1,13 @@
 -- What each word makes of an input, and what it refuses it for.
-use Rattle.std.specs.Prelude.{◌≡◌, ◌<◌, ℕ, codes, List, [], length}
+use Rattle.std.specs.Prelude.{⊤, ◌≡◌, ◌<◌, ℕ, codes, List, [], length}
 use Rattle.spa_format.specs.Fixation.{walk_size}
 use Rattle.spa_format.specs.Pod.{AreMembers}
 use Rattle.spa_format.specs.Tree.{Trees}
 use Rattle.spa_format.specs.Walk.{walk}
 use Rattle.spa_pod_commands.specs.Answers.{Fixates, IsUnmade, Rewrites}
+use Rattle.spa_recordings.specs.Reading.{RefusesReading}
+use Rattle.spa_recordings.specs.declared.reading.Reading.{Reading}
+use Rattle.spa_recordings.specs.declared.reading.Reading.TheVariants.{Exact, Lenient}
 use Rattle.spa_text_commands.specs.Lines.{Shows}
 use Rattle.spa_text_commands.specs.Texts.{Prints, Reads, RefusesPods, RefusesTexts}
 use Rattle.spa_text_commands.specs.declared.answer.Failure.{Failure as TextFailure}
@@ -13,7 +16,7 @@ use Rattle.spa_text_commands.specs.declared.answer.Origin.TheVariants.{Input}
 use Rattle.pod_commands.specs.declared.request.Making.{Making}
 use Rattle.pod_commands.specs.declared.request.Making.TheVariants.{Json, Read, Rewrite, Fixate, Check}
 use Rattle.pod_commands.specs.declared.answer.Failure.{Failure}
-use Rattle.pod_commands.specs.declared.answer.Failure.TheVariants.{Pods, Texts}
+use Rattle.pod_commands.specs.declared.answer.Failure.TheVariants.{Pods, Texts, OutOfMemory}
 
 -- what is made of an input; of one that is checked nothing
 abbrev pub Makes : Making → (input out : List ℕ) → Type 0
@@ -40,6 +43,17 @@ RefusesIn Read name input why = IsTextRefused RefusesTexts name input why
 RefusesIn Rewrite name input why = AreNoPods name input why
 RefusesIn Fixate name input why = AreNoPods name input why
 RefusesIn Check name input why = AreNoPods name input why
+
+-- an input of this name conveys no values one after another, and is refused so
+abbrev pub ConveysNone : (name input : List ℕ) → Failure → Type 0
+ConveysNone name input (Pods n why) = (n.now ≡ name) × RefusesReading Lenient input why
+ConveysNone name input OutOfMemory = ⊤
+ConveysNone name input _ = ⊥
+
+-- what an input of this name, read so, is refused for
+abbrev pub RefusesBy : Reading → Making → (name input : List ℕ) → Failure → Type 0
+RefusesBy Exact making name input why = RefusesIn making name input why
+RefusesBy Lenient making name input why = ConveysNone name input why
 
 -- an input consists of whole pods, and these are their lines
 abbrev pub ShowsAs : (input out : List ℕ) → Type 0

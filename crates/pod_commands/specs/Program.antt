@@ -15,13 +15,31 @@ output = record (new_rule (codes "output")) { short = Some 111; long = Some (cod
 abbrev pub pretty : Rule
 pretty = record (new_rule (codes "pretty")) { long = Some (codes "pretty"); action = Some SetTrue }
 
+-- `--lenient`, `--keep-going` and `--keep-refused`
+abbrev pub lenient : Rule
+lenient = record (new_rule (codes "lenient")) { long = Some (codes "lenient"); action = Some SetTrue }
+
+abbrev pub keep_going : Rule
+keep_going = record (new_rule (codes "keep-going")) { long = Some (codes "keep-going"); action = Some SetTrue }
+
+abbrev pub keep_refused : Rule
+keep_refused = record (new_rule (codes "keep-refused")) { long = Some (codes "keep-refused"); action = Some SetTrue }
+
 -- a word that takes files
 abbrev pub word : Text → App
 word name = with_rule (with_rule (new_app name) files) output
 
--- the word `json`, which takes `--pretty` too
+-- a word that goes over pods takes `--lenient` and `--keep-going` too
+abbrev pub over_pods : Text → App
+over_pods name = with_rule (with_rule (word name) lenient) keep_going
+
+-- one that writes pods for pods takes `--keep-refused` too
+abbrev pub to_pods : Text → App
+to_pods name = with_rule (over_pods name) keep_refused
+
+-- the word `json` takes `--pretty` too
 abbrev pub json : App
-json = with_rule (word (codes "json")) pretty
+json = with_rule (over_pods (codes "json")) pretty
 
 -- the program without its words: it wants one, and has a version
 abbrev pub bare : App
@@ -39,7 +57,8 @@ abbrev pub with_json : App → App
 with_json app = with_word (with_subcommand app json.top) (codes "read")
 
 abbrev pub with_writers : App → App
-with_writers app = with_word (with_word (with_word app (codes "rewrite")) (codes "fixate")) (codes "check")
+with_writers app =
+    with_subcommand (with_subcommand (with_subcommand app (to_pods (codes "rewrite")).top) (to_pods (codes "fixate")).top) (over_pods (codes "check")).top
 
 abbrev pub with_pairs : App → App
 with_pairs app = with_word (with_word (with_word app (codes "diff")) (codes "meet")) (codes "filter")

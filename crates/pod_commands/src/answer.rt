@@ -1,9 +1,10 @@
 //! What becomes of a run, and what is said of it.
-ghost use Rattle.std.specs.Prelude.{◌≡◌, OnOk};
+ghost use Rattle.std.specs.Prelude.{◌≡◌, ◌++◌, OnOk, length};
 ghost use Rattle.std.specs.Io.KnownBytes.{Appends};
-ghost use Rattle.pod_commands.specs.Answers.{line_of, name_text, status_of, target_text};
+ghost use Rattle.pod_commands.specs.Answers.{count_line, line_of, line_of_pod, lines_of_pods, name_text, status_of, target_text};
 
 use clap::Error;
+use spa_recordings::going_on::RefusedPod;
 use std::alloc::AllocError;
 use std::fmt;
 use std::io::{self, Write};
@@ -15,6 +16,8 @@ pub enum Answer<'a> {
     Done,
     /// The two inputs say other values, and the lines that differ were written.
     Differs,
+    /// The work was done on what is read, and these pods, of which there are some, were refused.
+    Passed(Vec<RefusedPod<'a>>),
     /// The work was refused, for this reason.
     Refused(Failure<'a>),
     /// The word takes another number of inputs.
@@ -32,6 +35,7 @@ impl Answer<'_> {
         match self {
             Answer::Done => 0,
             Answer::Differs => 1,
+            Answer::Passed(_) => 1,
             Answer::Refused(_) => 1,
             Answer::Misused => 2,
             Answer::Said(error) => { if error.use_stderr() { 2 } else { 0 } }
@@ -128,6 +132,7 @@ pub fn tell<W: Write, E: Write>(
     match answer {
         Answer::Done => Ok(()),
         Answer::Differs => Ok(()),
+        Answer::Passed(pods) => tell_pods(faults, pods.as_slice()),
         Answer::Refused(why) => tell_failure(faults, why),
         Answer::Misused => writeln!(faults, "{MISUSE}"),
         Answer::Said(error) => {
@@ -139,6 +144,29 @@ pub fn tell<W: Write, E: Write>(
             }
         }
     }
+}
+
+/// Writes a line of each of these refused pods, and how many they are.
+pub fn tell_pods<E: Write>(faults: &mut E, pods: &[RefusedPod<'_>]) -> io::Result<()>
+    ensures told { OnOk result (Appends (E.contents faults.old) (E.contents faults.new) (lines_of_pods pods.now ++ count_line (length pods.now))) }
+{
+    for pod in pods {
+        tell_pod(faults, pod)?;
+    }
+    writeln!(faults, "pod: refused pods: {}", pods.len())
+}
+
+/// Writes the line of a refused pod.
+fn tell_pod<E: Write>(faults: &mut E, pod: &RefusedPod<'_>) -> io::Result<()>
+    ensures told { OnOk result (Appends (E.contents faults.old) (E.contents faults.new) (line_of_pod pod.now)) }
+{
+    writeln!(
+        faults,
+        "pod: {}: byte {}: {}",
+        shown_name(pod.name),
+        pod.place,
+        pod.kind
+    )
 }
 
 /// Writes the line of a refusal.

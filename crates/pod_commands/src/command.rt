@@ -15,7 +15,7 @@ const ABOUT: &str =
 
 /// What stands behind the help of the program.
 const EXAMPLES: &str =
-    "Without a FILE, and for a FILE named -, the standard input is read. But for show, nothing is written before all input is accepted.
+    "Without a FILE, and for a FILE named -, the standard input is read. But for show, nothing is written before all input is accepted, or with --keep-going and --keep-refused read.
 
 Status: 0 the work is done; 1 an input is refused, two differ, or something can't be read or written; 2 the words ask for nothing.
 
@@ -54,6 +54,39 @@ fn pretty<'a>(alloc: Global) -> Arg<'a>
         .help("Indents each text")
 }
 
+/// `--lenient`
+fn lenient<'a>(alloc: Global) -> Arg<'a>
+    ensures rule { rule_of result ≡ spec.lenient }
+    ensures local { result.global ≡ false }
+{
+    Arg::new(alloc, "lenient")
+        .long("lenient")
+        .action(ArgAction::SetTrue)
+        .help("Reads as PipeWire does: what a pod conveys where it isn't exact")
+}
+
+/// `--keep-going`
+fn keep_going<'a>(alloc: Global) -> Arg<'a>
+    ensures rule { rule_of result ≡ spec.keep_going }
+    ensures local { result.global ≡ false }
+{
+    Arg::new(alloc, "keep-going")
+        .long("keep-going")
+        .action(ArgAction::SetTrue)
+        .help("Leaves refused pods out, and tells each; the status is 1 then")
+}
+
+/// `--keep-refused`
+fn keep_refused<'a>(alloc: Global) -> Arg<'a>
+    ensures rule { rule_of result ≡ spec.keep_refused }
+    ensures local { result.global ≡ false }
+{
+    Arg::new(alloc, "keep-refused")
+        .long("keep-refused")
+        .action(ArgAction::SetTrue)
+        .help("Keeps refused pods as they are, and tells each; the status is 1 then")
+}
+
 /// A word of the program, with what help says of it and an example.
 fn word<'a>(
     alloc: Global,
@@ -69,12 +102,41 @@ fn word<'a>(
     with_files.arg(output(alloc))
 }
 
+/// A word that goes over pods, with what help says of it and an example.
+fn over_pods<'a>(
+    alloc: Global,
+    name: &'a str,
+    about: &'a str,
+    example: &'a str,
+) -> Result<Command<'a>, AllocError>
+    ensures app { IfOk result (λ it. app_of it ≡ spec.over_pods name.entry.now) }
+    ensures local { IfOk result (λ it. (out-Command it).has_globals ≡ false) }
+{
+    let plain = word(alloc, name, about, example)?;
+    let with_lenient = plain.arg(lenient(alloc))?;
+    with_lenient.arg(keep_going(alloc))
+}
+
+/// A word that writes pods for pods, with what help says of it and an example.
+fn to_pods<'a>(
+    alloc: Global,
+    name: &'a str,
+    about: &'a str,
+    example: &'a str,
+) -> Result<Command<'a>, AllocError>
+    ensures app { IfOk result (λ it. app_of it ≡ spec.to_pods name.entry.now) }
+    ensures local { IfOk result (λ it. (out-Command it).has_globals ≡ false) }
+{
+    let plain = over_pods(alloc, name, about, example)?;
+    plain.arg(keep_refused(alloc))
+}
+
 /// The word `json`.
 fn json<'a>(alloc: Global) -> Result<Command<'a>, AllocError>
     ensures app { IfOk result (λ it. app_of it ≡ spec.json) }
     ensures local { IfOk result (λ it. (out-Command it).has_globals ≡ false) }
 {
-    let plain = word(
+    let plain = over_pods(
         alloc,
         "json",
         "Prints pods as JSON with names, each on a line",
@@ -145,27 +207,27 @@ fn with_json<'a>(alloc: Global, command: Command<'a>) -> Result<Command<'a>, All
 fn with_writers<'a>(alloc: Global, command: Command<'a>) -> Result<Command<'a>, AllocError>
     ensures { IfOk result (λ it. app_of it ≡ spec.with_writers (app_of command.entry)) }
 {
-    let first = with_word(
+    let rewrite = to_pods(
         alloc,
-        command,
         "rewrite",
         "Writes each pod in its one encoding: padding zeros, true 1, nothing that the value doesn't say",
-        "Example: pod rewrite recording.pods -o clean.pods",
+        "Example: pod rewrite --keep-going recording.pods -o clean.pods",
     )?;
-    let second = with_word(
+    let first = command.subcommand(rewrite)?;
+    let fixate = to_pods(
         alloc,
-        first,
         "fixate",
         "Sets each unprotected choice of a top-level object to its default",
         "Example: pod fixate buffers.pod -o fixed.pod",
     )?;
-    with_word(
+    let second = first.subcommand(fixate)?;
+    let check = over_pods(
         alloc,
-        second,
         "check",
         "Writes nothing: each input has to consist of pods",
         "Example: pod check *.pod && echo all are pods",
-    )
+    )?;
+    second.subcommand(check)
 }
 
 fn with_pairs<'a>(alloc: Global, command: Command<'a>) -> Result<Command<'a>, AllocError>

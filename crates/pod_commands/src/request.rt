@@ -6,12 +6,14 @@ ghost use Rattle.clap.specs.Kinds.{HasKind};
 ghost use Rattle.clap.specs.Walk.{rows_of, texts};
 ghost use Rattle.clap.specs.Matches.{found_of};
 ghost use Rattle.pod_commands.specs.Program.{program};
-ghost use Rattle.pod_commands.specs.Requests.{Asks, AsksNothing, HasLayout, layout_in, name_of, names_in};
+ghost use Rattle.pod_commands.specs.Requests.{Asks, AsksNothing, HasLayout, HasManner, fate_in, is_given, is_true_text, layout_in, name_of, names_in, reading_in};
 ghost use Rattle.pod_commands.specs.declared.request.Word.{Word};
 
 use crate::command::program;
 use clap::{ArgMatches, Error};
 use spa_meet_commands::pair::Work;
+use spa_recordings::going_on::Refused;
+use spa_recordings::reading::Reading;
 use spa_text_commands::printing::Layout;
 use std::alloc::{AllocError, Global};
 
@@ -30,13 +32,29 @@ pub enum Making {
     Check,
 }
 
+/// What becomes of an input with a refused pod.
+#[derive(Clone, Copy)]
+pub enum Fate {
+    /// It is refused.
+    Stops,
+    /// The others are worked on, and this becomes of the refused pod.
+    GoesOn(Refused),
+}
+
+/// How inputs of pods are read.
+#[derive(Clone, Copy)]
+pub struct Manner {
+    pub reading: Reading,
+    pub fate: Fate,
+}
+
 /// What is done.
 #[derive(Clone, Copy)]
 pub enum Word {
     /// Pods are shown with names, refused ones too.
     Show,
-    /// This is made of each input.
-    Make(Making),
+    /// This is made of each input, which is read so.
+    Make(Making, Manner),
     /// Two inputs are compared.
     Diff,
     /// The object is sought on which two of one input agree, or the first pair of two lists.
@@ -68,7 +86,7 @@ pub(crate) fn request_of<'a>(
     let Some((name, given)) = matches.subcommand() else {
         return Ok(None);
     };
-    let Some(word) = word_of(name, layout_of(given)) else {
+    let Some(word) = word_of(name, layout_of(given), manner_of(given)) else {
         return Ok(None);
     };
     let names = names_of(alloc, given)?;
@@ -80,18 +98,19 @@ pub(crate) fn request_of<'a>(
 }
 
 /// The word of this name.
-fn word_of(name: &str, layout: Layout) -> Option<Word>
+fn word_of(name: &str, layout: Layout, manner: Manner) -> Option<Word>
     ensures word { IfSome result (λ word. name.now ≡ name_of word) }
     ensures layout { IfSome result (HasLayout layout) }
+    ensures manner { IfSome result (HasManner manner.reading manner.fate) }
     ensures none { IfNone result ((word : Word) → ¬ (name.now ≡ name_of word)) }
 {
     match name {
         "show" => Some(Word::Show),
-        "json" => Some(Word::Make(Making::Json(layout))),
-        "read" => Some(Word::Make(Making::Read)),
-        "rewrite" => Some(Word::Make(Making::Rewrite)),
-        "fixate" => Some(Word::Make(Making::Fixate)),
-        "check" => Some(Word::Make(Making::Check)),
+        "json" => Some(Word::Make(Making::Json(layout), manner)),
+        "read" => Some(Word::Make(Making::Read, PLAIN)),
+        "rewrite" => Some(Word::Make(Making::Rewrite, manner)),
+        "fixate" => Some(Word::Make(Making::Fixate, manner)),
+        "check" => Some(Word::Make(Making::Check, manner)),
         "diff" => Some(Word::Diff),
         "meet" => Some(Word::Agree(Work::Negotiate)),
         "filter" => Some(Word::Agree(Work::Filter)),
@@ -99,26 +118,79 @@ fn word_of(name: &str, layout: Layout) -> Option<Word>
     }
 }
 
+/// Texts are never read leniently, nor passed over.
+const PLAIN: Manner = Manner {
+    reading: Reading::Exact,
+    fate: Fate::Stops,
+};
+
+/// How inputs are to be read.
+fn manner_of(given: &ArgMatches<'_>) -> Manner
+    ensures reading { result.reading ≡ reading_in (rows_of (found_of given.now)) }
+    ensures fate { result.fate ≡ fate_in (rows_of (found_of given.now)) }
+{
+    Manner {
+        reading: reading_by(is_set(given, "lenient")),
+        fate: fate_by(is_set(given, "keep-going"), is_set(given, "keep-refused")),
+    }
+}
+
+/// Tells whether the flag of this name is given.
+fn is_set(given: &ArgMatches<'_>, name: &str) -> bool
+    ensures { result ≡ is_given name.now (rows_of (found_of given.now)) }
+{
+    is_true(given.get_str(name))
+}
+
+/// Tells whether a flag of this value is given.
+fn is_true(flag: Option<&str>) -> bool
+    ensures { result ≡ is_true_text (option_map (λ s. s.now) flag.entry) }
+{
+    match flag {
+        Some(flag) => flag == "true",
+        None => false,
+    }
+}
+
+/// The reading where `--lenient` is given, or isn't.
+fn reading_by(is_lenient: bool) -> Reading
+    ensures { result ≡ spec.reading_by is_lenient }
+{
+    if is_lenient {
+        Reading::Lenient
+    } else {
+        Reading::Exact
+    }
+}
+
+/// What becomes of an input with a refused pod where `--keep-going` is given, or isn't, and `--keep-refused`.
+fn fate_by(goes_on: bool, keeps: bool) -> Fate
+    ensures { result ≡ spec.fate_by goes_on keeps }
+{
+    if keeps {
+        Fate::GoesOn(Refused::Kept)
+    } else if goes_on {
+        Fate::GoesOn(Refused::LeftOut)
+    } else {
+        Fate::Stops
+    }
+}
+
 /// The layout that is asked for.
 fn layout_of(given: &ArgMatches<'_>) -> Layout
     ensures { result ≡ layout_in (rows_of (found_of given.now)) }
 {
-    layout_by(given.get_str("pretty"))
+    layout_by(is_set(given, "pretty"))
 }
 
-/// The layout where `--pretty` has this value.
-fn layout_by(flag: Option<&str>) -> Layout
-    ensures { result ≡ spec.layout_by (option_map (λ s. s.now) flag.entry) }
+/// The layout where `--pretty` is given, or isn't.
+fn layout_by(is_pretty: bool) -> Layout
+    ensures { result ≡ spec.layout_by is_pretty }
 {
-    match flag {
-        Some(flag) => {
-            if flag == "true" {
-                Layout::Indented
-            } else {
-                Layout::OneLine
-            }
-        }
-        None => Layout::OneLine,
+    if is_pretty {
+        Layout::Indented
+    } else {
+        Layout::OneLine
     }
 }
 

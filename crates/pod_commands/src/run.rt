@@ -1,18 +1,19 @@
 //! The program's work, over a reader, files and a writer.
 ghost use Rattle.std.specs.Prelude.{◌≡◌};
-ghost use Rattle.pod_commands.specs.Answers.{AreUnmade, Gives, IsAgreed, IsAnswer, IsCompared, IsDone, IsNotShown, OnAnswer, Refuses, outlet};
+ghost use Rattle.pod_commands.specs.Answers.{AreUnmade, Gives, IsAgreed, IsAnswer, IsCompared, IsDone, IsMadeBy, IsMadeInPart, IsNotShown, OnAnswer, Refuses, outlet};
 ghost use Rattle.pod_commands.specs.Inputs.{AreMade};
 ghost use Rattle.pod_commands.specs.Making.{Makes, ShowsAs};
 
 use crate::answer::{Answer, Failure};
 use crate::files::Files;
-use crate::making::make_all;
+use crate::making::{make_all, make_what_is_read};
 use crate::pairs::{agree, agree_of_lists, compare};
-use crate::request::{Request, Word, request_of};
+use crate::request::{Fate, Making, Manner, Request, Word, request_of};
 use crate::sending::answered;
 use crate::showing::show_all;
 use clap::error::ErrorKind;
 use spa_meet_commands::pair::Work;
+use spa_recordings::going_on as recordings;
 use std::alloc::Global;
 use std::io::{Read, Write};
 
@@ -55,13 +56,66 @@ fn do_work<'a, R: Read, S: Files, W: Write + Drop>(
     let names = request.names.as_slice();
     match word {
         Word::Show => show(alloc, names, target, input, files, device),
-        Word::Make(making) => {
-            let made = make_all(alloc, making, names, input, files);
-            answered(files, target, device, made, Answer::Done)
+        Word::Make(making, manner) => {
+            make(alloc, making, manner, names, target, input, files, device)
         }
         Word::Diff => diff(alloc, names, target, input, files, device),
         Word::Agree(work) => seek(alloc, work, names, target, input, files, device),
     }
+}
+
+/// Makes this of the inputs of these names.
+fn make<'a, R: Read, S: Files, W: Write + Drop>(
+    alloc: Global,
+    making: Making,
+    manner: Manner,
+    names: &[&'a str],
+    target: Option<&'a str>,
+    input: &mut R,
+    files: &mut S,
+    device: W,
+) -> (Answer<'a>, W)
+    ensures { IsMadeBy manner.reading manner.fate making result.0 (R.remaining input.old) names.now
+        (outlet target.entry (W.contents device) (W.contents result.1) (S.holds files.old) (S.holds files.new)) }
+{
+    match manner.fate {
+        Fate::Stops => {
+            let made = make_all(alloc, making, manner.reading, names, input, files);
+            answered(files, target, device, made, Answer::Done)
+        }
+        Fate::GoesOn(refused) => {
+            let manner = recordings::Manner {
+                reading: manner.reading,
+                refused,
+            };
+            go_on(alloc, making, manner, names, target, input, files, device)
+        }
+    }
+}
+
+/// Works on what is read of the inputs of these names, and answers which pods of them are refused.
+fn go_on<'a, R: Read, S: Files, W: Write + Drop>(
+    alloc: Global,
+    making: Making,
+    manner: recordings::Manner,
+    names: &[&'a str],
+    target: Option<&'a str>,
+    input: &mut R,
+    files: &mut S,
+    device: W,
+) -> (Answer<'a>, W)
+    ensures { IsMadeInPart manner.reading manner.refused making result.0 (R.remaining input.old) names.now
+        (outlet target.entry (W.contents device) (W.contents result.1) (S.holds files.old) (S.holds files.new)) }
+{
+    let made = match make_what_is_read(alloc, making, manner, names, input, files) {
+        Ok(made) => made,
+        Err(why) => return (Answer::Refused(why), device),
+    };
+    let recordings::Made { out, refused } = made;
+    if refused.is_empty() {
+        return answered(files, target, device, Ok(out), Answer::Done);
+    }
+    answered(files, target, device, Ok(out), Answer::Passed(refused))
 }
 
 /// Shows the inputs of these names: as they come, or where a file is written, all of them at the end.

@@ -5,6 +5,7 @@ pub mod negotiation_rows;
 pub mod negotiation_tests;
 pub mod podtool_rows;
 pub mod podtool_tests;
+pub mod reading_rows;
 pub mod spa_builder_tests;
 pub mod spa_callers;
 pub mod spa_fixed_tests;
@@ -13,7 +14,6 @@ pub mod spa_parser_tests;
 pub mod spa_pod_commands;
 pub mod spa_read_tests;
 pub mod spa_spelling;
-pub mod spa_tests;
 pub mod spa_typed_tests;
 pub mod spa_uses;
 pub mod spa_utils_tests;
@@ -30,4 +30,9 @@ fn negotiation_rows_are_answered() {
 #[test]
 fn podtool_rows_are_answered() {
     crate::shims::test::answer_rows(include_str!("podtool_rows/stdin"), include_str!("podtool_rows/stdout"), podtool_rows::main);
+}
+
+#[test]
+fn reading_rows_are_answered() {
+    crate::shims::test::answer_rows(include_str!("reading_rows/stdin"), include_str!("reading_rows/stdout"), reading_rows::main);
 }

@@ -7,7 +7,7 @@ use crate::parts::spa_rewrite::surplus::leaf_surplus;
 use crate::parts::spa_bytes::{HEADER_LEN, SECOND_WORD, open, u32_at};
 use crate::parts::spa_fixed::{FLAGS_SHAPE, Refusal};
 use crate::parts::spa_leaf::VALUE_TYPE_AT;
-use crate::parts::spa_scan::{canonical_front, fixed_len, leaf_front};
+use crate::parts::spa_scan::{LEVELS, canonical_front, fixed_len, leaf_front, nests_within};
 use crate::parts::spa_utils::SpaTypes;
 
 /// A pod that is accepted.
@@ -66,7 +66,7 @@ pub fn look_at_pod(input: &[u8]) -> Result<AcceptedPod<'_>, Rejected<'_>> {
         keyed: false,
         pods: input,
     };
-    look_at_front(input, &mut [list; FEW])
+    look_at_front(true, input, &mut [list; FEW])
 }
 
 /// Looks at all pods that the input consists of. A refusal gives what is left of the input from the refused pod on.
@@ -76,40 +76,120 @@ pub fn look_at_pods(pods: &[u8]) -> Result<AcceptedPods, (&[u8], Rejected<'_>)> 
     let list = Inside { keyed: false, pods };
     let mut frames = [list; FEW];
     let mut left = pods;
-    let mut canonical = 0;
-    let mut surplus = 0;
+    let mut all = true;
+    let (mut canonical, mut surplus) = (0, 0);
     while !left.is_empty() {
-        let pod = match look_at_front(left, &mut frames) {
+        let pod = match look_at_front(all, left, &mut frames) {
             Ok(pod) => pod,
             Err(why) => return Err((left, why)),
         };
-        let (begin, end) = (pods.len() - left.len(), pods.len() - pod.rest.len());
-        canonical = canonical_len(canonical, begin, pod.canonical, end);
+        canonical = canonical_len(canonical, pod.canonical, pods.len() - pod.rest.len());
         surplus += pod.surplus;
+        all = pod.canonical;
         left = pod.rest;
     }
     Ok(AcceptedPods { canonical, surplus })
 }
 
-/// How many first bytes are canonical pods, where so many are of those before a pod, and it begins and ends there.
-#[inline(always)]
-fn canonical_len(canonical: usize, begin: usize, is_canonical: bool, end: usize) -> usize {
-    if is_canonical && canonical == begin {
-        return end;
-    }
-    canonical
+/// By how many bytes the encodings of all pods of an input are shorter than these. `None` says that the bytes aren't pods one after another, or that
+/// structs and objects stand more than `LEVELS` deep in one another in them: what writes pods that get shorter calls itself for each.
+pub fn surplus_of_each(pods: &[u8]) -> Option<usize> {
+    surplus_of(false, pods)
 }
 
-/// Looks at the pod at the front of the input as `look_at_pod` does, with an array in which lists can wait.
+/// By how many bytes the encodings of all pods of an input are shorter than these. `None` says what it says of `surplus_of_each`, but that structs and
+/// objects may stand at any depth that end where the input does.
+pub fn surplus_of_all(pods: &[u8]) -> Option<usize> {
+    surplus_of(true, pods)
+}
+
+/// By how many bytes the encodings of all pods of an input are shorter, as both say: `ends_deep` tells whether structs and objects may stand at any
+/// depth that end where the input does.
+fn surplus_of(ends_deep: bool, pods: &[u8]) -> Option<usize> {
+    let Ok(all) = look_at_pods(pods) else {
+        return None;
+    };
+    if all.surplus > 0 {
+        if !are_shallow(pods) {
+            if !ends_deep {
+                return None;
+            }
+            if !are_shallow_but_at_end(pods) {
+                return None;
+            }
+        }
+    }
+    Some(all.surplus)
+}
+
+/// Whether at most `LEVELS` structs and objects stand in one another in each of the pods, not counting those that end where the input does.
+fn are_shallow_but_at_end(pods: &[u8]) -> bool {
+    let mut keyed = false;
+    let mut left = pods;
+    loop {
+        let Some(here) = behind_key(keyed, left) else {
+            return true;
+        };
+        let Some(front) = open(here) else {
+            return true;
+        };
+        if let Some(inside) = last_inside(front.type_, front.body, front.rest) {
+            keyed = inside.keyed;
+            left = inside.pods;
+            continue;
+        }
+        if !nests_within(here, LEVELS) {
+            return false;
+        }
+        left = front.rest;
+    }
+}
+
+/// What stands in the body of a struct or of an object that nothing follows.
+fn last_inside<'a>(type_: u32, body: &'a [u8], rest: &[u8]) -> Option<Inside<'a>> {
+    if rest.is_empty() {
+        inside_of(type_, body)
+    } else {
+        None
+    }
+}
+
+/// How many bytes the body of a pod has at least in which more than `LEVELS` structs and objects stand in one another: each of these in it has a
+/// header.
+const DEEP_BODY: usize = LEVELS as usize * HEADER_LEN;
+
+/// Whether at most `LEVELS` structs and objects stand in one another in each of the pods.
+fn are_shallow(pods: &[u8]) -> bool {
+    let mut left = pods;
+    while let Some(front) = open(left) {
+        if front.body.len() >= DEEP_BODY {
+            if !nests_within(left, LEVELS) {
+                return false;
+            }
+        }
+        left = front.rest;
+    }
+    true
+}
+
+/// How many first bytes are canonical pods, where so many are of those before a pod that ends there.
+#[inline(always)]
+fn canonical_len(canonical: usize, are_all: bool, end: usize) -> usize {
+    if are_all { end } else { canonical }
+}
+
+/// Looks at the pod at the front of the input as `look_at_pod` does, with an array in which lists can wait. Where `canonical` isn't set it isn't
+/// asked whether the pod is canonical, and the answer says that it isn't.
 #[inline(always)]
 fn look_at_front<'a>(
+    canonical: bool,
     input: &'a [u8],
     frames: &mut [Inside<'a>],
 ) -> Result<AcceptedPod<'a>, Rejected<'a>> {
-    if let Some(rest) = leaf_front(input) {
+    if let Some(rest) = first_leaf(canonical, input) {
         return Ok(AcceptedPod {
             rest,
-            canonical: true,
+            canonical,
             surplus: 0,
         });
     }
@@ -122,11 +202,11 @@ fn look_at_front<'a>(
         };
         return Ok(AcceptedPod {
             rest: front.rest,
-            canonical: stays_canonical(true, input),
+            canonical: stays_canonical(canonical, input),
             surplus,
         });
     };
-    match look_into(inside.keyed, inside.pods, frames) {
+    match look_into(inside.keyed, canonical, inside.pods, frames) {
         Found::Fits(canonical, surplus) => Ok(AcceptedPod {
             rest: front.rest,
             canonical,
@@ -137,34 +217,65 @@ fn look_at_front<'a>(
     }
 }
 
-/// Looks inside a struct or an object with this array, and where it is too short with the long one.
+/// What follows the pod at the front, where that is canonical and holds no others; or else, where `canonical` isn't set, if it is one or two words.
 #[inline(always)]
-fn look_into<'a>(keyed: bool, pods: &'a [u8], frames: &mut [Inside<'a>]) -> Found<'a> {
-    match look_inside(keyed, pods, frames) {
+fn first_leaf(canonical: bool, input: &[u8]) -> Option<&[u8]> {
+    if canonical {
+        return leaf_front(input);
+    }
+    short_front(input)
+}
+
+/// Looks inside a struct or an object: at what follows its first pods that hold no others, if anything does.
+#[inline(always)]
+fn look_into<'a>(
+    keyed: bool,
+    canonical: bool,
+    pods: &'a [u8],
+    frames: &mut [Inside<'a>],
+) -> Found<'a> {
+    if !canonical {
+        return look_on(keyed, canonical, pods, frames);
+    }
+    let left = behind_canonical(keyed, pods);
+    if left.is_empty() {
+        return Found::Fits(canonical, 0);
+    }
+    look_on(keyed, canonical, left, frames)
+}
+
+/// Looks inside with this array, and where it is too short with the long one.
+#[inline(always)]
+fn look_on<'a>(keyed: bool, canonical: bool, pods: &'a [u8], frames: &mut [Inside<'a>]) -> Found<'a> {
+    match look_inside(keyed, canonical, pods, frames) {
         Found::Fits(canonical, surplus) => Found::Fits(canonical, surplus),
         Found::Stops(place) => Found::Stops(place),
-        Found::TooDeep => look_deep(keyed, pods),
+        Found::TooDeep => look_deep(keyed, canonical, pods),
     }
 }
 
 /// Looks inside a struct or an object with the long array alone.
 #[cold]
 #[inline(never)]
-fn look_deep(keyed: bool, pods: &[u8]) -> Found<'_> {
-    look_inside(keyed, pods, &mut [Inside { keyed, pods }; MANY])
+fn look_deep(keyed: bool, canonical: bool, pods: &[u8]) -> Found<'_> {
+    look_inside(keyed, canonical, pods, &mut [Inside { keyed, pods }; MANY])
 }
 
 /// Looks inside a struct or an object. What is left behind an inner one waits in the array; nothing waits where nothing is left.
 #[inline(never)]
-fn look_inside<'a>(are_keyed: bool, pods: &'a [u8], frames: &mut [Inside<'a>]) -> Found<'a> {
+fn look_inside<'a>(
+    are_keyed: bool,
+    are_canonical: bool,
+    pods: &'a [u8],
+    frames: &mut [Inside<'a>],
+) -> Found<'a> {
     let mut waiting = 0;
     let mut keyed = are_keyed;
     let mut left = pods;
-    let mut canonical = true;
+    let mut canonical = are_canonical;
     let mut surplus = 0;
     loop {
-        let behind = behind_first(keyed, canonical, left);
-        if behind.is_empty() {
+        if left.is_empty() {
             if waiting == 0 {
                 return Found::Fits(canonical, surplus);
             }
@@ -174,8 +285,16 @@ fn look_inside<'a>(are_keyed: bool, pods: &'a [u8], frames: &mut [Inside<'a>]) -
             left = outer.pods;
             continue;
         }
-        let Some(here) = behind_key(keyed, behind) else {
-            return Found::Stops(behind);
+        if !is_inside_first(keyed, left) {
+            let (rest, more) = behind_first(keyed, canonical, left);
+            if rest.len() < left.len() {
+                surplus += more;
+                left = rest;
+                continue;
+            }
+        }
+        let Some(here) = behind_key(keyed, left) else {
+            return Found::Stops(left);
         };
         let Some(front) = open(here) else {
             return Found::Stops(here);
@@ -207,17 +326,17 @@ fn look_inside<'a>(are_keyed: bool, pods: &'a [u8], frames: &mut [Inside<'a>]) -
     }
 }
 
-/// What follows the first accepted pods that hold no others, as far as they are found: where `canonical` is set those that are canonical, and else
-/// those of one or two words. A key and flags stand before each where `keyed` is set.
+/// What follows the first accepted pods that hold no others, as many as are found, and by how many bytes their encodings are shorter: where
+/// `canonical` is set those that are canonical. A key and flags stand before each where `keyed` is set.
 #[inline(always)]
-fn behind_first(keyed: bool, canonical: bool, pods: &[u8]) -> &[u8] {
+fn behind_first(keyed: bool, canonical: bool, pods: &[u8]) -> (&[u8], usize) {
     if !canonical {
-        return behind_alike(keyed, false, pods);
+        if keyed {
+            return behind_leaves(true, pods);
+        }
+        return behind_leaves(false, pods);
     }
-    if is_inside_first(keyed, pods) {
-        return pods;
-    }
-    behind_canonical(keyed, pods)
+    (behind_canonical(keyed, pods), 0)
 }
 
 /// Whether a struct or an object is first, or less than a pod of one word is left.
@@ -235,19 +354,19 @@ fn is_inside_first(keyed: bool, pods: &[u8]) -> bool {
 }
 
 /// What follows the first canonical pods that hold no others: of properties by one loop, and of members by another.
-#[inline(never)]
+#[inline(always)]
 fn behind_canonical(keyed: bool, pods: &[u8]) -> &[u8] {
     if keyed {
-        return behind_alike(true, true, pods);
+        return behind_alike(true, pods);
     }
-    behind_alike(false, true, pods)
+    behind_alike(false, pods)
 }
 
 /// The loop over these.
 #[inline(always)]
-fn behind_alike(keyed: bool, canonical: bool, pods: &[u8]) -> &[u8] {
+fn behind_alike(keyed: bool, pods: &[u8]) -> &[u8] {
     let mut left = pods;
-    while let Some(rest) = behind_leaf(keyed, canonical, left) {
+    while let Some(rest) = canonical_leaf(keyed, left) {
         left = rest;
     }
     left
@@ -255,14 +374,35 @@ fn behind_alike(keyed: bool, canonical: bool, pods: &[u8]) -> &[u8] {
 
 /// What follows the first one.
 #[inline(always)]
-fn behind_leaf(keyed: bool, canonical: bool, left: &[u8]) -> Option<&[u8]> {
+fn canonical_leaf(keyed: bool, left: &[u8]) -> Option<&[u8]> {
     let Some(here) = behind_key(keyed, left) else {
         return None;
     };
-    if canonical {
-        return leaf_front(here);
+    leaf_front(here)
+}
+
+/// What follows the first accepted pods that hold no others, and by how many bytes their encodings are shorter.
+#[inline(always)]
+fn behind_leaves(keyed: bool, pods: &[u8]) -> (&[u8], usize) {
+    let mut left = pods;
+    let mut surplus = 0;
+    loop {
+        let Some(here) = behind_key(keyed, left) else {
+            return (left, surplus);
+        };
+        if let Some(rest) = short_front(here) {
+            left = rest;
+            continue;
+        }
+        let Some(front) = open(here) else {
+            return (left, surplus);
+        };
+        let Some(more) = leaf_surplus(front.type_, front.body) else {
+            return (left, surplus);
+        };
+        surplus += more;
+        left = front.rest;
     }
-    short_front(here)
 }
 
 /// Whether all pods so far are canonical, once this one is among them. It holds no others.

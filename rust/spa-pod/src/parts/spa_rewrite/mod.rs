@@ -11,10 +11,11 @@ mod surplus;
 mod tail;
 
 pub use canonical::is_canonical;
-pub use look::{AcceptedPod, AcceptedPods, Rejected, look_at_pod, look_at_pods};
+pub use look::{
+    AcceptedPod, AcceptedPods, Rejected, look_at_pod, look_at_pods, surplus_of_all, surplus_of_each,
+};
 pub use patch::{
     SECOND_HEADER, begins_word, patch_all, patch_leaf, patch_values, place_behind, taken_len,
 };
 pub use rewriting::{accept_all, rewrite, rewrite_all, rewrite_in_parts};
 pub use steady::{behind_key, steady_stretch};
-pub use surplus::{surplus_of_all, surplus_of_each};

@@ -85,13 +85,10 @@ pub fn rewrite_in_parts(
 
 /// Tells whether `rewrite_all` would accept the input, and else refuses it as that call does.
 ///
-/// A look at canonical pods alone, and one at pods that get no shorter, pass what they can: these are faster than the one that tells faults. It takes
-/// memory only for a pod in which more than 1000 structs and objects stand in one another, not counting those that end where the one
+/// It takes memory only for a pod in which more than 1000 structs and objects stand in one another, not counting those that end where the one
 /// around them does: such a pod is rewritten, and its rewriting dropped.
 pub fn accept_all(input: &[u8]) -> Result<(), (&[u8], DeserializeError<&[u8]>)> {
-    let (_, rest) = canonical_stretch(input);
-    let (_, others) = steady_stretch(rest);
-    let mut left = others;
+    let mut left = input;
     loop {
         let Err((pod, rejected)) = look_at_pods(left) else {
             return Ok(());

@@ -2,7 +2,7 @@
 
 use crate::shims::prelude::*;
 use crate::parts::spa_scan::array::{is_array, is_choice};
-use crate::parts::spa_scan::front::{TWO_WORDS, fixed_front, fixed_len, fixed_property, padded_front};
+use crate::parts::spa_scan::front::{fixed_front, fixed_property, padded_front};
 use crate::parts::spa_scan::text::is_text;
 use crate::parts::spa_bytes::{HEADER_LEN, POINTER_LEN, SECOND_WORD, u32_at};
 use crate::parts::spa_utils::SpaTypes;
@@ -55,10 +55,10 @@ pub fn leaf_front(input: &[u8]) -> Option<&[u8]> {
     leaf_body_front(input)
 }
 
-/// Whether a look at the bodies of this type can tell more than one at the pod's first words.
+/// Whether pods of this type hold no others.
 #[inline(always)]
 fn is_looked_into(type_: u32) -> bool {
-    type_ != SpaTypes::Struct.0 && type_ != SpaTypes::Object.0 && fixed_len(type_) > TWO_WORDS
+    type_ != SpaTypes::Struct.0 && type_ != SpaTypes::Object.0
 }
 
 /// The same as `leaf_front`, of a pod that isn't of fixed size.

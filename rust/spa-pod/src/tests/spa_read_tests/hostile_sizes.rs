@@ -1,7 +1,6 @@
 //! Sizes that are wrong: they are refused by name, and before any memory is asked for. No test here takes memory of
 //! its own: `rt try --test --fail-alloc 1` refuses the first request of all, and finds the same answers.
 use crate::shims::prelude::*;
-use crate::tests::spa_read_tests::compare::assert_said;
 use crate::parts::spa_typed_read::PodDeserializer;
 use crate::parts::spa_value::discard;
 
@@ -90,9 +89,14 @@ fn answer_to(input: &[u8]) -> &'static str {
     }
 }
 
+/// Compares an answer with the wanted one.
+fn assert_answer(found: &str, wanted: &str, input: &[u8]) {
+    assert_eq!(found, wanted, "at {input:?}");
+}
+
 #[test]
 fn wrong_sizes_are_refused_before_memory_is_asked_for() {
     for (input, wanted) in ROWS {
-        assert_said(answer_to(input), wanted, "a wrong size");
+        assert_answer(answer_to(input), wanted, input);
     }
 }

@@ -82,6 +82,15 @@ fn an_empty_dictionary_has_nothing() {
     assert_same(&dict.parse::<bool>("a"), &None, "no pairs");
 }
 
+/// A pair whose value is a number.
+const CHANNELS: &[(&[u8], &[u8])] = &[(b"audio.channels", b"2")];
+
+#[test]
+fn a_number_is_read() {
+    let found = DictRef::new(CHANNELS, Flags::empty()).parse::<u32>("audio.channels");
+    assert_holds(matches!(found, Some(Ok(2))), "two channels");
+}
+
 /// Two pairs of which one side is no text, and two of texts.
 const BROKEN: &[(&[u8], &[u8])] = &[(b"a", b"\xff"), (b"\xc3", b"0"), (b"a", b"1"), (b"a", b"2")];
 

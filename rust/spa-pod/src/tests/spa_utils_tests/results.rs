@@ -20,6 +20,7 @@ enum Meaning {
 const CODES: &[(i32, Meaning)] = &[
     (0, Meaning::Done(0)),
     (1, Meaning::Done(1)),
+    (7, Meaning::Done(7)),
     (COUNT - 1, Meaning::Done(1073741823)),
     (COUNT, Meaning::Later(0)),
     (COUNT + 1, Meaning::Later(1)),

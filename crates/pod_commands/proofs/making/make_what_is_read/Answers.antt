@@ -1,0 +1,39 @@
+use Rattle.std.proofs.Common.{◌≡◌, ◌++◌, ℕ, List, [], get_or, inl, refl, subst}
+use Rattle.std.specs.Borrow.{Bor}
+use Rattle.spa_recordings.specs.GoingOn.{GoesOn}
+use Rattle.spa_recordings.specs.declared.going_on.RefusedPod.{RefusedPod}
+use Rattle.pod_commands.specs.Answers.{IsUnread}
+use Rattle.pod_commands.specs.Making.{Makes}
+use Rattle.pod_commands.proofs.Made.{next_left, none_left}
+use Rattle.pod_commands.proofs.Requested.{told}
+use Rattle.pod_commands.proofs.Worked.{begins, finished, goes_on}
+use Rattle.pod_commands.proofs.making.make_what_is_read.Goals as goal
+
+pub loop-name-init : goal.loop-name-init
+loop-name-init g c = begins _ _ _ _ _ _ _ _ c.new.ensures.items c.new-2.ensures.items
+
+pub loop-name-preserved : goal.loop-name-preserved
+loop-name-preserved g c =
+    let d : Bor (List ℕ) = record { ref_ptr = (0, 0); now = [] } in
+    let name = (get_or c.args.names.now c.loop-name.name-index d).now in
+    let old = c.loop-name.made in
+    let new = c.make_each.new.made in
+    goes_on _ _ _ _ _ _ _ _ _ _ _ c.in_ok-bytes.bytes.items old.out.items new.out.items old.refused.items new.refused.items
+    (next_left c.args.names.now c.loop-name.name-index d c.loop-name-test.true) c.in_ok-bytes.ensures.all c.read_named.ensures.left
+    (subst
+    (λ bytes.
+    (out : List ℕ) × (pods : List RefusedPod) × GoesOn name c.args.manner.reading c.args.manner.refused (Makes c.args.making) 0 bytes out pods
+    × (new.out.items ≡ old.out.items ++ out) × (new.refused.items ≡ old.refused.items ++ pods))
+    c.as_slice.ensures.value c.in_ok-make_each.ensures)
+    c.loop-name.invariant
+
+pub returns-clause-made : goal.returns-clause-made
+returns-clause-made g c =
+    finished _ _ _ _ _ _ _ _ _ _ (none_left c.args.names.now c.loop-name.name-index c.loop-name-test.false) c.loop-name.invariant
+
+pub returns-in_err-bytes-clause-refused : goal.returns-in_err-bytes-clause-refused
+returns-in_err-bytes-clause-refused g c = told IsUnread c.from_residual.result _ c.from_residual.ensures.1 c.in_err-bytes.ensures.cause
+
+pub returns-in_err-make_each-clause-refused : goal.returns-in_err-make_each-clause-refused
+returns-in_err-make_each-clause-refused g c =
+    told IsUnread c.from_residual-in_err-make_each.result _ c.from_residual-in_err-make_each.ensures.1 (inl refl)

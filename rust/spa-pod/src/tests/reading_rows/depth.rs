@@ -1,0 +1,95 @@
+//! How deep pods nest, and pods that nest deep.
+use crate::shims::prelude::*;
+use crate::tests::reading_rows::changes::push_dispute;
+use crate::tests::reading_rows::front::push_front;
+use crate::tests::reading_rows::headers::answer_headers;
+use crate::parts::spa_rewrite::{is_canonical, look_at_pod};
+use crate::parts::spa_scan::nests_within;
+use crate::tests::spa_spelling::{nested_pods, nested_structs, push_words};
+use crate::shims::memory::AllocError;
+
+/// The levels of the deep pods: past those that a look without memory goes into.
+const DEEP: u32 = 2000;
+
+/// Appends the answer to a row about depth: of `levels` the levels of the input; of `nested`, whose first word is a number, what that many
+/// structs and an empty one in the innermost are read as; of `waiting` what is found in as many structs that each stand before an Int;
+/// of `deep` what is found in pods so deep, whose words behind the size are those of the row but for the last four, the innermost pod;
+/// the others of `headers`.
+pub(crate) fn answer_depth(
+    word: &str,
+    input: &[u8],
+    answers: &mut String,
+) -> Result<(), AllocError> {
+    let words = words_of(input)?;
+    let levels = words.first().copied().unwrap_or(0);
+    match word {
+        "levels" => push_levels(input, 0, answers),
+        "nested" => {
+            let pods = nested_structs(levels, &[0, 14])?;
+            push_front(pods.as_slice(), answers)?;
+            push_dispute(pods.as_slice(), "as it is", 0, answers)
+        }
+        "waiting" => push_found(waiting(levels)?.as_slice(), answers),
+        "deep" => {
+            let (head, inner) = words.split_at(words.len().saturating_sub(INNER));
+            let pods = nested_pods(DEEP, head, inner)?;
+            push_found(pods.as_slice(), answers)?;
+            push_levels(pods.as_slice(), DEEP - 1, answers)
+        }
+        _ => answer_headers(word, input, words.as_slice(), answers),
+    }
+}
+
+/// How many words the innermost pod has.
+const INNER: usize = 4;
+
+/// The words of an input.
+fn words_of(input: &[u8]) -> Result<Vec<u32>, AllocError> {
+    let (words, _) = input.as_chunks::<4>();
+    words
+        .iter()
+        .map(|word| u32::from_le_bytes(*word))
+        .try_to_vec()
+}
+
+/// Appends how many levels an input nests in: the fewest of so many and more within which it nests.
+fn push_levels(input: &[u8], least: u32, answers: &mut String) -> Result<(), AllocError> {
+    for levels in least..=DEEP {
+        if nests_within(input, levels) {
+            return write!(answers, " {levels} levels");
+        }
+    }
+    answers.try_push_str(" more levels")
+}
+
+/// Appends whether the front is canonical, and what a look finds there.
+fn push_found(input: &[u8], answers: &mut String) -> Result<(), AllocError> {
+    if is_canonical(input)? {
+        answers.try_push_str(" canonical,")?;
+    } else {
+        answers.try_push_str(" not canonical,")?;
+    }
+    match look_at_pod(input) {
+        Ok(pod) => write!(
+            answers,
+            " a look: {}, surplus {}, {} bytes behind,",
+            pod.canonical,
+            pod.surplus,
+            pod.rest.len()
+        ),
+        Err(_) => answers.try_push_str(" a look: none,"),
+    }
+}
+
+/// So many structs in one another, each before an Int, and in the innermost one an Int alone.
+fn waiting(levels: u32) -> Result<Vec<u8>, AllocError> {
+    let mut bytes = Vec::new();
+    for level in 0..levels {
+        let inner = (levels - level).wrapping_sub(1);
+        push_words(&mut bytes, &[inner.wrapping_mul(24).wrapping_add(16), 14])?;
+    }
+    for _ in 0..levels {
+        push_words(&mut bytes, &[4, 4, 7, 0])?;
+    }
+    Ok(bytes)
+}

@@ -1,0 +1,138 @@
+//! How many pod headers a read opens, and values that stand deep in one another, copied and compared.
+use crate::shims::prelude::*;
+use crate::parts::spa_fixed::DeserializeError;
+use crate::tests::spa_spelling::{nested_pods, push_words};
+use crate::parts::spa_typed_read::PodDeserializer;
+use crate::parts::spa_value::{Held, Value, same};
+use crate::shims::memory::AllocError;
+
+/// More levels than a stack of 8 MB holds of a drop that calls itself for each of them.
+const DEPTH: u32 = 100_000;
+
+/// How many words the innermost pod has.
+const INNER: usize = 2;
+
+/// Appends the answer to a row: of `headers` what a counted read of the input answers; of `opened` the same of pods in one another, as
+/// many as the first word says, with the words behind the size and the innermost pod behind it; of `same` whether pods so deep with
+/// either of the last two pods innermost are told to be the same; of `held` whether a value is lent and handed back.
+pub(crate) fn answer_headers(
+    word: &str,
+    input: &[u8],
+    words: &[u32],
+    answers: &mut String,
+) -> Result<(), AllocError> {
+    let (head, inner) = words.split_at(words.len().saturating_sub(INNER));
+    match word {
+        "headers" => push_counted(input, answers),
+        "opened" => {
+            let (levels, head) = head.split_at(1.min(head.len()));
+            let levels = levels.first().copied().unwrap_or(0);
+            let pods = nested_pods(levels, head, inner)?;
+            push_counted(pods.as_slice(), answers)
+        }
+        "same" => {
+            let (head, other) = head.split_at(head.len().saturating_sub(INNER));
+            let one = deep_pods(head, inner)?;
+            let other = deep_pods(head, other)?;
+            push_same(one.as_slice(), one.as_slice(), answers)?;
+            push_same(one.as_slice(), other.as_slice(), answers)
+        }
+        "held" => push_held(input, answers),
+        _ => answers.try_push_str(" no such row"),
+    }
+}
+
+/// Appends what a counted read answers, how many headers it opens, and how deep the clone of its value is.
+fn push_counted(input: &[u8], answers: &mut String) -> Result<(), AllocError> {
+    let (answer, count) = PodDeserializer::deserialize_any_counted(input);
+    match answer {
+        Ok((_, value)) => {
+            let value = Held::from(value);
+            let copied: Result<Value, AllocError> = (*value).try_clone();
+            let levels = levels_of(&Held::from(copied?));
+            write!(
+                answers,
+                " accepted, {count} headers, a clone of {levels} levels"
+            )
+        }
+        Err(DeserializeError::OutOfMemory) => Err(AllocError),
+        Err(error) => write!(answers, " {}, {count} headers", error.kind()),
+    }
+}
+
+/// What stands first in a struct, or what an object's first property holds.
+fn first_inside(value: &Value) -> Option<&Value> {
+    match value {
+        Value::Struct(members) => members.as_slice().first(),
+        Value::Object(object) => match object.properties.as_slice().first() {
+            Some(property) => Some(&property.value),
+            None => None,
+        },
+        _ => None,
+    }
+}
+
+/// How many structs and objects stand in one another, each first in the one around it, around what holds nothing.
+fn levels_of(value: &Value) -> u32 {
+    let mut innermost = value;
+    for level in 0..DEPTH {
+        let Some(inner) = first_inside(innermost) else {
+            return level;
+        };
+        innermost = inner;
+    }
+    DEPTH
+}
+
+/// The bytes of pods so deep; with no words of a head, of structs each with the next one first and a None behind it.
+fn deep_pods(head: &[u32], inner: &[u32]) -> Result<Vec<u8>, AllocError> {
+    if !head.is_empty() {
+        return nested_pods(DEPTH, head, inner);
+    }
+    let mut input = Vec::new();
+    for level in 0..DEPTH {
+        push_words(&mut input, &[(DEPTH - level).saturating_mul(16), 14])?;
+    }
+    push_words(&mut input, inner)?;
+    for _ in 0..DEPTH {
+        push_words(&mut input, &[0, 1])?;
+    }
+    Ok(input)
+}
+
+/// Appends whether the values at the fronts of the two inputs are told to be the same, each way round.
+fn push_same(
+    one: &[u8],
+    other: &[u8],
+    answers: &mut String,
+) -> Result<(), AllocError> {
+    match (read(one)?, read(other)?) {
+        (Some(one), Some(other)) => {
+            let forth = same(&*one, &*other)?;
+            let back = same(&*other, &*one)?;
+            write!(answers, " {forth} {back}")
+        }
+        _ => answers.try_push_str(" refused"),
+    }
+}
+
+/// The value at the front, if it is there.
+fn read(input: &[u8]) -> Result<Option<Held>, AllocError> {
+    match PodDeserializer::deserialize_any_from(input) {
+        Ok((_, value)) => Ok(Some(Held::from(value))),
+        Err(DeserializeError::OutOfMemory) => Err(AllocError),
+        Err(_) => Ok(None),
+    }
+}
+
+/// Appends whether what a `Held` was made of is lent, and handed back.
+fn push_held(input: &[u8], answers: &mut String) -> Result<(), AllocError> {
+    match (read(input)?, read(input)?) {
+        (Some(held), Some(twin)) => {
+            let lent = *held == *twin;
+            let inner = held.into_inner();
+            write!(answers, " lent: {lent}, handed back: {}", inner == *twin)
+        }
+        _ => answers.try_push_str(" refused"),
+    }
+}

@@ -1,0 +1,119 @@
+//! Rewriting lists of pods, by the calls that take a list.
+use crate::shims::prelude::*;
+use crate::tests::reading_rows::rewritten::is_rewritten_in_parts;
+use crate::parts::spa_fixed::DeserializeError;
+use crate::parts::spa_in_place::rewrite_in_place;
+use crate::parts::spa_leaf::error_at;
+use crate::parts::spa_rewrite::{Rejected, accept_all, look_at_pods, rewrite_all, rewrite_in_parts};
+use crate::tests::spa_spelling::push_spelling;
+use crate::shims::memory::AllocError;
+
+/// What a call answers to a list: nothing, or the fault for which it is refused, and how many bytes are left there.
+type Answer = Result<(), (&'static str, usize)>;
+
+/// What an output holds before a list is appended.
+const BEFORE: &[u8] = &[1, 2];
+
+/// Appends the rewriting of a list, or why and where it is refused; and which calls answer something else.
+pub(crate) fn answer_list(
+    input: &[u8],
+    answers: &mut String,
+) -> Result<(), AllocError> {
+    let mut out = Vec::try_from_slice(BEFORE)?;
+    let answer = answer_of(rewrite_all(input, &mut out))?;
+    let (before, encodings) = out.split_at(BEFORE.len().min(out.len()));
+    match answer {
+        Ok(()) => push_spelling(answers, encodings)?,
+        Err((name, left)) => {
+            let place = input.len().saturating_sub(left);
+            write!(answers, " refused {name} at {place}")?;
+        }
+    }
+    if before != BEFORE || answer.is_err() && !encodings.is_empty() {
+        answers.try_push_str("; but the output is spoilt")?;
+    }
+    push_others(input, encodings, answer, answers)
+}
+
+/// The answer to a list, without what is given beside it.
+fn answer_of(answer: Result<(), (&[u8], DeserializeError<&[u8]>)>) -> Result<Answer, AllocError> {
+    match answer {
+        Ok(()) => Ok(Ok(())),
+        Err((_, DeserializeError::OutOfMemory)) => Err(AllocError),
+        Err((left, error)) => Ok(Err((error.kind(), left.len()))),
+    }
+}
+
+/// Appends which of the other calls answer something else.
+fn push_others(
+    input: &[u8],
+    encodings: &[u8],
+    answer: Answer,
+    answers: &mut String,
+) -> Result<(), AllocError> {
+    if answer_of(accept_all(input))? != answer {
+        answers.try_push_str("; but it is accepted otherwise")?;
+    }
+    if !is_so_in_parts(input, encodings, answer)? {
+        answers.try_push_str("; but its two parts are something else")?;
+    }
+    if !is_so_in_place(input, encodings, answer)? {
+        answers.try_push_str("; but in place it is something else")?;
+    }
+    if !is_seen_so(input, encodings, answer) {
+        answers.try_push_str("; but a look finds something else")?;
+    }
+    Ok(())
+}
+
+/// Whether the rewriting in two parts is this one.
+fn is_so_in_parts(
+    input: &[u8],
+    encodings: &[u8],
+    answer: Answer,
+) -> Result<bool, AllocError> {
+    if answer.is_ok() {
+        return is_rewritten_in_parts(input, encodings);
+    }
+    match rewrite_in_parts(input) {
+        Ok(_) => Ok(false),
+        Err(refusal) => Ok(answer_of(Err(refusal))? == answer),
+    }
+}
+
+/// Whether the rewriting where the list lies is this one, behind which nothing else changes.
+fn is_so_in_place(
+    input: &[u8],
+    encodings: &[u8],
+    answer: Answer,
+) -> Result<bool, AllocError> {
+    let mut bytes = Vec::try_from_slice(input)?;
+    match rewrite_in_place(bytes.as_mut_slice()) {
+        Ok(len) => Ok(
+            answer.is_ok()
+                && bytes.get(..len) == Some(encodings)
+                && bytes.get(len..) == input.get(len..),
+        ),
+        Err((_, DeserializeError::OutOfMemory)) => Err(AllocError),
+        Err((place, error)) => {
+            let left = input.len().saturating_sub(place);
+            Ok(answer == Err((error.kind(), left)) && bytes.as_slice() == input)
+        }
+    }
+}
+
+/// Whether a look at the list finds this rewriting.
+fn is_seen_so(input: &[u8], encodings: &[u8], answer: Answer) -> bool {
+    match (look_at_pods(input), answer) {
+        (Ok(all), Ok(())) => {
+            let first = input.get(..all.canonical);
+            all.surplus == input.len().saturating_sub(encodings.len())
+                && first == encodings.get(..all.canonical)
+                && (all.canonical == input.len()) == (input == encodings)
+        }
+        (Err((left, Rejected::Fault(place, why))), Err((name, behind))) => {
+            error_at(place, why).kind() == name && left.len() == behind
+        }
+        _ => false,
+    }
+}

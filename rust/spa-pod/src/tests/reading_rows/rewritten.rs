@@ -1,0 +1,53 @@
+//! Rewritings of the front of an input.
+use crate::shims::prelude::*;
+use crate::tests::reading_rows::front::{Front, before, front_of};
+use crate::parts::spa_fixed::DeserializeError;
+use crate::parts::spa_rewrite::{is_canonical, rewrite, rewrite_in_parts};
+use crate::shims::memory::AllocError;
+
+/// Whether the front of an input is rewritten as this encoding by each call, and is canonical exactly where it is the encoding.
+pub(crate) fn is_rewritten(
+    front: &[u8],
+    input: &[u8],
+    encoding: &[u8],
+) -> Result<bool, AllocError> {
+    let rewritten = match rewrite(input) {
+        Ok((rest, bytes)) => before(input, rest) == front && bytes.as_slice() == encoding,
+        Err(DeserializeError::OutOfMemory) => return Err(AllocError),
+        Err(_) => false,
+    };
+    let is_own = is_canonical(input)?;
+    Ok(rewritten && is_own == (front == encoding) && is_rewritten_in_parts(front, encoding)?)
+}
+
+/// Whether the two parts of the rewriting of a list, one after the other, are these bytes.
+pub(crate) fn is_rewritten_in_parts(
+    input: &[u8],
+    encoding: &[u8],
+) -> Result<bool, AllocError> {
+    match rewrite_in_parts(input) {
+        Ok((first, second)) => Ok(are_joined(first, second.as_slice(), encoding)),
+        Err((_, DeserializeError::OutOfMemory)) => Err(AllocError),
+        Err(_) => Ok(false),
+    }
+}
+
+/// Whether these are two pieces, one after the other.
+fn are_joined(first: &[u8], second: &[u8], both: &[u8]) -> bool {
+    let (start, end) = both.split_at(first.len().min(both.len()));
+    start == first && end == second
+}
+
+/// Whether an encoding is read as what it encodes, and is its own rewriting.
+pub(crate) fn is_rewritten_to_itself(
+    encoding: &[u8],
+    said: &str,
+) -> Result<bool, AllocError> {
+    let again = match front_of(encoding)? {
+        Front::Accepted(text, bytes, rest) => {
+            text.as_str() == said && bytes.as_slice() == encoding && rest.is_empty()
+        }
+        Front::Refused(_, _) => false,
+    };
+    Ok(again && is_rewritten(encoding, encoding, encoding)?)
+}

@@ -13,7 +13,6 @@ import sys
 
 import rattle
 from crates import WHOLE, parts_and_tests
-from patches import PATCHES
 
 GHOST_ATTRIBUTES = {'tactic', 'cycle', 'derive_where', 'rattlefmt'}
 MEMORY = r'(?:[&*] )*(?:(?:\w+ \. )+alloc(?: \( \))?|(?:\w+ \. )+allocator \( \)|rt|alloc|\$ alloc|Global)'
@@ -69,7 +68,8 @@ RULES = [
     ('tests', r'rt \. stdout', r'crate : : shims : : test : : stdout'),
     ('features', r'', r'# [ cfg ( feature = "std" ) ]'),
     ('asserted', r'', r'assert ! \( [^;]* \) ;'),
-    ('inlined', r'', r'# [ inline ( always ) ]'),
+    ('inlined', r'', r'# [ cfg_attr ( not ( debug_assertions ) , inline ( always ) ) ]'),
+    ('inlined', r'# \[ inline \( always \) \]', r'# [ cfg_attr ( not ( debug_assertions ) , inline ( always ) ) ]'),
 ] + [('names of fallible calls', r'([.]|: :|fn) %s' % a, r'\1 %s' % b) for a, b in RENAMED]
 # A type with a drop is taken apart by its fields: `let T { a, b: _ } = self;`.
 TAKEN = re.compile(r'let \w+ \{ ((?:\w+ (?:: _ )?,? ?)+)\} = self ; ')
@@ -244,10 +244,8 @@ def walk(a, b):
     return [], '.. %s | %s | %s' % (a[max(0, i - 60):i], a[i:i + 120], b[j:j + 120])
 
 
-def judge(source, rust, name, crates, macros, patches=()):
+def judge(source, rust, name, crates, macros):
     """How often each rule is used, and what no rule says, of a Rattle file and the Rust file made of it."""
-    for reason, old, new in patches:
-        rust = rust.replace(new, old)
     a, rattle_uses = uses_apart(contracts_dropped(rattle.code(source)))
     b, rust_uses = uses_apart(rattle.code(rust))
     counts, faults = judge_uses(rattle_uses, rust_uses, name, crates, macros)
@@ -281,7 +279,7 @@ def main():
                         source = f.read()
                     with open(os.path.join(out, 'src', made), encoding='utf-8') as f:
                         rust = f.read()
-                    counts, wrong = judge(source, rust, name, crates, macros, PATCHES.get(made, ()))
+                    counts, wrong = judge(source, rust, name, crates, macros)
                     total.update(counts)
                     faults += len(wrong)
                     files += 1
@@ -291,10 +289,7 @@ def main():
     print('%d files; in %d of them nothing but names of places differs' % (files, same))
     for rule, count in total.most_common():
         print('%6d %s' % (count, rule))
-    for file, patches in PATCHES.items():
-        for reason, _, _ in patches:
-            print('       patch of %s: %s' % (file, reason))
-    print('%d patches; %d differences that no rule says' % (sum(map(len, PATCHES.values())), faults))
+    print('%d differences that no rule says' % faults)
     return 1 if faults else 0
 
 

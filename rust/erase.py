@@ -10,7 +10,7 @@ import sys
 
 import rattle
 from crates import ROWS_SUFFIX, WHOLE, parts_and_tests
-from patches import PATCHES, WORDS
+from words import WORDS
 
 # What takes memory: an allocator, or the runtime that hands one out, as an argument, a parameter, a field or a part of a `use`.
 MEMORY = r'(?:\*\s*|&\s*)*(?:rt|_?alloc|\$alloc|Global|[\w.]+\.alloc(?:\(\))?|[\w.]+\.allocator\(\))'
@@ -248,12 +248,16 @@ ASSERTED = {
 INLINED = [('leaves', 'read_string'), ('bodies', 'text_of')]
 
 
+# Where rustc doesn't optimize, what it puts in place of calls makes frames larger, and looks call themselves for each level of nesting.
+OPTIMIZED = '#[cfg_attr(not(debug_assertions), inline(always))]'
+
+
 def inline(text, file):
-    """With the attribute that has rustc put these functions in place of their calls."""
+    """With the attribute that has rustc put these functions, and those that have it, in place of their calls, where it optimizes."""
     for where, name in INLINED:
         if where == os.path.basename(file):
             text = re.sub(r'^( *)((?:pub )?fn %s\()' % name, r'\1#[inline(always)]\n\1\2', text, flags=re.M)
-    return text
+    return text.replace('#[inline(always)]', OPTIMIZED)
 
 
 def assert_required(text, file):
@@ -328,11 +332,11 @@ def exported_macros(crates, parts):
     return found
 
 
-def patched(path, text):
-    """The text with its patches, each of which stands for one place."""
-    for reason, old, new in PATCHES.get(path, []) + [('words', old, new) for old, new in WORDS.get(path, [])]:
+def reworded(path, text):
+    """The text with other words in its comments, each of which stands for one place."""
+    for old, new in WORDS.get(path, []):
         if text.count(old) != 1:
-            raise ValueError('%s: the patch "%s" fits %d places' % (path, reason, text.count(old)))
+            raise ValueError('%s: "%s" stands in %d places' % (path, old, text.count(old)))
         text = text.replace(old, new)
     return text
 
@@ -356,7 +360,7 @@ def generate(crates):
         for name in names:
             for path, text in sources(os.path.join(crates, name, 'src')):
                 file = '%s/%s/%s.rs' % (home, name, 'mod' if path in ('lib', 'main') else path)
-                made[file] = patched(file, inline(assert_required(erase(text, name, home, macros, parts, tests, of_std), path), path))
+                made[file] = reworded(file, inline(assert_required(erase(text, name, home, macros, parts, tests, of_std), path), path))
             if name.endswith(ROWS_SUFFIX):
                 for stream in ('stdin', 'stdout'):
                     with open(os.path.join(crates, name, stream), encoding='utf-8') as f:

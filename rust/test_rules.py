@@ -135,22 +135,25 @@ class Rules(unittest.TestCase):
             self.assertIn(old, SOURCE)
             self.assertNotEqual(faults(RUST, SOURCE.replace(old, new, 1)), [], (old, new))
 
-    def test_a_patch_that_fits_nowhere_is_an_error(self):
-        erase.PATCHES['x.rs'] = [('why', 'absent', 'new')]
+    def test_words_that_stand_nowhere_are_an_error(self):
+        erase.WORDS['x.rs'] = [('absent', 'new')]
         try:
-            self.assertRaises(ValueError, erase.patched, 'x.rs', 'text')
+            self.assertRaises(ValueError, erase.reworded, 'x.rs', 'text')
         finally:
-            del erase.PATCHES['x.rs']
+            del erase.WORDS['x.rs']
 
     def test_a_function_is_put_in_line(self):
         source = 'fn is_clean(text: &[u8]) -> bool {\n    f(text)\n}\n'
         erase.INLINED.append(('counts', 'is_clean'))
         try:
-            self.assertEqual(erase.inline(source, 'src/counts'), '#[inline(always)]\n' + source)
+            self.assertEqual(erase.inline(source, 'src/counts'), erase.OPTIMIZED + '\n' + source)
             self.assertEqual(erase.inline(source, 'src/other'), source)
+            self.assertEqual(erase.inline('#[inline(always)]\n' + source, 'src/other'), erase.OPTIMIZED + '\n' + source)
         finally:
             erase.INLINED.pop()
-        self.assertEqual(faults('#[inline(always)]\n' + source, source), [])
+        for attribute in '', '#[inline(always)]\n':
+            self.assertEqual(faults(erase.OPTIMIZED + '\n' + source, attribute + source), [])
+        self.assertNotEqual(faults(source, '#[inline(always)]\n' + source), [])
 
     def test_a_kit_crate_without_a_shim_is_an_error(self):
         from crates import with_those_below

@@ -65,8 +65,12 @@ impl<'de> PodDeserializer<'de> {
 
 #[cfg(all(test, feature = "std"))]
 mod tests {
-    use crate::pod::Value;
+    use crate::pod::{
+        Value, is_canonical, nests_within, rewrite, rewrite_all, rewrite_all_leniently, rewrite_in_place, rewrite_in_place_leniently,
+        rewrite_into_leniently,
+    };
     use alloc::format;
+    use alloc::vec;
     use alloc::vec::Vec;
     use std::thread::Builder;
 
@@ -84,6 +88,57 @@ mod tests {
             let (one, other) = (nested(1000), nested(1000));
             assert!(one == other);
             assert_eq!(format!("{one:?}").matches("Struct(").count(), 1000);
+        });
+        thread.unwrap().join().unwrap();
+    }
+
+    /// The header of a pod, or a key and flags.
+    fn words(first: usize, second: u32) -> Vec<u8> {
+        [(first as u32).to_le_bytes(), second.to_le_bytes()].concat()
+    }
+
+    /// 1000 structs, or objects of two properties, in one another, each of which ends with this pod; the innermost holds it twice.
+    fn nest(in_objects: bool, pod: &[u8]) -> Vec<u8> {
+        let mut inner = pod.to_vec();
+        for _ in 0..1000 {
+            let members = [inner.as_slice(), pod];
+            let body = if in_objects { [words(5, 3), words(1, 0), members[0].to_vec(), words(2, 0), members[1].to_vec()].concat() } else { members.concat() };
+            inner = [words(body.len(), if in_objects { 15 } else { 14 }), body].concat();
+        }
+        inner
+    }
+
+    /// Rewrites pods by each call, and compares what comes of it, and what is told of the pods before.
+    fn rewrite_by_each_call(pods: &[u8], wanted: &[u8]) {
+        assert!(rewrite(pods).is_ok_and(|(rest, made)| rest.is_empty() && made == wanted));
+        assert!(is_canonical(pods).is_ok_and(|answer| answer == (pods == wanted)));
+        assert!(nests_within(pods, 1000) && !nests_within(pods, 999));
+        for call in [rewrite_all, rewrite_all_leniently] {
+            let mut out = Vec::new();
+            assert!(call(pods, &mut out).is_ok() && out == wanted);
+        }
+        for call in [rewrite_in_place, rewrite_in_place_leniently] {
+            let mut bytes = pods.to_vec();
+            assert!(call(&mut bytes).is_ok_and(|len| bytes[..len] == *wanted));
+        }
+        let mut out = vec![0; pods.len()];
+        assert!(rewrite_into_leniently(pods, &mut out).is_ok_and(|len| out[..len] == *wanted));
+    }
+
+    #[test]
+    fn a_thread_of_2_mib_rewrites_1000_levels() {
+        // An Int, the same with other padding than zeros; a None choice of an Int, the same with a value that it doesn't take.
+        let int = [words(4, 4), words(1, 0)].concat();
+        let padded = [words(4, 4), words(1, 9)].concat();
+        let choice = [words(20, 19), words(0, 0), words(4, 4), words(7, 0)].concat();
+        let longer = [words(32, 19), words(0, 0), words(4, 4), words(7, 8), words(9, 10)].concat();
+        let rows = [(int.clone(), int.clone()), (padded, int), (choice.clone(), choice.clone()), (longer, choice)];
+        let thread = Builder::new().stack_size(2 << 20).spawn(move || {
+            for (pod, wanted) in rows {
+                for in_objects in [false, true] {
+                    rewrite_by_each_call(&nest(in_objects, &pod), &nest(in_objects, &wanted));
+                }
+            }
         });
         thread.unwrap().join().unwrap();
     }

@@ -195,8 +195,6 @@ pub mod tests {
     pub trait StringRoom {
         /// Puts a text at the end.
         fn try_push_str(&mut self, text: &str) -> Result<(), AllocError>;
-        /// Puts a character at the end.
-        fn try_push(&mut self, c: char) -> Result<(), AllocError>;
         /// What `write!` calls.
         fn write_fmt(&mut self, words: fmt::Arguments<'_>) -> Result<(), AllocError>;
     }
@@ -207,25 +205,8 @@ pub mod tests {
             Ok(())
         }
 
-        fn try_push(&mut self, c: char) -> Result<(), AllocError> {
-            self.push(c);
-            Ok(())
-        }
-
         fn write_fmt(&mut self, words: fmt::Arguments<'_>) -> Result<(), AllocError> {
             fmt::Write::write_fmt(self, words).map_err(|_| AllocError)
-        }
-    }
-
-    /// A text again and again.
-    pub trait Repeat {
-        /// So often.
-        fn try_repeat(&self, count: usize) -> Result<String, AllocError>;
-    }
-
-    impl Repeat for str {
-        fn try_repeat(&self, count: usize) -> Result<String, AllocError> {
-            Ok(self.repeat(count))
         }
     }
 

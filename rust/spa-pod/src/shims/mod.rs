@@ -13,7 +13,7 @@ pub mod test;
 /// What each generated module has in scope.
 pub mod prelude {
     #[cfg(test)]
-    pub use super::memory::tests::{Repeat, SliceToVec, SplitOff, StringRoom};
+    pub use super::memory::tests::{SliceToVec, SplitOff, StringRoom};
     pub use super::bytes::Bytes;
     pub use super::memory::{Text, ToVec, TryClone, VecRoom};
     pub use alloc::string::String;

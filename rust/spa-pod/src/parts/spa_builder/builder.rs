@@ -59,49 +59,49 @@ impl Builder {
     }
 
     /// Adds a value that says nothing.
-    #[inline(always)]
+    #[cfg_attr(not(debug_assertions), inline(always))]
     pub fn add_none(&mut self) -> Result<(), Errno> {
         add_fixed(&mut self.bytes, &mut self.frames, &())
     }
 
     /// Adds a truth value.
-    #[inline(always)]
+    #[cfg_attr(not(debug_assertions), inline(always))]
     pub fn add_bool(&mut self, value: bool) -> Result<(), Errno> {
         add_fixed(&mut self.bytes, &mut self.frames, &value)
     }
 
     /// Adds an id.
-    #[inline(always)]
+    #[cfg_attr(not(debug_assertions), inline(always))]
     pub fn add_id(&mut self, value: Id) -> Result<(), Errno> {
         add_fixed(&mut self.bytes, &mut self.frames, &value)
     }
 
     /// Adds a signed number of 32 bits.
-    #[inline(always)]
+    #[cfg_attr(not(debug_assertions), inline(always))]
     pub fn add_int(&mut self, value: i32) -> Result<(), Errno> {
         add_fixed(&mut self.bytes, &mut self.frames, &value)
     }
 
     /// Adds a signed number of 64 bits.
-    #[inline(always)]
+    #[cfg_attr(not(debug_assertions), inline(always))]
     pub fn add_long(&mut self, value: i64) -> Result<(), Errno> {
         add_fixed(&mut self.bytes, &mut self.frames, &value)
     }
 
     /// Adds a float of 32 bits.
-    #[inline(always)]
+    #[cfg_attr(not(debug_assertions), inline(always))]
     pub fn add_float(&mut self, value: Float32) -> Result<(), Errno> {
         add_fixed(&mut self.bytes, &mut self.frames, &value)
     }
 
     /// Adds a float of 64 bits.
-    #[inline(always)]
+    #[cfg_attr(not(debug_assertions), inline(always))]
     pub fn add_double(&mut self, value: Float64) -> Result<(), Errno> {
         add_fixed(&mut self.bytes, &mut self.frames, &value)
     }
 
     /// Adds a text. One that holds NUL is INVAL.
-    #[inline(always)]
+    #[cfg_attr(not(debug_assertions), inline(always))]
     pub fn add_string(&mut self, value: &str) -> Result<(), Errno> {
         let text = value.as_bytes();
         if text.has_nul() {
@@ -128,26 +128,26 @@ impl Builder {
     }
 
     /// Adds a pointer: a type number and an address.
-    #[inline(always)]
+    #[cfg_attr(not(debug_assertions), inline(always))]
     pub fn add_pointer(&mut self, type_: Id, address: u64) -> Result<(), Errno> {
         let pod = pointer_pod(type_.0, address);
         add_encoding(&mut self.bytes, &mut self.frames, POINTER_LEN, &pod)
     }
 
     /// Adds a file descriptor's number.
-    #[inline(always)]
+    #[cfg_attr(not(debug_assertions), inline(always))]
     pub fn add_fd(&mut self, value: i64) -> Result<(), Errno> {
         add_fixed(&mut self.bytes, &mut self.frames, &Fd(value))
     }
 
     /// Adds a rectangle.
-    #[inline(always)]
+    #[cfg_attr(not(debug_assertions), inline(always))]
     pub fn add_rectangle(&mut self, value: Rectangle) -> Result<(), Errno> {
         add_fixed(&mut self.bytes, &mut self.frames, &value)
     }
 
     /// Adds a fraction.
-    #[inline(always)]
+    #[cfg_attr(not(debug_assertions), inline(always))]
     pub fn add_fraction(&mut self, value: Fraction) -> Result<(), Errno> {
         add_fixed(&mut self.bytes, &mut self.frames, &value)
     }
@@ -176,13 +176,13 @@ impl Builder {
     }
 
     /// Adds the key and the flags of a property. The next call adds or begins its value.
-    #[inline(always)]
+    #[cfg_attr(not(debug_assertions), inline(always))]
     pub fn add_prop(&mut self, key: u32, flags: u32) -> Result<(), Errno> {
         add_key(&mut self.bytes, &mut self.frames, key, flags)
     }
 
     /// Begins an array. Its elements are of the first one's kind, of fixed size.
-    #[inline(always)]
+    #[cfg_attr(not(debug_assertions), inline(always))]
     pub fn push_array(&mut self) -> Result<Frame, Errno> {
         begin_tree(
             &mut self.bytes,
@@ -218,7 +218,7 @@ impl Builder {
     }
 
     /// Begins a struct.
-    #[inline(always)]
+    #[cfg_attr(not(debug_assertions), inline(always))]
     pub fn push_struct(&mut self) -> Result<Frame, Errno> {
         begin_tree(
             &mut self.bytes,
@@ -232,7 +232,7 @@ impl Builder {
     }
 
     /// Begins an object.
-    #[inline(always)]
+    #[cfg_attr(not(debug_assertions), inline(always))]
     pub fn push_object(&mut self, type_: u32, id: u32) -> Result<Frame, Errno> {
         begin_tree(
             &mut self.bytes,
@@ -247,7 +247,7 @@ impl Builder {
 
     /// Closes the innermost pod that is begun, which this frame names. Any other frame is INVAL, and so is an object
     /// where a key waits for its value, and a choice that lacks values. It is never NOSPC.
-    #[inline(always)]
+    #[cfg_attr(not(debug_assertions), inline(always))]
     pub fn pop(&mut self, frame: Frame) -> Result<(), Errno> {
         close(&mut self.bytes, &mut self.frames, frame.0)
     }

@@ -12,7 +12,7 @@ use crate::parts::spa_utils::{Errno, Frame};
 use crate::parts::spa_value::ValueArray;
 
 /// Adds a pod whose body is at hand in two parts, where a tree of any type may stand.
-#[inline(always)]
+#[cfg_attr(not(debug_assertions), inline(always))]
 pub(crate) fn add_body(
     bytes: &mut Written,
     frames: &mut Frames,
@@ -29,7 +29,7 @@ pub(crate) fn add_body(
 }
 
 /// Adds a value whose encoding is at hand, with a body of this size, where a tree of any type may stand.
-#[inline(always)]
+#[cfg_attr(not(debug_assertions), inline(always))]
 pub(crate) fn add_encoding(
     bytes: &mut Written,
     frames: &mut Frames,
@@ -91,7 +91,7 @@ pub(crate) fn add_elements(
 }
 
 /// Adds a value of fixed size: to an array or a choice as an element, and elsewhere as a pod.
-#[inline(always)]
+#[cfg_attr(not(debug_assertions), inline(always))]
 pub(crate) fn add_fixed<T: CanonicalFixedSizedPod>(
     bytes: &mut Written,
     frames: &mut Frames,
@@ -145,7 +145,7 @@ fn set_child(bytes: &mut Written, first: bool, at: usize, size: u32, type_: u32)
 }
 
 /// Adds the key and the flags of a property, whose value is to come.
-#[inline(always)]
+#[cfg_attr(not(debug_assertions), inline(always))]
 pub(crate) fn add_key(
     bytes: &mut Written,
     frames: &mut Frames,
@@ -164,7 +164,7 @@ pub(crate) fn add_key(
 }
 
 /// Begins a tree with these bytes, which are its header, with the size 0, and what follows it.
-#[inline(always)]
+#[cfg_attr(not(debug_assertions), inline(always))]
 pub(crate) fn begin_tree<const N: usize>(
     bytes: &mut Written,
     frames: &mut Frames,
@@ -183,7 +183,7 @@ pub(crate) fn begin_tree<const N: usize>(
 }
 
 /// Closes the innermost tree.
-#[inline(always)]
+#[cfg_attr(not(debug_assertions), inline(always))]
 pub(crate) fn close(bytes: &mut Written, frames: &mut Frames, frame: usize) -> Result<(), Errno> {
     let Some(open) = frames.innermost() else {
         return Err(Errno::INVAL);
@@ -204,7 +204,7 @@ pub(crate) fn close(bytes: &mut Written, frames: &mut Frames, frame: usize) -> R
 }
 
 /// Gives up the innermost tree, with the bytes that there are of it.
-#[inline(always)]
+#[cfg_attr(not(debug_assertions), inline(always))]
 pub(crate) fn leave(bytes: &mut Written, frames: &mut Frames, frame: usize) -> Result<(), Errno> {
     let Some(open) = frames.innermost() else {
         return Err(Errno::INVAL);

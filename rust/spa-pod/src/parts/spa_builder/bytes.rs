@@ -11,19 +11,19 @@ use crate::parts::spa_utils::{Errno, SpaTypes};
 const POINTER_POD_LEN: usize = HEADER_LEN + POINTER_LEN;
 
 /// The number of zeros behind a body of this size.
-#[inline(always)]
+#[cfg_attr(not(debug_assertions), inline(always))]
 fn padding_len(size: usize) -> usize {
     (HEADER_LEN - size % HEADER_LEN) % HEADER_LEN
 }
 
 /// Appends zeros up to a multiple of 8, behind a body of this size.
-#[inline(always)]
+#[cfg_attr(not(debug_assertions), inline(always))]
 pub(crate) fn put_padding(bytes: &mut Written, size: usize) -> Result<(), Errno> {
     bytes.append_first([0; HEADER_LEN], padding_len(size))
 }
 
 /// Appends the pod of a value of fixed size.
-#[inline(always)]
+#[cfg_attr(not(debug_assertions), inline(always))]
 pub(crate) fn put_fixed_pod<T: CanonicalFixedSizedPod>(
     bytes: &mut Written,
     value: &T,
@@ -32,7 +32,7 @@ pub(crate) fn put_fixed_pod<T: CanonicalFixedSizedPod>(
 }
 
 /// Appends a pod whose body is at hand in two parts.
-#[inline(always)]
+#[cfg_attr(not(debug_assertions), inline(always))]
 pub(crate) fn put_pod(
     bytes: &mut Written,
     type_: u32,

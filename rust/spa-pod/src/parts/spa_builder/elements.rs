@@ -11,7 +11,7 @@ const RANGE_COUNT: u32 = 3;
 const STEP_COUNT: u32 = 4;
 
 /// Whether elements of a fixed size stand there.
-#[inline(always)]
+#[cfg_attr(not(debug_assertions), inline(always))]
 pub(crate) fn takes_elements(innermost: Option<BegunPod>) -> bool {
     match innermost {
         None => false,
@@ -70,7 +70,7 @@ pub(crate) fn with_element(what: What, type_: u32) -> What {
 }
 
 /// Whether a tree of which this is known is a value when it is closed.
-#[inline(always)]
+#[cfg_attr(not(debug_assertions), inline(always))]
 pub(crate) fn is_finished(what: What) -> bool {
     let Elements { shape, count, .. } = what.elements;
     match (what.stage, shape) {

@@ -24,7 +24,7 @@ const PADDING_MAX: usize = HEADER_LEN - 1;
 
 /// The numbers of bytes of a pod with its header that its size word can't hold begin here. Where a pod is open inside it,
 /// there may be padding to come.
-#[inline(always)]
+#[cfg_attr(not(debug_assertions), inline(always))]
 fn most_bytes(alone: bool) -> usize {
     if alone {
         SIZE_LIMIT + HEADER_LEN
@@ -34,7 +34,7 @@ fn most_bytes(alone: bool) -> usize {
 }
 
 /// Whether it is no pod.
-#[inline(always)]
+#[cfg_attr(not(debug_assertions), inline(always))]
 fn is_nothing(what: What) -> bool {
     matches!(what.stage, Stage::Nothing)
 }
@@ -49,7 +49,7 @@ fn roomier(mut outer: Vec<BegunPod>) -> Vec<BegunPod> {
 }
 
 /// Makes room for one frame more.
-#[inline(always)]
+#[cfg_attr(not(debug_assertions), inline(always))]
 fn make_room(outer: &mut Vec<BegunPod>) -> Result<(), Errno> {
     if outer.len() < outer.capacity() {
         return Ok(());
@@ -71,7 +71,7 @@ fn longer(mut outer: Vec<BegunPod>, frame: BegunPod) -> Vec<BegunPod> {
 }
 
 /// Puts a frame behind the others, for which there is room.
-#[inline(always)]
+#[cfg_attr(not(debug_assertions), inline(always))]
 fn put(outer: &mut Vec<BegunPod>, frame: BegunPod) {
     *outer = longer(mem::replace(outer, Vec::new()), frame);
 }
@@ -96,7 +96,7 @@ impl Frames {
     }
 
     /// How many there are.
-    #[inline(always)]
+    #[cfg_attr(not(debug_assertions), inline(always))]
     pub(crate) fn len(&self) -> usize {
         if is_nothing(self.innermost.what) {
             return 0;
@@ -105,7 +105,7 @@ impl Frames {
     }
 
     /// The innermost.
-    #[inline(always)]
+    #[cfg_attr(not(debug_assertions), inline(always))]
     pub(crate) fn innermost(&self) -> Option<BegunPod> {
         if is_nothing(self.innermost.what) {
             return None;
@@ -114,7 +114,7 @@ impl Frames {
     }
 
     /// Whether so many bytes more leave every size word within 32 bits: the outermost is the greatest.
-    #[inline(always)]
+    #[cfg_attr(not(debug_assertions), inline(always))]
     pub(crate) fn has_room(&self, len: usize, more: usize) -> bool {
         if is_nothing(self.innermost.what) {
             return true;
@@ -123,20 +123,20 @@ impl Frames {
     }
 
     /// Sets what the innermost says.
-    #[inline(always)]
+    #[cfg_attr(not(debug_assertions), inline(always))]
     pub(crate) fn set_innermost(&mut self, what: What) {
         self.innermost.what = what;
     }
 
     /// Sets the stage of the innermost.
-    #[inline(always)]
+    #[cfg_attr(not(debug_assertions), inline(always))]
     pub(crate) fn set_stage(&mut self, stage: Stage) {
         self.innermost.what.stage = stage;
     }
 
     /// Begins a frame in the innermost, and appends the bytes with which its pod begins. The frame has its memory first: a
     /// refused call changes nothing.
-    #[inline(always)]
+    #[cfg_attr(not(debug_assertions), inline(always))]
     pub(crate) fn try_push<const N: usize>(
         &mut self,
         frame: BegunPod,
@@ -159,7 +159,7 @@ impl Frames {
     }
 
     /// Drops the innermost.
-    #[inline(always)]
+    #[cfg_attr(not(debug_assertions), inline(always))]
     pub(crate) fn pop(&mut self) {
         let Some(frame) = self.outer.pop() else {
             self.innermost = NO_FRAME;
@@ -173,7 +173,7 @@ impl Frames {
 }
 
 /// Whether a tree of any type may begin there.
-#[inline(always)]
+#[cfg_attr(not(debug_assertions), inline(always))]
 pub(crate) fn takes_trees(innermost: Option<BegunPod>) -> bool {
     match innermost {
         None => true,
@@ -182,7 +182,7 @@ pub(crate) fn takes_trees(innermost: Option<BegunPod>) -> bool {
 }
 
 /// Whether a key waits there for its value.
-#[inline(always)]
+#[cfg_attr(not(debug_assertions), inline(always))]
 fn waits(innermost: Option<BegunPod>) -> bool {
     match innermost {
         None => false,
@@ -191,7 +191,7 @@ fn waits(innermost: Option<BegunPod>) -> bool {
 }
 
 /// Whether an object stands there in which no key waits.
-#[inline(always)]
+#[cfg_attr(not(debug_assertions), inline(always))]
 pub(crate) fn takes_key(innermost: Option<BegunPod>) -> bool {
     match innermost {
         None => false,
@@ -201,7 +201,7 @@ pub(crate) fn takes_key(innermost: Option<BegunPod>) -> bool {
 
 /// Whether a value that isn't an element, with a body of this size, may come next: INVAL where none may, NOSPC where a
 /// size word would be past 32 bits.
-#[inline(always)]
+#[cfg_attr(not(debug_assertions), inline(always))]
 pub(crate) fn admit(len: usize, frames: &Frames, size: usize) -> Result<(), Errno> {
     if !takes_trees(frames.innermost()) {
         return Err(Errno::INVAL);
@@ -216,7 +216,7 @@ pub(crate) fn admit(len: usize, frames: &Frames, size: usize) -> Result<(), Errn
 }
 
 /// A value came into the innermost tree, whose frame was read before: a key that waited has it.
-#[inline(always)]
+#[cfg_attr(not(debug_assertions), inline(always))]
 pub(crate) fn fill(frames: &mut Frames, innermost: Option<BegunPod>) {
     if waits(innermost) {
         frames.set_stage(Stage::Object);

@@ -15,7 +15,7 @@ pub struct Front<'de> {
 }
 
 /// How many bytes a pod takes whose body has this many: its header, the body, and the padding.
-#[inline(always)]
+#[cfg_attr(not(debug_assertions), inline(always))]
 pub fn extent_of(size: u32) -> usize {
     HEADER_LEN + (size as usize).div_ceil(HEADER_LEN) * HEADER_LEN
 }

@@ -60,7 +60,7 @@ pub(crate) fn read_elements<T: CanonicalFixedSizedPod>(
 
 /// Reads the body of an array of this type. It is refused with `WrongSize` where the child size isn't the type's or the
 /// elements aren't whole, before any memory is asked for, and else only for lack of memory.
-#[inline(always)]
+#[cfg_attr(not(debug_assertions), inline(always))]
 pub fn read_array<T: CanonicalFixedSizedPod>(body: &[u8]) -> Result<Vec<T>, Refusal> {
     let Some(elements) = open_array::<T>(body) else {
         return Err(Refusal::WrongSize);

@@ -43,7 +43,7 @@ fn count<T: ChoiceElement>(elements: &[u8]) -> usize {
 }
 
 /// Default, minimum and maximum. What follows them is surplus.
-#[inline(always)]
+#[cfg_attr(not(debug_assertions), inline(always))]
 fn read_range<T: ChoiceElement>(elements: &[u8]) -> Result<ChoiceEnum<T>, Refusal> {
     if count::<T>(elements) < 3 {
         return Err(Refusal::MissingChoiceValues);
@@ -55,7 +55,7 @@ fn read_range<T: ChoiceElement>(elements: &[u8]) -> Result<ChoiceEnum<T>, Refusa
 }
 
 /// Default, minimum, maximum and step. What follows them is surplus.
-#[inline(always)]
+#[cfg_attr(not(debug_assertions), inline(always))]
 fn read_step<T: ChoiceElement>(elements: &[u8]) -> Result<ChoiceEnum<T>, Refusal> {
     if count::<T>(elements) < 4 {
         return Err(Refusal::MissingChoiceValues);
@@ -73,7 +73,7 @@ fn read_step<T: ChoiceElement>(elements: &[u8]) -> Result<ChoiceEnum<T>, Refusal
 }
 
 /// The default, and what follows it.
-#[inline(always)]
+#[cfg_attr(not(debug_assertions), inline(always))]
 fn read_default<T: ChoiceElement>(elements: &[u8]) -> Result<(&[u8], T), Refusal> {
     if count::<T>(elements) < 1 {
         return Err(Refusal::MissingChoiceValues);
@@ -82,7 +82,7 @@ fn read_default<T: ChoiceElement>(elements: &[u8]) -> Result<(&[u8], T), Refusal
 }
 
 /// The default, and all that follow it.
-#[inline(always)]
+#[cfg_attr(not(debug_assertions), inline(always))]
 fn read_list<T: ChoiceElement>(elements: &[u8]) -> Result<(T, Vec<T>), Refusal> {
     let (rest, default) = read_default(elements)?;
     Ok((default, read_elements(rest)?))
@@ -91,7 +91,7 @@ fn read_list<T: ChoiceElement>(elements: &[u8]) -> Result<(T, Vec<T>), Refusal> 
 /// Reads the body of a choice over this type. It is refused with `WrongSize` where the child size isn't the type's or the
 /// values aren't whole, with `InvalidChoiceType` where the shape word is above 4, with `MissingChoiceValues` where fewer
 /// values are there than the shape needs, and else only for lack of memory. Only Enum and Flags take memory.
-#[inline(always)]
+#[cfg_attr(not(debug_assertions), inline(always))]
 pub fn read_choice<T: ChoiceElement>(body: &[u8]) -> Result<Choice<T>, Refusal> {
     let (_, array) = body.split_at(HEADER_LEN);
     let Some(elements) = open_array::<T>(array) else {

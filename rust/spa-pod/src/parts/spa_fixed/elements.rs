@@ -17,7 +17,7 @@ const SHORT_COUNT: usize = 4;
 const SHORT_LEN: usize = 32;
 
 /// Puts the bodies of some values one after another at the front of a block.
-#[inline(always)]
+#[cfg_attr(not(debug_assertions), inline(always))]
 fn fill<T: CanonicalFixedSizedPod>(block: &mut [u8], values: &[T]) {
     let mut at = 0;
     for value in values {

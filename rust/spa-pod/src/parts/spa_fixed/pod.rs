@@ -18,7 +18,7 @@ pub fn put_fixed<T: CanonicalFixedSizedPod, S: PodSink>(
 }
 
 /// The pod of a value of fixed size, and zeros behind it up to sixteen bytes.
-#[inline(always)]
+#[cfg_attr(not(debug_assertions), inline(always))]
 pub fn pod_bytes<T: CanonicalFixedSizedPod>(value: &T) -> [u8; LONGEST_POD_LEN] {
     let mut pod = [0; LONGEST_POD_LEN];
     let (header, body) = pod.split_at_mut(HEADER_LEN);

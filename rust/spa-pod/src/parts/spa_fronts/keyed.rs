@@ -23,7 +23,7 @@ pub struct Keyed<'a> {
 
 impl<'a> Keyed<'a> {
     /// These properties.
-    #[inline(always)]
+    #[cfg_attr(not(debug_assertions), inline(always))]
     pub fn new(properties: &'a [u8]) -> Result<Keyed<'a>, AllocError> {
         if are_few(properties) || properties.len() as u64 >= PLACES {
             return Ok(Keyed {
@@ -39,7 +39,7 @@ impl<'a> Keyed<'a> {
     }
 
     /// The first property with this key.
-    #[inline(always)]
+    #[cfg_attr(not(debug_assertions), inline(always))]
     pub fn find(&self, key: u32) -> Option<PropertyView<'a>> {
         match &self.order {
             None => find(self.properties, key),
@@ -48,7 +48,7 @@ impl<'a> Keyed<'a> {
     }
 
     /// Whether no property has this key.
-    #[inline(always)]
+    #[cfg_attr(not(debug_assertions), inline(always))]
     pub fn lacks(&self, key: u32) -> bool {
         match self.find(key) {
             Some(_) => false,
@@ -58,13 +58,13 @@ impl<'a> Keyed<'a> {
 
     /// Whether a property's key is that of none of the other's properties, and of none before it. The keys of those before it are
     /// below the bound.
-    #[inline(always)]
+    #[cfg_attr(not(debug_assertions), inline(always))]
     pub fn is_new_beside(&self, other: &Keyed<'_>, first: &PropertyView<'_>, bound: u64) -> bool {
         other.lacks(first.key) && self.is_new(first, bound)
     }
 
     /// Whether a property's key is that of none before it. The keys of those before it are below the bound.
-    #[inline(always)]
+    #[cfg_attr(not(debug_assertions), inline(always))]
     pub fn is_new(&self, first: &PropertyView<'_>, bound: u64) -> bool {
         if u64::from(first.key) >= bound {
             return true;
@@ -83,7 +83,7 @@ impl<'a> Keyed<'a> {
 }
 
 /// A bound above this key and what this bound is above.
-#[inline(always)]
+#[cfg_attr(not(debug_assertions), inline(always))]
 pub fn raised(bound: u64, key: u32) -> u64 {
     let key = u64::from(key);
     if key < bound { bound } else { key + 1 }

@@ -28,7 +28,7 @@ pub struct PropertyView<'a> {
 }
 
 /// The property at the front of the bytes.
-#[inline(always)]
+#[cfg_attr(not(debug_assertions), inline(always))]
 pub fn first_property(properties: &[u8]) -> Option<PropertyView<'_>> {
     if properties.len() < HEADER_LEN {
         return None;
@@ -51,7 +51,7 @@ pub fn first_property(properties: &[u8]) -> Option<PropertyView<'_>> {
 }
 
 /// The first property with this key.
-#[inline(always)]
+#[cfg_attr(not(debug_assertions), inline(always))]
 pub fn find(properties: &[u8], key: u32) -> Option<PropertyView<'_>> {
     let mut left = properties;
     while let Some(first) = first_property(left) {

@@ -31,7 +31,7 @@ pub fn rewrite_into(input: &[u8], out: &mut [u8]) -> Option<usize> {
 }
 
 /// Copies bytes to the front of an output, where there are any.
-#[inline(always)]
+#[cfg_attr(not(debug_assertions), inline(always))]
 fn put_first(bytes: &[u8], out: &mut [u8]) {
     if !bytes.is_empty() {
         out[..bytes.len()].copy_from_slice(bytes);
@@ -39,7 +39,7 @@ fn put_first(bytes: &[u8], out: &mut [u8]) {
 }
 
 /// By how many bytes the rewritings of all pods that the bytes are are shorter than these. `None` says what it says there.
-#[inline(always)]
+#[cfg_attr(not(debug_assertions), inline(always))]
 pub(crate) fn surplus_behind(pods: &[u8]) -> Option<usize> {
     if pods.is_empty() {
         return Some(0);
@@ -49,7 +49,7 @@ pub(crate) fn surplus_behind(pods: &[u8]) -> Option<usize> {
 
 /// Writes the rewritings of pods, which are so many bytes shorter, to the front of an output that is as long as the pods at least: patched in a
 /// copy, where they aren't shorter.
-#[inline(always)]
+#[cfg_attr(not(debug_assertions), inline(always))]
 fn write_rest(surplus: usize, pods: &[u8], out: &mut [u8]) {
     if pods.is_empty() {
         return;
@@ -71,7 +71,7 @@ fn write_steady(surplus: usize, pods: &[u8], out: &mut [u8]) {
 
 /// Writes the rewritings of pods one after another to the front of an output that is at least as long, and answers how many bytes they take.
 /// What stands in the outermost ones takes one call each.
-#[inline(always)]
+#[cfg_attr(not(debug_assertions), inline(always))]
 fn write_all(pods: &[u8], out: &mut [u8]) -> usize {
     let mut to = 0;
     let mut left = pods;
@@ -86,7 +86,7 @@ fn write_all(pods: &[u8], out: &mut [u8]) -> usize {
 }
 
 /// Writes the rewriting of one pod there.
-#[inline(always)]
+#[cfg_attr(not(debug_assertions), inline(always))]
 fn write_front(type_: u32, size: usize, pod: &[u8], out: &mut [u8]) -> usize {
     match holds_whole(type_, size) {
         Some(keyed) => write_inner(keyed, pod, out),
@@ -127,14 +127,14 @@ fn write_pods(keyed: bool, pods: &[u8], out: &mut [u8]) -> usize {
 }
 
 /// The same of the pod at the front, which is a word and no truth value.
-#[inline(always)]
+#[cfg_attr(not(debug_assertions), inline(always))]
 fn write_word(pods: &[u8], out: &mut [u8]) {
     let body = word_body(u32_at(pods, HEADER_LEN));
     out[..SECOND_HEADER].copy_from_slice(&joined(first_words(pods), body));
 }
 
 /// Writes a key and flags behind what is written, where `keyed` is set, and answers where that ends.
-#[inline(always)]
+#[cfg_attr(not(debug_assertions), inline(always))]
 fn put_key(keyed: bool, bytes: &[u8], out: &mut [u8], to: usize) -> usize {
     if !keyed {
         return to;
@@ -144,19 +144,19 @@ fn put_key(keyed: bool, bytes: &[u8], out: &mut [u8], to: usize) -> usize {
 }
 
 /// Puts the first two words of the bytes at the front of the output.
-#[inline(always)]
+#[cfg_attr(not(debug_assertions), inline(always))]
 fn put_words(bytes: &[u8], out: &mut [u8]) {
     out[..HEADER_LEN].copy_from_slice(&first_words(bytes));
 }
 
 /// The first two words, by value: for a copy of these bytes the compiler would test whether they lie in the output.
-#[inline(always)]
+#[cfg_attr(not(debug_assertions), inline(always))]
 fn first_words(bytes: &[u8]) -> [u8; 8] {
     wide_body(u64_at(bytes, 0))
 }
 
 /// The same of one pod.
-#[inline(always)]
+#[cfg_attr(not(debug_assertions), inline(always))]
 fn write_pod(type_: u32, size: usize, pod: &[u8], out: &mut [u8]) -> usize {
     match holds_whole(type_, size) {
         Some(keyed) => write_inner(keyed, pod, out),
@@ -165,7 +165,7 @@ fn write_pod(type_: u32, size: usize, pod: &[u8], out: &mut [u8]) -> usize {
 }
 
 /// Whether properties stand in it, of a struct or an object whose pods can end where it does.
-#[inline(always)]
+#[cfg_attr(not(debug_assertions), inline(always))]
 pub(crate) fn holds_whole(type_: u32, size: usize) -> Option<bool> {
     if size % HEADER_LEN > 0 {
         return None;
@@ -180,7 +180,7 @@ pub(crate) fn holds_whole(type_: u32, size: usize) -> Option<bool> {
 }
 
 /// The same of a struct or an object: what it holds, and then its header.
-#[inline(always)]
+#[cfg_attr(not(debug_assertions), inline(always))]
 fn write_inner(keyed: bool, pod: &[u8], out: &mut [u8]) -> usize {
     let from = put_key(keyed, &pod[HEADER_LEN..], out, HEADER_LEN);
     let len = from + write_pods(keyed, &pod[from..], &mut out[from..]);
@@ -190,7 +190,7 @@ fn write_inner(keyed: bool, pod: &[u8], out: &mut [u8]) -> usize {
 }
 
 /// The type of an object, or of a struct.
-#[inline(always)]
+#[cfg_attr(not(debug_assertions), inline(always))]
 pub(crate) fn inner_type(keyed: bool) -> u32 {
     if keyed {
         SpaTypes::Object.0
@@ -200,7 +200,7 @@ pub(crate) fn inner_type(keyed: bool) -> u32 {
 }
 
 /// The same of a pod that holds no others, or of one that no value says.
-#[inline(always)]
+#[cfg_attr(not(debug_assertions), inline(always))]
 fn write_leaf(type_: u32, size: usize, pod: &[u8], out: &mut [u8]) -> usize {
     match SpaTypes(type_) {
         SpaTypes::Struct => 0,
@@ -217,7 +217,7 @@ fn write_leaf(type_: u32, size: usize, pod: &[u8], out: &mut [u8]) -> usize {
 }
 
 /// The same of a choice: copied without its surplus values, and patched there.
-#[inline(always)]
+#[cfg_attr(not(debug_assertions), inline(always))]
 fn write_choice(size: usize, pod: &[u8], out: &mut [u8]) -> usize {
     if size < SECOND_HEADER {
         return 0;

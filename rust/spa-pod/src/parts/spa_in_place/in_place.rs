@@ -58,7 +58,7 @@ fn malformed(pods: &[u8]) -> Option<(&[u8], DeserializeError<&[u8]>)> {
 }
 
 /// Makes pods that are so many bytes shorter then their rewritings, at their front.
-#[inline(always)]
+#[cfg_attr(not(debug_assertions), inline(always))]
 fn place_rest(surplus: usize, pods: &mut [u8]) {
     place_all(surplus, pods);
 }

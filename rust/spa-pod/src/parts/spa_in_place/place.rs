@@ -62,7 +62,7 @@ pub(crate) fn place_all(surplus: usize, bytes: &mut [u8]) -> usize {
 
 /// How many bytes the pods from a place on take that are a run, with key and flags before each where `keyed` is set, if there is one; and
 /// whether it is noisy. Before the place to look at none is looked for. That goes on: behind a run to the pod behind the one that ended it.
-#[inline(always)]
+#[cfg_attr(not(debug_assertions), inline(always))]
 fn run_len(
     outermost: bool,
     keyed: bool,
@@ -102,7 +102,7 @@ fn run_at(outermost: bool, keyed: bool, noisy: &mut bool, left: &[u8]) -> usize 
 }
 
 /// Moves a run from one place down to another, and makes noisy pods their rewritings there.
-#[inline(always)]
+#[cfg_attr(not(debug_assertions), inline(always))]
 fn put_run(noisy: bool, bytes: &mut [u8], from: usize, to: usize, len: usize) {
     move_run(bytes, from, to, len);
     if noisy {
@@ -111,7 +111,7 @@ fn put_run(noisy: bool, bytes: &mut [u8], from: usize, to: usize, len: usize) {
 }
 
 /// Moves so many bytes from one place down to another, if that is another.
-#[inline(always)]
+#[cfg_attr(not(debug_assertions), inline(always))]
 fn move_run(bytes: &mut [u8], from: usize, to: usize, len: usize) {
     if to < from {
         bytes.copy_within(from..from + len, to);
@@ -119,7 +119,7 @@ fn move_run(bytes: &mut [u8], from: usize, to: usize, len: usize) {
 }
 
 /// Whether properties stand in it, of a struct or an object that nothing follows.
-#[inline(always)]
+#[cfg_attr(not(debug_assertions), inline(always))]
 fn last_whole(left: usize, type_: u32, size: usize) -> Option<bool> {
     if left > 0 {
         return None;
@@ -132,7 +132,7 @@ fn last_whole(left: usize, type_: u32, size: usize) -> Option<bool> {
 
 /// Writes the header of a struct or of an object, whose rewriting ends there, behind what is written, moves an object's type and id behind
 /// it, and answers where these end.
-#[inline(always)]
+#[cfg_attr(not(debug_assertions), inline(always))]
 fn put_header(keyed: bool, bytes: &mut [u8], at: usize, to: usize, end: usize) -> usize {
     let body = to + HEADER_LEN;
     let header = two_words((end - body) as u32, inner_type(keyed));
@@ -169,7 +169,7 @@ fn place(keyed: bool, bytes: &mut [u8], gap: usize) -> usize {
 }
 
 /// Moves a key and flags from one place to another, where `keyed` is set, and answers where they end there.
-#[inline(always)]
+#[cfg_attr(not(debug_assertions), inline(always))]
 fn move_key(keyed: bool, bytes: &mut [u8], from: usize, to: usize) -> usize {
     if !keyed {
         return to;
@@ -181,7 +181,7 @@ fn move_key(keyed: bool, bytes: &mut [u8], from: usize, to: usize) -> usize {
 }
 
 /// Moves so many of the bytes behind the first `gap` to the front.
-#[inline(always)]
+#[cfg_attr(not(debug_assertions), inline(always))]
 fn move_down(bytes: &mut [u8], gap: usize, len: usize) {
     bytes.copy_within(gap..gap + len, 0);
 }

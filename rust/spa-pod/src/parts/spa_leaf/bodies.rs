@@ -15,7 +15,7 @@ pub fn read_fixed<T: CanonicalFixedSizedPod>(body: &[u8]) -> Result<T, Refusal> 
 
 /// The text that a body holds before its one NUL, which is its last byte. There is none where the body is empty, where its
 /// last byte isn't NUL or another one is, and where the bytes before it aren't UTF-8.
-#[inline(always)]
+#[cfg_attr(not(debug_assertions), inline(always))]
 pub fn text_of(body: &[u8]) -> Option<&str> {
     let Some((last, text)) = body.split_last() else {
         return None;

@@ -5,7 +5,7 @@ use crate::parts::spa_bytes::HEADER_LEN;
 use crate::parts::spa_sink::{GenError, PodOutput, put_two};
 
 /// Begins a pod of this type at the end of the output, with a size word of 0, and answers where it begins.
-#[inline(always)]
+#[cfg_attr(not(debug_assertions), inline(always))]
 pub fn begin<O: PodOutput>(out: &mut O, type_: u32) -> Result<usize, GenError> {
     let start = out.len();
     put_two(out, 0, type_)?;
@@ -14,7 +14,7 @@ pub fn begin<O: PodOutput>(out: &mut O, type_: u32) -> Result<usize, GenError> {
 
 /// Writes the size word of the pod that begins there and ends with the output. It is refused exactly where the size is
 /// 4294967296 or more.
-#[inline(always)]
+#[cfg_attr(not(debug_assertions), inline(always))]
 pub fn close<O: PodOutput>(out: &mut O, start: usize) -> Result<(), GenError> {
     let Ok(size) = u32::try_from(out.len() - (start + HEADER_LEN)) else {
         return Err(GenError::TooLarge);

@@ -6,7 +6,7 @@ use crate::parts::spa_sink::{GenError, PodSink};
 use crate::parts::spa_utils::Choice;
 
 /// Appends the pod of a value of fixed size.
-#[inline(always)]
+#[cfg_attr(not(debug_assertions), inline(always))]
 pub fn put_number<T: CanonicalFixedSizedPod, S: PodSink>(
     sink: &mut S,
     value: &T,

@@ -19,7 +19,7 @@ pub fn put_text<S: PodSink>(sink: &mut S, text: &str) -> Result<(), GenError> {
 }
 
 /// Appends the pod of a text that can be written.
-#[inline(always)]
+#[cfg_attr(not(debug_assertions), inline(always))]
 pub fn put_clean_text<S: PodSink>(sink: &mut S, text: &str) -> Result<(), GenError> {
     let bytes = text.as_bytes();
     let size = bytes.len() + 1;

@@ -111,7 +111,7 @@ fn rule_by(shape: u32, type_: u32) -> Rule {
 }
 
 /// Whether two values of this length are the same bytes. Others than the first ones don't count.
-#[inline(always)]
+#[cfg_attr(not(debug_assertions), inline(always))]
 fn is_same(size: usize, value: &[u8], other: &[u8]) -> bool {
     match size {
         ONE_WORD => u32_at(value, 0) == u32_at(other, 0),

@@ -7,7 +7,7 @@ use crate::parts::spa_utils::{Fd, Float32, Float64, Fraction, Id, Rectangle, Spa
 use crate::parts::spa_value::ValueArray;
 
 /// The elements in the body of an array of any of the ten types.
-#[inline(always)]
+#[cfg_attr(not(debug_assertions), inline(always))]
 pub(crate) fn read_any_array(body: &[u8]) -> Result<ValueArray, Refusal> {
     if body.len() < HEADER_LEN {
         return Err(Refusal::WrongSize);

@@ -8,7 +8,7 @@ use crate::parts::spa_utils::{Fd, Float32, Float64, Fraction, Id, Rectangle, Spa
 use crate::parts::spa_value::ChoiceValue;
 
 /// The choice in a body of one over any of the nine types.
-#[inline(always)]
+#[cfg_attr(not(debug_assertions), inline(always))]
 pub fn read_any_choice(body: &[u8]) -> Result<ChoiceValue, Refusal> {
     if body.len() < CHOICE_HEADER_LEN {
         return Err(Refusal::WrongSize);

@@ -39,12 +39,12 @@ pub(crate) trait Grows: Takes {
 
 /// The members of a struct.
 impl Grows for Vec<Value> {
-    #[inline(always)]
+    #[cfg_attr(not(debug_assertions), inline(always))]
     fn reach<'a>(&mut self, left: &'a [u8]) -> Option<&'a [u8]> {
         Some(left)
     }
 
-    #[inline(always)]
+    #[cfg_attr(not(debug_assertions), inline(always))]
     fn make_room(&mut self, behind: &[u8]) -> Result<(), AllocError> {
         if self.len() < self.capacity() {
             return Ok(());
@@ -54,7 +54,7 @@ impl Grows for Vec<Value> {
 }
 
 impl Takes for OpenObject {
-    #[inline(always)]
+    #[cfg_attr(not(debug_assertions), inline(always))]
     fn put(&mut self, value: Value) {
         let property = Property {
             key: self.key,
@@ -66,7 +66,7 @@ impl Takes for OpenObject {
 }
 
 impl Grows for OpenObject {
-    #[inline(always)]
+    #[cfg_attr(not(debug_assertions), inline(always))]
     fn reach<'a>(&mut self, left: &'a [u8]) -> Option<&'a [u8]> {
         if left.len() < HEADER_LEN {
             return None;
@@ -77,7 +77,7 @@ impl Grows for OpenObject {
         Some(behind)
     }
 
-    #[inline(always)]
+    #[cfg_attr(not(debug_assertions), inline(always))]
     fn make_room(&mut self, behind: &[u8]) -> Result<(), AllocError> {
         if self.properties.len() < self.properties.capacity() {
             return Ok(());
@@ -105,7 +105,7 @@ fn pods_from(behind: &[u8], between: usize) -> usize {
 
 /// Reads pods up to the end of a body, where it answers nothing, or up to a struct or an object, which it answers opened and
 /// where it then stands.
-#[inline(always)]
+#[cfg_attr(not(debug_assertions), inline(always))]
 pub(crate) fn read_leaves<'de, G: Grows, const LENIENT: bool>(
     left: &mut &'de [u8],
     opened: &mut u64,
@@ -141,7 +141,7 @@ pub(crate) fn read_leaves<'de, G: Grows, const LENIENT: bool>(
 
 impl Inside {
     /// Reads on as the members of a struct or as the properties of an object.
-    #[inline(always)]
+    #[cfg_attr(not(debug_assertions), inline(always))]
     pub(crate) fn read_on<'de, const LENIENT: bool>(
         &mut self,
         left: &mut &'de [u8],
@@ -158,7 +158,7 @@ impl Inside {
     }
 
     /// Makes room for one more, and where there is none, for those behind it too.
-    #[inline(always)]
+    #[cfg_attr(not(debug_assertions), inline(always))]
     pub(crate) fn make_room(&mut self, behind: &[u8]) -> Result<(), AllocError> {
         match self {
             Inside::Struct(members) => Grows::make_room(members, behind),
@@ -167,7 +167,7 @@ impl Inside {
     }
 
     /// Puts the next member, or the value of the next property, behind the others.
-    #[inline(always)]
+    #[cfg_attr(not(debug_assertions), inline(always))]
     pub(crate) fn put(&mut self, value: Value) {
         match self {
             Inside::Struct(members) => members.put(value),
@@ -176,7 +176,7 @@ impl Inside {
     }
 
     /// The value that is read.
-    #[inline(always)]
+    #[cfg_attr(not(debug_assertions), inline(always))]
     pub(crate) fn into_value(self) -> Value {
         match self {
             Inside::Struct(members) => Value::Struct(members),

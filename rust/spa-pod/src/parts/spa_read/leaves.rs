@@ -9,7 +9,7 @@ use crate::parts::spa_utils::{Fd, Float32, Float64, Fraction, Id, Rectangle, Spa
 use crate::parts::spa_value::{Takes, Value};
 
 /// A text as a `String`.
-#[inline(always)]
+#[cfg_attr(not(debug_assertions), inline(always))]
 fn read_string(body: &[u8]) -> Result<String, Refusal> {
     let Some(text) = text_of(body) else {
         return Err(Refusal::Text);
@@ -19,7 +19,7 @@ fn read_string(body: &[u8]) -> Result<String, Refusal> {
 
 /// Puts the value of a body of this type number, which is any but that of a struct or of an object, where there is room for
 /// it.
-#[inline(always)]
+#[cfg_attr(not(debug_assertions), inline(always))]
 pub(crate) fn read_leaf_into<T: Takes>(
     type_: u32,
     body: &[u8],

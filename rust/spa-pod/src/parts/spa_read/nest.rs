@@ -19,7 +19,7 @@ pub(crate) struct PartlyRead<'de> {
 }
 
 /// The struct or the object of a front, with what is left of its body. An object's body may lack its type and its id.
-#[inline(always)]
+#[cfg_attr(not(debug_assertions), inline(always))]
 pub(crate) fn begin_reading<'de>(
     front: Front<'de>,
 ) -> Result<(PartlyRead<'de>, &'de [u8]), Refusal> {
@@ -60,7 +60,7 @@ pub(crate) struct Nest<'de> {
 
 impl<'de> Nest<'de> {
     /// One alone.
-    #[inline(always)]
+    #[cfg_attr(not(debug_assertions), inline(always))]
     pub(crate) fn new(inner: PartlyRead<'de>) -> Nest<'de> {
         Nest {
             inner,
@@ -71,7 +71,7 @@ impl<'de> Nest<'de> {
 
     /// Reads on to the next struct or object, which is begun, or to the end of the innermost, which is put into the one around
     /// it. Whether something is left to read: where not, the innermost is the outermost, and is read.
-    #[inline(always)]
+    #[cfg_attr(not(debug_assertions), inline(always))]
     pub(crate) fn step<const LENIENT: bool>(
         &mut self,
         left: &mut &'de [u8],
@@ -94,7 +94,7 @@ impl<'de> Nest<'de> {
     }
 
     /// Goes into the one that is begun.
-    #[inline(always)]
+    #[cfg_attr(not(debug_assertions), inline(always))]
     fn try_push(&mut self, begun: PartlyRead<'de>) -> Result<(), AllocError> {
         if self.outermost.is_none() && self.between.is_empty() {
             self.outermost = Some(mem::replace(&mut self.inner, begun));
@@ -107,7 +107,7 @@ impl<'de> Nest<'de> {
     }
 
     /// The one around the innermost, where there is one.
-    #[inline(always)]
+    #[cfg_attr(not(debug_assertions), inline(always))]
     fn pop(&mut self) -> Option<PartlyRead<'de>> {
         if let Some(open) = self.between.pop() {
             return Some(open);
@@ -116,7 +116,7 @@ impl<'de> Nest<'de> {
     }
 
     /// Puts the innermost, which is read, into the one around it. Whether there is one.
-    #[inline(always)]
+    #[cfg_attr(not(debug_assertions), inline(always))]
     fn end(&mut self) -> Result<bool, Refused<'de>> {
         let Some(around) = self.pop() else {
             return Ok(false);
@@ -133,7 +133,7 @@ impl<'de> Nest<'de> {
     }
 
     /// The value of the innermost, where nothing is around it.
-    #[inline(always)]
+    #[cfg_attr(not(debug_assertions), inline(always))]
     pub(crate) fn into_value(self) -> Value {
         let Nest {
             inner,

@@ -31,7 +31,7 @@ pub fn read_value_leniently(input: &[u8]) -> Result<(&[u8], Value), Refused<'_>>
 }
 
 /// What follows the pod at the front, and its value in either reading.
-#[inline(always)]
+#[cfg_attr(not(debug_assertions), inline(always))]
 fn read_either<'de, const LENIENT: bool>(
     input: &'de [u8],
     opened: &mut u64,

@@ -9,7 +9,7 @@ use crate::shims::memory::AllocError;
 /// Whether the pod at the front of the input is its own rewriting: all of it is there, and `rewrite` would give the same bytes.
 /// A front that is refused isn't, and what follows the front doesn't count.
 ///
-/// Memory is asked for only where structs and objects stand more than 100 deep in one another, and then as `rewrite` does.
+/// Memory is asked for only where structs and objects stand more than 1000 deep in one another, and then as `rewrite` does.
 pub fn is_canonical(input: &[u8]) -> Result<bool, AllocError> {
     let None = canonical_front(input) else {
         return Ok(true);

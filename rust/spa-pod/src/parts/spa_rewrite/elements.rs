@@ -15,7 +15,7 @@ use crate::parts::spa_utils::SpaTypes;
 const WIDE_LEN: u32 = 8;
 
 /// The bodies of the elements in the body of an array, where the sizes in it are right.
-#[inline(always)]
+#[cfg_attr(not(debug_assertions), inline(always))]
 pub(crate) fn elements_of(body: &[u8]) -> Option<&[u8]> {
     if body.len() < HEADER_LEN {
         return None;
@@ -45,13 +45,13 @@ pub(crate) fn elements_of(body: &[u8]) -> Option<&[u8]> {
 }
 
 /// Whether bodies of this type are words, have this size, and so many bytes are whole ones.
-#[inline(always)]
+#[cfg_attr(not(debug_assertions), inline(always))]
 fn are_words(size: u32, type_: u32, len: usize) -> bool {
     size as usize == WORD_LEN && fixed_len(type_) as usize == WORD_LEN && len % WORD_LEN == 0
 }
 
 /// The bodies of a choice's default and of the further values that it takes, where the body is one of a choice.
-#[inline(always)]
+#[cfg_attr(not(debug_assertions), inline(always))]
 pub(crate) fn values_of(body: &[u8]) -> Option<&[u8]> {
     if body.len() < 2 * HEADER_LEN {
         return None;

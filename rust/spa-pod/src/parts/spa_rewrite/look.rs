@@ -173,14 +173,14 @@ fn are_shallow(pods: &[u8]) -> bool {
 }
 
 /// How many first bytes are canonical pods, where so many are of those before a pod that ends there.
-#[inline(always)]
+#[cfg_attr(not(debug_assertions), inline(always))]
 fn canonical_len(canonical: usize, are_all: bool, end: usize) -> usize {
     if are_all { end } else { canonical }
 }
 
 /// Looks at the pod at the front of the input as `look_at_pod` does, with an array in which lists can wait. Where `canonical` isn't set it isn't
 /// asked whether the pod is canonical, and the answer says that it isn't.
-#[inline(always)]
+#[cfg_attr(not(debug_assertions), inline(always))]
 fn look_at_front<'a>(
     canonical: bool,
     input: &'a [u8],
@@ -218,7 +218,7 @@ fn look_at_front<'a>(
 }
 
 /// What follows the pod at the front, where that is canonical and holds no others; or else, where `canonical` isn't set, if it is one or two words.
-#[inline(always)]
+#[cfg_attr(not(debug_assertions), inline(always))]
 fn first_leaf(canonical: bool, input: &[u8]) -> Option<&[u8]> {
     if canonical {
         return leaf_front(input);
@@ -227,7 +227,7 @@ fn first_leaf(canonical: bool, input: &[u8]) -> Option<&[u8]> {
 }
 
 /// Looks inside a struct or an object: at what follows its first pods that hold no others, if anything does.
-#[inline(always)]
+#[cfg_attr(not(debug_assertions), inline(always))]
 fn look_into<'a>(
     keyed: bool,
     canonical: bool,
@@ -245,7 +245,7 @@ fn look_into<'a>(
 }
 
 /// Looks inside with this array, and where it is too short with the long one.
-#[inline(always)]
+#[cfg_attr(not(debug_assertions), inline(always))]
 fn look_on<'a>(keyed: bool, canonical: bool, pods: &'a [u8], frames: &mut [Inside<'a>]) -> Found<'a> {
     match look_inside(keyed, canonical, pods, frames) {
         Found::Fits(canonical, surplus) => Found::Fits(canonical, surplus),
@@ -328,7 +328,7 @@ fn look_inside<'a>(
 
 /// What follows the first accepted pods that hold no others, as many as are found, and by how many bytes their encodings are shorter: where
 /// `canonical` is set those that are canonical. A key and flags stand before each where `keyed` is set.
-#[inline(always)]
+#[cfg_attr(not(debug_assertions), inline(always))]
 fn behind_first(keyed: bool, canonical: bool, pods: &[u8]) -> (&[u8], usize) {
     if !canonical {
         if keyed {
@@ -340,7 +340,7 @@ fn behind_first(keyed: bool, canonical: bool, pods: &[u8]) -> (&[u8], usize) {
 }
 
 /// Whether a struct or an object is first, or less than a pod of one word is left.
-#[inline(always)]
+#[cfg_attr(not(debug_assertions), inline(always))]
 fn is_inside_first(keyed: bool, pods: &[u8]) -> bool {
     if pods.len() < 2 * HEADER_LEN {
         return true;
@@ -354,7 +354,7 @@ fn is_inside_first(keyed: bool, pods: &[u8]) -> bool {
 }
 
 /// What follows the first canonical pods that hold no others: of properties by one loop, and of members by another.
-#[inline(always)]
+#[cfg_attr(not(debug_assertions), inline(always))]
 fn behind_canonical(keyed: bool, pods: &[u8]) -> &[u8] {
     if keyed {
         return behind_alike(true, pods);
@@ -363,7 +363,7 @@ fn behind_canonical(keyed: bool, pods: &[u8]) -> &[u8] {
 }
 
 /// The loop over these.
-#[inline(always)]
+#[cfg_attr(not(debug_assertions), inline(always))]
 fn behind_alike(keyed: bool, pods: &[u8]) -> &[u8] {
     let mut left = pods;
     while let Some(rest) = canonical_leaf(keyed, left) {
@@ -373,7 +373,7 @@ fn behind_alike(keyed: bool, pods: &[u8]) -> &[u8] {
 }
 
 /// What follows the first one.
-#[inline(always)]
+#[cfg_attr(not(debug_assertions), inline(always))]
 fn canonical_leaf(keyed: bool, left: &[u8]) -> Option<&[u8]> {
     let Some(here) = behind_key(keyed, left) else {
         return None;
@@ -382,7 +382,7 @@ fn canonical_leaf(keyed: bool, left: &[u8]) -> Option<&[u8]> {
 }
 
 /// What follows the first accepted pods that hold no others, and by how many bytes their encodings are shorter.
-#[inline(always)]
+#[cfg_attr(not(debug_assertions), inline(always))]
 fn behind_leaves(keyed: bool, pods: &[u8]) -> (&[u8], usize) {
     let mut left = pods;
     let mut surplus = 0;

@@ -37,7 +37,7 @@ pub fn patch_all(bytes: &mut [u8]) {
 }
 
 /// Makes a pod its rewriting, if that is as long. What stands in it is patched in place, without a call.
-#[inline(always)]
+#[cfg_attr(not(debug_assertions), inline(always))]
 fn patch_here(type_: u32, size: usize, pod: &mut [u8]) {
     match SpaTypes(type_) {
         SpaTypes::Struct => patch(false, &mut pod[HEADER_LEN..]),
@@ -51,7 +51,7 @@ fn patch_here(type_: u32, size: usize, pod: &mut [u8]) {
 }
 
 /// Makes properties their rewritings in place, with the same promise.
-#[inline(always)]
+#[cfg_attr(not(debug_assertions), inline(always))]
 fn patch_properties(bytes: &mut [u8]) {
     let mut at = 0;
     loop {
@@ -75,7 +75,7 @@ fn patch(keyed: bool, bytes: &mut [u8]) {
 }
 
 /// The same in place.
-#[inline(always)]
+#[cfg_attr(not(debug_assertions), inline(always))]
 fn patch_inside(keyed: bool, bytes: &mut [u8]) {
     let mut properties = keyed;
     let mut at = 0;
@@ -104,7 +104,7 @@ fn patch_inside(keyed: bool, bytes: &mut [u8]) {
 
 /// The place behind the first pods from there on that are a word, truth values aside, with key and flags before each where `keyed` is
 /// set: these become their rewritings.
-#[inline(always)]
+#[cfg_attr(not(debug_assertions), inline(always))]
 fn behind_words(keyed: bool, bytes: &mut [u8], from: usize) -> usize {
     if keyed {
         return behind_word_properties(bytes, from);
@@ -119,7 +119,7 @@ fn behind_words(keyed: bool, bytes: &mut [u8], from: usize) -> usize {
 }
 
 /// The same of properties.
-#[inline(always)]
+#[cfg_attr(not(debug_assertions), inline(always))]
 fn behind_word_properties(bytes: &mut [u8], from: usize) -> usize {
     let mut at = from;
     while begins_word_property(&bytes[at..]) {
@@ -132,7 +132,7 @@ fn behind_word_properties(bytes: &mut [u8], from: usize) -> usize {
 }
 
 /// Whether a key and flags are there, and such a pod behind them.
-#[inline(always)]
+#[cfg_attr(not(debug_assertions), inline(always))]
 fn begins_word_property(input: &[u8]) -> bool {
     if input.len() < HEADER_LEN {
         return false;
@@ -142,7 +142,7 @@ fn begins_word_property(input: &[u8]) -> bool {
 }
 
 /// Whether the pod at the front is there, and a word that is no truth value.
-#[inline(always)]
+#[cfg_attr(not(debug_assertions), inline(always))]
 pub fn begins_word(input: &[u8]) -> bool {
     if input.len() < SECOND_HEADER {
         return false;
@@ -154,7 +154,7 @@ pub fn begins_word(input: &[u8]) -> bool {
 }
 
 /// Whether this is the type of a kind whose bodies are any word.
-#[inline(always)]
+#[cfg_attr(not(debug_assertions), inline(always))]
 fn is_word_type(type_: u32) -> bool {
     match SpaTypes(type_) {
         SpaTypes::Id => true,
@@ -165,7 +165,7 @@ fn is_word_type(type_: u32) -> bool {
 }
 
 /// The place behind so many bytes of a header from a place on, and behind a key and flags where `keyed` is set.
-#[inline(always)]
+#[cfg_attr(not(debug_assertions), inline(always))]
 pub fn place_behind(bytes: &[u8], at: usize, header: usize, keyed: bool) -> usize {
     if keyed {
         at + header + HEADER_LEN
@@ -175,7 +175,7 @@ pub fn place_behind(bytes: &[u8], at: usize, header: usize, keyed: bool) -> usiz
 }
 
 /// Whether properties stand in it, of a struct or an object that nothing follows.
-#[inline(always)]
+#[cfg_attr(not(debug_assertions), inline(always))]
 fn last_inner(left: usize, type_: u32, size: usize) -> Option<bool> {
     if left > 0 {
         return None;
@@ -190,7 +190,7 @@ fn last_inner(left: usize, type_: u32, size: usize) -> Option<bool> {
 }
 
 /// The same of one pod.
-#[inline(always)]
+#[cfg_attr(not(debug_assertions), inline(always))]
 fn patch_pod(type_: u32, size: usize, pod: &mut [u8]) {
     match SpaTypes(type_) {
         SpaTypes::Struct => patch(false, &mut pod[HEADER_LEN..]),
@@ -204,7 +204,7 @@ fn patch_pod(type_: u32, size: usize, pod: &mut [u8]) {
 }
 
 /// Makes a pod of this type and this size of a body, which holds no others, its rewriting, if that is as long.
-#[inline(always)]
+#[cfg_attr(not(debug_assertions), inline(always))]
 pub fn patch_leaf(type_: u32, size: usize, pod: &mut [u8]) {
     match SpaTypes(type_) {
         SpaTypes::Bool => patch_bool(size, pod),
@@ -269,7 +269,7 @@ pub(crate) fn patch_choice(size: usize, pod: &mut [u8]) {
 }
 
 /// Makes a choice of this shape, which takes so many bytes of values, its rewriting, if that is as long. Its size word isn't read.
-#[inline(always)]
+#[cfg_attr(not(debug_assertions), inline(always))]
 pub fn patch_values(shape: u32, len: usize, pod: &mut [u8]) {
     let type_ = u32_at(pod, VALUES_AT - WORD_LEN);
     let flags = written_flags(shape, u32_at(pod, HEADER_LEN + SECOND_WORD));
@@ -307,7 +307,7 @@ fn patch_truths(words: &mut [u8]) {
 }
 
 /// Makes what follows a body of this size zeros.
-#[inline(always)]
+#[cfg_attr(not(debug_assertions), inline(always))]
 pub(crate) fn clear_padding(size: usize, pod: &mut [u8]) {
     let from = HEADER_LEN + size;
     match pod.len() - from {
@@ -321,7 +321,7 @@ pub(crate) fn clear_padding(size: usize, pod: &mut [u8]) {
 }
 
 /// Makes all bytes from a place on zeros, which are as many as this width or more, and at most twice as many: the first of them and the last.
-#[inline(always)]
+#[cfg_attr(not(debug_assertions), inline(always))]
 fn clear_ends(width: usize, from: usize, pod: &mut [u8]) {
     let last = pod.len() - width;
     pod[from..from + width].fill(0);

@@ -64,14 +64,14 @@ pub(crate) fn rewrite_pod<'a>(
 }
 
 /// Where the body ends of the pod whose header begins there.
-#[inline(always)]
+#[cfg_attr(not(debug_assertions), inline(always))]
 fn end_of_body(input: &[u8], at: u32) -> usize {
     let from = at as usize;
     from + HEADER_LEN + u32_at(input, from) as usize
 }
 
 /// Where that pod ends, with its padding.
-#[inline(always)]
+#[cfg_attr(not(debug_assertions), inline(always))]
 fn end_of_pod(input: &[u8], at: u32) -> usize {
     let from = at as usize;
     from + extent_of(u32_at(input, from))
@@ -85,7 +85,7 @@ const UNLOOKED: u32 = 7;
 
 /// Appends the first pods of a struct, or the first properties of an object, that are their own rewritings and hold no others: all
 /// of them at once. It goes on behind them. Where runs are short, it looks for few of them.
-#[inline(always)]
+#[cfg_attr(not(debug_assertions), inline(always))]
 fn put_leaves<'a>(
     keyed: bool,
     unlooked: &mut u32,
@@ -109,7 +109,7 @@ fn put_leaves<'a>(
 }
 
 /// These pods or properties, and what follows them.
-#[inline(always)]
+#[cfg_attr(not(debug_assertions), inline(always))]
 fn leaf_run(keyed: bool, left: &[u8]) -> (&[u8], &[u8]) {
     if keyed {
         return leaf_properties(left);
@@ -118,7 +118,7 @@ fn leaf_run(keyed: bool, left: &[u8]) -> (&[u8], &[u8]) {
 }
 
 /// Goes on to the next pod of a struct or, behind its key and flags, of an object.
-#[inline(always)]
+#[cfg_attr(not(debug_assertions), inline(always))]
 fn reach_pod<'a>(keyed: bool, left: &mut &'a [u8], out: &mut Tail) -> Result<(), Refusal> {
     if !keyed {
         return Ok(());
@@ -134,7 +134,7 @@ fn reach_pod<'a>(keyed: bool, left: &mut &'a [u8], out: &mut Tail) -> Result<(),
 }
 
 /// Appends the rewriting of a pod without members, or the header of a struct or an object, which it answers as begun there.
-#[inline(always)]
+#[cfg_attr(not(debug_assertions), inline(always))]
 fn begin_pod<'a>(
     at: usize,
     left: &mut &'a [u8],

@@ -56,7 +56,7 @@ fn are_steady(keyed: bool, body: &[u8], levels: u32) -> bool {
 }
 
 /// The same in place: what stands in the first pods of an input needs no call.
-#[inline(always)]
+#[cfg_attr(not(debug_assertions), inline(always))]
 fn are_steady_inside(keyed: bool, body: &[u8], levels: u32) -> bool {
     let mut properties = keyed;
     let mut left = body;
@@ -92,7 +92,7 @@ fn are_steady_inside(keyed: bool, body: &[u8], levels: u32) -> bool {
 }
 
 /// What is left of properties without the first key and flags, where these are there, and of pods all.
-#[inline(always)]
+#[cfg_attr(not(debug_assertions), inline(always))]
 pub fn behind_key(keyed: bool, left: &[u8]) -> Option<&[u8]> {
     if !keyed {
         return Some(left);
@@ -105,7 +105,7 @@ pub fn behind_key(keyed: bool, left: &[u8]) -> Option<&[u8]> {
 }
 
 /// What follows the pod at the front, where its body is one or two words and of a kind of fixed size.
-#[inline(always)]
+#[cfg_attr(not(debug_assertions), inline(always))]
 pub(crate) fn short_front(input: &[u8]) -> Option<&[u8]> {
     if input.len() < SHORT_POD {
         return None;
@@ -118,7 +118,7 @@ pub(crate) fn short_front(input: &[u8]) -> Option<&[u8]> {
 }
 
 /// Whether the bodies of this type are one or two words, and have this size.
-#[inline(always)]
+#[cfg_attr(not(debug_assertions), inline(always))]
 fn is_short(size: u32, type_: u32) -> bool {
     if size == ONE_WORD {
         return fixed_len(type_) == ONE_WORD;
@@ -128,7 +128,7 @@ fn is_short(size: u32, type_: u32) -> bool {
 
 /// What follows the first pods whose bodies are one or two words and of a kind of fixed size, with key and flags before each where
 /// `keyed` is set.
-#[inline(always)]
+#[cfg_attr(not(debug_assertions), inline(always))]
 fn behind_short(keyed: bool, pods: &[u8]) -> &[u8] {
     if keyed {
         return behind_short_properties(pods);
@@ -141,7 +141,7 @@ fn behind_short(keyed: bool, pods: &[u8]) -> &[u8] {
 }
 
 /// The same of properties.
-#[inline(always)]
+#[cfg_attr(not(debug_assertions), inline(always))]
 fn behind_short_properties(pods: &[u8]) -> &[u8] {
     let mut left = pods;
     while let Some(rest) = short_property(left) {
@@ -151,7 +151,7 @@ fn behind_short_properties(pods: &[u8]) -> &[u8] {
 }
 
 /// What follows the property at the front, where the body of its value is one or two words and of a kind of fixed size.
-#[inline(always)]
+#[cfg_attr(not(debug_assertions), inline(always))]
 fn short_property(input: &[u8]) -> Option<&[u8]> {
     if input.len() < HEADER_LEN {
         return None;
@@ -164,7 +164,7 @@ fn short_property(input: &[u8]) -> Option<&[u8]> {
 }
 
 /// What stands in the body of a struct or of an object; None for other types, and where an object's type and id aren't there.
-#[inline(always)]
+#[cfg_attr(not(debug_assertions), inline(always))]
 pub(crate) fn inside_of(type_: u32, body: &[u8]) -> Option<Inside<'_>> {
     if type_ == SpaTypes::Struct.0 {
         return Some(Inside {
@@ -180,7 +180,7 @@ pub(crate) fn inside_of(type_: u32, body: &[u8]) -> Option<Inside<'_>> {
 }
 
 /// Whether a body of this type is that of a value without members whose encoding is as long as the pod.
-#[inline(always)]
+#[cfg_attr(not(debug_assertions), inline(always))]
 pub(crate) fn is_steady_leaf(type_: u32, body: &[u8]) -> bool {
     match SpaTypes(type_) {
         SpaTypes::Choice => is_steady_choice(body),
@@ -208,7 +208,7 @@ fn is_steady_array(body: &[u8]) -> bool {
 }
 
 /// The same of choices: what they hold beyond the values that they take is within the padding.
-#[inline(always)]
+#[cfg_attr(not(debug_assertions), inline(always))]
 fn is_steady_choice(body: &[u8]) -> bool {
     match values_of(body) {
         Some(kept) => {

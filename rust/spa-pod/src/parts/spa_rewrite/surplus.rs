@@ -7,7 +7,7 @@ use crate::parts::spa_bytes::HEADER_LEN;
 use crate::parts::spa_utils::SpaTypes;
 
 /// By how many bytes the encoding of a pod with a body of this type is shorter than the pod, which holds no others.
-#[inline(always)]
+#[cfg_attr(not(debug_assertions), inline(always))]
 pub(crate) fn leaf_surplus(type_: u32, body: &[u8]) -> Option<usize> {
     if type_ == SpaTypes::Choice.0 {
         return choice_surplus(body);

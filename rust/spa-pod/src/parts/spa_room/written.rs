@@ -32,7 +32,7 @@ fn grown(mut bytes: Vec<u8>, more: usize) -> Vec<u8> {
 }
 
 /// Makes room for so many bytes behind the first ones.
-#[inline(always)]
+#[cfg_attr(not(debug_assertions), inline(always))]
 fn make_room(bytes: &mut Vec<u8>, count: usize, more: usize) -> Result<(), Errno> {
     if count + more <= bytes.len() {
         return Ok(());
@@ -45,7 +45,7 @@ fn make_room(bytes: &mut Vec<u8>, count: usize, more: usize) -> Result<(), Errno
 }
 
 /// Writes these bytes over those from this place on.
-#[inline(always)]
+#[cfg_attr(not(debug_assertions), inline(always))]
 fn write_over(bytes: &mut Vec<u8>, at: usize, piece: &[u8]) {
     let end = at + piece.len();
     bytes[at..end].copy_from_slice(piece);
@@ -59,13 +59,13 @@ impl Written {
     }
 
     /// How many there are.
-    #[inline(always)]
+    #[cfg_attr(not(debug_assertions), inline(always))]
     pub fn len(&self) -> usize {
         self.count
     }
 
     /// Where the next one will stand.
-    #[inline(always)]
+    #[cfg_attr(not(debug_assertions), inline(always))]
     pub fn place(&self) -> usize {
         self.count
     }
@@ -85,7 +85,7 @@ impl Written {
     }
 
     /// Keeps the first ones alone, as many as are asked for.
-    #[inline(always)]
+    #[cfg_attr(not(debug_assertions), inline(always))]
     pub fn truncate(&mut self, count: usize) {
         self.count = count;
     }
@@ -102,7 +102,7 @@ impl Written {
     }
 
     /// Appends the first of these bytes, as many as are asked for.
-    #[inline(always)]
+    #[cfg_attr(not(debug_assertions), inline(always))]
     pub fn append_first<const N: usize>(
         &mut self,
         piece: [u8; N],
@@ -116,13 +116,13 @@ impl Written {
     }
 
     /// Appends these bytes, whose number is known.
-    #[inline(always)]
+    #[cfg_attr(not(debug_assertions), inline(always))]
     pub fn append_array<const N: usize>(&mut self, piece: [u8; N]) -> Result<(), Errno> {
         self.append_first(piece, N)
     }
 
     /// Appends a header, a body that is at hand in two parts, and so many zeros, into room that is made once.
-    #[inline(always)]
+    #[cfg_attr(not(debug_assertions), inline(always))]
     pub fn append_parts(
         &mut self,
         header: [u8; HEADER_LEN],
@@ -158,7 +158,7 @@ impl Written {
 }
 
 impl PodSink for Written {
-    #[inline(always)]
+    #[cfg_attr(not(debug_assertions), inline(always))]
     fn append(&mut self, bytes: &[u8]) -> Result<(), GenError> {
         match Written::append(self, bytes) {
             Ok(()) => Ok(()),
@@ -166,7 +166,7 @@ impl PodSink for Written {
         }
     }
 
-    #[inline(always)]
+    #[cfg_attr(not(debug_assertions), inline(always))]
     fn has_own_memory(&self) -> bool {
         true
     }

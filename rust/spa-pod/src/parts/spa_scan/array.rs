@@ -13,13 +13,13 @@ const CHOICE_HEADER: usize = 16;
 const WORD_LEN: usize = 4;
 
 /// Whether the body of an array is as its elements are written. Most arrays need no call.
-#[inline(always)]
+#[cfg_attr(not(debug_assertions), inline(always))]
 pub(crate) fn is_array(body: &[u8]) -> bool {
     is_sized_array(body) || is_any_array(body)
 }
 
 /// Whether the elements of an array are of a kind of fixed size, Bool and None aside: these are written as they lie.
-#[inline(always)]
+#[cfg_attr(not(debug_assertions), inline(always))]
 fn is_sized_array(body: &[u8]) -> bool {
     if body.len() < HEADER_LEN {
         return false;
@@ -62,7 +62,7 @@ fn is_any_array(body: &[u8]) -> bool {
 
 /// Whether the body of a choice is as its values are written: their count is that of its shape, and a choice without
 /// alternatives has no flags.
-#[inline(always)]
+#[cfg_attr(not(debug_assertions), inline(always))]
 pub(crate) fn is_choice(body: &[u8]) -> bool {
     if body.len() <= CHOICE_HEADER {
         return false;

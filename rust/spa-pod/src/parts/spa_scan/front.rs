@@ -23,7 +23,7 @@ const FIRST_OF_BODY: usize = 8;
 const SECOND_OF_BODY: usize = 12;
 
 /// Opens the pod at the front, where all of it is there and its padding is zeros.
-#[inline(always)]
+#[cfg_attr(not(debug_assertions), inline(always))]
 pub(crate) fn padded_front(input: &[u8]) -> Option<Front<'_>> {
     let Some(front) = open(input) else {
         return None;
@@ -37,7 +37,7 @@ pub(crate) fn padded_front(input: &[u8]) -> Option<Front<'_>> {
 }
 
 /// The bytes behind a body of this size are zeros, up to a multiple of 8.
-#[inline(always)]
+#[cfg_attr(not(debug_assertions), inline(always))]
 fn has_zeros(behind: &[u8], size: usize) -> bool {
     let over = size % HEADER_LEN;
     if over == 0 {
@@ -48,7 +48,7 @@ fn has_zeros(behind: &[u8], size: usize) -> bool {
 }
 
 /// What follows the pod at the front, where that is its own rewriting and of a kind of fixed size, None aside.
-#[inline(always)]
+#[cfg_attr(not(debug_assertions), inline(always))]
 pub(crate) fn fixed_front(input: &[u8]) -> Option<&[u8]> {
     if input.len() < SHORT_POD {
         return None;
@@ -61,7 +61,7 @@ pub(crate) fn fixed_front(input: &[u8]) -> Option<&[u8]> {
 }
 
 /// The same behind a key and flags.
-#[inline(always)]
+#[cfg_attr(not(debug_assertions), inline(always))]
 pub(crate) fn fixed_property(input: &[u8]) -> Option<&[u8]> {
     if input.len() < HEADER_LEN + SHORT_POD {
         return None;
@@ -75,7 +75,7 @@ pub(crate) fn fixed_property(input: &[u8]) -> Option<&[u8]> {
 }
 
 /// Whether the pod at the front is its own rewriting and of a kind of fixed size, None aside.
-#[inline(always)]
+#[cfg_attr(not(debug_assertions), inline(always))]
 fn is_short_pod(input: &[u8]) -> bool {
     let type_ = u32_at(input, SECOND_WORD);
     let size = u32_at(input, 0);
@@ -95,7 +95,7 @@ fn is_short_pod(input: &[u8]) -> bool {
 }
 
 /// Whether this is the type of a kind whose bodies are any word.
-#[inline(always)]
+#[cfg_attr(not(debug_assertions), inline(always))]
 pub(crate) fn is_word_type(type_: u32) -> bool {
     match SpaTypes(type_) {
         SpaTypes::Id => true,
@@ -106,7 +106,7 @@ pub(crate) fn is_word_type(type_: u32) -> bool {
 }
 
 /// How long the bodies of this type are, in bytes, where it is a kind of fixed size, and else a number past all of these.
-#[inline(always)]
+#[cfg_attr(not(debug_assertions), inline(always))]
 pub fn fixed_len(type_: u32) -> u32 {
     match SpaTypes(type_) {
         SpaTypes::None => 0,

@@ -18,7 +18,7 @@ pub fn nests_within(input: &[u8], levels: u32) -> bool {
 }
 
 /// The same of the body of a pod of this type: no call of its own for a pod that holds no others.
-#[inline(always)]
+#[cfg_attr(not(debug_assertions), inline(always))]
 fn body_nests_within(type_: u32, body: &[u8], levels: u32) -> bool {
     match SpaTypes(type_) {
         SpaTypes::Struct => levels > 0 && members_nest_within(body, levels - 1),

@@ -9,7 +9,7 @@ use crate::parts::spa_utils::SpaTypes;
 
 /// How deep structs and objects may stand in one another to be looked into, structs at the end of a struct aside. The look
 /// calls itself at each level: this bounds the stack that it takes.
-pub const LEVELS: u32 = 100;
+pub const LEVELS: u32 = 1000;
 
 /// What follows the pod at the front, where a look over its bytes finds that it is its own rewriting: its padding is zeros,
 /// its truth values are 0 or 1, its choices hold no surplus values, its pointers take 16 bytes, and the same holds of its
@@ -41,7 +41,7 @@ pub fn canonical_stretch(input: &[u8]) -> (&[u8], &[u8]) {
 }
 
 /// What follows the pod at the front, where that is its own rewriting and neither a struct nor an object.
-#[inline(always)]
+#[cfg_attr(not(debug_assertions), inline(always))]
 pub fn leaf_front(input: &[u8]) -> Option<&[u8]> {
     if let Some(rest) = fixed_front(input) {
         return Some(rest);
@@ -56,13 +56,13 @@ pub fn leaf_front(input: &[u8]) -> Option<&[u8]> {
 }
 
 /// Whether pods of this type hold no others.
-#[inline(always)]
+#[cfg_attr(not(debug_assertions), inline(always))]
 fn is_looked_into(type_: u32) -> bool {
     type_ != SpaTypes::Struct.0 && type_ != SpaTypes::Object.0
 }
 
 /// The same as `leaf_front`, of a pod that isn't of fixed size.
-#[inline(always)]
+#[cfg_attr(not(debug_assertions), inline(always))]
 fn leaf_body_front(input: &[u8]) -> Option<&[u8]> {
     let Some(front) = padded_front(input) else {
         return None;
@@ -75,7 +75,7 @@ fn leaf_body_front(input: &[u8]) -> Option<&[u8]> {
 }
 
 /// The same behind a key and flags.
-#[inline(always)]
+#[cfg_attr(not(debug_assertions), inline(always))]
 fn leaf_property(input: &[u8]) -> Option<&[u8]> {
     if input.len() < HEADER_LEN {
         return None;
@@ -86,7 +86,7 @@ fn leaf_property(input: &[u8]) -> Option<&[u8]> {
 }
 
 /// The first members of a struct, as many as `leaf_front` passes, and what follows them.
-#[inline(always)]
+#[cfg_attr(not(debug_assertions), inline(always))]
 pub fn leaf_members(input: &[u8]) -> (&[u8], &[u8]) {
     let mut left = input;
     while let Some(rest) = leaf_front(left) {
@@ -96,7 +96,7 @@ pub fn leaf_members(input: &[u8]) -> (&[u8], &[u8]) {
 }
 
 /// The first properties of an object, as many as `leaf_front` passes the pods of, and what follows them.
-#[inline(always)]
+#[cfg_attr(not(debug_assertions), inline(always))]
 pub fn leaf_properties(input: &[u8]) -> (&[u8], &[u8]) {
     let mut left = input;
     while let Some(rest) = leaf_property(left) {
@@ -151,7 +151,7 @@ fn are_properties(body: &[u8], levels: u32) -> bool {
 }
 
 /// The same as `is_body`, with the looks at choices, strings and arrays in place: these need no call.
-#[inline(always)]
+#[cfg_attr(not(debug_assertions), inline(always))]
 fn is_any_body(type_: u32, body: &[u8], levels: u32) -> bool {
     match SpaTypes(type_) {
         SpaTypes::Choice => is_choice(body),

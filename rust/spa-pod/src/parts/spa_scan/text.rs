@@ -4,13 +4,13 @@ use crate::shims::prelude::*;
 use crate::parts::spa_leaf::text_of;
 
 /// Whether the body of a string is a text without NUL, and one NUL behind it.
-#[inline(always)]
+#[cfg_attr(not(debug_assertions), inline(always))]
 pub fn is_text(body: &[u8]) -> bool {
     is_ascii_string(body) || holds_text(body)
 }
 
 /// The same, of ASCII characters alone.
-#[inline(always)]
+#[cfg_attr(not(debug_assertions), inline(always))]
 fn is_ascii_string(body: &[u8]) -> bool {
     let Some((last, text)) = body.split_last() else {
         return false;
@@ -36,7 +36,7 @@ const PIECE: usize = 8;
 const HALF_PIECE: usize = 4;
 
 /// Whether each byte is an ASCII character other than NUL.
-#[inline(always)]
+#[cfg_attr(not(debug_assertions), inline(always))]
 fn is_ascii_text(text: &[u8]) -> bool {
     if text.len() < PIECE {
         return is_short_ascii_text(text);
@@ -59,7 +59,7 @@ fn is_ascii_text(text: &[u8]) -> bool {
 }
 
 /// The same of fewer than eight bytes.
-#[inline(always)]
+#[cfg_attr(not(debug_assertions), inline(always))]
 fn is_short_ascii_text(text: &[u8]) -> bool {
     if text.len() < HALF_PIECE || text.len() > PIECE {
         return are_ascii_bytes(text);
@@ -82,7 +82,7 @@ fn are_ascii_bytes(text: &[u8]) -> bool {
 }
 
 /// The same of the first eight bytes.
-#[inline(always)]
+#[cfg_attr(not(debug_assertions), inline(always))]
 fn are_ascii(word: &[u8]) -> bool {
     is_ascii(word[0])
         & is_ascii(word[1])
@@ -95,7 +95,7 @@ fn are_ascii(word: &[u8]) -> bool {
 }
 
 /// The same of the first four bytes.
-#[inline(always)]
+#[cfg_attr(not(debug_assertions), inline(always))]
 fn are_four_ascii(word: &[u8]) -> bool {
     is_ascii(word[0]) & is_ascii(word[1]) & is_ascii(word[2]) & is_ascii(word[3])
 }
@@ -104,7 +104,7 @@ fn are_four_ascii(word: &[u8]) -> bool {
 const LAST_ASCII: u8 = 127;
 
 /// Whether a byte is an ASCII character other than NUL, and so no part of a longer one.
-#[inline(always)]
+#[cfg_attr(not(debug_assertions), inline(always))]
 fn is_ascii(byte: u8) -> bool {
     byte.wrapping_sub(1) < LAST_ASCII
 }

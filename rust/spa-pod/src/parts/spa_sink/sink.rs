@@ -41,7 +41,7 @@ impl PodSink for Vec<u8> {
         }
     }
 
-    #[inline(always)]
+    #[cfg_attr(not(debug_assertions), inline(always))]
     fn has_own_memory(&self) -> bool {
         true
     }
@@ -65,7 +65,7 @@ impl<const N: usize> PodSink for ArrayVec<u8, N> {
         }
     }
 
-    #[inline(always)]
+    #[cfg_attr(not(debug_assertions), inline(always))]
     fn room(&self) -> Option<usize> {
         Some(self.remaining_capacity())
     }

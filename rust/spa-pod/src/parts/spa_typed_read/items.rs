@@ -12,7 +12,7 @@ use core::marker::PhantomData;
 
 /// Opens the array at the front of the input, whose elements have to be of this type. Refusals: `Nom` with `Short` or `Tag`,
 /// and `WrongSize` where the body lacks a child header.
-#[inline(always)]
+#[cfg_attr(not(debug_assertions), inline(always))]
 pub(crate) fn open_array_of<'de, T: CanonicalFixedSizedPod>(
     input: &'de [u8],
 ) -> Result<Front<'de>, DeserializeError<&'de [u8]>> {

@@ -28,12 +28,12 @@ pub trait DeserializeProperties<'de>: Sized {
 }
 
 impl<'de> DeserializeProperties<'de> for () {
-    #[inline(always)]
+    #[cfg_attr(not(debug_assertions), inline(always))]
     fn asks_for(_key: u32) -> bool {
         false
     }
 
-    #[inline(always)]
+    #[cfg_attr(not(debug_assertions), inline(always))]
     fn find_from(
         _reader: &ObjectPodDeserializer<'de>,
         _from: &'de [u8],
@@ -48,12 +48,12 @@ impl<
     A: ExactDeserialize<'de>,
     R: DeserializeProperties<'de>,
 > DeserializeProperties<'de> for (Required<KEY, A>, R) {
-    #[inline(always)]
+    #[cfg_attr(not(debug_assertions), inline(always))]
     fn asks_for(key: u32) -> bool {
         key == KEY || R::asks_for(key)
     }
 
-    #[inline(always)]
+    #[cfg_attr(not(debug_assertions), inline(always))]
     fn find_from(
         reader: &ObjectPodDeserializer<'de>,
         from: &'de [u8],
@@ -78,12 +78,12 @@ impl<
     A: ExactDeserialize<'de>,
     R: DeserializeProperties<'de>,
 > DeserializeProperties<'de> for (Optional<KEY, A>, R) {
-    #[inline(always)]
+    #[cfg_attr(not(debug_assertions), inline(always))]
     fn asks_for(key: u32) -> bool {
         key == KEY || R::asks_for(key)
     }
 
-    #[inline(always)]
+    #[cfg_attr(not(debug_assertions), inline(always))]
     fn find_from(
         reader: &ObjectPodDeserializer<'de>,
         from: &'de [u8],

@@ -15,7 +15,7 @@ use crate::parts::spa_utils::{Choice, SpaTypes};
 
 impl<'de> PodDeserializer<'de> {
     /// The value of one of the ten types.
-    #[inline(always)]
+    #[cfg_attr(not(debug_assertions), inline(always))]
     pub(crate) fn fixed_pod<T: CanonicalFixedSizedPod>(
         self,
     ) -> Result<(T, DeserializeSuccess<'de>), DeserializeError<&'de [u8]>> {

@@ -20,7 +20,7 @@ fn short_at(place: &[u8]) -> DeserializeError<&[u8]> {
 }
 
 /// The first place whose key is asked for: the one that was met before, or else this one, if its key is.
-#[inline(always)]
+#[cfg_attr(not(debug_assertions), inline(always))]
 fn first_asked<'de, R: DeserializeProperties<'de>>(
     before: Option<&'de [u8]>,
     left: &'de [u8],
@@ -151,7 +151,7 @@ impl<'de> ObjectPodDeserializer<'de> {
 
     /// Looks for the first property under this key from a place on, as `find_property` does. It also answers the place from which those
     /// that `R` asks for are to be looked for: at the first of them that it met, or else behind what it looked at.
-    #[inline(always)]
+    #[cfg_attr(not(debug_assertions), inline(always))]
     pub(crate) fn find_from<P: PodDeserialize<'de>, R: DeserializeProperties<'de>>(
         &self,
         key: u32,

@@ -15,7 +15,7 @@ use crate::parts::spa_view::{FixedPod, FromPod, Pod};
 pub struct Settled<T>(pub T);
 
 /// The pod at the front, where it is a choice's.
-#[inline(always)]
+#[cfg_attr(not(debug_assertions), inline(always))]
 fn choice_at(input: &[u8]) -> Option<Pod<'_>> {
     let pod = Pod::from_bytes(input)?;
     if pod.type_().0 != SpaTypes::Choice.0 {

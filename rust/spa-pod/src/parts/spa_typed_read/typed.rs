@@ -16,7 +16,7 @@ use crate::parts::spa_utils::{Fd, Float32, Float64, Fraction, Id, Rectangle, Spa
 
 /// Opens the pod at the front of the input, which has to be of this type. Refusals: `Nom` with `Short` where the front isn't
 /// there, else `Nom` with `Tag` where its type number is another one.
-#[inline(always)]
+#[cfg_attr(not(debug_assertions), inline(always))]
 pub(crate) fn open_as<'de>(
     input: &'de [u8],
     type_: u32,
@@ -38,7 +38,7 @@ pub(crate) fn open_as<'de>(
 
 /// What a visitor is handed of a body of this type, which is any but that of an array, of a struct or of an object. Only a
 /// choice asks for memory.
-#[inline(always)]
+#[cfg_attr(not(debug_assertions), inline(always))]
 fn content<'de, E>(type_: u32, body: &'de [u8]) -> Result<Visit<'de, E>, Refusal> {
     match SpaTypes(type_) {
         SpaTypes::None => {

@@ -31,7 +31,7 @@ impl ArrayElement for Fraction {}
 impl ArrayElement for Fd {}
 
 impl<T: ArrayElement> SerializeAs for T {
-    #[inline(always)]
+    #[cfg_attr(not(debug_assertions), inline(always))]
     fn write_as<O: PodOutput>(&self, out: &mut O) -> Result<(), GenError> {
         write_number(out, self)
     }

@@ -29,7 +29,7 @@ pub trait SerializeAs {
 }
 
 impl<T: SerializeAs> PodSerialize for T {
-    #[inline(always)]
+    #[cfg_attr(not(debug_assertions), inline(always))]
     fn serialize<O: PodOutput>(
         &self,
         serializer: PodSerializer<O>,
@@ -44,7 +44,7 @@ impl<T: SerializeAs> PodSerialize for T {
 }
 
 impl<T: SerializeAs> ExactSerialize for T {
-    #[inline(always)]
+    #[cfg_attr(not(debug_assertions), inline(always))]
     fn write_exactly<O: PodOutput>(&self, out: &mut O) -> Result<(), GenError> {
         self.write_as(out)
     }
@@ -60,7 +60,7 @@ impl SerializeAs for Value {
 }
 
 /// Appends a value of a type of fixed size.
-#[inline(always)]
+#[cfg_attr(not(debug_assertions), inline(always))]
 pub(crate) fn write_number<T: CanonicalFixedSizedPod, O: PodOutput>(
     out: &mut O,
     value: &T,

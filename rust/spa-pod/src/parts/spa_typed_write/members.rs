@@ -20,7 +20,7 @@ pub struct ObjectPodSerializer<O: PodOutput> {
 
 impl<O: PodOutput> PodSerializer<O> {
     /// Begins a struct. It is refused only where the output refuses the 8 bytes of the header.
-    #[inline(always)]
+    #[cfg_attr(not(debug_assertions), inline(always))]
     pub fn serialize_struct(self) -> Result<StructPodSerializer<O>, GenError> {
         let PodSerializer { out } = self;
         Ok(StructPodSerializer {
@@ -30,7 +30,7 @@ impl<O: PodOutput> PodSerializer<O> {
 
     /// Begins an object of this type, with this id. It is refused only where the output refuses the 8 bytes of the
     /// header, or the 8 bytes of type and id behind it.
-    #[inline(always)]
+    #[cfg_attr(not(debug_assertions), inline(always))]
     pub fn serialize_object(self, type_: u32, id: u32) -> Result<ObjectPodSerializer<O>, GenError> {
         let PodSerializer { out } = self;
         let mut pod = OpenPod::begin_pod(out, SpaTypes::Object.0)?;
@@ -42,14 +42,14 @@ impl<O: PodOutput> PodSerializer<O> {
 impl<O: PodOutput> StructPodSerializer<O> {
     /// Writes one member more, and answers how many bytes it took. It is refused as the member is, or where the output
     /// refuses the member's encoding; as `Failed` after a refusal.
-    #[inline(always)]
+    #[cfg_attr(not(debug_assertions), inline(always))]
     pub fn serialize_field<P: PodSerialize>(&mut self, field: &P) -> Result<u64, GenError> {
         self.pod.put(field)
     }
 
     /// Ends the struct. It is refused as `TooLarge` exactly where its body is 4294967296 bytes or more, and as `Failed`
     /// exactly after a refusal.
-    #[inline(always)]
+    #[cfg_attr(not(debug_assertions), inline(always))]
     pub fn end(self) -> Result<SerializeSuccess<O>, GenError> {
         let StructPodSerializer { pod } = self;
         pod.close()
@@ -60,7 +60,7 @@ impl<O: PodOutput> ObjectPodSerializer<O> {
     /// Writes one property more, and answers how many bytes it took: 8 of key and flags, and the value's encoding. It is
     /// refused as the value is, or where the output refuses key and flags or the value's encoding; as `Failed` after a
     /// refusal.
-    #[inline(always)]
+    #[cfg_attr(not(debug_assertions), inline(always))]
     pub fn serialize_property<P: PodSerialize>(
         &mut self,
         key: u32,
@@ -72,7 +72,7 @@ impl<O: PodOutput> ObjectPodSerializer<O> {
 
     /// Ends the object. It is refused as `TooLarge` exactly where its body is 4294967296 bytes or more, and as `Failed`
     /// exactly after a refusal.
-    #[inline(always)]
+    #[cfg_attr(not(debug_assertions), inline(always))]
     pub fn end(self) -> Result<SerializeSuccess<O>, GenError> {
         let ObjectPodSerializer { pod } = self;
         pod.close()

@@ -14,7 +14,7 @@ pub(crate) struct OpenPod<O: PodOutput> {
 
 impl<O: PodOutput> OpenPod<O> {
     /// Begins a pod of this type.
-    #[inline(always)]
+    #[cfg_attr(not(debug_assertions), inline(always))]
     pub(crate) fn begin_pod(mut out: O, type_: u32) -> Result<OpenPod<O>, GenError> {
         let start = begin(&mut out, type_)?;
         Ok(OpenPod {
@@ -25,7 +25,7 @@ impl<O: PodOutput> OpenPod<O> {
     }
 
     /// Appends two words.
-    #[inline(always)]
+    #[cfg_attr(not(debug_assertions), inline(always))]
     pub(crate) fn put_words(&mut self, first: u32, second: u32) -> Result<(), GenError> {
         let Some(mut out) = self.out.take() else {
             return Err(GenError::Failed);
@@ -36,7 +36,7 @@ impl<O: PodOutput> OpenPod<O> {
     }
 
     /// Appends a value, and answers how many bytes its encoding has.
-    #[inline(always)]
+    #[cfg_attr(not(debug_assertions), inline(always))]
     pub(crate) fn put<P: PodSerialize>(&mut self, value: &P) -> Result<u64, GenError> {
         let Some(out) = self.out.take() else {
             return Err(GenError::Failed);
@@ -47,7 +47,7 @@ impl<O: PodOutput> OpenPod<O> {
     }
 
     /// Appends a key, flags and a value, and answers how many bytes they take.
-    #[inline(always)]
+    #[cfg_attr(not(debug_assertions), inline(always))]
     pub(crate) fn put_property<P: PodSerialize>(
         &mut self,
         key: u32,
@@ -66,7 +66,7 @@ impl<O: PodOutput> OpenPod<O> {
     }
 
     /// Writes the size word.
-    #[inline(always)]
+    #[cfg_attr(not(debug_assertions), inline(always))]
     pub(crate) fn close(self) -> Result<SerializeSuccess<O>, GenError> {
         let OpenPod { out, start, .. } = self;
         let Some(mut out) = out else {

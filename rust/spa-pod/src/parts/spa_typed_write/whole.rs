@@ -8,7 +8,7 @@ use crate::parts::spa_sink::{GenError, PodOutput};
 use crate::parts::spa_utils::Choice;
 
 /// A pod was written to an output that had this length before.
-#[inline(always)]
+#[cfg_attr(not(debug_assertions), inline(always))]
 pub(crate) fn written_since<O: PodOutput>(start: usize, out: O) -> SerializeSuccess<O> {
     let len = (out.len() - start) as u64;
     SerializeSuccess { out, len }
@@ -17,7 +17,7 @@ pub(crate) fn written_since<O: PodOutput>(start: usize, out: O) -> SerializeSucc
 impl<O: PodOutput> PodSerializer<O> {
     /// Writes a value of a type of fixed size, as the value that stands for it. It is refused only where the output refuses
     /// its encoding.
-    #[inline(always)]
+    #[cfg_attr(not(debug_assertions), inline(always))]
     pub fn serialized_fixed_sized_pod<P: FixedSizedPod>(
         self,
         pod: &P,

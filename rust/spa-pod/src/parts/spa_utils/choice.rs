@@ -9,7 +9,7 @@ use crate::shims::memory::AllocError;
 pub struct Choice<T>(pub ChoiceFlags, pub ChoiceEnum<T>);
 
 impl<T: Copy> TryClone for Choice<T> {
-    #[inline(always)]
+    #[cfg_attr(not(debug_assertions), inline(always))]
     fn try_clone(&self) -> Result<Choice<T>, AllocError> {
         Ok(Choice(self.0, self.1.try_clone()?))
     }
@@ -98,7 +98,7 @@ impl<T: Eq> Eq for ChoiceEnum<T> {
 }
 
 impl<T: Copy> TryClone for ChoiceEnum<T> {
-    #[inline(always)]
+    #[cfg_attr(not(debug_assertions), inline(always))]
     fn try_clone(&self) -> Result<ChoiceEnum<T>, AllocError> {
         match self {
             ChoiceEnum::None(value) => Ok(ChoiceEnum::None(*value)),
@@ -134,7 +134,7 @@ impl<T: Copy> TryClone for ChoiceEnum<T> {
 }
 
 /// The same elements, by the allocator of the given ones.
-#[inline(always)]
+#[cfg_attr(not(debug_assertions), inline(always))]
 fn copy_of<T: Copy>(values: &Vec<T>) -> Result<Vec<T>, AllocError> {
     let mut copy = Vec::with_room(values.len())?;
     copy.try_extend_from_slice(values.as_slice())?;

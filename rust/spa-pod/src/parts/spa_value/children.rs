@@ -11,13 +11,13 @@ pub(crate) enum Children {
 }
 
 /// Does the value hold others?
-#[inline(always)]
+#[cfg_attr(not(debug_assertions), inline(always))]
 fn is_nested(value: &Value) -> bool {
     matches!(value, Value::Struct(_) | Value::Object(_))
 }
 
 /// How many members there are up to the last one that holds others.
-#[inline(always)]
+#[cfg_attr(not(debug_assertions), inline(always))]
 fn nested_members(members: &[Value]) -> usize {
     let mut left = members;
     while let Some((member, before)) = left.split_last() {
@@ -30,7 +30,7 @@ fn nested_members(members: &[Value]) -> usize {
 }
 
 /// How many properties there are up to the last one whose value holds others.
-#[inline(always)]
+#[cfg_attr(not(debug_assertions), inline(always))]
 fn nested_properties(properties: &[Property]) -> usize {
     let mut left = properties;
     while let Some((property, before)) = left.split_last() {

@@ -16,63 +16,63 @@ trait Chosen: ChoiceElement {
 }
 
 impl Chosen for bool {
-    #[inline(always)]
+    #[cfg_attr(not(debug_assertions), inline(always))]
     fn among(choice: Choice<bool>) -> ChoiceValue {
         ChoiceValue::Bool(choice)
     }
 }
 
 impl Chosen for Id {
-    #[inline(always)]
+    #[cfg_attr(not(debug_assertions), inline(always))]
     fn among(choice: Choice<Id>) -> ChoiceValue {
         ChoiceValue::Id(choice)
     }
 }
 
 impl Chosen for i32 {
-    #[inline(always)]
+    #[cfg_attr(not(debug_assertions), inline(always))]
     fn among(choice: Choice<i32>) -> ChoiceValue {
         ChoiceValue::Int(choice)
     }
 }
 
 impl Chosen for i64 {
-    #[inline(always)]
+    #[cfg_attr(not(debug_assertions), inline(always))]
     fn among(choice: Choice<i64>) -> ChoiceValue {
         ChoiceValue::Long(choice)
     }
 }
 
 impl Chosen for Float32 {
-    #[inline(always)]
+    #[cfg_attr(not(debug_assertions), inline(always))]
     fn among(choice: Choice<Float32>) -> ChoiceValue {
         ChoiceValue::Float(choice)
     }
 }
 
 impl Chosen for Float64 {
-    #[inline(always)]
+    #[cfg_attr(not(debug_assertions), inline(always))]
     fn among(choice: Choice<Float64>) -> ChoiceValue {
         ChoiceValue::Double(choice)
     }
 }
 
 impl Chosen for Rectangle {
-    #[inline(always)]
+    #[cfg_attr(not(debug_assertions), inline(always))]
     fn among(choice: Choice<Rectangle>) -> ChoiceValue {
         ChoiceValue::Rectangle(choice)
     }
 }
 
 impl Chosen for Fraction {
-    #[inline(always)]
+    #[cfg_attr(not(debug_assertions), inline(always))]
     fn among(choice: Choice<Fraction>) -> ChoiceValue {
         ChoiceValue::Fraction(choice)
     }
 }
 
 impl Chosen for Fd {
-    #[inline(always)]
+    #[cfg_attr(not(debug_assertions), inline(always))]
     fn among(choice: Choice<Fd>) -> ChoiceValue {
         ChoiceValue::Fd(choice)
     }
@@ -95,7 +95,7 @@ pub(crate) fn put_choice<T: Takes>(choice: &ChoiceValue, to: &mut T) -> Result<(
 }
 
 /// The same of a choice over one of the nine. Each shape's copy is put by its own arm, so that none is moved twice.
-#[inline(always)]
+#[cfg_attr(not(debug_assertions), inline(always))]
 fn put_values<C: Chosen, T: Takes>(choice: &Choice<C>, to: &mut T) -> Result<(), AllocError> {
     let flags = choice.0;
     match &choice.1 {
@@ -167,7 +167,7 @@ fn put_flags<C: Chosen, T: Takes>(
 }
 
 /// Puts a choice of these flags and values.
-#[inline(always)]
+#[cfg_attr(not(debug_assertions), inline(always))]
 fn put_made<C: Chosen, T: Takes>(flags: ChoiceFlags, values: ChoiceEnum<C>, to: &mut T) {
     to.put(Value::Choice(C::among(Choice(flags, values))));
 }

@@ -41,7 +41,7 @@ macro_rules! where_of {
 }
 
 /// Compares two values. Of two structs, or of two objects of one type and one id, what is in them isn't looked at.
-#[inline(always)]
+#[cfg_attr(not(debug_assertions), inline(always))]
 pub(crate) fn compare<'a>(value: &'a Value, other: &'a Value) -> Verdict<'a> {
     match value {
         Value::None => where_of!(other, Value::None => true),
@@ -72,7 +72,7 @@ pub(crate) fn compare<'a>(value: &'a Value, other: &'a Value) -> Verdict<'a> {
 }
 
 /// The same of two objects.
-#[inline(always)]
+#[cfg_attr(not(debug_assertions), inline(always))]
 pub(crate) fn compare_objects<'a>(object: &'a Object, other: &'a Object) -> Verdict<'a> {
     if object.type_ != other.type_ || object.id != other.id {
         return Verdict::Settled(false);
@@ -82,7 +82,7 @@ pub(crate) fn compare_objects<'a>(object: &'a Object, other: &'a Object) -> Verd
 
 impl<'a> Pair<'a> {
     /// Compares on, to the next two structs or objects, to a difference or to the end.
-    #[inline(always)]
+    #[cfg_attr(not(debug_assertions), inline(always))]
     pub(crate) fn step(self) -> Step<'a> {
         match self {
             Pair::Members(members, others) => members_step(members, others),
@@ -91,7 +91,7 @@ impl<'a> Pair<'a> {
     }
 
     /// Is nothing left?
-    #[inline(always)]
+    #[cfg_attr(not(debug_assertions), inline(always))]
     pub(crate) fn is_done(self) -> bool {
         match self {
             Pair::Members(members, others) => members.is_empty() && others.is_empty(),
@@ -101,7 +101,7 @@ impl<'a> Pair<'a> {
 }
 
 /// Compares members on.
-#[inline(always)]
+#[cfg_attr(not(debug_assertions), inline(always))]
 fn members_step<'a>(members: &'a [Value], others: &'a [Value]) -> Step<'a> {
     let mut left = members;
     let mut others_left = others;
@@ -123,7 +123,7 @@ fn members_step<'a>(members: &'a [Value], others: &'a [Value]) -> Step<'a> {
 }
 
 /// Compares properties on.
-#[inline(always)]
+#[cfg_attr(not(debug_assertions), inline(always))]
 fn properties_step<'a>(properties: &'a [Property], others: &'a [Property]) -> Step<'a> {
     let mut left = properties;
     let mut others_left = others;

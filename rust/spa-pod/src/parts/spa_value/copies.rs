@@ -11,7 +11,7 @@ use crate::parts::spa_value::value::Value;
 use crate::shims::memory::AllocError;
 
 impl TryClone for ValueArray {
-    #[inline(always)]
+    #[cfg_attr(not(debug_assertions), inline(always))]
     fn try_clone(&self) -> Result<ValueArray, AllocError> {
         match self {
             ValueArray::None(xs) => Ok(ValueArray::None(copy_elements(xs)?)),
@@ -29,7 +29,7 @@ impl TryClone for ValueArray {
 }
 
 impl TryClone for ChoiceValue {
-    #[inline(always)]
+    #[cfg_attr(not(debug_assertions), inline(always))]
     fn try_clone(&self) -> Result<ChoiceValue, AllocError> {
         match self {
             ChoiceValue::Bool(choice) => Ok(ChoiceValue::Bool(choice.try_clone()?)),
@@ -69,7 +69,7 @@ impl TryClone for Property {
 }
 
 /// The same elements.
-#[inline(always)]
+#[cfg_attr(not(debug_assertions), inline(always))]
 pub(crate) fn copy_elements<T: Copy>(elements: &Vec<T>) -> Result<Vec<T>, AllocError> {
     let mut copy = Vec::with_room(elements.len())?;
     copy.try_extend_from_slice(elements.as_slice())?;

@@ -5,13 +5,13 @@ use crate::shims::prelude::*;
 const BLOCK_COUNT: usize = 128;
 
 /// Whether two lists are equal element by element, as `==` tells.
-#[inline(always)]
+#[cfg_attr(not(debug_assertions), inline(always))]
 pub(crate) fn same_elements<T: PartialEq>(elements: &Vec<T>, others: &Vec<T>) -> bool {
     same_slices(elements.as_slice(), others.as_slice())
 }
 
 /// The same of slices.
-#[inline(always)]
+#[cfg_attr(not(debug_assertions), inline(always))]
 fn same_slices<T: PartialEq>(elements: &[T], others: &[T]) -> bool {
     if elements.len() != others.len() {
         return false;
@@ -31,7 +31,7 @@ fn same_slices<T: PartialEq>(elements: &[T], others: &[T]) -> bool {
 }
 
 /// Whether two blocks are equal element by element.
-#[inline(always)]
+#[cfg_attr(not(debug_assertions), inline(always))]
 fn same_block<T: PartialEq>(block: &[T], other: &[T]) -> bool {
     let mut is_same = true;
     for place in 0..BLOCK_COUNT {

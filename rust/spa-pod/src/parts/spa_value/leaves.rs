@@ -11,7 +11,7 @@ use crate::shims::memory::AllocError;
 
 /// Puts the copy of a value that holds no others where there is room for it. A struct or an object is answered, and isn't
 /// copied.
-#[inline(always)]
+#[cfg_attr(not(debug_assertions), inline(always))]
 pub(crate) fn copy_leaf<'a, T: Takes>(
     value: &'a Value,
     to: &mut T,

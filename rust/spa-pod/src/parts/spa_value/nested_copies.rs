@@ -42,14 +42,14 @@ pub(crate) enum Nested<'a> {
 }
 
 impl Takes for Vec<Value> {
-    #[inline(always)]
+    #[cfg_attr(not(debug_assertions), inline(always))]
     fn put(&mut self, value: Value) {
         self.push(value);
     }
 }
 
 impl<'a> Takes for CopiedObject<'a> {
-    #[inline(always)]
+    #[cfg_attr(not(debug_assertions), inline(always))]
     fn put(&mut self, value: Value) {
         self.copies.push(Property {
             key: self.key,
@@ -60,7 +60,7 @@ impl<'a> Takes for CopiedObject<'a> {
 }
 
 /// Begins the copy of a struct or of an object.
-#[inline(always)]
+#[cfg_attr(not(debug_assertions), inline(always))]
 fn begin_copy(nested: Nested<'_>) -> Result<Copying<'_>, AllocError> {
     match nested {
         Nested::Struct(members) => match begin_struct(members) {
@@ -75,7 +75,7 @@ fn begin_copy(nested: Nested<'_>) -> Result<Copying<'_>, AllocError> {
 }
 
 /// Begins the copy of a struct.
-#[inline(always)]
+#[cfg_attr(not(debug_assertions), inline(always))]
 fn begin_struct(members: &Vec<Value>) -> Result<CopiedStruct<'_>, AllocError> {
     let copies = Vec::with_room(members.len())?;
     let left = members.as_slice();
@@ -83,7 +83,7 @@ fn begin_struct(members: &Vec<Value>) -> Result<CopiedStruct<'_>, AllocError> {
 }
 
 /// Begins the copy of an object.
-#[inline(always)]
+#[cfg_attr(not(debug_assertions), inline(always))]
 fn begin_object(object: &Object) -> Result<CopiedObject<'_>, AllocError> {
     let properties = &object.properties;
     let copies = Vec::with_room(properties.len())?;
@@ -99,7 +99,7 @@ fn begin_object(object: &Object) -> Result<CopiedObject<'_>, AllocError> {
 
 impl<'a> CopiedStruct<'a> {
     /// Copies on, to the next struct or object among the members, or to their end.
-    #[inline(always)]
+    #[cfg_attr(not(debug_assertions), inline(always))]
     fn copy_on(&mut self) -> Result<Option<Nested<'a>>, AllocError> {
         let mut left = self.left;
         while let Some((member, behind)) = left.split_first() {
@@ -116,7 +116,7 @@ impl<'a> CopiedStruct<'a> {
 
 impl<'a> CopiedObject<'a> {
     /// Copies on, to the next struct or object among the values of the properties, or to their end.
-    #[inline(always)]
+    #[cfg_attr(not(debug_assertions), inline(always))]
     fn copy_on(&mut self) -> Result<Option<Nested<'a>>, AllocError> {
         let mut left = self.left;
         while let Some((property, behind)) = left.split_first() {
@@ -135,7 +135,7 @@ impl<'a> CopiedObject<'a> {
 
 impl<'a> Copying<'a> {
     /// Copies on, to the next struct or object in it, or to its end.
-    #[inline(always)]
+    #[cfg_attr(not(debug_assertions), inline(always))]
     fn copy_on(&mut self) -> Result<Option<Nested<'a>>, AllocError> {
         match self {
             Copying::Struct(it) => it.copy_on(),
@@ -144,7 +144,7 @@ impl<'a> Copying<'a> {
     }
 
     /// Makes room for one more copy.
-    #[inline(always)]
+    #[cfg_attr(not(debug_assertions), inline(always))]
     fn make_room(&mut self) -> Result<(), AllocError> {
         match self {
             Copying::Struct(it) => it.copies.make_room(1),
@@ -153,7 +153,7 @@ impl<'a> Copying<'a> {
     }
 
     /// Puts the copy of the member or of the property's value that was begun behind the others.
-    #[inline(always)]
+    #[cfg_attr(not(debug_assertions), inline(always))]
     fn put(&mut self, value: Value) {
         match self {
             Copying::Struct(it) => it.copies.push(value),
@@ -166,7 +166,7 @@ impl<'a> Copying<'a> {
     }
 
     /// The value of the copies so far.
-    #[inline(always)]
+    #[cfg_attr(not(debug_assertions), inline(always))]
     fn into_value(self) -> Value {
         match self {
             Copying::Struct(it) => Value::Struct(it.copies),
@@ -189,7 +189,7 @@ pub(crate) struct Copies<'a> {
 impl<'a> Copies<'a> {
     /// Copies on, to the next struct or object, which is begun, or to the end of the innermost, which is put into the one
     /// around it. Whether something is left to copy: where not, the innermost is the outermost, and is copied.
-    #[inline(always)]
+    #[cfg_attr(not(debug_assertions), inline(always))]
     fn step(&mut self) -> Result<bool, AllocError> {
         let Some(nested) = self.inner.copy_on()? else {
             return self.end();
@@ -205,7 +205,7 @@ impl<'a> Copies<'a> {
     }
 
     /// Puts the innermost, which is copied, into the one around it. Whether there is one.
-    #[inline(always)]
+    #[cfg_attr(not(debug_assertions), inline(always))]
     fn end(&mut self) -> Result<bool, AllocError> {
         let Some(outer) = self.around.pop() else {
             return Ok(false);
@@ -233,7 +233,7 @@ impl<'a> Copies<'a> {
 }
 
 /// Copies a struct or an object.
-#[inline(always)]
+#[cfg_attr(not(debug_assertions), inline(always))]
 pub(crate) fn copy_nested(nested: Nested<'_>) -> Result<Value, AllocError> {
     match nested {
         Nested::Struct(members) => struct_copy(members),

@@ -12,7 +12,7 @@ pub trait Takes {
 
 /// A lone value.
 impl Takes for Option<Value> {
-    #[inline(always)]
+    #[cfg_attr(not(debug_assertions), inline(always))]
     fn put(&mut self, value: Value) {
         drop(self.replace(value));
     }

@@ -5,7 +5,7 @@ use crate::parts::spa_bytes::HEADER_LEN;
 use crate::parts::spa_value::{Property, Value};
 
 /// Is it a struct or an object?
-#[inline(always)]
+#[cfg_attr(not(debug_assertions), inline(always))]
 pub(crate) fn is_nested(value: &Value) -> bool {
     matches!(value, Value::Struct(_) | Value::Object(_))
 }
@@ -21,7 +21,7 @@ pub(crate) fn is_small(value: &Value) -> bool {
 }
 
 /// How much of this number is left by these members and properties. 0: they are as many, or more.
-#[inline(always)]
+#[cfg_attr(not(debug_assertions), inline(always))]
 fn few_left(value: &Value, number: usize) -> usize {
     match value {
         Value::Struct(members) => few_left_of_members(members.as_slice(), number),
@@ -66,7 +66,7 @@ fn few_left_of_properties(properties: &[Property], number: usize) -> usize {
 }
 
 /// The members of the innermost of structs of which each is the only member of the one around it.
-#[inline(always)]
+#[cfg_attr(not(debug_assertions), inline(always))]
 fn innermost(members: &[Value]) -> &[Value] {
     let mut left = members;
     while let Some(inner) = only_struct(left) {
@@ -76,7 +76,7 @@ fn innermost(members: &[Value]) -> &[Value] {
 }
 
 /// The members of the struct that is the only one of these.
-#[inline(always)]
+#[cfg_attr(not(debug_assertions), inline(always))]
 pub(crate) fn only_struct(members: &[Value]) -> Option<&[Value]> {
     if members.len() != 1 {
         return None;

@@ -7,7 +7,7 @@ use crate::parts::spa_bytes::{HEADER_LEN, extent_of};
 use crate::parts::spa_value::{Property, Value};
 
 /// How many bytes the encoding of a value has that can be written.
-#[inline(always)]
+#[cfg_attr(not(debug_assertions), inline(always))]
 pub(crate) fn writable_len(value: &Value) -> u64 {
     match value {
         Value::Struct(members) => HEADER_LEN as u64 + writable_members_len(members.as_slice()),
@@ -49,7 +49,7 @@ fn writable_properties_len(properties: &[Property]) -> u64 {
 }
 
 /// The same of a value that is neither a struct nor an object.
-#[inline(always)]
+#[cfg_attr(not(debug_assertions), inline(always))]
 fn writable_leaf_len(value: &Value) -> u64 {
     match value {
         Value::String(text) => writable_text_len(text.as_str()),
@@ -61,7 +61,7 @@ fn writable_leaf_len(value: &Value) -> u64 {
 }
 
 /// The same of a text.
-#[inline(always)]
+#[cfg_attr(not(debug_assertions), inline(always))]
 fn writable_text_len(text: &str) -> u64 {
     let size = text.len() + 1;
     extent_of(size as u32) as u64

@@ -43,7 +43,7 @@ pub(crate) fn write_by_loop(value: &Value) -> Result<Vec<u8>, GenError> {
 }
 
 /// Appends a value that is neither a struct nor an object. One of these is answered, and nothing is appended.
-#[inline(always)]
+#[cfg_attr(not(debug_assertions), inline(always))]
 fn put_or_pass<'a>(out: &mut Vec<u8>, value: &'a Value) -> Result<Option<Nested<'a>>, GenError> {
     match value {
         Value::Struct(members) => return Ok(Some(Nested::Struct(members.as_slice()))),
@@ -54,7 +54,7 @@ fn put_or_pass<'a>(out: &mut Vec<u8>, value: &'a Value) -> Result<Option<Nested<
 }
 
 /// Appends a value that is neither a struct nor an object.
-#[inline(always)]
+#[cfg_attr(not(debug_assertions), inline(always))]
 fn put_any_leaf(out: &mut Vec<u8>, value: &Value) -> Result<(), GenError> {
     match short_encoding(value) {
         Some(pod) => PodSink::append(out, &pod),
@@ -63,7 +63,7 @@ fn put_any_leaf(out: &mut Vec<u8>, value: &Value) -> Result<(), GenError> {
 }
 
 /// Appends the header of a struct or of an object, with a size word of 0.
-#[inline(always)]
+#[cfg_attr(not(debug_assertions), inline(always))]
 fn begin_nested<'a>(out: &mut Vec<u8>, nested: Nested<'a>) -> Result<Begun<'a>, GenError> {
     match nested {
         Nested::Struct(members) => {
@@ -81,7 +81,7 @@ fn begin_nested<'a>(out: &mut Vec<u8>, nested: Nested<'a>) -> Result<Begun<'a>, 
 }
 
 /// Appends what is left, to the next struct or object in it, or to its end.
-#[inline(always)]
+#[cfg_attr(not(debug_assertions), inline(always))]
 fn put_left<'a>(left: Left<'a>, out: &mut Vec<u8>) -> Result<Option<Stop<'a>>, GenError> {
     match left {
         Left::Members(members) => put_members(members, out),
@@ -90,7 +90,7 @@ fn put_left<'a>(left: Left<'a>, out: &mut Vec<u8>) -> Result<Option<Stop<'a>>, G
 }
 
 /// Appends members, to the next struct or object, or to their end.
-#[inline(always)]
+#[cfg_attr(not(debug_assertions), inline(always))]
 fn put_members<'a>(members: &'a [Value], out: &mut Vec<u8>) -> Result<Option<Stop<'a>>, GenError> {
     let mut left = members;
     while let Some((member, behind)) = left.split_first() {
@@ -104,7 +104,7 @@ fn put_members<'a>(members: &'a [Value], out: &mut Vec<u8>) -> Result<Option<Sto
 }
 
 /// Appends properties, each with its key and flags, to the next whose value is a struct or an object, or to their end.
-#[inline(always)]
+#[cfg_attr(not(debug_assertions), inline(always))]
 fn put_properties<'a>(
     properties: &'a [Property],
     out: &mut Vec<u8>,

@@ -5,7 +5,7 @@ use crate::parts::spa_fixed::{CanonicalFixedSizedPod, LONGEST_POD_LEN, pod_bytes
 use crate::parts::spa_value::Value;
 
 /// The encoding of a value of one of the nine types whose pods have sixteen bytes. None: it is of another type.
-#[inline(always)]
+#[cfg_attr(not(debug_assertions), inline(always))]
 pub(crate) fn short_encoding(value: &Value) -> Option<[u8; LONGEST_POD_LEN]> {
     match value {
         Value::Bool(value) => Some(short_pod(value)),
@@ -22,7 +22,7 @@ pub(crate) fn short_encoding(value: &Value) -> Option<[u8; LONGEST_POD_LEN]> {
 }
 
 /// The pod of a value of fixed size, which isn't empty.
-#[inline(always)]
+#[cfg_attr(not(debug_assertions), inline(always))]
 fn short_pod<T: CanonicalFixedSizedPod>(value: &T) -> [u8; LONGEST_POD_LEN] {
     pod_bytes(value)
 }
@@ -50,7 +50,7 @@ pub(crate) fn are_short(values: &[Value]) -> bool {
 }
 
 /// Whether it is of one of these nine types.
-#[inline(always)]
+#[cfg_attr(not(debug_assertions), inline(always))]
 fn has_short_pod(value: &Value) -> bool {
     match value {
         Value::Bool(value) => is_short(value),
@@ -67,7 +67,7 @@ fn has_short_pod(value: &Value) -> bool {
 }
 
 /// Whether the pod of this value of fixed size has sixteen bytes.
-#[inline(always)]
+#[cfg_attr(not(debug_assertions), inline(always))]
 fn is_short<T: CanonicalFixedSizedPod>(value: &T) -> bool {
     pod_len(value) == LONGEST_POD_LEN
 }

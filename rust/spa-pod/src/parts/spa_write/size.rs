@@ -16,7 +16,7 @@ const SIZE_LIMIT: u64 = 1 << 32;
 
 /// How many bytes a value's encoding has. It is refused as `NulInText` where a text in it holds NUL, and as `TooLarge`
 /// where a size word would be 4294967296 or more.
-#[inline(always)]
+#[cfg_attr(not(debug_assertions), inline(always))]
 pub(crate) fn encoded_len(value: &Value) -> Result<u64, GenError> {
     match value {
         Value::Struct(members) => Ok(HEADER_LEN as u64 + members_len(members.as_slice())?),
@@ -68,7 +68,7 @@ pub(crate) fn properties_len(properties: &[Property]) -> Result<u64, GenError> {
 }
 
 /// The sum, where a size word can count so many bytes.
-#[inline(always)]
+#[cfg_attr(not(debug_assertions), inline(always))]
 fn sum_of(total: u64, more: u64) -> Result<u64, GenError> {
     match total.checked_add(more) {
         Some(sum) if sum < SIZE_LIMIT => Ok(sum),
@@ -77,7 +77,7 @@ fn sum_of(total: u64, more: u64) -> Result<u64, GenError> {
 }
 
 /// The same by one comparison, which is faster in a loop that goes over properties.
-#[inline(always)]
+#[cfg_attr(not(debug_assertions), inline(always))]
 fn next_sum(total: u64, more: u64) -> Result<u64, GenError> {
     let sum = total.saturating_add(more);
     if sum < SIZE_LIMIT {
@@ -88,7 +88,7 @@ fn next_sum(total: u64, more: u64) -> Result<u64, GenError> {
 }
 
 /// The same of a value that is neither a struct nor an object.
-#[inline(always)]
+#[cfg_attr(not(debug_assertions), inline(always))]
 pub(crate) fn leaf_len(value: &Value) -> Result<u64, GenError> {
     match value {
         Value::None => number_len(&()),
@@ -113,7 +113,7 @@ pub(crate) fn leaf_len(value: &Value) -> Result<u64, GenError> {
 }
 
 /// The length of the pod of a value of fixed size.
-#[inline(always)]
+#[cfg_attr(not(debug_assertions), inline(always))]
 fn number_len<T: CanonicalFixedSizedPod>(value: &T) -> Result<u64, GenError> {
     Ok(pod_len(value) as u64)
 }
@@ -167,7 +167,7 @@ fn alternatives_len<T: ChoiceElement>(choice: &Choice<T>) -> Result<u64, GenErro
 }
 
 /// The length of the pod of an array.
-#[inline(always)]
+#[cfg_attr(not(debug_assertions), inline(always))]
 fn array_len(array: &ValueArray) -> Result<u64, GenError> {
     match array {
         ValueArray::None(units) => elements_len(units.as_slice()),
@@ -184,7 +184,7 @@ fn array_len(array: &ValueArray) -> Result<u64, GenError> {
 }
 
 /// The length of the pod of a choice.
-#[inline(always)]
+#[cfg_attr(not(debug_assertions), inline(always))]
 fn choice_len(choice: &ChoiceValue) -> Result<u64, GenError> {
     match choice {
         ChoiceValue::Bool(values) => alternatives_len(values),

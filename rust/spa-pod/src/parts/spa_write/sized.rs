@@ -55,7 +55,7 @@ pub fn write_value<S: PodSink>(sink: &mut S, value: &Value) -> Result<u64, GenEr
 }
 
 /// Appends the encoding of a value, whose sizes are computed before they are written.
-#[inline(always)]
+#[cfg_attr(not(debug_assertions), inline(always))]
 fn write_measured<S: PodSink>(sink: &mut S, value: &Value) -> Result<u64, GenError> {
     let len = encoded_len(value)?;
     put_value(sink, value, Some(len))?;
@@ -63,7 +63,7 @@ fn write_measured<S: PodSink>(sink: &mut S, value: &Value) -> Result<u64, GenErr
 }
 
 /// Appends the encoding of a value, whose length may be known.
-#[inline(always)]
+#[cfg_attr(not(debug_assertions), inline(always))]
 fn put_value<S: PodSink>(sink: &mut S, value: &Value, known: Option<u64>) -> Result<(), GenError> {
     match value {
         Value::Struct(members) => {
@@ -87,7 +87,7 @@ fn put_value<S: PodSink>(sink: &mut S, value: &Value, known: Option<u64>) -> Res
 }
 
 /// The length of a value's encoding, which is computed where it isn't known.
-#[inline(always)]
+#[cfg_attr(not(debug_assertions), inline(always))]
 fn len_of(value: &Value, known: Option<u64>) -> u64 {
     match known {
         Some(len) => len,
@@ -179,7 +179,7 @@ fn known_at(index: usize, place: usize, known: Option<u64>) -> Option<u64> {
 }
 
 /// Appends the encoding of a value that is neither a struct nor an object, and can be written.
-#[inline(always)]
+#[cfg_attr(not(debug_assertions), inline(always))]
 fn put_checked_leaf<S: PodSink>(sink: &mut S, value: &Value) -> Result<(), GenError> {
     match value {
         Value::String(text) => put_checked_text(sink, text.as_str()),
@@ -191,13 +191,13 @@ fn put_checked_leaf<S: PodSink>(sink: &mut S, value: &Value) -> Result<(), GenEr
 }
 
 /// Appends the pod of a text that can be written.
-#[inline(always)]
+#[cfg_attr(not(debug_assertions), inline(always))]
 fn put_checked_text<S: PodSink>(sink: &mut S, text: &str) -> Result<(), GenError> {
     put_clean_text(sink, text)
 }
 
 /// Appends a key, flags and a pod of sixteen bytes at once.
-#[inline(always)]
+#[cfg_attr(not(debug_assertions), inline(always))]
 fn put_keyed<S: PodSink>(
     sink: &mut S,
     key: u32,
@@ -208,7 +208,7 @@ fn put_keyed<S: PodSink>(
 }
 
 /// Eight bytes, and a pod of sixteen.
-#[inline(always)]
+#[cfg_attr(not(debug_assertions), inline(always))]
 fn keyed_pod(key: [u8; HEADER_LEN], pod: &[u8; LONGEST_POD_LEN]) -> [u8; KEYED_LEN] {
     let mut bytes = [0; KEYED_LEN];
     let (first, last) = bytes.split_at_mut(HEADER_LEN);

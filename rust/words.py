@@ -1,14 +1,6 @@
-"""What the rules don't reach: for a generated file, the reason, the text, and what stands in its place."""
+"""Comments that speak of what is erased: for a generated file, the text, and what stands in its place."""
 
-LEVELS = 'a look calls itself for a level of nesting, and a thread of Rust has 2 MiB of stack: 100 levels, not 1000'
-
-PATCHES = {
-    'parts/spa_scan/scan.rs': [(LEVELS, 'LEVELS: u32 = 1000', 'LEVELS: u32 = 100')],
-}
-
-# Comments that speak of what is erased, by the same rule.
 WORDS = {
-    'parts/spa_rewrite/canonical.rs': [('where structs and objects stand more than 1000 deep', 'where structs and objects stand more than 100 deep')],
     'parts/spa_value/macros.rs': [
         ('`property!(in alloc; key, ..)`, where `alloc` is what a list takes memory from.', '`property!(key, ..)`.'),
         ('`object!(in alloc; type, id, properties..)`, where `alloc` is what the list takes memory from.', '`object!(type, id, properties..)`.'),

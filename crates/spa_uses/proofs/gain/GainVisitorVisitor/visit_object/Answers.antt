@@ -3,10 +3,10 @@ use Rattle.std.proofs.lemmas.Result.{err_from_is_err_and}
 use Rattle.spa_uses.proofs.Gains.{gain_declined, gain_left, gain_taken}
 use Rattle.spa_uses.proofs.gain.GainVisitorVisitor.visit_object.Goals as goal
 
-pub returns-then-type_-ne-PROPS-clause-declined : goal.returns-then-type_-ne-PROPS-clause-declined
-returns-then-type_-ne-PROPS-clause-declined c =
+pub returns-then-type_-ne-OBJECT_PROPS-clause-declined : goal.returns-then-type_-ne-OBJECT_PROPS-clause-declined
+returns-then-type_-ne-OBJECT_PROPS-clause-declined c =
     gain_declined c.members_are_fronts.ensures.property_parts _ _ _
-    (λ good. inl (λ props. c.if-type_-ne-PROPS.true (c.type_.ensures ∙ props), refl))
+    (λ good. inl (λ props. c.if-type_-ne-OBJECT_PROPS.true (c.type_.ensures ∙ props), refl))
 
 pub returns-in_err-volume-clause-declined : goal.returns-in_err-volume-clause-declined
 returns-in_err-volume-clause-declined c =
@@ -19,5 +19,5 @@ returns-clause-left c = gain_left c.members_are_fronts.ensures.property_parts _ 
 
 pub returns-clause-made : goal.returns-clause-made
 returns-clause-made c =
-    gain_taken c.members_are_fronts.ensures.property_whole _ _ _ (sym c.type_.ensures ∙ c.if-type_-ne-PROPS.false) (sym c.id-id.ensures)
+    gain_taken c.members_are_fronts.ensures.property_whole _ _ _ (sym c.type_.ensures ∙ c.if-type_-ne-OBJECT_PROPS.false) (sym c.id-id.ensures)
     c.in_ok-volume.ensures.property

@@ -1,3 +1,4 @@
 pub mod Counting
 pub mod CountingLaws
 pub mod Whole
+pub mod ErrorTexts

@@ -3,6 +3,8 @@ ghost use Rattle.std.specs.Prelude.{IfOk};
 ghost use Rattle.spa_device.specs.Whole.{IsAllOf};
 
 use std::alloc::Global;
+use std::error::Error;
+use std::fmt;
 use std::io::{ErrorKind, Read};
 
 /// Why an input wasn't read whole.
@@ -13,6 +15,22 @@ pub enum ReadError {
     /// The reader failed.
     Failed,
 }
+
+impl fmt::Display for ReadError {
+    ghost use Rattle.spa_device.specs.ErrorTexts.{error_text};
+    ghost use Rattle.std.specs.Prelude.{Some};
+
+    ghost output = { λ e. Some (error_text e) };
+
+    fn fmt<W: fmt::Write>(&self, f: &mut fmt::Formatter<W>) -> fmt::Result {
+        match self {
+            ReadError::OutOfMemory => write!(f, "out of memory"),
+            ReadError::Failed => write!(f, "read failed"),
+        }
+    }
+}
+
+impl Error for ReadError {}
 
 /// All bytes that the reader gives.
 pub fn read_whole<R: Read>(alloc: Global, input: &mut R) -> Result<Vec<u8>, ReadError>

@@ -243,6 +243,10 @@ pub struct ParseValueError<'a> {
 }
 
 impl fmt::Display for ParseValueError<'_> {
+    ghost use Rattle.std.specs.Prelude.{◌++◌, Some};
+
+    ghost output = { λ e. Some (codes "'" ++ (e.text.now ++ (codes "' cannot be parsed to " ++ e.type_name.now))) };
+
     fn fmt<W: fmt::Write>(&self, f: &mut fmt::Formatter<W>) -> fmt::Result {
         write!(f, "'{}' cannot be parsed to {}", self.text, self.type_name)
     }

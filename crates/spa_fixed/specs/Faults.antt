@@ -1,5 +1,6 @@
--- The names of refusals: docs/FORMAT.md, "Faults".
-use Rattle.std.specs.Prelude.{⊤, ◌≡◌, ℕ, List, codes}
+-- The names of refusals, and their words: docs/FORMAT.md, "Faults".
+use Rattle.std.specs.Prelude.{⊤, ◌≡◌, ◌++◌, ℕ, List, codes}
+use Rattle.std.specs.Fmt.{decimal}
 use Rattle.std.specs.Borrow.{Bor}
 use Rattle.spa_fixed.specs.declared.fault.FaultKind.{FaultKind}
 use Rattle.spa_fixed.specs.declared.fault.FaultKind.TheVariants as fault_kind
@@ -25,6 +26,27 @@ kind_text error.UnreadMembers = codes "UnreadMembers"
 kind_text error.NoElementLeft = codes "NoElementLeft"
 kind_text error.FailedReader = codes "FailedReader"
 kind_text error.OutOfMemory = codes "OutOfMemory"
+
+-- what is wrong with the bytes, in words
+abbrev pub fault_text : FaultKind → List ℕ
+fault_text fault_kind.Short = codes "the bytes are cut short"
+fault_text fault_kind.Tag = codes "the pod is of another type than the one asked for"
+fault_text fault_kind.Text = codes "a string isn't UTF-8 with one NUL, at its end"
+
+-- a refusal in words
+abbrev pub error_text : {I : Type 0} → DeserializeError I → List ℕ
+error_text (error.Nom f) = fault_text f.kind
+error_text error.UnsupportedType = codes "the visitor takes no such value"
+error_text error.InvalidType = codes "there is no such type, or none of which elements and values can be"
+error_text error.PropertyMissing = codes "a property is missing"
+error_text (error.PropertyWrongKey k) = codes "the next property has key " ++ (decimal k ++ codes ", and not the one asked for")
+error_text error.InvalidChoiceType = codes "a choice has no such shape"
+error_text error.MissingChoiceValues = codes "a choice has fewer values than its shape takes"
+error_text error.WrongSize = codes "a body or the size of elements isn't as long as its type's"
+error_text error.UnreadMembers = codes "members are left unread"
+error_text error.NoElementLeft = codes "the array has no further element"
+error_text error.FailedReader = codes "the reader was refused before"
+error_text error.OutOfMemory = codes "out of memory"
 
 -- the same refusal: of one name, and where that is a fault's, of the same kind and with the same bytes left; a wrong key
 -- is the same key

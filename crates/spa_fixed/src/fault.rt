@@ -5,6 +5,9 @@ ghost use Rattle.spa_fixed.specs.declared.fault.DeserializeError.TheVariants as 
 ghost use Rattle.spa_fixed.specs.declared.fault.Refusal.TheVariants as refusal;
 
 use std::alloc::{AllocError, AllocFailed};
+use std::error::Error;
+use std::fmt;
+use std::fmt::Debug;
 
 /// What is wrong with the bytes at a place.
 #[derive(Clone, Copy, PartialEq, Eq, Debug)]
@@ -80,6 +83,79 @@ impl<I> DeserializeError<I> {
         }
     }
 }
+
+impl fmt::Display for FaultKind {
+    ghost use Rattle.spa_fixed.specs.Faults.{fault_text};
+    ghost use Rattle.std.specs.Prelude.{Some};
+
+    ghost output = { λ kind. Some (fault_text kind) };
+
+    fn fmt<W: fmt::Write>(&self, f: &mut fmt::Formatter<W>) -> fmt::Result {
+        match self {
+            FaultKind::Short => write!(f, "the bytes are cut short"),
+            FaultKind::Tag => write!(f, "the pod is of another type than the one asked for"),
+            FaultKind::Text => write!(f, "a string isn't UTF-8 with one NUL, at its end"),
+        }
+    }
+}
+
+/// It prints what is wrong, and not where.
+impl<I> fmt::Display for Fault<I> {
+    ghost use Rattle.spa_fixed.specs.Faults.{fault_text};
+    ghost use Rattle.std.specs.Prelude.{Some};
+
+    ghost output = { λ fault. Some (fault_text fault.kind) };
+
+    fn fmt<W: fmt::Write>(&self, f: &mut fmt::Formatter<W>) -> fmt::Result {
+        write!(f, "{}", self.kind)
+    }
+}
+
+impl<I: Debug + Drop> Error for Fault<I> {}
+
+/// It prints the cause in words, and not where it stands; `kind` is its name.
+impl<I> fmt::Display for DeserializeError<I> {
+    ghost use Rattle.spa_fixed.specs.Faults.{error_text};
+    ghost use Rattle.std.specs.Prelude.{Some};
+
+    ghost output = { λ e. Some (error_text e) };
+
+    fn fmt<W: fmt::Write>(&self, f: &mut fmt::Formatter<W>) -> fmt::Result {
+        match self {
+            DeserializeError::Nom(fault) => write!(f, "{}", fault.kind),
+            DeserializeError::UnsupportedType => write!(f, "the visitor takes no such value"),
+            DeserializeError::InvalidType => {
+                write!(
+                    f,
+                    "there is no such type, or none of which elements and values can be"
+                )
+            }
+            DeserializeError::PropertyMissing => write!(f, "a property is missing"),
+            DeserializeError::PropertyWrongKey(key) => {
+                write!(
+                    f,
+                    "the next property has key {key}, and not the one asked for"
+                )
+            }
+            DeserializeError::InvalidChoiceType => write!(f, "a choice has no such shape"),
+            DeserializeError::MissingChoiceValues => {
+                write!(f, "a choice has fewer values than its shape takes")
+            }
+            DeserializeError::WrongSize => {
+                write!(
+                    f,
+                    "a body or the size of elements isn't as long as its type's"
+                )
+            }
+            DeserializeError::UnreadMembers => write!(f, "members are left unread"),
+            DeserializeError::NoElementLeft => write!(f, "the array has no further element"),
+            DeserializeError::FailedReader => write!(f, "the reader was refused before"),
+            DeserializeError::OutOfMemory => write!(f, "out of memory"),
+        }
+    }
+}
+
+impl<I: Debug + Drop> Error for DeserializeError<I> {}
 
 impl<I> From<Fault<I>> for DeserializeError<I> {
     ghost from_gives = { λ f e. e ≡ error.Nom f };

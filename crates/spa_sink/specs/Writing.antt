@@ -1,7 +1,17 @@
 -- What a refused write says: docs/FORMAT.md, "Values that can be written".
-use Rattle.std.specs.Prelude.{◌≡◌, ℕ, List, [], ◌++◌}
+use Rattle.std.specs.Prelude.{◌≡◌, ℕ, codes, List, [], ◌++◌}
 use Rattle.spa_sink.specs.declared.gen_error.GenError.{GenError}
 use Rattle.spa_sink.specs.declared.gen_error.GenError.TheVariants.{Full, TooLarge, NulInText, WrongCount, Failed, Io, OutOfMemory}
+
+-- the name of a refusal, which it prints
+abbrev pub error_text : GenError → List ℕ
+error_text Full = codes "Full"
+error_text TooLarge = codes "TooLarge"
+error_text NulInText = codes "NulInText"
+error_text WrongCount = codes "WrongCount"
+error_text Failed = codes "Failed"
+error_text Io = codes "Io"
+error_text OutOfMemory = codes "OutOfMemory"
 
 -- NulInText, TooLarge and any other refusal are answered only where these facts hold.
 abbrev pub RefusedFor : Type 0 → Type 0 → (GenError → Type 0) → GenError → Type 0

@@ -3,6 +3,7 @@ ghost use Rattle.std.specs.Prelude.{◌≡◌};
 ghost use Rattle.spa_sink.specs.declared.gen_error.GenError.TheVariants as error;
 
 use std::alloc::AllocError;
+use std::error::Error;
 use std::fmt;
 
 /// Why a value could not be written. It prints the variant's name.
@@ -25,10 +26,25 @@ pub enum GenError {
 }
 
 impl fmt::Display for GenError {
+    ghost use Rattle.spa_sink.specs.Writing.{error_text};
+    ghost use Rattle.std.specs.Prelude.{Some};
+
+    ghost output = { λ e. Some (error_text e) };
+
     fn fmt<W: fmt::Write>(&self, f: &mut fmt::Formatter<W>) -> fmt::Result {
-        write!(f, "{self:?}")
+        match self {
+            GenError::Full => write!(f, "Full"),
+            GenError::TooLarge => write!(f, "TooLarge"),
+            GenError::NulInText => write!(f, "NulInText"),
+            GenError::WrongCount => write!(f, "WrongCount"),
+            GenError::Failed => write!(f, "Failed"),
+            GenError::Io => write!(f, "Io"),
+            GenError::OutOfMemory => write!(f, "OutOfMemory"),
+        }
     }
 }
+
+impl Error for GenError {}
 
 impl From<AllocError> for GenError {
     ghost from_gives = { λ _ e. e ≡ error.OutOfMemory };

@@ -1,6 +1,7 @@
 //! Error numbers of the operating system.
 ghost use Rattle.std.specs.Prelude.{◌≡◌};
 
+use std::error::Error;
 use std::fmt;
 
 /// An error number. It prints as the number alone.
@@ -39,7 +40,14 @@ impl Errno {
 }
 
 impl fmt::Display for Errno {
+    ghost use Rattle.std.specs.Fmt.{decimal};
+    ghost use Rattle.std.specs.Prelude.{Some};
+
+    ghost output = { λ errno. Some (decimal errno.0) };
+
     fn fmt<W: fmt::Write>(&self, f: &mut fmt::Formatter<W>) -> fmt::Result {
         write!(f, "{}", self.0)
     }
 }
+
+impl Error for Errno {}

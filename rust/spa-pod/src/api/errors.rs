@@ -1,52 +1,10 @@
 //! The errors as Rust's: each is `core::error::Error`, and prints in words.
 use crate::filtering::FilterError;
 use crate::negotiation::NegotiateError;
-use crate::pod::deserialize::{DeserializeError, Fault, FaultKind};
-use crate::pod::serialize::GenError;
-use crate::utils::{Errno, result};
+use crate::pod::deserialize::{DeserializeError, Fault};
+use crate::utils::result;
 use core::error::Error;
-use core::fmt::{Debug, Display, Formatter, Result};
-
-impl Display for FaultKind {
-    fn fmt(&self, f: &mut Formatter<'_>) -> Result {
-        f.write_str(match self {
-            FaultKind::Short => "fewer bytes are left than a pod or a property takes",
-            FaultKind::Tag => "a pod of another type than the one asked for",
-            FaultKind::Text => "a string's body is no text with one NUL behind it",
-        })
-    }
-}
-
-impl<I> Display for Fault<I> {
-    fn fmt(&self, f: &mut Formatter<'_>) -> Result {
-        Display::fmt(&self.kind, f)
-    }
-}
-
-impl<I: Debug> Error for Fault<I> {}
-
-impl<I> Display for DeserializeError<I> {
-    fn fmt(&self, f: &mut Formatter<'_>) -> Result {
-        match self {
-            DeserializeError::Nom(fault) => Display::fmt(fault, f),
-            DeserializeError::UnsupportedType => f.write_str("the visitor doesn't take this"),
-            DeserializeError::InvalidType => f.write_str("a type number that isn't read"),
-            DeserializeError::PropertyMissing => f.write_str("the object has no further property"),
-            DeserializeError::PropertyWrongKey(key) => {
-                write!(f, "the next property has the key {key}, and not the one asked for")
-            }
-            DeserializeError::InvalidChoiceType => f.write_str("a choice of no known kind"),
-            DeserializeError::MissingChoiceValues => f.write_str("a choice with too few values"),
-            DeserializeError::WrongSize => f.write_str("a body of another size than its type has"),
-            DeserializeError::UnreadMembers => f.write_str("members were left unread"),
-            DeserializeError::NoElementLeft => f.write_str("the array has no further element"),
-            DeserializeError::FailedReader => f.write_str("the reader was refused before"),
-            DeserializeError::OutOfMemory => f.write_str("out of memory"),
-        }
-    }
-}
-
-impl<I: Debug> Error for DeserializeError<I> {}
+use core::fmt::{Display, Formatter, Result};
 
 impl DeserializeError<&[u8]> {
     /// The same refusal, with the byte of `input` at which the fault stands in place of the bytes from there on: so that it outlives them.
@@ -82,10 +40,6 @@ impl DeserializeError<&[u8]> {
         }
     }
 }
-
-impl Error for GenError {}
-
-impl Error for Errno {}
 
 impl Display for result::Error {
     fn fmt(&self, f: &mut Formatter<'_>) -> Result {

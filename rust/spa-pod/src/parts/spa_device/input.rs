@@ -1,6 +1,8 @@
 //! An input, read whole.
 
 use crate::shims::prelude::*;
+use core::error::Error;
+use core::fmt;
 use std::io::{ErrorKind, Read};
 
 /// Why an input wasn't read whole.
@@ -11,6 +13,17 @@ pub enum ReadError {
     /// The reader failed.
     Failed,
 }
+
+impl fmt::Display for ReadError {
+    fn fmt(&self, f: &mut fmt::Formatter<'_>) -> fmt::Result {
+        match self {
+            ReadError::OutOfMemory => write!(f, "out of memory"),
+            ReadError::Failed => write!(f, "read failed"),
+        }
+    }
+}
+
+impl Error for ReadError {}
 
 /// All bytes that the reader gives.
 pub fn read_whole<R: Read>(input: &mut R) -> Result<Vec<u8>, ReadError> {

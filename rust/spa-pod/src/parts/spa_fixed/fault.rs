@@ -2,6 +2,9 @@
 
 use crate::shims::prelude::*;
 use crate::shims::memory::{AllocError, AllocFailed};
+use core::error::Error;
+use core::fmt;
+use core::fmt::Debug;
 
 /// What is wrong with the bytes at a place.
 #[derive(Clone, Copy, PartialEq, Eq, Debug)]
@@ -75,6 +78,64 @@ impl<I> DeserializeError<I> {
         }
     }
 }
+
+impl fmt::Display for FaultKind {
+    fn fmt(&self, f: &mut fmt::Formatter<'_>) -> fmt::Result {
+        match self {
+            FaultKind::Short => write!(f, "the bytes are cut short"),
+            FaultKind::Tag => write!(f, "the pod is of another type than the one asked for"),
+            FaultKind::Text => write!(f, "a string isn't UTF-8 with one NUL, at its end"),
+        }
+    }
+}
+
+/// It prints what is wrong, and not where.
+impl<I> fmt::Display for Fault<I> {
+    fn fmt(&self, f: &mut fmt::Formatter<'_>) -> fmt::Result {
+        write!(f, "{}", self.kind)
+    }
+}
+
+impl<I: Debug> Error for Fault<I> {}
+
+/// It prints the cause in words, and not where it stands; `kind` is its name.
+impl<I> fmt::Display for DeserializeError<I> {
+    fn fmt(&self, f: &mut fmt::Formatter<'_>) -> fmt::Result {
+        match self {
+            DeserializeError::Nom(fault) => write!(f, "{}", fault.kind),
+            DeserializeError::UnsupportedType => write!(f, "the visitor takes no such value"),
+            DeserializeError::InvalidType => {
+                write!(
+                    f,
+                    "there is no such type, or none of which elements and values can be"
+                )
+            }
+            DeserializeError::PropertyMissing => write!(f, "a property is missing"),
+            DeserializeError::PropertyWrongKey(key) => {
+                write!(
+                    f,
+                    "the next property has key {key}, and not the one asked for"
+                )
+            }
+            DeserializeError::InvalidChoiceType => write!(f, "a choice has no such shape"),
+            DeserializeError::MissingChoiceValues => {
+                write!(f, "a choice has fewer values than its shape takes")
+            }
+            DeserializeError::WrongSize => {
+                write!(
+                    f,
+                    "a body or the size of elements isn't as long as its type's"
+                )
+            }
+            DeserializeError::UnreadMembers => write!(f, "members are left unread"),
+            DeserializeError::NoElementLeft => write!(f, "the array has no further element"),
+            DeserializeError::FailedReader => write!(f, "the reader was refused before"),
+            DeserializeError::OutOfMemory => write!(f, "out of memory"),
+        }
+    }
+}
+
+impl<I: Debug> Error for DeserializeError<I> {}
 
 impl<I> From<Fault<I>> for DeserializeError<I> {
     fn from(fault: Fault<I>) -> DeserializeError<I> {

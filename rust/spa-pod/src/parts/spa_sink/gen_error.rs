@@ -2,6 +2,7 @@
 
 use crate::shims::prelude::*;
 use crate::shims::memory::AllocError;
+use core::error::Error;
 use core::fmt;
 
 /// Why a value could not be written. It prints the variant's name.
@@ -25,9 +26,19 @@ pub enum GenError {
 
 impl fmt::Display for GenError {
     fn fmt(&self, f: &mut fmt::Formatter<'_>) -> fmt::Result {
-        write!(f, "{self:?}")
+        match self {
+            GenError::Full => write!(f, "Full"),
+            GenError::TooLarge => write!(f, "TooLarge"),
+            GenError::NulInText => write!(f, "NulInText"),
+            GenError::WrongCount => write!(f, "WrongCount"),
+            GenError::Failed => write!(f, "Failed"),
+            GenError::Io => write!(f, "Io"),
+            GenError::OutOfMemory => write!(f, "OutOfMemory"),
+        }
     }
 }
+
+impl Error for GenError {}
 
 impl From<AllocError> for GenError {
     fn from(_error: AllocError) -> GenError {

@@ -1,6 +1,7 @@
 //! Error numbers of the operating system.
 
 use crate::shims::prelude::*;
+use core::error::Error;
 use core::fmt;
 
 /// An error number. It prints as the number alone.
@@ -39,3 +40,5 @@ impl fmt::Display for Errno {
         write!(f, "{}", self.0)
     }
 }
+
+impl Error for Errno {}

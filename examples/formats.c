@@ -49,9 +49,15 @@ static void print_formats(const struct spav_item *items, size_t count) {
 
 int main(void) {
 	static uint8_t in[1 << 20];
-	size_t n = fread(in, 1, sizeof in, stdin), count, at;
+	size_t n = fread(in, 1, sizeof in, stdin), len, count, at;
 	uint32_t kind;
-	int32_t answer = spav_read(in, n, NULL, 0, &count, &kind, &at);
+	/* Daemons send what isn't pods, as positions in a None choice. What conveys nothing stays as it is, and is told below. */
+	int32_t answer = spav_rewrite_in_place_leniently(in, n, &len, &at);
+	if (answer == -ENOMEM)
+		return 2;
+	if (answer == 0)
+		n = len;
+	answer = spav_read(in, n, NULL, 0, &count, &kind, &at);
 	if (answer == -EINVAL)
 		fprintf(stderr, "byte %zu: %s\n", at, spav_fault_text(kind));
 	if (answer != -ENOSPC)

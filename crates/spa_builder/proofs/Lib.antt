@@ -11,3 +11,4 @@ pub mod Leaving
 pub mod Valued
 pub mod AtHand
 pub mod Making
+pub mod Bodies

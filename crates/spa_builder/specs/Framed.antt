@@ -41,3 +41,7 @@ pub record IsKept (outer : List BegunPod) (innermost : BegunPod) (first end : �
   pub only : outer ≡ [] → (first ≡ innermost.start) × (end ≡ first + most_bytes true)
   pub more : (o : BegunPod) (rest : List BegunPod) → outer ≡ o ∷ rest → (first ≡ o.start) × (end ≡ first + most_bytes false)
   pub low : first < vector_limit
+
+-- bytes with others behind them
+abbrev pub IsGrown : List ℕ → List ℕ → Type 0
+IsGrown old new = (more : List ℕ) × (new ≡ old ++ more)

@@ -1,7 +1,9 @@
 //! The builder.
-ghost use Rattle.std.specs.Prelude.{◌≡◌, ◌≢◌, ◌+◌, [], IfErr, IfOk, IsOkAnd, length, map};
-ghost use Rattle.spa_format.specs.Kind.{bool, double, fd, float, fraction, id, int, long, none, rectangle};
+ghost use Rattle.std.specs.Prelude.{◌≡◌, ◌≢◌, ◌+◌, [], IfErr, IfOk, IsErrAnd, IsOkAnd, List, length, map};
+ghost use Rattle.spa_fixed.specs.Reading.{AreWhole};
+ghost use Rattle.spa_format.specs.Kind.{Fixed, bool, double, fd, float, fraction, id, int, long, none, rectangle};
 ghost use Rattle.spa_format.specs.Encoding.{encoding_of, member_encodings};
+ghost use Rattle.spa_format.specs.Pod.{AreElements};
 ghost use Rattle.spa_format.specs.Tree.{Tree, array, bytes, fixed, pointer, string};
 ghost use Rattle.spa_value.specs.View.{array_view, view};
 ghost use Rattle.spa_builder.specs.State.{State, start};
@@ -14,7 +16,8 @@ ghost use Rattle.spa_utils.specs.declared.errno.TheConstants.Errno.{INVAL};
 
 use crate::begun::{Elements, NO_ELEMENTS, Stage, What};
 use crate::building::{
-    add_body, add_elements, add_encoding, add_fixed, add_key, add_values, begin_tree, close, leave,
+    add_bodies, add_body, add_elements, add_encoding, add_fixed, add_key, add_values, are_bodies,
+    begin_tree, close, leave,
 };
 use crate::bytes::pointer_pod;
 use crate::frames::Frames;
@@ -226,6 +229,18 @@ impl Builder {
         ensures { (s : State) → IsAt self.old s → Makes (step s (add (array T.kind (map T.fixed values.now)))) self.old self.new result }
     {
         add_values(&mut self.bytes, &mut self.frames, values)
+    }
+
+    /// Adds a whole array of this type over the bodies of its elements, which stand in these bytes one after another: also of none. INVAL: the
+    /// bytes are no whole number of bodies. It asks for no memory but the builder's own.
+    pub fn add_array_in<T: CanonicalFixedSizedPod>(&mut self, bodies: &[u8]) -> Result<(), Errno>
+        ensures made { (s : State) (xs : List Fixed) → IsAt self.old s → AreElements T.kind xs bodies.now → Makes (step s (add (array T.kind xs))) self.old self.new result }
+        ensures refused { ¬ (AreWhole T.SIZE bodies.now) → IsErrAnd result (λ e. e ≡ INVAL) × (self.new ≡ self.old) }
+    {
+        if !are_bodies::<T>(bodies) {
+            return Err(Errno::INVAL);
+        }
+        add_bodies::<T>(&mut self.bytes, &mut self.frames, bodies)
     }
 
     /// Adds any value: one of fixed size as the call of its kind does, and any other as it is written. It is gone through

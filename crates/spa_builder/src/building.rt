@@ -1,6 +1,8 @@
 //! The calls of a builder, over its bytes and its frames.
-ghost use Rattle.std.specs.Prelude.{◌≡◌, ◌+◌, ◌*◌, ◌<◌, ◌≤◌, ◌∷◌, ◌++◌, [], List, ℕ, None, IsTrue, false, length, map, nat_lt, IfOk, true};
+ghost use Rattle.std.specs.Prelude.{◌≡◌, ◌+◌, ◌*◌, ◌<◌, ◌≤◌, ◌∷◌, ◌++◌, [], List, ℕ, None, IsTrue, false, length, map, nat_lt, Decides, IfOk, true};
 ghost use Rattle.spa_format.specs.Kind.{Fixed, kind_of, type_number, fixed_body};
+ghost use Rattle.spa_fixed.specs.Reading.{AreWhole};
+ghost use Rattle.spa_format.specs.Pod.{AreElements};
 ghost use Rattle.spa_format.specs.Tree.{Tree, array, fixed, type_of};
 ghost use Rattle.spa_format.specs.Encoding.{encoded_body, encoding_of};
 ghost use Rattle.spa_format.specs.Words.{header_size, size_limit, word_bytes};
@@ -13,7 +15,7 @@ ghost use Rattle.spa_builder.specs.Innermost.{takes_elements};
 ghost use Rattle.spa_builder.specs.Answers.{Makes};
 
 use crate::begun::{BegunPod, Stage, What};
-use crate::bytes::{put_fixed_pod, put_padding, put_pod};
+use crate::bytes::{put_bodies, put_fixed_pod, put_padding, put_pod};
 use crate::elements::{is_finished, is_first, takes_element, takes_elements, with_element};
 use crate::frames::{Frames, admit, fill, takes_key, takes_trees};
 use spa_bytes::{HEADER_LEN, two_words};
@@ -88,6 +90,43 @@ pub(crate) fn add_values<T: CanonicalFixedSizedPod>(
     let had = bytes.len();
     admit(had, frames, array_size::<T>(values.len()))?;
     match put_array(bytes, values) {
+        Ok(()) => {
+            fill(frames, innermost);
+            Ok(())
+        }
+        Err(_) => {
+            bytes.truncate(had);
+            Err(Errno::NOMEM)
+        }
+    }
+}
+
+/// Whether these are bodies of the type, one after another without remainder.
+pub(crate) fn are_bodies<T: CanonicalFixedSizedPod>(bytes: &[u8]) -> bool
+    ensures { Decides result (AreWhole T.SIZE bytes.now) }
+{
+    if T::SIZE == 0 {
+        return bytes.is_empty();
+    }
+    bytes.len() % T::SIZE == 0
+}
+
+/// Adds an array over the bodies of its elements, where a tree of any type may stand. Where memory is wanting, the part that was written is taken
+/// back.
+pub(crate) fn add_bodies<T: CanonicalFixedSizedPod>(
+    bytes: &mut Written,
+    frames: &mut Frames,
+    bodies: &[u8],
+) -> Result<(), Errno>
+    requires holds { IsHeld (held bytes.old frames.old) }
+    requires whole { AreWhole T.SIZE bodies.now }
+    ensures { (s : State) (xs : List Fixed) → IsAt (held bytes.old frames.old) s → AreElements T.kind xs bodies.now
+        → Makes (step s (add (array T.kind xs))) (held bytes.old frames.old) (held bytes.new frames.new) result }
+{
+    let innermost = frames.innermost();
+    let had = bytes.len();
+    admit(had, frames, HEADER_LEN + bodies.len())?;
+    match put_bodies::<T>(bytes, bodies) {
         Ok(()) => {
             fill(frames, innermost);
             Ok(())

@@ -1,14 +1,17 @@
 //! What is appended to the vector, and what is written over. Each call makes its one growth first: a refused one
 //! changes nothing.
 ghost use Rattle.std.specs.Prelude.{◌≡◌, ◌+◌, ◌<◌, ◌≤◌, ◌*◌, ◌++◌, List, ℕ, length, replicate, take, drop, IfErr, OnErr, OnOk};
-ghost use Rattle.spa_format.specs.Encoding.{encoding_of, framed};
-ghost use Rattle.spa_format.specs.Kind.{fixed_body};
-ghost use Rattle.spa_format.specs.Tree.{pointer};
+ghost use Rattle.spa_fixed.specs.Reading.{AreWhole};
+ghost use Rattle.spa_format.specs.Encoding.{array_body, encoding_of, fixed_bodies, framed};
+ghost use Rattle.spa_format.specs.Kind.{Fixed, fixed_body};
+ghost use Rattle.spa_format.specs.Pod.{AreElements};
+ghost use Rattle.spa_format.specs.Tree.{array_type, pointer};
 ghost use Rattle.spa_format.specs.Words.{header_size, padding, size_limit, word_bytes};
+ghost use Rattle.spa_builder.specs.Framed.{IsGrown};
 ghost use Rattle.spa_utils.specs.declared.errno.TheConstants.Errno.{NOMEM};
 
-use spa_bytes::{HEADER_LEN, POINTER_LEN, extent_of, two_words};
-use spa_fixed::{CanonicalFixedSizedPod, pod_bytes};
+use spa_bytes::{HEADER_LEN, POINTER_LEN, extent_of, joined, two_words};
+use spa_fixed::{CanonicalFixedSizedPod, next_element, pod_bytes};
 use spa_room::Written;
 use spa_utils::{Errno, SpaTypes};
 
@@ -63,6 +66,42 @@ pub(crate) fn put_pod(
     let size = front.len() + back.len();
     let header = two_words(size as u32, type_);
     bytes.append_parts(header, front, back, padding_len(size))
+}
+
+/// Appends the bodies of the elements that these bodies say, each written as its value is. What was appended stays where memory is wanting.
+fn put_each<T: CanonicalFixedSizedPod>(bytes: &mut Written, bodies: &[u8]) -> Result<(), Errno>
+    requires { AreWhole T.SIZE bodies.now }
+    ensures ok { OnOk result ((xs : List Fixed) → AreElements T.kind xs bodies.now → bytes.new ≡ bytes.old ++ fixed_bodies xs) }
+    ensures grown { IsGrown bytes.old bytes.new }
+    ensures memory { IfErr result (λ e. e ≡ NOMEM) }
+{
+    let mut left = bodies;
+    while !left.is_empty() {
+        let (rest, value) = next_element::<T>(left);
+        bytes.append_first(value.padded_body(), T::SIZE)?;
+        left = rest;
+    }
+    Ok(())
+}
+
+/// Appends the pod of an array of this type over the bodies of its elements, each written as its value is. What was appended stays where memory is
+/// wanting.
+pub(crate) fn put_bodies<T: CanonicalFixedSizedPod>(
+    bytes: &mut Written,
+    bodies: &[u8],
+) -> Result<(), Errno>
+    requires whole { AreWhole T.SIZE bodies.now }
+    requires small { header_size + length bodies.now < size_limit }
+    ensures ok { OnOk result ((xs : List Fixed) → AreElements T.kind xs bodies.now → bytes.new ≡ bytes.old ++ framed array_type (array_body T.kind xs)) }
+    ensures grown { IsGrown bytes.old bytes.new }
+    ensures memory { IfErr result (λ e. e ≡ NOMEM) }
+{
+    let size = HEADER_LEN + bodies.len();
+    let array = two_words(size as u32, SpaTypes::Array.0);
+    let child = two_words(T::SIZE as u32, T::TYPE);
+    bytes.append_array(joined(array, child))?;
+    put_each::<T>(bytes, bodies)?;
+    put_padding(bytes, size)
 }
 
 /// The pod of a pointer.

@@ -3,7 +3,8 @@
 use crate::shims::prelude::*;
 use crate::parts::spa_builder::begun::{Elements, NO_ELEMENTS, Stage, What};
 use crate::parts::spa_builder::building::{
-    add_body, add_elements, add_encoding, add_fixed, add_key, add_values, begin_tree, close, leave,
+    add_bodies, add_body, add_elements, add_encoding, add_fixed, add_key, add_values, are_bodies,
+    begin_tree, close, leave,
 };
 use crate::parts::spa_builder::bytes::pointer_pod;
 use crate::parts::spa_builder::frames::Frames;
@@ -160,6 +161,15 @@ impl Builder {
     /// Adds a whole array of these elements.
     pub fn add_array_of<T: CanonicalFixedSizedPod>(&mut self, values: &[T]) -> Result<(), Errno> {
         add_values(&mut self.bytes, &mut self.frames, values)
+    }
+
+    /// Adds a whole array of this type over the bodies of its elements, which stand in these bytes one after another: also of none. INVAL: the
+    /// bytes are no whole number of bodies. It asks for no memory but the builder's own.
+    pub fn add_array_in<T: CanonicalFixedSizedPod>(&mut self, bodies: &[u8]) -> Result<(), Errno> {
+        if !are_bodies::<T>(bodies) {
+            return Err(Errno::INVAL);
+        }
+        add_bodies::<T>(&mut self.bytes, &mut self.frames, bodies)
     }
 
     /// Adds any value: one of fixed size as the call of its kind does, and any other as it is written. It is gone through

@@ -2,7 +2,7 @@
 
 use crate::shims::prelude::*;
 use crate::parts::spa_builder::begun::{BegunPod, Stage, What};
-use crate::parts::spa_builder::bytes::{put_fixed_pod, put_padding, put_pod};
+use crate::parts::spa_builder::bytes::{put_bodies, put_fixed_pod, put_padding, put_pod};
 use crate::parts::spa_builder::elements::{is_finished, is_first, takes_element, takes_elements, with_element};
 use crate::parts::spa_builder::frames::{Frames, admit, fill, takes_key, takes_trees};
 use crate::parts::spa_bytes::{HEADER_LEN, two_words};
@@ -59,6 +59,36 @@ pub(crate) fn add_values<T: CanonicalFixedSizedPod>(
     let had = bytes.len();
     admit(had, frames, array_size::<T>(values.len()))?;
     match put_array(bytes, values) {
+        Ok(()) => {
+            fill(frames, innermost);
+            Ok(())
+        }
+        Err(_) => {
+            bytes.truncate(had);
+            Err(Errno::NOMEM)
+        }
+    }
+}
+
+/// Whether these are bodies of the type, one after another without remainder.
+pub(crate) fn are_bodies<T: CanonicalFixedSizedPod>(bytes: &[u8]) -> bool {
+    if T::SIZE == 0 {
+        return bytes.is_empty();
+    }
+    bytes.len() % T::SIZE == 0
+}
+
+/// Adds an array over the bodies of its elements, where a tree of any type may stand. Where memory is wanting, the part that was written is taken
+/// back.
+pub(crate) fn add_bodies<T: CanonicalFixedSizedPod>(
+    bytes: &mut Written,
+    frames: &mut Frames,
+    bodies: &[u8],
+) -> Result<(), Errno> {
+    let innermost = frames.innermost();
+    let had = bytes.len();
+    admit(had, frames, HEADER_LEN + bodies.len())?;
+    match put_bodies::<T>(bytes, bodies) {
         Ok(()) => {
             fill(frames, innermost);
             Ok(())

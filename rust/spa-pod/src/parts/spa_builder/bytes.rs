@@ -2,8 +2,8 @@
 //! changes nothing.
 
 use crate::shims::prelude::*;
-use crate::parts::spa_bytes::{HEADER_LEN, POINTER_LEN, extent_of, two_words};
-use crate::parts::spa_fixed::{CanonicalFixedSizedPod, pod_bytes};
+use crate::parts::spa_bytes::{HEADER_LEN, POINTER_LEN, extent_of, joined, two_words};
+use crate::parts::spa_fixed::{CanonicalFixedSizedPod, next_element, pod_bytes};
 use crate::parts::spa_room::Written;
 use crate::parts::spa_utils::{Errno, SpaTypes};
 
@@ -42,6 +42,31 @@ pub(crate) fn put_pod(
     let size = front.len() + back.len();
     let header = two_words(size as u32, type_);
     bytes.append_parts(header, front, back, padding_len(size))
+}
+
+/// Appends the bodies of the elements that these bodies say, each written as its value is. What was appended stays where memory is wanting.
+fn put_each<T: CanonicalFixedSizedPod>(bytes: &mut Written, bodies: &[u8]) -> Result<(), Errno> {
+    let mut left = bodies;
+    while !left.is_empty() {
+        let (rest, value) = next_element::<T>(left);
+        bytes.append_first(value.padded_body(), T::SIZE)?;
+        left = rest;
+    }
+    Ok(())
+}
+
+/// Appends the pod of an array of this type over the bodies of its elements, each written as its value is. What was appended stays where memory is
+/// wanting.
+pub(crate) fn put_bodies<T: CanonicalFixedSizedPod>(
+    bytes: &mut Written,
+    bodies: &[u8],
+) -> Result<(), Errno> {
+    let size = HEADER_LEN + bodies.len();
+    let array = two_words(size as u32, SpaTypes::Array.0);
+    let child = two_words(T::SIZE as u32, T::TYPE);
+    bytes.append_array(joined(array, child))?;
+    put_each::<T>(bytes, bodies)?;
+    put_padding(bytes, size)
 }
 
 /// The pod of a pointer.

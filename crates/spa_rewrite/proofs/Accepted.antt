@@ -24,9 +24,8 @@ use Rattle.spa_leaf.proofs.Refusals.{says_through}
 use Rattle.spa_scan.specs.Canonical.{AreCanonical, BeginsCanonical, IsStretch}
 use Rattle.spa_scan.specs.Depth.{depth_of, levels_looked_into}
 use Rattle.spa_scan.proofs.Frames.{no_stretch, stretch_parts}
-use Rattle.spa_rewrite.specs.Look.{AreAccepted, AreLooked, IsAccepted, IsAcceptedAsked, IsRejected, StopsAt}
+use Rattle.spa_rewrite.specs.Look.{AreAccepted, AreLooked, AreMet, IsAccepted, IsAcceptedAsked, IsRejected, StopsAt}
 use Rattle.spa_rewrite.specs.Rewriting.{IsLeft, RefusesFront, RefusesList}
-use Rattle.spa_rewrite.specs.Nesting.{AreCanonicalInside}
 use Rattle.spa_rewrite.specs.Shorter.{ArePodsWithin, BeginsShorter, IsShorterBody}
 use Rattle.spa_rewrite.specs.Steady.{IsBehindKey, IsInside}
 use Rattle.spa_rewrite.specs.declared.look.AcceptedPod.{AcceptedPod}
@@ -34,12 +33,13 @@ use Rattle.spa_rewrite.specs.declared.look.Rejected.{Rejected}
 use Rattle.spa_rewrite.specs.declared.look.Rejected.TheVariants as rejected
 use Rattle.spa_rewrite.proofs.FirstPods.{accepted_behind, left_behind_pods}
 use Rattle.spa_rewrite.proofs.Levels.{deep_begun}
-use Rattle.spa_rewrite.proofs.Looks.{AreOther, Awaits, first_own, goes_on, inside_own, own_opened, passes_pod, some_left, stands_opened}
+use Rattle.spa_rewrite.proofs.Looks.{Awaits, first_own, goes_on, inside_own, own_opened, passes_pod, some_left, stands_opened}
 use Rattle.spa_rewrite.proofs.Refusals.{front_refused}
 use Rattle.spa_rewrite.proofs.Rewritten.{member_encodings-push}
 use Rattle.spa_rewrite.proofs.ShorterLemmas.{CountsOn, counts_all, counts_more, counts_none, first_within, shorter_inside, shorter_opened, within_behind}
 use Rattle.spa_rewrite.proofs.Stretches.{FirstMembers, list_refused, no_first_member}
 use Rattle.spa_rewrite.proofs.SteadyFound.{leaf_depth, never}
+use Rattle.spa_rewrite.proofs.SteadyLemmas.{left_shorter}
 use Rattle.spa_rewrite.proofs.Steps.{parted}
 
 -- no struct or object begins there
@@ -63,22 +63,35 @@ pub own_rest : (here rest : List ℕ) → rest ≡ rest_of here → BeginsCanoni
 own_rest here rest e c = subst (BeginsCanonical here) (sym e) c
 
 -- a pod without members is passed
-pub goes_over : (asked all keyed canonical now : Bool) (pods left here body rest : List ℕ) (type : ℕ) (Then : Bool → ℕ → Type 0) (waiting surplus n : ℕ) →
-    Awaits asked all pods Then waiting keyed left canonical surplus → IsBehindKey keyed left here → Opens here type body rest → type ≢ struct_type →
-    (type ≡ object_type → length body < header_size) → IsShorterBody type body n → (now ≡ true → canonical ≡ true) →
-    (now ≡ true → BeginsCanonical here (rest_of here)) →
+pub meets_leaf : (keyed canonical now : Bool) (left here body rest : List ℕ) (type n : ℕ) → IsBytes left → IsBehindKey keyed left here →
+    Opens here type body rest → type ≢ struct_type → (type ≡ object_type → length body < header_size) → IsShorterBody type body n →
+    (now ≡ true → canonical ≡ true) → (now ≡ true → BeginsCanonical here (rest_of here)) →
     (now ≡ false → (canonical ≡ false) ⊎ ((r : List ℕ) (c : BeginsCanonical here r) → levels_looked_into < depth_of c.value)) →
-    Awaits asked all pods Then waiting keyed rest now (surplus + n) × (n + length rest ≤ length left)
-goes_over asked all keyed canonical now pods left here body rest type Then waiting surplus n w k o s l b c own differs =
+    AreMet canonical keyed left rest now n
+meets_leaf keyed canonical now left here body rest type n h k o s l b c own differs =
     let some = some_left keyed left here k o.there in
-    let p =
-    passes_pod keyed now left here rest n w.bytes some k (shorter_opened here body rest type n o b) (λ e. own_rest here rest o.its_rest (own e)) in
-    let d : now ≡ false → AreOther asked all pods = λ e.
-    elim (differs e) [
+    let e = left_shorter _ _ _ _ _ _ k o in
+    record {
+      passed = passes_pod keyed now left here rest n h some k (shorter_opened here body rest type n o b) (λ e. own_rest here rest o.its_rest (own e));
+      fewer = omega arith;
+      so_far = c;
+      differs = λ e.
+          elim (differs e) [
+            | inl f ↦ inl f
+            | inr f ↦ inr (λ k'. leaf_differs here body rest type o s l f rest (first_own keyed left here rest h some k o.its_rest k').first)
+          ];
+    }
+
+-- what holds of all once these are passed
+pub goes_over : (asked all keyed canonical now : Bool) (pods left rest : List ℕ) (Then : Bool → ℕ → Type 0) (waiting surplus n : ℕ) →
+    Awaits asked all pods Then waiting keyed left canonical surplus → AreMet canonical keyed left rest now n →
+    Awaits asked all pods Then waiting keyed rest now (surplus + n)
+goes_over asked all keyed canonical now pods left rest Then waiting surplus n w m =
+    goes_on asked all keyed canonical now now pods left rest Then waiting surplus n w m.passed m.so_far (λ e. e) (λ e.
+    elim (m.differs e) [
       | inl f ↦ w.differs f
-      | inr f ↦ λ _ k'. leaf_differs here body rest type o s l f rest (first_own keyed left here rest w.bytes some k o.its_rest (w.kept k')).first
-    ] in
-    (goes_on asked all keyed canonical now now pods left rest Then waiting surplus n w p c (λ e. e) d, p.room)
+      | inr f ↦ λ _ k. f (w.kept k)
+    ])
 
 -- a pod without members is accepted
 pub leaf_exactly : (asked result : Bool) (input rest : List ℕ) → rest ≡ rest_of input → (result ≡ true → BeginsCanonical input (rest_of input)) →

@@ -1,15 +1,13 @@
 -- First pods of an input, and what is true of all if it is of the others.
 use Rattle.std.proofs.Common.{◌≡◌, ℕ, List, ◌++◌, sym, ap, ◌∙◌, subst, append_assoc}
 use Rattle.std.specs.Borrow.{Bor}
-use Rattle.spa_fixed.specs.declared.fault.DeserializeError.{DeserializeError}
 use Rattle.spa_format.specs.Tree.{Trees, join_members}
 use Rattle.spa_format.specs.Pod.{AreMembers}
 use Rattle.spa_format.proofs.Sequences.{members_joined}
 use Rattle.spa_scan.specs.Canonical.{AreCanonical}
-use Rattle.spa_rewrite.specs.Rewriting.{IsLeft, RefusesList}
+use Rattle.spa_rewrite.specs.Rewriting.{IsLeft}
 use Rattle.spa_rewrite.specs.Shorter.{ArePodsWithin}
 use Rattle.spa_rewrite.specs.Steady.{AreSteady}
-use Rattle.spa_rewrite.proofs.Stretches.{list_refused}
 use Rattle.spa_rewrite.proofs.ShorterLemmas.{within_behind}
 
 -- what is left behind first pods, and others

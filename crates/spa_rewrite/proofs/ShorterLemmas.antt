@@ -3,18 +3,18 @@ use Rattle.std.proofs.Common.{◌≡◌, ◌≢◌, ℕ, ◌+◌, ◌*◌, ◌/�
 use Rattle.std.specs.Prelude.{Bool, true, false, max}
 use Rattle.std.proofs.lemmas.List.{length-take-le, nil_from_length}
 use Rattle.spa_format.specs.Words.{extent, header_size, padded_size, word_at, word_bytes}
-use Rattle.spa_format.specs.Kind.{kind_of, Fixed, Kind}
-use Rattle.spa_format.specs.Tree.{Shape, Tree, fixed, string, bytes, bitmap, array, choice, pointer, struct, object, Trees, no_trees, member, Properties, no_properties, property, join_members, choice_type, object_type, struct_type, type_of}
+use Rattle.spa_format.specs.Kind.{kind_of}
+use Rattle.spa_format.specs.Tree.{Tree, fixed, string, bytes, bitmap, array, choice, pointer, struct, object, Trees, no_trees, member, Properties, no_properties, property, join_members, choice_type, type_of}
 use Rattle.spa_format.specs.Normal.{kept_flags}
-use Rattle.spa_format.specs.Pod.{AreMembers, AreProperties, IsBody, IsChoice, IsPod}
+use Rattle.spa_format.specs.Pod.{AreMembers, AreProperties, IsBody, IsPod}
 use Rattle.spa_format.specs.Encoding.{encoded_body, encoding_of, member_encodings, property_encodings}
 use Rattle.spa_format.specs.Front.{HasFront, front_of, rest_of}
 use Rattle.spa_format.proofs.Choices.{pointer_length}
 use Rattle.spa_format.proofs.Elements.{same_array_length}
 use Rattle.spa_format.proofs.Encodings.{length-property_encoding, length-word_bytes, whole_members, whole_properties}
 use Rattle.spa_format.proofs.FixedKinds.{fixed_length}
-use Rattle.spa_format.proofs.Fronts.{front_of_whole, length-body_of, of_whole_front}
-use Rattle.spa_format.proofs.Shapes.{choice_only, object_only, struct_only}
+use Rattle.spa_format.proofs.Fronts.{front_of_whole, length-body_of}
+use Rattle.spa_format.proofs.Shapes.{object_only, struct_only}
 use Rattle.spa_format.proofs.Short.{length-framed}
 use Rattle.spa_bytes.specs.Opening.{Opens}
 use Rattle.spa_leaf.proofs.Steps.{pod_read}
@@ -23,7 +23,6 @@ use Rattle.spa_scan.specs.Depth.{depth_of, member_depth, property_depth}
 use Rattle.spa_rewrite.specs.Elements.{HasValues}
 use Rattle.spa_rewrite.specs.Shorter.{AreInsideWithin, ArePodsWithin, ArePropertiesWithin, AreShorter, AreShorterInside, BeginsShorter, IsBodyWithin, IsShorterBody}
 use Rattle.spa_rewrite.specs.Steady.{BeginsSteady, IsBehindKey, IsInside, IsSteadyBody}
-use Rattle.spa_rewrite.proofs.SteadyFound.{leaf_depth}
 use Rattle.spa_format.proofs.Sequences.{members_joined}
 use Rattle.spa_rewrite.proofs.Stretches.{member_encodings-join}
 use Rattle.spa_rewrite.proofs.SteadyLemmas.{kept_length}

@@ -3,8 +3,8 @@ use Rattle.std.proofs.Common.{◌≡◌, ◌≢◌, ℕ, ◌+◌, ◌/◌, ◌-�
 use Rattle.std.specs.Prelude.{◌⊎◌, Bool, true, false, max}
 use Rattle.std.proofs.lemmas.List.{length-take-le}
 use Rattle.spa_format.specs.Words.{extent, header_size, padded_size, word_at, word_bytes}
-use Rattle.spa_format.specs.Kind.{Fixed, Kind, body_size, kind_of, type_number}
-use Rattle.spa_format.specs.Tree.{Shape, Tree, fixed, string, bytes, bitmap, array, choice, pointer, struct, object, Trees, no_trees, member, Properties, no_properties, property, array_type, bitmap_type, bytes_type, choice_type, object_type, pointer_type, string_type, struct_type, type_of}
+use Rattle.spa_format.specs.Kind.{Fixed, Kind}
+use Rattle.spa_format.specs.Tree.{Shape, Tree, fixed, string, bytes, bitmap, array, choice, pointer, struct, object, Trees, no_trees, member, Properties, no_properties, property, array_type, choice_type, object_type, pointer_type, string_type, struct_type, type_of}
 use Rattle.spa_format.specs.Normal.{kept_flags}
 use Rattle.spa_format.specs.Pod.{AreMembers, AreProperties, IsArray, IsBody, IsChoice, IsPod}
 use Rattle.spa_format.specs.Encoding.{encoded_body, encoding_of, member_encodings, property_encodings}
@@ -16,7 +16,7 @@ use Rattle.spa_format.proofs.Shapes.{array_only, choice_only, object_only, point
 use Rattle.spa_format.proofs.Short.{length-framed, short_members, short_props, shortest}
 use Rattle.spa_bytes.specs.Opening.{Opens}
 use Rattle.spa_scan.specs.Canonical.{IsCanonicalText}
-use Rattle.spa_scan.specs.Depth.{AreShallow, depth_of, member_depth, property_depth}
+use Rattle.spa_scan.specs.Depth.{depth_of, member_depth, property_depth}
 use Rattle.spa_rewrite.specs.Elements.{HasValues}
 use Rattle.spa_rewrite.specs.Steady.{AreSteadyInsideWithin, AreSteadyPropertiesWithin, AreSteadyWithin, BeginsSteady, IsBehindKey, IsInside, IsSteadyBody}
 use Rattle.spa_rewrite.proofs.SteadyLemmas.{kept_length}

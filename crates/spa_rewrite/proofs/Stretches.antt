@@ -2,20 +2,18 @@
 use Rattle.std.proofs.Common.{◌≡◌, ◌≢◌, ◌<◌, ◌≤◌, arith, length-append, ℕ, List, [], ◌++◌, length, refl, sym, ap, ◌∙◌, subst, append_assoc}
 use Rattle.std.proofs.lemmas.List.{append-nil, nil_from_length}
 use Rattle.std.specs.Borrow.{Bor}
-use Rattle.spa_format.specs.Tree.{Trees, no_trees, member, join_members, type_of}
-use Rattle.spa_format.specs.Pod.{AreMembers, IsBody}
+use Rattle.spa_format.specs.Tree.{Trees, no_trees, member, join_members}
+use Rattle.spa_format.specs.Pod.{AreMembers}
 use Rattle.spa_format.specs.Encoding.{encoding_of, member_encodings}
-use Rattle.spa_format.specs.Front.{HasFront, front_of}
-use Rattle.spa_format.proofs.Fronts.{front_of_whole}
-use Rattle.spa_format.proofs.Sequences.{members_joined, members_push}
+use Rattle.spa_format.proofs.Sequences.{members_joined}
 use Rattle.spa_fixed.specs.declared.fault.DeserializeError.{DeserializeError}
 use Rattle.spa_scan.specs.Canonical.{AreCanonical}
-use Rattle.spa_rewrite.specs.Rewriting.{AreRewritten, AreRewrittenInParts, IsLeft, RefusesFront, RefusesList, TakesFront, TakesMembers, TakesStretch}
+use Rattle.spa_rewrite.specs.Rewriting.{AreRewritten, AreRewrittenInParts, IsLeft, RefusesFront, RefusesList, TakesMembers, TakesStretch}
 use Rattle.spa_rewrite.specs.Steady.{AppendsPatched, AreSteady, TakesSteady}
 use Rattle.spa_rewrite.specs.Tails.{TailAppends, appends_both, start_bytes, tail_bytes}
 use Rattle.spa_rewrite.specs.declared.tail.Tail.{Tail}
 use Rattle.spa_rewrite.proofs.Rewritten.{no_members}
-use Rattle.spa_rewrite.proofs.Steps.{MembersSoFar, appends_none, parted}
+use Rattle.spa_rewrite.proofs.Steps.{MembersSoFar, appends_none}
 
 pub member_encodings-join : (vs ws : Trees) →
     member_encodings (join_members vs ws) ≡ member_encodings vs ++ member_encodings ws

@@ -5,13 +5,12 @@ use Rattle.std.proofs.Math.Seq.{take-add}
 use Rattle.std.proofs.lemmas.List.{append-nil, drop-drop, length-take-le, nil_from_length, take-append-drop, take_all}
 use Rattle.std.proofs.lemmas.Slice.{drop-put_mid, take-put_mid}
 use borrow.Rule.Slice.PartMut.{put_mid}
-use Rattle.spa_format.specs.Kind.{Fixed, body_size, bool_kind, content, fixed_body}
+use Rattle.spa_format.specs.Kind.{Fixed, bool_kind, content, fixed_body}
 use Rattle.spa_format.specs.Pod.{AreElements}
 use Rattle.spa_format.specs.Encoding.{fixed_bodies}
 use Rattle.spa_format.proofs.Elements.{bodies_push, elements_joined, elements_push, fixed_bodies-append}
-use Rattle.spa_format.proofs.FixedKinds.{same_kind}
 use Rattle.spa_fixed.specs.Reading.{AreWhole}
-use Rattle.spa_rewrite.specs.Elements.{AreOfNumber, AreTruths, TakesElements, TakesTruths}
+use Rattle.spa_rewrite.specs.Elements.{AreTruths, TakesTruths}
 use Rattle.spa_rewrite.specs.Tails.{TailAppends, appends_both}
 use Rattle.spa_rewrite.specs.declared.tail.Tail.{Tail}
 use Rattle.spa_rewrite.proofs.Bodies.{whole_of}

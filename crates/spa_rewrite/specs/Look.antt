@@ -1,5 +1,5 @@
 -- What a look at pods finds: docs/FORMAT.md, "The encoding of a value", "Faults" and "Values".
-use Rattle.std.specs.Prelude.{◌≡◌, ◌≢◌, ◌+◌, ◌≤◌, ℕ, suc, List, [], length, drop, take, Bool, true, false, Decides}
+use Rattle.std.specs.Prelude.{◌≡◌, ◌≢◌, ◌+◌, ◌<◌, ◌≤◌, ◌⊎◌, ℕ, suc, List, [], length, drop, take, Bool, true, false, Decides}
 use Rattle.spa_format.specs.Front.{HasFront, IsRefused, rest_of}
 use Rattle.spa_format.specs.Faults.{Fault, Stands, StandsAtFront}
 use Rattle.spa_format.specs.Opened.{OpensHeaderAlone}
@@ -15,6 +15,8 @@ use Rattle.spa_rewrite.specs.declared.look.AcceptedPod.{AcceptedPod}
 use Rattle.spa_rewrite.specs.declared.look.AcceptedPods.{AcceptedPods}
 use Rattle.spa_rewrite.specs.declared.look.Found.{Found}
 use Rattle.spa_rewrite.specs.declared.look.Found.TheVariants as found
+use Rattle.spa_rewrite.specs.declared.look.Met.{Met}
+use Rattle.spa_rewrite.specs.declared.look.Met.TheVariants as met
 use Rattle.spa_rewrite.specs.declared.look.Rejected.{Rejected}
 use Rattle.spa_rewrite.specs.declared.look.Rejected.TheVariants as rejected
 
@@ -75,6 +77,20 @@ pub record Passes (keyed canonical : Bool) (left rest : List ℕ) (surplus : ℕ
   pub deep : (n : ℕ) → NestMore n keyed rest → NestMore n keyed left
   pub bytes : IsBytes rest
   pub room : surplus + length rest ≤ length left
+
+-- Accepted pods that hold no others stand first, this follows them, and their encodings are so many bytes shorter. The pods before them are
+-- canonical, if that is set; whether these are too.
+pub record AreMet (canonical keyed : Bool) (left rest : List ℕ) (are_all : Bool) (surplus : ℕ) : Type 0 where
+  pub passed : Passes keyed are_all left rest surplus
+  pub fewer : length rest < length left
+  pub so_far : are_all ≡ true → canonical ≡ true
+  pub differs : are_all ≡ false → (canonical ≡ false) ⊎ ¬ (AreCanonicalInside keyed left)
+
+-- what stands first in members or properties
+abbrev pub IsMet : Bool → Bool → List ℕ → Met → Type 0
+IsMet canonical keyed left (met.Leaves rest are_all surplus) = AreMet canonical keyed left rest.now are_all surplus
+IsMet canonical keyed left (met.Inner inner rest) = OpensInside keyed left inner.keyed inner.pods.now rest.now
+IsMet canonical keyed left (met.Fault place) = StopsAt keyed left place.now
 
 -- the pod at the front is accepted: what follows it, whether it is canonical, and by how much its encoding is shorter
 pub record IsAccepted (input : List ℕ) (pod : AcceptedPod) : Type 0 where

@@ -8,7 +8,7 @@ ghost use Rattle.spa_format.specs.Pod.{IsBody};
 ghost use Rattle.spa_format.specs.Tree.{Tree, array_type, choice_type, object_type, struct_type, type_of};
 ghost use Rattle.spa_format.specs.Words.{header_size};
 ghost use Rattle.spa_leaf.specs.Refusing.{Says, StandsInBody};
-ghost use Rattle.spa_rewrite.specs.Look.{AreAccepted, IsAccepted, IsAcceptedAsked, IsFound, IsRejected, Passes};
+ghost use Rattle.spa_rewrite.specs.Look.{AreAccepted, IsAccepted, IsAcceptedAsked, IsFound, IsMet, IsRejected, Passes};
 ghost use Rattle.spa_rewrite.specs.Rewriting.{IsLeft};
 ghost use Rattle.spa_rewrite.specs.Shorter.{ArePodsWithin, AreShorter, BeginsShorter};
 ghost use Rattle.spa_rewrite.specs.Steady.{IsInside};
@@ -62,6 +62,17 @@ enum Found<'a> {
     Stops(&'a [u8]),
     /// There is no room for one more list that waits.
     TooDeep,
+}
+
+/// What stands first in a list.
+#[derive(Clone, Copy)]
+enum Met<'a> {
+    /// Accepted pods that hold no others: what follows them, whether all so far are canonical, and by how many bytes their encodings are shorter.
+    Leaves(&'a [u8], bool, usize),
+    /// A struct or an object: what is inside, and what follows it.
+    Inner(Inside<'a>, &'a [u8]),
+    /// A fault stands at the front of these bytes.
+    Fault(&'a [u8]),
 }
 
 /// How many lists can wait in the short array.
@@ -323,11 +334,9 @@ fn look_inside<'a>(
 ) -> Found<'a>
     ensures { IsFound are_canonical (length frames.old) are_keyed pods.now result }
 {
-    let mut waiting = 0;
-    let mut keyed = are_keyed;
+    let (mut waiting, mut surplus) = (0, 0);
+    let (mut keyed, mut canonical) = (are_keyed, are_canonical);
     let mut left = pods;
-    let mut canonical = are_canonical;
-    let mut surplus = 0;
     loop {
         if left.is_empty() {
             if waiting == 0 {
@@ -339,44 +348,56 @@ fn look_inside<'a>(
             left = outer.pods;
             continue;
         }
-        if !is_inside_first(keyed, left) {
-            let (rest, more) = behind_first(keyed, canonical, left);
-            if rest.len() < left.len() {
+        match meet(keyed, canonical, left) {
+            Met::Leaves(rest, are_all, more) => {
+                canonical = are_all;
                 surplus += more;
                 left = rest;
-                continue;
             }
+            Met::Inner(inner, rest) => {
+                if rest.is_empty() {
+                    keyed = inner.keyed;
+                    left = inner.pods;
+                    continue;
+                }
+                if waiting >= frames.len() {
+                    return Found::TooDeep;
+                }
+                frames[waiting] = Inside { keyed, pods: rest };
+                waiting += 1;
+                keyed = inner.keyed;
+                left = inner.pods;
+            }
+            Met::Fault(place) => return Found::Stops(place),
         }
-        let Some(here) = behind_key(keyed, left) else {
-            return Found::Stops(left);
-        };
-        let Some(front) = open(here) else {
-            return Found::Stops(here);
-        };
-        let Some(inner) = inside_of(front.type_, front.body) else {
-            let Some(more) = leaf_surplus(front.type_, front.body) else {
-                return Found::Stops(here);
-            };
-            canonical = stays_canonical(canonical, here);
-            surplus += more;
-            left = front.rest;
-            continue;
-        };
-        if front.rest.is_empty() {
-            keyed = inner.keyed;
-            left = inner.pods;
-            continue;
+    }
+}
+
+/// What stands first in pods: accepted ones that hold no others, a struct or an object, or a fault. `canonical` says whether all pods before are
+/// canonical.
+#[inline(always)]
+fn meet(keyed: bool, canonical: bool, left: &[u8]) -> Met<'_>
+    requires { 0 < length left.now }
+    ensures { IsMet canonical keyed left.now result }
+{
+    if !is_inside_first(keyed, left) {
+        let (rest, surplus) = behind_first(keyed, canonical, left);
+        if rest.len() < left.len() {
+            return Met::Leaves(rest, canonical, surplus);
         }
-        if waiting >= frames.len() {
-            return Found::TooDeep;
-        }
-        frames[waiting] = Inside {
-            keyed,
-            pods: front.rest,
-        };
-        waiting += 1;
-        keyed = inner.keyed;
-        left = inner.pods;
+    }
+    let Some(here) = behind_key(keyed, left) else {
+        return Met::Fault(left);
+    };
+    let Some(front) = open(here) else {
+        return Met::Fault(here);
+    };
+    if let Some(inner) = inside_of(front.type_, front.body) {
+        return Met::Inner(inner, front.rest);
+    }
+    match leaf_surplus(front.type_, front.body) {
+        Some(surplus) => Met::Leaves(front.rest, stays_canonical(canonical, here), surplus),
+        None => Met::Fault(here),
     }
 }
 

@@ -1,5 +1,4 @@
 use Rattle.std.proofs.Common.{arith, refl, subst, ◌≡◌, ◌+◌}
-use Rattle.spa_format.specs.Typed.{IsBytes}
 use Rattle.std.specs.Prelude.{true, false}
 use Rattle.spa_rewrite.specs.Look.{Passes}
 use Rattle.spa_rewrite.proofs.Looks.{passes_more, passes_none, passes_pod, some_left, steady_shorter}

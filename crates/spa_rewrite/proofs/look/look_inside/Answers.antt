@@ -4,10 +4,9 @@ use Rattle.std.proofs.lemmas.List.{length-reverse, length-take-le}
 use Rattle.spa_format.specs.Typed.{IsBytes}
 use Rattle.spa_rewrite.specs.Look.{NestMore, nest_here}
 use Rattle.spa_rewrite.proofs.Accepted.{goes_over}
-use Rattle.spa_rewrite.proofs.Faulted.{leaf_there, short_there, stops_first, stops_in, stops_key}
+use Rattle.spa_rewrite.proofs.Faulted.{stops_in}
 use Rattle.spa_rewrite.specs.declared.steady.Inside.{Inside}
-use Rattle.spa_rewrite.proofs.Looks.{AwaitsAll, Onward, begins_look, goes_in, goes_in_last, goes_on_alike, left_waiting, list_ends, opened_shorter, opens_inside, popped, pushed}
-use Rattle.spa_rewrite.proofs.SteadyLemmas.{left_shorter}
+use Rattle.spa_rewrite.proofs.Looks.{AwaitsAll, Onward, begins_look, goes_in, goes_in_last, left_waiting, list_ends, opened_shorter, popped, pushed}
 use Rattle.spa_rewrite.proofs.look.look_inside.Goals as goal
 
 pub loop-left-init : goal.loop-left-init
@@ -36,65 +35,49 @@ loop-left-preserved-then-is_empty c =
     let room = c.loop-left.invariant.2 in
     (subst (λ o. Onward c.args.are_canonical c.args.are_keyed c.args.pods.now o c.loop-left.canonical c.loop-left.surplus) e ended, omega arith, omega arith)
 
-pub returns-in_default : goal.returns-in_default
-returns-in_default c =
-    let passed = c.loop-left.invariant.0 in
-    let some = eqb-false _ 0 (sym c.is_empty.ensures ∙ c.if-is_empty.false) in
-    let short = c.in_default.ensures.short in
-    stops_in _ _ _ _ _ passed.stands (stops_key _ _ short.0 short.1 (omega (arith, some)))
-
-pub returns-in_default-open : goal.returns-in_default-open
-returns-in_default-open c =
-    let passed = c.loop-left.invariant.0 in
-    let some = eqb-false _ 0 (sym c.is_empty.ensures ∙ c.if-is_empty.false) in
-    stops_in _ _ _ _ _ passed.stands (stops_first _ _ _ c.in-Some.ensures.there (omega (arith, some)) (short_there _ c.in_default-open.ensures.short))
-
-pub returns-in_default-leaf_surplus : goal.returns-in_default-leaf_surplus
-returns-in_default-leaf_surplus c =
-    let passed = c.loop-left.invariant.0 in
-    let some = eqb-false _ 0 (sym c.is_empty.ensures ∙ c.if-is_empty.false) in
-    let other = c.in_default-inside_of.ensures in
-    stops_in _ _ _ _ _ passed.stands
-    (stops_first _ _ _ c.in-Some.ensures.there (omega (arith, some))
-    (leaf_there _ _ _ _ c.in-Some-open.ensures.there other.other other.short c.in_default-leaf_surplus.ensures.missed))
-
-pub loop-left-smaller-in_default-inside_of : goal.loop-left-smaller-in_default-inside_of
-loop-left-smaller-in_default-inside_of c =
-    let e = left_shorter _ _ _ _ _ _ c.in-Some.ensures.there c.in-Some-open.ensures.there in
+pub loop-left-smaller-then-is_empty : goal.loop-left-smaller-then-is_empty
+loop-left-smaller-then-is_empty c =
+    let frames = c.loop-left.frames in
+    let w = c.loop-left.waiting in
+    let some = c.if-waiting-eq0.false in
+    let within = c.loop-left.invariant.1 in
+    let none : Inside = record { keyed = false; pods = record { ref_ptr = (0, 0); now = [] } } in
+    let e = popped frames w (w - 1) none (omega arith) (omega arith) in
+    let l = ap left_waiting e in
     omega arith
 
-pub loop-left-preserved-in_default-inside_of : goal.loop-left-preserved-in_default-inside_of
-loop-left-preserved-in_default-inside_of c =
-    let passed = c.loop-left.invariant.0 in
-    let other = c.in_default-inside_of.ensures in
-    let stays = c.stays_canonical-canonical.ensures in
-    let over =
-    goes_over _ _ _ _ _ _ _ _ _ _ _ _ _ _ _ passed c.in-Some.ensures.there c.in-Some-open.ensures.there other.other other.short
-    c.in-Some-leaf_surplus.ensures.there stays.so_far stays.own stays.differs in
-    let fewer = over.1 in
+pub loop-left-preserved-in-Leaves : goal.loop-left-preserved-in-Leaves
+loop-left-preserved-in-Leaves c =
+    let m = c.in-Leaves.ensures in
+    let r = m.passed.room in
     let room = c.loop-left.invariant.2 in
-    (over.0, c.loop-left.invariant.1, omega arith)
+    (goes_over _ _ _ _ _ _ _ _ _ _ _ _ c.loop-left.invariant.0 m, c.loop-left.invariant.1, omega arith)
+
+pub returns-in-Fault : goal.returns-in-Fault
+returns-in-Fault c =
+    let passed = c.loop-left.invariant.0 in
+    stops_in _ _ _ _ _ passed.stands c.in-Fault.ensures
 
 pub loop-left-smaller-then-is_empty-2 : goal.loop-left-smaller-then-is_empty-2
 loop-left-smaller-then-is_empty-2 c =
-    let x = opens_inside _ _ _ _ _ _ _ _ c.in-Some.ensures.there c.in-Some-open.ensures.there c.in-Some-inside_of.ensures.there in
+    let x = c.in-Inner.ensures in
     let e = opened_shorter _ _ _ _ _ x in
     omega arith
 
 pub loop-left-preserved-then-is_empty-2 : goal.loop-left-preserved-then-is_empty-2
 loop-left-preserved-then-is_empty-2 c =
     let passed = c.loop-left.invariant.0 in
-    let x = opens_inside _ _ _ _ _ _ _ _ c.in-Some.ensures.there c.in-Some-open.ensures.there c.in-Some-inside_of.ensures.there in
+    let x = c.in-Inner.ensures in
     let e = opened_shorter _ _ _ _ _ x in
     let room = c.loop-left.invariant.2 in
-    let none = eqb-true _ _ (sym c.is_empty-in-loop-left.ensures ∙ c.if-is_empty-2.true) in
+    let none = eqb-true _ _ (sym c.is_empty-in-Inner.ensures ∙ c.if-is_empty-2.true) in
     (goes_in_last _ _ _ _ _ _ _ _ _ _ _ _ passed x none, c.loop-left.invariant.1, omega arith)
 
 pub returns-then-waiting-frames : goal.returns-then-waiting-frames
 returns-then-waiting-frames c =
     let passed = c.loop-left.invariant.0 in
-    let x = opens_inside _ _ _ _ _ _ _ _ c.in-Some.ensures.there c.in-Some-open.ensures.there c.in-Some-inside_of.ensures.there in
-    let some = eqb-false _ 0 (sym c.is_empty-in-loop-left.ensures ∙ c.if-is_empty-2.false) in
+    let x = c.in-Inner.ensures in
+    let some = eqb-false _ 0 (sym c.is_empty-in-Inner.ensures ∙ c.if-is_empty-2.false) in
     let frames = c.loop-left.frames in
     let w = c.loop-left.waiting in
     let same = c.loop-left.auto.frames in
@@ -107,48 +90,30 @@ returns-then-waiting-frames c =
 
 pub loop-left-smaller : goal.loop-left-smaller
 loop-left-smaller c =
-    let x = opens_inside _ _ _ _ _ _ _ _ c.in-Some.ensures.there c.in-Some-open.ensures.there c.in-Some-inside_of.ensures.there in
+    let x = c.in-Inner.ensures in
     let e = opened_shorter _ _ _ _ _ x in
     let frames = c.loop-left.frames in
     let w = c.loop-left.waiting in
-    let next : Inside = record { keyed = c.loop-left.keyed; pods = c.in-Some-open.front.rest } in
+    let next : Inside = record { keyed = c.loop-left.keyed; pods = c.in-Inner.rest } in
     let l = ap left_waiting (pushed frames (set frames w next) w next refl c.if-waiting-frames.false) in
     omega arith
 
 pub loop-left-preserved : goal.loop-left-preserved
 loop-left-preserved c =
     let passed = c.loop-left.invariant.0 in
-    let x = opens_inside _ _ _ _ _ _ _ _ c.in-Some.ensures.there c.in-Some-open.ensures.there c.in-Some-inside_of.ensures.there in
-    let some = eqb-false _ 0 (sym c.is_empty-in-loop-left.ensures ∙ c.if-is_empty-2.false) in
+    let x = c.in-Inner.ensures in
+    let some = eqb-false _ 0 (sym c.is_empty-in-Inner.ensures ∙ c.if-is_empty-2.false) in
     let e = opened_shorter _ _ _ _ _ x in
     let room = c.loop-left.invariant.2 in
     let frames = c.loop-left.frames in
     let w = c.loop-left.waiting in
-    let next : Inside = record { keyed = c.loop-left.keyed; pods = c.in-Some-open.front.rest } in
+    let next : Inside = record { keyed = c.loop-left.keyed; pods = c.in-Inner.rest } in
     let p = pushed frames (set frames w next) w next refl c.if-waiting-frames.false in
     let l = ap left_waiting p in
     let in_it = goes_in _ _ _ _ _ _ _ _ _ _ _ _ passed x (λ n. some (ap length n)) in (
       subst
-          (λ o. AwaitsAll c.args.are_canonical c.args.are_keyed c.args.pods.now o c.in-Some-inside_of.inner.keyed c.in-Some-inside_of.inner.pods.now c.loop-left.canonical c.loop-left.surplus)
+          (λ o. AwaitsAll c.args.are_canonical c.args.are_keyed c.args.pods.now o c.in-Inner.inner.keyed c.in-Inner.inner.pods.now c.loop-left.canonical c.loop-left.surplus)
           (sym p) in_it,
       omega (arith, length-set {A = Inside}),
       omega arith,
     )
-
-pub loop-left-preserved-then-rest-left : goal.loop-left-preserved-then-rest-left
-loop-left-preserved-then-rest-left c =
-    let p = c.behind_first-more.ensures in
-    let r = p.room in
-    let room = c.loop-left.invariant.2 in
-    (goes_on_alike _ _ _ _ _ _ _ _ _ _ _ c.loop-left.invariant.0 p, c.loop-left.invariant.1, omega arith)
-
-pub loop-left-smaller-then-is_empty : goal.loop-left-smaller-then-is_empty
-loop-left-smaller-then-is_empty c =
-    let frames = c.loop-left.frames in
-    let w = c.loop-left.waiting in
-    let some = c.if-waiting-eq0.false in
-    let within = c.loop-left.invariant.1 in
-    let none : Inside = record { keyed = false; pods = record { ref_ptr = (0, 0); now = [] } } in
-    let e = popped frames w (w - 1) none (omega arith) (omega arith) in
-    let l = ap left_waiting e in
-    omega arith

@@ -1,0 +1,27 @@
+use Rattle.std.proofs.Common.{arith, ◌≡◌, ◌+◌}
+use Rattle.spa_format.specs.Typed.{IsBytes}
+use Rattle.spa_rewrite.proofs.Accepted.{meets_leaf}
+use Rattle.spa_rewrite.proofs.Faulted.{leaf_there, short_there, stops_first, stops_key}
+use Rattle.spa_rewrite.proofs.look.meet.Goals as goal
+
+pub returns-in_default : goal.returns-in_default
+returns-in_default c =
+    let short = c.in_default.ensures.short in
+    stops_key _ _ short.0 short.1 c.requires
+
+pub returns-in_default-open : goal.returns-in_default-open
+returns-in_default-open c = stops_first _ _ _ c.in-Some.ensures.there c.requires (short_there _ c.in_default-open.ensures.short)
+
+pub returns-in-Some-leaf_surplus : goal.returns-in-Some-leaf_surplus
+returns-in-Some-leaf_surplus c =
+    let bytes : IsBytes c.args.left.now = λ i. omega (arith, c.type_inv.left i) in
+    let other = c.in_default-inside_of.ensures in
+    let stays = c.stays_canonical.ensures in
+    meets_leaf _ _ _ _ _ _ _ _ _ bytes c.in-Some.ensures.there c.in-Some-open.ensures.there other.other other.short c.in-Some-leaf_surplus.ensures.there
+    stays.so_far stays.own stays.differs
+
+pub returns-in-None : goal.returns-in-None
+returns-in-None c =
+    let other = c.in_default-inside_of.ensures in
+    stops_first _ _ _ c.in-Some.ensures.there c.requires
+    (leaf_there _ _ _ _ c.in-Some-open.ensures.there other.other other.short c.in-None.ensures.missed)

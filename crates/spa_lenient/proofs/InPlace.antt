@@ -30,7 +30,7 @@ pub exactly_as : (input : List ℕ) (len : ℕ) → AreRewrittenAs input len →
 exactly_as input len r = (r.values, members_convey r.values input r.members, r.long)
 
 -- no encodings are longer than what conveys the values
-members_shorter : (vs : Trees) (b : List ℕ) → IsBytes b → ConveyMembers vs b → length (member_encodings vs) ≤ length b
+pub members_shorter : (vs : Trees) (b : List ℕ) → IsBytes b → ConveyMembers vs b → length (member_encodings vs) ≤ length b
 members_shorter no_trees b f h = omega arith
 members_shorter (member v vs) b f h =
     let front = no_longer_conveyed h.0 v (IsBytes-first b h.0 h.1 h.2 f) h.3 in

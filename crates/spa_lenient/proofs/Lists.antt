@@ -16,7 +16,7 @@ use Rattle.spa_read.specs.Reading.{ConveysNothing}
 use Rattle.spa_read.proofs.Conveying.{members_joined, none_behind}
 use Rattle.spa_rewrite.specs.Rewriting.{AreRewritten, IsLeft}
 use Rattle.spa_write.proofs.MemberLists.{member_encodings_join}
-use Rattle.spa_lenient.specs.Rewriting.{AppendsFront, AreRewrittenLeniently, IsLeftLeniently, RefusesFront, RefusesList}
+use Rattle.spa_lenient.specs.Rewriting.{AppendsFirst, AppendsFront, AreRewrittenLeniently, IsLeftLeniently, RefusesFront, RefusesList}
 
 -- pods convey their values
 pub members_convey : (vs : Trees) (b : List ℕ) → AreMembers vs b → ConveyMembers vs b
@@ -47,7 +47,7 @@ further input left rest old now new before vs h e m w = record {
 }
 
 -- those that are pods
-pub with_accepted : (input left before pod old now new : List ℕ) → IsUpTo input left old now → left ≡ before ++ pod →
+with_accepted : (input left before pod old now new : List ℕ) → IsUpTo input left old now → left ≡ before ++ pod →
     AreRewritten before now new → IsUpTo input pod old new
 with_accepted input left before pod old now new h e r =
     further input left pod old now new before r.0 h e (members_convey r.0 before r.1) r.2
@@ -62,11 +62,19 @@ with_front input pod rest old now new h r =
     (front, [], sym (append-nil front), r.1.begins.conveys, refl)
     (r.2 ∙ ap (λ l. now ++ l) (sym (append-nil (encoding_of v))))
 
+-- some first pods
+pub with_first : (input left pod old now new : List ℕ) → IsUpTo input left old now → AppendsFirst left pod now new → IsUpTo input pod old new
+with_first input left pod old now new h r = with_accepted input left r.0 pod old now new h r.1 r.2
+
 -- all of them
-pub to_end : (input left old now new : List ℕ) → IsUpTo input left old now → AreRewritten left now new → AreRewrittenLeniently input old new
-to_end input left old now new h r =
-    let u = with_accepted input left left [] old now new h (sym (append-nil left)) r in
-    (u.values, subst (ConveyMembers u.values) (sym (u.parts ∙ append-nil u.first)) u.convey, u.written)
+pub to_end : (input left old now : List ℕ) → IsUpTo input left old now → length left ≡ 0 → AreRewrittenLeniently input old now
+to_end input left old now u n =
+    let e = nothing left n in
+    (u.values, subst (ConveyMembers u.values) (sym (u.parts ∙ ap (λ l. u.first ++ l) e ∙ append-nil u.first)) u.convey, u.written)
+  where
+    nothing : (l : List ℕ) → length l ≡ 0 → l ≡ []
+    nothing [] e = refl
+    nothing (x ∷ l) e = cc
 
 -- What is left.
 

@@ -2,12 +2,13 @@
 use Rattle.std.specs.Prelude.{⊤, ◌≡◌, ◌≢◌, ◌++◌, List, [], ℕ, drop, length}
 use Rattle.std.specs.Borrow.{Bor}
 use Rattle.spa_fixed.specs.declared.fault.DeserializeError.{DeserializeError}
-use Rattle.spa_format.specs.Tree.{Tree, Trees}
+use Rattle.spa_format.specs.Tree.{Tree, Trees, struct}
 use Rattle.spa_format.specs.Encoding.{encoding_of, member_encodings}
 use Rattle.spa_format.specs.Front.{HasFront}
 use Rattle.spa_format.specs.Lenient.{ConveyMembers}
 use Rattle.spa_in_place.specs.InPlace.{IsFaultOf}
 use Rattle.spa_leaf.specs.Reading.{IsShortAt, Names, OnFault, OnMemory}
+use Rattle.spa_rewrite.specs.Rewriting.{AreRewritten}
 use Rattle.spa_read.specs.Reading.{ConveysAtFront, ConveysNothing, ConveysWith, StandsLeniently}
 
 -- the encoding of the value that the front of the input conveys
@@ -17,6 +18,18 @@ IsLenientRewriting input out = (v : Tree) × ConveysAtFront input v × (out ≡ 
 -- the same was appended, and this follows the front
 abbrev pub AppendsFront : List ℕ → List ℕ → List ℕ → List ℕ → Type 0
 AppendsFront input rest old new = (v : Tree) × ConveysWith input v rest × (new ≡ old ++ encoding_of v)
+
+-- the encoding of a struct of the values that these bytes convey was appended
+abbrev pub AppendsStruct : List ℕ → List ℕ → List ℕ → Type 0
+AppendsStruct body old new = (vs : Trees) × ConveyMembers vs body × (new ≡ old ++ encoding_of (struct vs))
+
+-- some first bytes are pods, this is left behind them, and their rewritings were appended
+abbrev pub AppendsFirst : List ℕ → List ℕ → List ℕ → List ℕ → Type 0
+AppendsFirst input rest old new = (first : List ℕ) × (input ≡ first ++ rest) × AreRewritten first old new
+
+-- nothing was changed but that something was appended
+abbrev pub Grows : List ℕ → List ℕ → Type 0
+Grows old new = (added : List ℕ) × (new ≡ old ++ added)
 
 -- the input conveys some values, one after another without remainder, and their encodings were appended
 abbrev pub AreRewrittenLeniently : List ℕ → List ℕ → List ℕ → Type 0

@@ -1,24 +1,26 @@
 //! The lenient rewriting of a pod is the encoding of the value that it conveys.
-ghost use Rattle.std.specs.Prelude.{◌≡◌, ◌≢◌, ◌+◌, ◌≤◌, ◌++◌, [], IfErr, IfOk, OnErr, OnOk, length};
+ghost use Rattle.std.specs.Prelude.{◌≡◌, ◌+◌, ◌<◌, ◌≤◌, ◌++◌, IfErr, IfNone, IfOk, IfSome, OnErr, OnOk, length, true};
 ghost use Rattle.spa_fixed.specs.declared.fault.Refusal.TheVariants as refusal;
 ghost use Rattle.spa_format.specs.Encoding.{encoding_of};
 ghost use Rattle.spa_format.specs.Front.{HasFront, rest_of};
 ghost use Rattle.spa_format.specs.Lenient.{ConveyMembers};
-ghost use Rattle.spa_format.specs.Pod.{AreMembers};
 ghost use Rattle.spa_format.specs.Tree.{Trees};
+ghost use Rattle.spa_format.specs.Words.{size_limit};
 ghost use Rattle.spa_format.specs.Writable.{IsWritable};
 ghost use Rattle.spa_leaf.specs.Reading.{IsShortAt, Names, OnFault, OnMemory};
 ghost use Rattle.spa_leaf.specs.Refusing.{error_of};
-ghost use Rattle.spa_lenient.specs.Rewriting.{AppendsFront, AreRewrittenLeniently, IsLeftLeniently, IsLenientRewriting, RefusesFront, RefusesList};
+ghost use Rattle.spa_lenient.specs.Rewriting.{AppendsFirst, AppendsFront, AppendsStruct, AreRewrittenLeniently, Grows, IsLeftLeniently, IsLenientRewriting, RefusesFront, RefusesList};
 ghost use Rattle.spa_read.specs.Reading.{ConveysNothing, RefusesLeniently, StandsLeniently};
-ghost use Rattle.spa_rewrite.specs.Rewriting.{AreRewritten};
+ghost use Rattle.spa_rewrite.specs.Rewriting.{AreRewritten, IsLeft};
 ghost use Rattle.spa_value.specs.View.{view};
 
+use spa_bytes::{open, two_words};
 use spa_fixed::{DeserializeError, Refusal};
-use spa_leaf::error_at;
+use spa_leaf::{close, error_at};
 use spa_read::{Refused, read_value_leniently};
 use spa_rewrite::{rewrite, rewrite_all};
 use spa_sink::GenError;
+use spa_utils::SpaTypes;
 use spa_value::{Value, discard};
 use spa_write::write_value;
 use std::alloc::{AllocError, AllocFailed, Global};
@@ -54,7 +56,7 @@ pub fn rewrite_leniently(
 /// Unless memory runs out, this succeeds exactly where the input conveys values one after another without remainder, or is empty. A refusal gives
 /// what is left of the input from the refused pod on, with the refusal of that pod, and `out` holds what it held before the call. It takes
 /// time in proportion to the input: pods that are accepted exactly are rewritten as `rewrite_all` does, twice where one that isn't
-/// follows them.
+/// follows them. Of a struct that isn't accepted so are its members, and only those that aren't are read as values.
 pub fn rewrite_all_leniently<'a>(
     input: &'a [u8],
     out: &mut Vec<u8>,
@@ -83,19 +85,16 @@ pub(crate) fn append_all<'a>(
     let start = out.len();
     let mut left = input;
     loop {
-        let pod = match rewrite_all(left, out) {
-            Ok(()) => return Ok(()),
-            Err((pod, DeserializeError::OutOfMemory)) => {
+        let pod = match append_accepted(left, out) {
+            Ok(pod) => pod,
+            Err(pod) => {
                 out.truncate(start);
                 return Err((pod, lacking_memory(pod)));
             }
-            Err((pod, _)) => pod,
         };
-        let (accepted, _) = left.split_at(left.len() - pod.len());
-        let Ok(()) = append_accepted(accepted, out) else {
-            out.truncate(start);
-            return Err((left, lacking_memory(left)));
-        };
+        if pod.is_empty() {
+            return Ok(());
+        }
         match append_leniently(pod, out) {
             Ok(rest) => left = rest,
             Err(refused) => {
@@ -116,22 +115,101 @@ fn lacking_memory(place: &[u8]) -> Refused<'_>
     }
 }
 
-/// Appends the rewritings of pods that are all accepted, unless memory runs out.
-fn append_accepted(pods: &[u8], out: &mut Vec<u8>) -> Result<(), AllocError>
-    requires { (values : Trees) × AreMembers values pods.now }
-    ensures rewritten { OnOk result (AreRewritten pods.now out.old.items out.new.items) }
+/// Appends the rewritings of the first pods, up to one that isn't accepted, and answers what is left from that one on, which is nothing where all
+/// are. Where memory runs out, it appends nothing, and answers what is left from the pod on at which it did.
+fn append_accepted<'a>(input: &'a [u8], out: &mut Vec<u8>) -> Result<&'a [u8], &'a [u8]>
+    ensures appended { IfOk result (λ rest. AppendsFirst input.now rest.now out.old.items out.new.items) }
     ensures unchanged { OnErr result (out.new.items ≡ out.old.items) }
-    ensures some { OnErr result (pods.now ≢ []) }
+    ensures lacking { IfErr result (λ pod. IsLeft input.now pod.now × HasFront pod.now) }
 {
-    match rewrite_all(pods, out) {
-        Ok(()) => Ok(()),
-        Err((_, DeserializeError::OutOfMemory)) => Err(AllocError),
+    let pod = match rewrite_all(input, out) {
+        Ok(()) => {
+            let (_, nothing) = input.split_at(input.len());
+            return Ok(nothing);
+        }
+        Err((pod, DeserializeError::OutOfMemory)) => return Err(pod),
+        Err((pod, _)) => pod,
+    };
+    let (accepted, _) = input.split_at(input.len() - pod.len());
+    match rewrite_all(accepted, out) {
+        Ok(()) => Ok(pod),
+        Err((_, DeserializeError::OutOfMemory)) => Err(input),
         Err(_) => unreachable!(),
     }
 }
 
-/// Appends the lenient rewriting of the front of the input, by its value, and answers what follows the front.
+/// Appends the lenient rewriting of the front of the input, and answers what follows the front. Of a struct only those members are read that are
+/// not accepted as they are.
 fn append_leniently<'a>(input: &'a [u8], out: &mut Vec<u8>) -> Result<&'a [u8], Refused<'a>>
+    ensures appended { IfOk result (λ rest. AppendsFront input.now rest.now out.old.items out.new.items) }
+    ensures unchanged { OnErr result (out.new.items ≡ out.old.items) }
+    ensures refused { IfErr result (λ refused. RefusesFront input.now (error_of refused.place refused.why)) }
+{
+    match append_struct(input, out) {
+        Some(rest) => Ok(rest),
+        None => append_by_value(input, out),
+    }
+}
+
+/// Does so for a struct, if all its members convey values and memory suffices: else it appends nothing.
+fn append_struct<'a>(input: &'a [u8], out: &mut Vec<u8>) -> Option<&'a [u8]>
+    ensures appended { IfSome result (λ rest. AppendsFront input.now rest.now out.old.items out.new.items) }
+    ensures unchanged { IfNone result (out.new.items ≡ out.old.items) }
+{
+    let front = open(input)?;
+    if front.type_ != SpaTypes::Struct.0 {
+        return None;
+    }
+    let start = out.len();
+    if append_struct_of(front.body, out) {
+        return Some(front.rest);
+    }
+    out.truncate(start);
+    None
+}
+
+/// Appends the encoding of a struct of the values that these bytes convey one after another, and answers whether it could.
+fn append_struct_of(body: &[u8], out: &mut Vec<u8>) -> bool
+    requires { length body.now < size_limit }
+    ensures appended { result ≡ true → AppendsStruct body.now out.old.items out.new.items }
+    ensures kept { Grows out.old.items out.new.items }
+{
+    let start = out.len();
+    let header = two_words(0, SpaTypes::Struct.0);
+    let Ok(()) = out.extend_from_slice(&header) else {
+        return false;
+    };
+    if !append_members(body, out) {
+        return false;
+    }
+    let Ok(()) = close(out, start) else {
+        unreachable!();
+    };
+    true
+}
+
+/// Appends the encodings of the values that these bytes convey one after another, and answers whether it could.
+fn append_members(body: &[u8], out: &mut Vec<u8>) -> bool
+    ensures appended { result ≡ true → AreRewrittenLeniently body.now out.old.items out.new.items }
+    ensures kept { Grows out.old.items out.new.items }
+{
+    let mut left = body;
+    loop {
+        let Ok(pod) = append_accepted(left, out) else {
+            return false;
+        };
+        if pod.is_empty() {
+            return true;
+        }
+        let Ok(rest) = append_by_value(pod, out) else {
+            return false;
+        };
+        left = rest;
+    }
+}
+
+/// Appends the lenient rewriting of the front of the input, which is read for that, and answers what follows the front.
+fn append_by_value<'a>(input: &'a [u8], out: &mut Vec<u8>) -> Result<&'a [u8], Refused<'a>>
     ensures appended { IfOk result (λ rest. AppendsFront input.now rest.now out.old.items out.new.items) }
     ensures unchanged { OnErr result (out.new.items ≡ out.old.items) }
     ensures refused { IfErr result (λ refused. RefusesFront input.now (error_of refused.place refused.why)) }

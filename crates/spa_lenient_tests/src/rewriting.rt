@@ -126,6 +126,39 @@ pub(crate) fn between_pods(alloc: Global, words: &[u32]) -> Result<Vec<u8>, Allo
     Ok(list)
 }
 
+/// A struct of a pod, these words and the same pod.
+fn struct_between(alloc: Global, pod: &[u32], words: &[u32]) -> Result<Vec<u8>, AllocError> {
+    let len = pod
+        .len()
+        .saturating_mul(2)
+        .saturating_add(words.len())
+        .saturating_mul(4);
+    let size = u32::try_from(len).unwrap_or(u32::MAX);
+    let mut out = bytes_of(alloc, &[size, 14])?;
+    push_words(&mut out, pod)?;
+    push_words(&mut out, words)?;
+    push_words(&mut out, pod)?;
+    Ok(out)
+}
+
+/// Each row in a struct, between two pods that are accepted exactly.
+#[test]
+fn members_are_rewritten(rt: HostRuntime) -> Result<(), Fail> {
+    for (name, words, wanted) in ROWS {
+        let input = struct_between(rt.alloc(), TRUTH.0, words)?;
+        let found = rewriting_said(rt.alloc(), input.as_slice())?;
+        let said = match wanted {
+            Ok(words) => {
+                let out = struct_between(rt.alloc(), TRUTH.1, words)?;
+                bytes_said(rt.alloc(), out.as_slice())?
+            }
+            Err(why) => String::from_str(rt.alloc(), why)?,
+        };
+        assert_said(&rt, found.as_str(), said.as_str(), name);
+    }
+    Ok(())
+}
+
 /// Each row between two pods that are accepted exactly, behind what the output has.
 #[test]
 fn lists_are_rewritten(rt: HostRuntime) -> Result<(), Fail> {

@@ -1,11 +1,13 @@
 //! The lenient rewriting of a pod is the encoding of the value that it conveys.
 
 use crate::shims::prelude::*;
+use crate::parts::spa_bytes::{open, two_words};
 use crate::parts::spa_fixed::{DeserializeError, Refusal};
-use crate::parts::spa_leaf::error_at;
+use crate::parts::spa_leaf::{close, error_at};
 use crate::parts::spa_read::{Refused, read_value_leniently};
 use crate::parts::spa_rewrite::{rewrite, rewrite_all};
 use crate::parts::spa_sink::GenError;
+use crate::parts::spa_utils::SpaTypes;
 use crate::parts::spa_value::{Value, discard};
 use crate::parts::spa_write::write_value;
 use crate::shims::memory::{AllocError, AllocFailed};
@@ -36,7 +38,7 @@ pub fn rewrite_leniently(
 /// Unless memory runs out, this succeeds exactly where the input conveys values one after another without remainder, or is empty. A refusal gives
 /// what is left of the input from the refused pod on, with the refusal of that pod, and `out` holds what it held before the call. It takes
 /// time in proportion to the input: pods that are accepted exactly are rewritten as `rewrite_all` does, twice where one that isn't
-/// follows them.
+/// follows them. Of a struct that isn't accepted so are its members, and only those that aren't are read as values.
 pub fn rewrite_all_leniently<'a>(
     input: &'a [u8],
     out: &mut Vec<u8>,
@@ -55,19 +57,16 @@ pub(crate) fn append_all<'a>(
     let start = out.len();
     let mut left = input;
     loop {
-        let pod = match rewrite_all(left, out) {
-            Ok(()) => return Ok(()),
-            Err((pod, DeserializeError::OutOfMemory)) => {
+        let pod = match append_accepted(left, out) {
+            Ok(pod) => pod,
+            Err(pod) => {
                 out.truncate(start);
                 return Err((pod, lacking_memory(pod)));
             }
-            Err((pod, _)) => pod,
         };
-        let (accepted, _) = left.split_at(left.len() - pod.len());
-        let Ok(()) = append_accepted(accepted, out) else {
-            out.truncate(start);
-            return Err((left, lacking_memory(left)));
-        };
+        if pod.is_empty() {
+            return Ok(());
+        }
         match append_leniently(pod, out) {
             Ok(rest) => left = rest,
             Err(refused) => {
@@ -86,17 +85,83 @@ fn lacking_memory(place: &[u8]) -> Refused<'_> {
     }
 }
 
-/// Appends the rewritings of pods that are all accepted, unless memory runs out.
-fn append_accepted(pods: &[u8], out: &mut Vec<u8>) -> Result<(), AllocError> {
-    match rewrite_all(pods, out) {
-        Ok(()) => Ok(()),
-        Err((_, DeserializeError::OutOfMemory)) => Err(AllocError),
+/// Appends the rewritings of the first pods, up to one that isn't accepted, and answers what is left from that one on, which is nothing where all
+/// are. Where memory runs out, it appends nothing, and answers what is left from the pod on at which it did.
+fn append_accepted<'a>(input: &'a [u8], out: &mut Vec<u8>) -> Result<&'a [u8], &'a [u8]> {
+    let pod = match rewrite_all(input, out) {
+        Ok(()) => {
+            let (_, nothing) = input.split_at(input.len());
+            return Ok(nothing);
+        }
+        Err((pod, DeserializeError::OutOfMemory)) => return Err(pod),
+        Err((pod, _)) => pod,
+    };
+    let (accepted, _) = input.split_at(input.len() - pod.len());
+    match rewrite_all(accepted, out) {
+        Ok(()) => Ok(pod),
+        Err((_, DeserializeError::OutOfMemory)) => Err(input),
         Err(_) => unreachable!(),
     }
 }
 
-/// Appends the lenient rewriting of the front of the input, by its value, and answers what follows the front.
+/// Appends the lenient rewriting of the front of the input, and answers what follows the front. Of a struct only those members are read that are
+/// not accepted as they are.
 fn append_leniently<'a>(input: &'a [u8], out: &mut Vec<u8>) -> Result<&'a [u8], Refused<'a>> {
+    match append_struct(input, out) {
+        Some(rest) => Ok(rest),
+        None => append_by_value(input, out),
+    }
+}
+
+/// Does so for a struct, if all its members convey values and memory suffices: else it appends nothing.
+fn append_struct<'a>(input: &'a [u8], out: &mut Vec<u8>) -> Option<&'a [u8]> {
+    let front = open(input)?;
+    if front.type_ != SpaTypes::Struct.0 {
+        return None;
+    }
+    let start = out.len();
+    if append_struct_of(front.body, out) {
+        return Some(front.rest);
+    }
+    out.truncate(start);
+    None
+}
+
+/// Appends the encoding of a struct of the values that these bytes convey one after another, and answers whether it could.
+fn append_struct_of(body: &[u8], out: &mut Vec<u8>) -> bool {
+    let start = out.len();
+    let header = two_words(0, SpaTypes::Struct.0);
+    let Ok(()) = out.try_extend_from_slice(&header) else {
+        return false;
+    };
+    if !append_members(body, out) {
+        return false;
+    }
+    let Ok(()) = close(out, start) else {
+        unreachable!();
+    };
+    true
+}
+
+/// Appends the encodings of the values that these bytes convey one after another, and answers whether it could.
+fn append_members(body: &[u8], out: &mut Vec<u8>) -> bool {
+    let mut left = body;
+    loop {
+        let Ok(pod) = append_accepted(left, out) else {
+            return false;
+        };
+        if pod.is_empty() {
+            return true;
+        }
+        let Ok(rest) = append_by_value(pod, out) else {
+            return false;
+        };
+        left = rest;
+    }
+}
+
+/// Appends the lenient rewriting of the front of the input, which is read for that, and answers what follows the front.
+fn append_by_value<'a>(input: &'a [u8], out: &mut Vec<u8>) -> Result<&'a [u8], Refused<'a>> {
     let (rest, value) = read_value_leniently(input)?;
     let written = append_value(&value, out);
     discard(value);

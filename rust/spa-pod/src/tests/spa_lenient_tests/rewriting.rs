@@ -130,6 +130,43 @@ pub(crate) fn between_pods(words: &[u32]) -> Result<Vec<u8>, AllocError> {
     Ok(list)
 }
 
+/// A struct of a pod, these words and the same pod.
+fn struct_between(pod: &[u32], words: &[u32]) -> Result<Vec<u8>, AllocError> {
+    let len = pod
+        .len()
+        .saturating_mul(2)
+        .saturating_add(words.len())
+        .saturating_mul(4);
+    let size = u32::try_from(len).unwrap_or(u32::MAX);
+    let mut out = bytes_of(&[size, 14])?;
+    push_words(&mut out, pod)?;
+    push_words(&mut out, words)?;
+    push_words(&mut out, pod)?;
+    Ok(out)
+}
+
+/// Each row in a struct, between two pods that are accepted exactly.
+#[test]
+fn members_are_rewritten() {
+    crate::shims::test::run(members_are_rewritten_answers())
+}
+
+fn members_are_rewritten_answers() -> Result<(), Fail> {
+    for (name, words, wanted) in ROWS {
+        let input = struct_between(TRUTH.0, words)?;
+        let found = rewriting_said(input.as_slice())?;
+        let said = match wanted {
+            Ok(words) => {
+                let out = struct_between(TRUTH.1, words)?;
+                bytes_said(out.as_slice())?
+            }
+            Err(why) => String::try_from_str(why)?,
+        };
+        assert_said(found.as_str(), said.as_str(), name);
+    }
+    Ok(())
+}
+
 /// Each row between two pods that are accepted exactly, behind what the output has.
 #[test]
 fn lists_are_rewritten() {

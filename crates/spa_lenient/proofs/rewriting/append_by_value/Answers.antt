@@ -9,7 +9,7 @@ use Rattle.spa_read.proofs.Conveying.{refused_as}
 use Rattle.spa_value.specs.View.{view}
 use Rattle.spa_lenient.specs.Rewriting.{RefusesFront}
 use Rattle.spa_lenient.proofs.Fronts.{refused_read}
-use Rattle.spa_lenient.proofs.rewriting.append_leniently.Goals as goal
+use Rattle.spa_lenient.proofs.rewriting.append_by_value.Goals as goal
 
 pub returns-in_err-rest-clause-refused : goal.returns-in_err-rest-clause-refused
 returns-in_err-rest-clause-refused c =

@@ -6,3 +6,4 @@ pub mod Laws
 pub mod Values
 pub mod PropertyLists
 pub mod CommonPods
+pub mod ErrorTexts

@@ -3,8 +3,10 @@ ghost use Rattle.std.specs.Prelude.{◌≡◌};
 ghost use Rattle.spa_filter.specs.declared.error.FilterError.TheVariants.{OutOfMemory};
 
 use std::alloc::AllocError;
+use std::error::Error;
+use std::fmt;
 
-/// One of the two sides that are filtered.
+/// One of the two sides that are filtered. It prints `first` or `second`.
 #[derive(Clone, Copy, PartialEq, Eq, Debug)]
 pub enum Side {
     /// The first input.
@@ -37,6 +39,49 @@ pub enum FilterError {
     /// A growth was refused.
     OutOfMemory,
 }
+
+impl fmt::Display for Side {
+    ghost use Rattle.spa_filter.specs.ErrorTexts.{side_text};
+    ghost use Rattle.std.specs.Prelude.{Some};
+
+    ghost output = { λ side. Some (side_text side) };
+
+    fn fmt<W: fmt::Write>(&self, f: &mut fmt::Formatter<W>) -> fmt::Result {
+        match self {
+            Side::First => write!(f, "first"),
+            Side::Second => write!(f, "second"),
+        }
+    }
+}
+
+impl fmt::Display for FilterError {
+    ghost use Rattle.spa_filter.specs.ErrorTexts.{error_text};
+    ghost use Rattle.std.specs.Prelude.{Some};
+
+    ghost output = { λ e. Some (error_text e) };
+
+    fn fmt<W: fmt::Write>(&self, f: &mut fmt::Formatter<W>) -> fmt::Result {
+        match self {
+            FilterError::TypeMismatch => write!(f, "the objects are of two types"),
+            FilterError::Missing(key) => {
+                write!(
+                    f,
+                    "key {key} is mandatory in one object, and the other lacks it"
+                )
+            }
+            FilterError::Unsupported(key) => {
+                write!(f, "no value is looked for in the choices for key {key}")
+            }
+            FilterError::Disjoint(key) => write!(f, "no value for key {key} is in both"),
+            FilterError::Unread(side) => write!(f, "the {side} object isn't a pod"),
+            FilterError::NotObject(side) => write!(f, "the {side} pod isn't an object"),
+            FilterError::TooLarge => write!(f, "the object on which they agree is too large"),
+            FilterError::OutOfMemory => write!(f, "out of memory"),
+        }
+    }
+}
+
+impl Error for FilterError {}
 
 impl From<AllocError> for FilterError {
     ghost from_gives = { λ _ e. e ≡ OutOfMemory };

@@ -5,3 +5,4 @@ pub mod Refusals
 pub mod Numbering
 pub mod Offers
 pub mod PropertyLists
+pub mod ErrorTexts

@@ -3,8 +3,10 @@ ghost use Rattle.std.specs.Prelude.{◌≡◌};
 ghost use Rattle.spa_negotiate_objects.specs.declared.error.NegotiateError.TheVariants.{OutOfMemory};
 
 use std::alloc::AllocError;
+use std::error::Error;
+use std::fmt;
 
-/// One of the two sides that meet.
+/// One of the two sides that meet. It prints `first` or `second`.
 #[derive(Clone, Copy, PartialEq, Eq, Debug)]
 pub enum Side {
     /// The first input.
@@ -33,6 +35,43 @@ pub enum NegotiateError {
     /// A growth was refused.
     OutOfMemory,
 }
+
+impl fmt::Display for Side {
+    ghost use Rattle.spa_negotiate_objects.specs.ErrorTexts.{side_text};
+    ghost use Rattle.std.specs.Prelude.{Some};
+
+    ghost output = { λ side. Some (side_text side) };
+
+    fn fmt<W: fmt::Write>(&self, f: &mut fmt::Formatter<W>) -> fmt::Result {
+        match self {
+            Side::First => write!(f, "first"),
+            Side::Second => write!(f, "second"),
+        }
+    }
+}
+
+impl fmt::Display for NegotiateError {
+    ghost use Rattle.spa_negotiate_objects.specs.ErrorTexts.{error_text};
+    ghost use Rattle.std.specs.Prelude.{Some};
+
+    ghost output = { λ e. Some (error_text e) };
+
+    fn fmt<W: fmt::Write>(&self, f: &mut fmt::Formatter<W>) -> fmt::Result {
+        match self {
+            NegotiateError::TypeMismatch => write!(f, "the objects are of two types"),
+            NegotiateError::Unsupported(key) => {
+                write!(f, "no value is looked for in the choices for key {key}")
+            }
+            NegotiateError::Disjoint(key) => write!(f, "no value for key {key} is in both"),
+            NegotiateError::Unread(side) => write!(f, "the {side} object isn't a pod"),
+            NegotiateError::NotObject(side) => write!(f, "the {side} pod isn't an object"),
+            NegotiateError::TooLarge => write!(f, "the object on which they agree is too large"),
+            NegotiateError::OutOfMemory => write!(f, "out of memory"),
+        }
+    }
+}
+
+impl Error for NegotiateError {}
 
 impl From<AllocError> for NegotiateError {
     ghost from_gives = { λ _ e. e ≡ OutOfMemory };

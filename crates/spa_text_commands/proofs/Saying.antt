@@ -1,14 +1,14 @@
 -- What is said, line by line and pod by pod.
 use Rattle.std.specs.Io.KnownBytes.{Appends, Keeps}
 use Rattle.std.proofs.Common.{◌≡◌, ◌≤◌, ◌<◌, ℕ, ◌+◌, ◌-◌, List, [], ◌∷◌, ◌++◌, Option, Some, None, refl, sym, inl, inr, arith, take, length, ◌∙◌, ap, subst, length-drop, append_assoc, append-nil}
-use Rattle.std.specs.Prelude.{◌⊎◌, codes, Result, Ok, Err, OnOk}
+use Rattle.std.specs.Prelude.{◌⊎◌, Result, Ok, Err, OnOk}
 use Rattle.std.proofs.lemmas.List.{length-take-le, take_all}
 use Rattle.spa_format.specs.Words.{extent, word_at}
 use Rattle.spa_format.specs.Front.{HasFront, front_of, rest_of}
 use Rattle.spa_format.specs.Walk.{walk}
 use Rattle.spa_format.specs.Fixation.{walk_size}
 use Rattle.spa_format.proofs.WalkLemmas.{walk-end, walk-there}
-use Rattle.spa_text_commands.specs.Answers.{IsCutOff, IsNotShown, ShowsAll, ShowsTo, path_text}
+use Rattle.spa_text_commands.specs.Answers.{IsCutOff, IsNotShown, ShowsAll, ShowsTo}
 use Rattle.spa_text_commands.specs.declared.answer.Failure.{Failure}
 use Rattle.spa_text_commands.specs.Lines.{Adds, AreLines, Lists, MayAdd, Says, Shows}
 
@@ -52,15 +52,6 @@ keeps_nothing (Some a) (Some b) xs k = k ∙ sym (append-nil a)
 -- all of it is a beginning of it
 pub all_begun : (a b : Option (List ℕ)) (xs : List ℕ) → Appends a b xs → (n : ℕ) × Appends a b (take n xs)
 all_begun a b xs h = (length xs, subst (Appends a b) (sym (take_all (length xs) xs (omega arith))) h)
-
--- what is said of a path
-pub no_path : (path : List ℕ) → length path ≡ 0 → path_text path ≡ []
-no_path [] e = refl
-no_path (x ∷ xs) e = absurd (omega (arith, e))
-
-pub some_path : (path : List ℕ) → ¬ (length path ≡ 0) → path_text path ≡ codes " at " ++ path
-some_path [] h = absurd (h refl)
-some_path (x ∷ xs) h = refl
 
 says_nothing : (old : Option (List ℕ)) (waited : List ℕ) → Says old waited old waited []
 says_nothing old waited = record { part = []; written = appends_nothing old; all = append-nil waited }

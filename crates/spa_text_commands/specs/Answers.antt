@@ -1,9 +1,10 @@
 -- What pods are shown as, and what is said where they or texts are refused: docs/PROVED.md, "The programs".
-use Rattle.std.specs.Prelude.{◌≡◌, ◌<◌, ◌⊎◌, ⊤, ℕ, codes, List, [], ◌∷◌, ◌++◌, Option, length, string_bytes}
+use Rattle.std.specs.Prelude.{◌≡◌, ◌<◌, ◌⊎◌, ⊤, ℕ, codes, List, [], ◌++◌, Option, length, string_bytes}
 use Rattle.std.specs.Fmt.{decimal}
 use Rattle.std.specs.Io.KnownBytes.{Appends}
 use Rattle.spa_format.specs.Walk.{walk}
 use Rattle.spa_format.specs.Fixation.{walk_size}
+use Rattle.spa_text_read.specs.ErrorTexts.{path_text}
 use Rattle.spa_text_commands.specs.Lines.{Shows}
 use Rattle.spa_text_commands.specs.declared.answer.Failure.{Failure}
 use Rattle.spa_text_commands.specs.declared.answer.Failure.TheVariants.{Pod, Line, OutOfMemory, WriteFailed}
@@ -15,11 +16,6 @@ abbrev pub file_text : Origin → List ℕ
 file_text Input = []
 file_text First = codes "first file, "
 file_text Second = codes "second file, "
-
--- and of a path, where there is one
-abbrev pub path_text : List ℕ → List ℕ
-path_text [] = []
-path_text (x ∷ xs) = codes " at " ++ x ∷ xs
 
 -- what is said of a refusal
 abbrev pub failure_text : Failure → List ℕ

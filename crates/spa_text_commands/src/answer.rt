@@ -2,6 +2,7 @@
 ghost use Rattle.std.specs.Prelude.{◌≡◌};
 ghost use Rattle.spa_text_commands.specs.Answers.{file_text};
 
+use spa_text::AtPath;
 use std::alloc::AllocError;
 use std::fmt;
 
@@ -24,25 +25,6 @@ fn file_of(origin: Origin) -> &'static str
         Origin::Input => "",
         Origin::First => "first file, ",
         Origin::Second => "second file, ",
-    }
-}
-
-/// A path as text: nothing where there is none.
-#[derive(Clone, Copy)]
-struct At<'a>(&'a str);
-
-impl fmt::Display for At<'_> {
-    ghost use Rattle.std.specs.Prelude.{Some};
-    ghost use Rattle.spa_text_commands.specs.Answers.{path_text};
-
-    ghost output = { λ at. Some (path_text at.0.now) };
-
-    #[tactic(auto, using(crate::proofs::Saying::no_path, crate::proofs::Saying::some_path))]
-    fn fmt<W: fmt::Write>(&self, f: &mut fmt::Formatter<W>) -> fmt::Result {
-        if self.0.is_empty() {
-            return Ok(());
-        }
-        write!(f, " at {}", self.0)
     }
 }
 
@@ -90,7 +72,7 @@ impl fmt::Display for Failure {
             } => write!(
                 f,
                 "line {line}, column {column}: {kind}{}",
-                At(path.as_str())
+                AtPath(path.as_str())
             ),
             Failure::OutOfMemory => write!(f, "out of memory"),
             Failure::WriteFailed => write!(f, "write failed"),

@@ -124,11 +124,6 @@ fn kind_of(cause: Cause) -> Option<&'static str>
 {
     match cause {
         Cause::OutOfMemory => None,
-        Cause::Token => Some("Token"),
-        Cause::Name => Some("Name"),
-        Cause::Number => Some("Number"),
-        Cause::Type => Some("Type"),
-        Cause::Count => Some("Count"),
-        Cause::End => Some("End"),
+        _ => Some(cause.kind()),
     }
 }

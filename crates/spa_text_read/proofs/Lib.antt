@@ -5,3 +5,4 @@ pub mod Soundness
 pub mod ViewLaws
 pub mod Nesting
 pub mod Trailing
+mod Paths

@@ -10,3 +10,4 @@ pub mod Seen
 pub mod Begun
 pub mod Places
 pub mod Trails
+pub mod ErrorTexts

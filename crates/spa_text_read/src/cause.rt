@@ -1,7 +1,10 @@
 //! Why a text isn't read.
-use std::alloc::AllocError;
+ghost use Rattle.std.specs.Prelude.{◌≡◌};
 
-/// Why a text isn't read.
+use std::alloc::AllocError;
+use std::fmt;
+
+/// Why a text isn't read. It prints the cause in words; `kind` is its name.
 #[derive(Clone, Copy, Debug, PartialEq, Eq)]
 pub enum Cause {
     /// Memory ran out.
@@ -20,9 +23,46 @@ pub enum Cause {
     End,
 }
 
+impl Cause {
+    ghost use Rattle.spa_text_read.specs.ErrorTexts.{kind_text};
+
+    /// Its name, as docs/TEXT.md has it.
+    pub fn kind(&self) -> &'static str
+        ensures { result.now ≡ kind_text self.now }
+    {
+        match self {
+            Cause::OutOfMemory => "OutOfMemory",
+            Cause::Token => "Token",
+            Cause::Name => "Name",
+            Cause::Number => "Number",
+            Cause::Type => "Type",
+            Cause::Count => "Count",
+            Cause::End => "End",
+        }
+    }
+}
+
+impl fmt::Display for Cause {
+    ghost use Rattle.spa_text_read.specs.ErrorTexts.{cause_text};
+    ghost use Rattle.std.specs.Prelude.{Some};
+
+    ghost output = { λ cause. Some (cause_text cause) };
+
+    fn fmt<W: fmt::Write>(&self, f: &mut fmt::Formatter<W>) -> fmt::Result {
+        match self {
+            Cause::OutOfMemory => write!(f, "out of memory"),
+            Cause::Token => write!(f, "another token is looked for, or the text isn't JSON"),
+            Cause::Name => write!(f, "a key or a name is unknown there"),
+            Cause::Number => write!(f, "a number is malformed or doesn't fit its type"),
+            Cause::Type => write!(f, "an array or a choice can't have a value of this type"),
+            Cause::Count => write!(f, "a choice has more or fewer values than its shape takes"),
+            Cause::End => write!(f, "something follows the value"),
+        }
+    }
+}
+
 impl From<AllocError> for Cause {
     ghost use Rattle.spa_text_read.specs.declared.cause.Cause.TheVariants.{OutOfMemory};
-    ghost use Rattle.std.specs.Prelude.{◌≡◌};
 
     ghost from_gives = { λ _ e. e ≡ OutOfMemory };
 

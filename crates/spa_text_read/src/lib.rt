@@ -4,6 +4,7 @@
 mod cause;
 mod chosen;
 mod element;
+mod error;
 mod inside;
 pub mod laws;
 pub mod names;
@@ -18,4 +19,5 @@ pub mod tag;
 mod tokens;
 
 pub use cause::Cause;
-pub use reading::{TextError, TextReader, read};
+pub use error::{AtPath, TextError};
+pub use reading::{TextReader, read};

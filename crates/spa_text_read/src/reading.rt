@@ -8,6 +8,7 @@ ghost use Rattle.spa_text_read.specs.Steps.{ComesTo};
 ghost use Rattle.spa_value.specs.View.{view};
 
 use crate::cause::Cause;
+use crate::error::TextError;
 use crate::inside::Opened;
 use crate::nest::Nest;
 use crate::opening::open;
@@ -17,23 +18,6 @@ use json::{Reader, Scratch};
 use spa_names::Expected;
 use spa_value::{Value, discard};
 use std::alloc::Global;
-
-/// Why and where a text isn't read.
-#[derive(Debug, Drop)]
-pub struct TextError {
-    /// Why.
-    pub cause: Cause,
-    /// How many bytes stand before the place up to which it was read.
-    pub offset: usize,
-    /// The line of that place, the first being 1.
-    pub line: usize,
-    /// How many bytes of that line stand before it, and one.
-    pub column: usize,
-    /// Where the last token that was read stands, by keys and places in arrays, as `.props.rate` or `[2].props.volume`: a key that is refused
-    /// is the last of them. Two points stand for a key of more than 64 bytes, and for what follows 256 bytes. Empty for the outermost, and
-    /// where memory ran out, also for the path itself.
-    pub path: String,
-}
 
 /// Reads texts one after another, in memory that it keeps.
 #[derive(Drop)]

@@ -1,6 +1,4 @@
-//! The errors as Rust's: each is `core::error::Error`, and prints in words.
-use crate::filtering::FilterError;
-use crate::negotiation::NegotiateError;
+//! A refusal that outlives the bytes, and what thiserror's derive writes.
 use crate::pod::deserialize::{DeserializeError, Fault};
 use crate::utils::result;
 use core::error::Error;
@@ -48,30 +46,3 @@ impl Display for result::Error {
 }
 
 impl Error for result::Error {}
-
-macro_rules! meeting_errors {
-    ($($name:ident: { $($variant:pat => $words:literal),* $(,)? })*) => { $(
-        impl Display for $name {
-            fn fmt(&self, f: &mut Formatter<'_>) -> Result {
-                use $name::{Disjoint, NotObject, OutOfMemory, TooLarge, TypeMismatch, Unread, Unsupported};
-                match self {
-                    TypeMismatch => f.write_str("the types of the objects differ"),
-                    Unsupported(key) => write!(f, "no common value is sought under the key {key}"),
-                    Disjoint(key) => write!(f, "the two admit no common value under the key {key}"),
-                    Unread(side) => write!(f, "no pod is at the front of the bytes: {side:?}"),
-                    NotObject(side) => write!(f, "the pod is not an object's: {side:?}"),
-                    TooLarge => f.write_str("the answer is too large to be written"),
-                    OutOfMemory => f.write_str("out of memory"),
-                    $($variant => write!(f, $words)),*
-                }
-            }
-        }
-
-        impl Error for $name {}
-    )* };
-}
-
-meeting_errors! {
-    NegotiateError: {}
-    FilterError: { FilterError::Missing(key) => "one object lacks the key {key}, which is mandatory in the other" }
-}

@@ -2,8 +2,10 @@
 
 use crate::shims::prelude::*;
 use crate::shims::memory::AllocError;
+use core::error::Error;
+use core::fmt;
 
-/// One of the two sides that are filtered.
+/// One of the two sides that are filtered. It prints `first` or `second`.
 #[derive(Clone, Copy, PartialEq, Eq, Debug)]
 pub enum Side {
     /// The first input.
@@ -36,6 +38,39 @@ pub enum FilterError {
     /// A growth was refused.
     OutOfMemory,
 }
+
+impl fmt::Display for Side {
+    fn fmt(&self, f: &mut fmt::Formatter<'_>) -> fmt::Result {
+        match self {
+            Side::First => write!(f, "first"),
+            Side::Second => write!(f, "second"),
+        }
+    }
+}
+
+impl fmt::Display for FilterError {
+    fn fmt(&self, f: &mut fmt::Formatter<'_>) -> fmt::Result {
+        match self {
+            FilterError::TypeMismatch => write!(f, "the objects are of two types"),
+            FilterError::Missing(key) => {
+                write!(
+                    f,
+                    "key {key} is mandatory in one object, and the other lacks it"
+                )
+            }
+            FilterError::Unsupported(key) => {
+                write!(f, "no value is looked for in the choices for key {key}")
+            }
+            FilterError::Disjoint(key) => write!(f, "no value for key {key} is in both"),
+            FilterError::Unread(side) => write!(f, "the {side} object isn't a pod"),
+            FilterError::NotObject(side) => write!(f, "the {side} pod isn't an object"),
+            FilterError::TooLarge => write!(f, "the object on which they agree is too large"),
+            FilterError::OutOfMemory => write!(f, "out of memory"),
+        }
+    }
+}
+
+impl Error for FilterError {}
 
 impl From<AllocError> for FilterError {
     fn from(_error: AllocError) -> FilterError {

@@ -2,8 +2,10 @@
 
 use crate::shims::prelude::*;
 use crate::shims::memory::AllocError;
+use core::error::Error;
+use core::fmt;
 
-/// One of the two sides that meet.
+/// One of the two sides that meet. It prints `first` or `second`.
 #[derive(Clone, Copy, PartialEq, Eq, Debug)]
 pub enum Side {
     /// The first input.
@@ -32,6 +34,33 @@ pub enum NegotiateError {
     /// A growth was refused.
     OutOfMemory,
 }
+
+impl fmt::Display for Side {
+    fn fmt(&self, f: &mut fmt::Formatter<'_>) -> fmt::Result {
+        match self {
+            Side::First => write!(f, "first"),
+            Side::Second => write!(f, "second"),
+        }
+    }
+}
+
+impl fmt::Display for NegotiateError {
+    fn fmt(&self, f: &mut fmt::Formatter<'_>) -> fmt::Result {
+        match self {
+            NegotiateError::TypeMismatch => write!(f, "the objects are of two types"),
+            NegotiateError::Unsupported(key) => {
+                write!(f, "no value is looked for in the choices for key {key}")
+            }
+            NegotiateError::Disjoint(key) => write!(f, "no value for key {key} is in both"),
+            NegotiateError::Unread(side) => write!(f, "the {side} object isn't a pod"),
+            NegotiateError::NotObject(side) => write!(f, "the {side} pod isn't an object"),
+            NegotiateError::TooLarge => write!(f, "the object on which they agree is too large"),
+            NegotiateError::OutOfMemory => write!(f, "out of memory"),
+        }
+    }
+}
+
+impl Error for NegotiateError {}
 
 impl From<AllocError> for NegotiateError {
     fn from(_error: AllocError) -> NegotiateError {

@@ -1,0 +1,23 @@
+-- Refusals in words: docs/NEGOTIATION.md, "To filter".
+use Rattle.std.specs.Prelude.{ℕ, List, ◌++◌, codes}
+use Rattle.std.specs.Fmt.{decimal}
+use Rattle.spa_filter.specs.declared.error.FilterError.{FilterError}
+use Rattle.spa_filter.specs.declared.error.FilterError.TheVariants as error
+use Rattle.spa_filter.specs.declared.error.Side.{Side}
+use Rattle.spa_filter.specs.declared.error.Side.TheVariants.{First, Second}
+
+-- the word for a side
+abbrev pub side_text : Side → List ℕ
+side_text First = codes "first"
+side_text Second = codes "second"
+
+-- a refusal in words
+abbrev pub error_text : FilterError → List ℕ
+error_text error.TypeMismatch = codes "the objects are of two types"
+error_text (error.Missing key) = codes "key " ++ (decimal key ++ codes " is mandatory in one object, and the other lacks it")
+error_text (error.Unsupported key) = codes "no value is looked for in the choices for key " ++ decimal key
+error_text (error.Disjoint key) = codes "no value for key " ++ (decimal key ++ codes " is in both")
+error_text (error.Unread side) = codes "the " ++ (side_text side ++ codes " object isn't a pod")
+error_text (error.NotObject side) = codes "the " ++ (side_text side ++ codes " pod isn't an object")
+error_text error.TooLarge = codes "the object on which they agree is too large"
+error_text error.OutOfMemory = codes "out of memory"

@@ -11,7 +11,7 @@ use Rattle.spa_format.proofs.WalkLemmas.{walk-end, walk-there}
 use Rattle.spa_filter.specs.declared.error.FilterError.{FilterError}
 use Rattle.spa_filter.specs.declared.error.FilterError.TheVariants as cause
 use Rattle.spa_filter.specs.declared.error.Side.{Side}
-use Rattle.spa_negotiate_pods.specs.Fronts.{BeginsObject, BeginsOther}
+use Rattle.spa_fronts.specs.Fronts.{BeginsObject, BeginsOther}
 use Rattle.spa_meet_commands.specs.Agreeing.{Agree, AgreeIn, ArentAgreed}
 use Rattle.spa_meet_commands.specs.Lists.{AgreesWithNone, AreOfObjects, FirstGives, FirstPairGives, Gives, IsBehindObjects, IsList, IsNoList, IsOfDisagreement, NoneAgree, StopsAt}
 use Rattle.spa_meet_commands.specs.declared.pair.Work.{Work}
@@ -117,7 +117,7 @@ stops input left side place (NoPod s k) is some so stop =
 stops input left side place (NoObject s k) is some so stop =
     let b = behind input left k (stop.1 ∙ is) some so in (b.0, (stop.0, refl, subst BeginsOther b.1 stop.2))
 stops input left side place OutOfMemory is some so stop = tt
-stops input left side place (Apart e) is some so stop = absurd stop
+stops input left side place (Apart type e) is some so stop = absurd stop
 stops input left side place More is some so stop = absurd stop
 stops input left side place NoPair is some so stop = absurd stop
 
@@ -125,18 +125,18 @@ stops input left side place NoPair is some so stop = absurd stop
 -- with none that is left it does with none
 pub record Sought (work : Work) (p all left : List ℕ) : Type 0 where
   pub gives : (r : Result (List ℕ) FilterError) → FirstGives work p (walk left) r → FirstGives work p (walk all) r
-  pub none : AgreesWithNone work p (walk left) → AgreesWithNone work p (walk all)
+  pub none : AgreesWithNone p (walk left) → AgreesWithNone p (walk all)
 
 pub seeks : (work : Work) (p all : List ℕ) → Sought work p all all
 seeks work p all = record { gives = λ r h. h; none = λ h. h }
 
 -- the next one disagrees
 pub seeks_on : (work : Work) (p all left next behind : List ℕ) → Sought work p all left → walk left ≡ next ∷ walk behind →
-    ¬ (Agree work p next) → Sought work p all behind
+    ¬ (Agree p next) → Sought work p all behind
 seeks_on work p all left next behind so e apart =
     record {
       gives = λ r h. so.gives r (subst (λ z. FirstGives work p z r) (sym e) (inr (apart, h)));
-      none = λ h. so.none (subst (AgreesWithNone work p) (sym e) (apart, h));
+      none = λ h. so.none (subst (AgreesWithNone p) (sym e) (apart, h));
     }
 
 -- or gives something
@@ -145,23 +145,23 @@ pub seeks_found : (work : Work) (p all left next behind : List ℕ) (r : Result 
 seeks_found work p all left next behind r so e gives =
     so.gives r (subst (λ z. FirstGives work p z r) (sym e) (inl gives))
 
-pub seeks_none : (work : Work) (p all left : List ℕ) → Sought work p all left → walk left ≡ [] → AgreesWithNone work p (walk all)
-seeks_none work p all left so e = so.none (subst (AgreesWithNone work p) (sym e) tt)
+pub seeks_none : (work : Work) (p all left : List ℕ) → Sought work p all left → walk left ≡ [] → AgreesWithNone p (walk all)
+seeks_none work p all left so e = so.none (subst (AgreesWithNone p) (sym e) tt)
 
 -- the same of the first list
 pub record Paired (work : Work) (qs : List (List ℕ)) (all left : List ℕ) : Type 0 where
   pub gives : (r : Result (List ℕ) FilterError) → FirstPairGives work (walk left) qs r → FirstPairGives work (walk all) qs r
-  pub none : NoneAgree work (walk left) qs → NoneAgree work (walk all) qs
+  pub none : NoneAgree (walk left) qs → NoneAgree (walk all) qs
 
 pub pairs : (work : Work) (qs : List (List ℕ)) (all : List ℕ) → Paired work qs all all
 pairs work qs all = record { gives = λ r h. h; none = λ h. h }
 
 pub pairs_on : (work : Work) (qs : List (List ℕ)) (all left next behind : List ℕ) → Paired work qs all left → walk left ≡ next ∷ walk behind →
-    AgreesWithNone work next qs → Paired work qs all behind
+    AgreesWithNone next qs → Paired work qs all behind
 pairs_on work qs all left next behind so e apart =
     record {
       gives = λ r h. so.gives r (subst (λ z. FirstPairGives work z qs r) (sym e) (inr (apart, h)));
-      none = λ h. so.none (subst (λ z. NoneAgree work z qs) (sym e) (apart, h));
+      none = λ h. so.none (subst (λ z. NoneAgree z qs) (sym e) (apart, h));
     }
 
 pub pairs_found : (work : Work) (qs : List (List ℕ)) (all left next behind : List ℕ) (r : Result (List ℕ) FilterError) → Paired work qs all left →
@@ -169,11 +169,11 @@ pub pairs_found : (work : Work) (qs : List (List ℕ)) (all left next behind : L
 pairs_found work qs all left next behind r so e gives =
     so.gives r (subst (λ z. FirstPairGives work z qs r) (sym e) (inl gives))
 
-pub pairs_none : (work : Work) (qs : List (List ℕ)) (all left : List ℕ) → Paired work qs all left → walk left ≡ [] → NoneAgree work (walk all) qs
-pairs_none work qs all left so e = so.none (subst (λ z. NoneAgree work z qs) (sym e) tt)
+pub pairs_none : (work : Work) (qs : List (List ℕ)) (all left : List ℕ) → Paired work qs all left → walk left ≡ [] → NoneAgree (walk all) qs
+pairs_none work qs all left so e = so.none (subst (λ z. NoneAgree z qs) (sym e) tt)
 
 -- a refusal for such a cause says that the two don't agree
-pub disagrees : (work : Work) (p q : List ℕ) (e : FilterError) → ArentAgreed work p q e → IsOfDisagreement e → ¬ (Agree work p q)
+pub disagrees : (work : Work) (p q : List ℕ) (e : FilterError) → ArentAgreed work p q e → IsOfDisagreement e → ¬ (Agree p q)
 disagrees work p q cause.TypeMismatch r h = r.apart
 disagrees work p q (cause.Missing k) r h = r.apart
 disagrees work p q (cause.Unsupported k) r h = r.apart

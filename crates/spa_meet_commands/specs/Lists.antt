@@ -1,16 +1,17 @@
 -- Two lists of objects, and the first pair of them that agrees: docs/NEGOTIATION.md, "The program".
-use Rattle.std.specs.Prelude.{◌≡◌, ◌<◌, ◌⊎◌, ⊤, ℕ, List, [], ◌∷◌, ◌++◌, Result, Ok, Err, drop, length}
+use Rattle.std.specs.Prelude.{◌≡◌, ◌≢◌, ◌<◌, ◌⊎◌, ⊤, ℕ, List, [], ◌∷◌, ◌++◌, Result, Ok, Err, drop, length}
 use Rattle.spa_format.specs.Tree.{Tree}
 use Rattle.spa_format.specs.Pod.{IsPod}
-use Rattle.spa_format.specs.Front.{IsRefused}
+use Rattle.spa_format.specs.Front.{IsRefused, rest_of}
 use Rattle.spa_format.specs.Walk.{walk}
 use Rattle.spa_format.specs.Fixation.{walk_size}
-use Rattle.spa_negotiate_pods.specs.Fronts.{BeginsOther, IsObject}
+use Rattle.spa_fronts.specs.Fronts.{BeginsOther, IsObject}
 use Rattle.spa_filter.specs.declared.error.FilterError.{FilterError}
 use Rattle.spa_filter.specs.declared.error.FilterError.TheVariants.{TypeMismatch, Missing, Unsupported, Disjoint}
 use Rattle.spa_filter.specs.declared.error.Side.{Side}
 use Rattle.spa_filter.specs.declared.error.Side.TheVariants.{First, Second}
 use Rattle.spa_meet_commands.specs.Agreeing.{Agree, AgreeIn, ArentAgreed}
+use Rattle.spa_meet_commands.specs.Answers.{HasType}
 use Rattle.spa_meet_commands.specs.declared.pair.Work.{Work}
 use Rattle.spa_meet_commands.specs.declared.answer.Failure.{Failure}
 use Rattle.spa_meet_commands.specs.declared.answer.Failure.TheVariants.{Apart, NoPair, NoPod, NoObject, OutOfMemory}
@@ -67,24 +68,24 @@ Gives work p q (Ok out) = AgreeIn work p q out
 Gives work p q (Err e) = ArentAgreed work p q e × ¬ (IsOfDisagreement e)
 
 -- the pod agrees with none of these
-abbrev pub AgreesWithNone : Work → List ℕ → List (List ℕ) → Type 0
-AgreesWithNone work p [] = ⊤
-AgreesWithNone work p (q ∷ qs) = (¬ (Agree work p q)) × AgreesWithNone work p qs
+abbrev pub AgreesWithNone : List ℕ → List (List ℕ) → Type 0
+AgreesWithNone p [] = ⊤
+AgreesWithNone p (q ∷ qs) = (¬ (Agree p q)) × AgreesWithNone p qs
 
 -- this comes of the pod and the first of these that it doesn't disagree with
 abbrev pub FirstGives : Work → List ℕ → List (List ℕ) → Result (List ℕ) FilterError → Type 0
 FirstGives work p [] r = ⊥
-FirstGives work p (q ∷ qs) r = Gives work p q r ⊎ ((¬ (Agree work p q)) × FirstGives work p qs r)
+FirstGives work p (q ∷ qs) r = Gives work p q r ⊎ ((¬ (Agree p q)) × FirstGives work p qs r)
 
 -- no two of these and those agree
-abbrev pub NoneAgree : Work → (ps qs : List (List ℕ)) → Type 0
-NoneAgree work [] qs = ⊤
-NoneAgree work (p ∷ ps) qs = AgreesWithNone work p qs × NoneAgree work ps qs
+abbrev pub NoneAgree : (ps qs : List (List ℕ)) → Type 0
+NoneAgree [] qs = ⊤
+NoneAgree (p ∷ ps) qs = AgreesWithNone p qs × NoneAgree ps qs
 
 -- this comes of the first of these that agrees with one of those, and of the first of those with which it does
 abbrev pub FirstPairGives : Work → (ps qs : List (List ℕ)) → Result (List ℕ) FilterError → Type 0
 FirstPairGives work [] qs r = ⊥
-FirstPairGives work (p ∷ ps) qs r = FirstGives work p qs r ⊎ (AgreesWithNone work p qs × FirstPairGives work ps qs r)
+FirstPairGives work (p ∷ ps) qs r = FirstGives work p qs r ⊎ (AgreesWithNone p qs × FirstPairGives work ps qs r)
 
 -- the inputs are two lists, of whose first pair comes this
 pub record ListsGive (work : Work) (r : Result (List ℕ) FilterError) (a b : List ℕ) : Type 0 where
@@ -92,13 +93,29 @@ pub record ListsGive (work : Work) (r : Result (List ℕ) FilterError) (a b : Li
   pub theirs : IsList b
   pub pair : FirstPairGives work (walk a) (walk b) r
 
--- what two inputs are refused for: the first is settled before the second, and both before any pair
+-- the inputs are two lists of which no two objects agree
+pub record AreApart (a b : List ℕ) : Type 0 where
+  pub ours : IsList a
+  pub theirs : IsList b
+  pub none : NoneAgree (walk a) (walk b)
+
+-- each has one object, and this keeps the two apart
+pub record IsOnePairApart (work : Work) (a b : List ℕ) (e : FilterError) : Type 0 where
+  pub apart : AreApart a b
+  pub ours : length a ≢ 0
+  pub theirs : length b ≢ 0
+  pub one : rest_of a ≡ []
+  pub other : rest_of b ≡ []
+  pub cause : ArentAgreed work a b e
+
+-- What two inputs are refused for: the first is settled before the second, and both before any pair. What keeps two objects apart is
+-- said where each list has one.
 abbrev pub AreListsRefused : Work → Failure → (a b : List ℕ) → Type 0
 AreListsRefused work (NoPod First place) a b = IsNoList First (NoPod First place) a
 AreListsRefused work (NoPod Second place) a b = IsList a × IsNoList Second (NoPod Second place) b
 AreListsRefused work (NoObject First place) a b = IsNoList First (NoObject First place) a
 AreListsRefused work (NoObject Second place) a b = IsList a × IsNoList Second (NoObject Second place) b
-AreListsRefused work NoPair a b = IsList a × IsList b × NoneAgree work (walk a) (walk b)
-AreListsRefused work (Apart e) a b = ListsGive work (Err e) a b
+AreListsRefused work NoPair a b = AreApart a b
+AreListsRefused work (Apart type e) a b = HasType a type × (ListsGive work (Err e) a b ⊎ IsOnePairApart work a b e)
 AreListsRefused work OutOfMemory a b = ⊤
 AreListsRefused work _ a b = ⊥

@@ -2,12 +2,12 @@
 ghost use Rattle.std.specs.Prelude.{◌≡◌, ◌↔◌, ◌∷◌, ◌+◌, ◌<◌, Err, IfErr, IfNone, IfOk, IfSome, IsTrue, Ok, OnOk, [], length};
 ghost use Rattle.spa_format.specs.Front.{rest_of};
 ghost use Rattle.spa_format.specs.Walk.{walk};
-ghost use Rattle.spa_negotiate_pods.specs.Fronts.{BeginsObject, IsObject};
+ghost use Rattle.spa_fronts.specs.Fronts.{BeginsObject, IsObject};
 ghost use Rattle.spa_value.specs.View.{view};
-ghost use Rattle.spa_meet_commands.specs.Lists.{AgreesWithNone, AreListsRefused, FirstGives, FirstPairGives, IsList, IsNoList, IsOfDisagreement, ListsGive, NoneAgree, StopsAt};
+ghost use Rattle.spa_meet_commands.specs.Lists.{AgreesWithNone, AreApart, AreListsRefused, FirstGives, FirstPairGives, IsList, IsNoList, IsOfDisagreement, ListsGive, NoneAgree, StopsAt};
 
 use crate::answer::Failure;
-use crate::pair::{Work, agreed};
+use crate::pair::{Work, agreed, behind_front, type_at};
 use spa_filter_pods::{FilterError, Side};
 use spa_fixed::DeserializeError;
 use spa_typed_read::PodDeserializer;
@@ -26,15 +26,32 @@ pub fn of_lists(alloc: Global, work: Work, a: &[u8], b: &[u8]) -> Result<Vec<u8>
     check_list(alloc, Side::Second, b)?;
     match first_pair(alloc, work, a, b) {
         Ok(Some(met)) => Ok(met),
-        Ok(None) => Err(Failure::NoPair),
-        Err(cause) => Err(Failure::Apart(cause)),
+        Ok(None) => Err(no_pair(alloc, work, a, b)),
+        Err(cause) => Err(Failure::Apart(type_at(a), cause)),
+    }
+}
+
+/// Why no two objects of two lists agree: what keeps the two apart, where each list has one.
+fn no_pair(alloc: Global, work: Work, a: &[u8], b: &[u8]) -> Failure
+    requires { AreApart a.now b.now }
+    ensures { AreListsRefused work result a.now b.now }
+{
+    if a.is_empty() || b.is_empty() {
+        return Failure::NoPair;
+    }
+    if !behind_front(a).is_empty() || !behind_front(b).is_empty() {
+        return Failure::NoPair;
+    }
+    match agreed(alloc, work, a, b) {
+        Ok(_) => Failure::NoPair,
+        Err(cause) => Failure::Apart(type_at(a), cause),
     }
 }
 
 /// What comes of the first pair that agrees; nothing where none does.
 fn first_pair(alloc: Global, work: Work, a: &[u8], b: &[u8]) -> Result<Option<Vec<u8>>, FilterError>
     ensures found { IfOk result (λ found. IfSome found (λ met. FirstPairGives work (walk a.now) (walk b.now) (Ok met.items))) }
-    ensures none { IfOk result (λ found. IfNone found (NoneAgree work (walk a.now) (walk b.now))) }
+    ensures none { IfOk result (λ found. IfNone found (NoneAgree (walk a.now) (walk b.now))) }
     ensures cause { IfErr result (λ e. FirstPairGives work (walk a.now) (walk b.now) (Err e)) }
 {
     let mut left = a;
@@ -55,7 +72,7 @@ fn first_with(
     b: &[u8],
 ) -> Result<Option<Vec<u8>>, FilterError>
     ensures found { IfOk result (λ found. IfSome found (λ met. FirstGives work ours.now (walk b.now) (Ok met.items))) }
-    ensures none { IfOk result (λ found. IfNone found (AgreesWithNone work ours.now (walk b.now))) }
+    ensures none { IfOk result (λ found. IfNone found (AgreesWithNone ours.now (walk b.now))) }
     ensures cause { IfErr result (λ e. FirstGives work ours.now (walk b.now) (Err e)) }
 {
     let mut left = b;

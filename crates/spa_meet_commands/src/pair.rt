@@ -1,19 +1,33 @@
 //! Two objects, and the one on which they agree.
 ghost use Rattle.std.specs.Prelude.{◌≡◌, IfErr, IfOk};
+ghost use Rattle.spa_format.specs.Encoding.{encoding_of};
 ghost use Rattle.spa_format.specs.Front.{rest_of};
-ghost use Rattle.spa_meet_commands.specs.Agreeing.{AgreeIn, ArentAgreed, side_as, told_as};
-ghost use Rattle.spa_meet_commands.specs.Answers.{IsPairRefused, PairIn};
+ghost use Rattle.spa_format.specs.Pod.{IsPod};
+ghost use Rattle.spa_format.specs.Tree.{Tree};
+ghost use Rattle.spa_filter.specs.Settling.{settled_of};
+ghost use Rattle.spa_fronts.specs.Fronts.{IsObject};
+ghost use Rattle.spa_value.specs.View.{object_view};
+ghost use Rattle.spa_meet_commands.specs.Agreeing.{AgreeIn, ArentAgreed, IsUnsettled, IsUnwritten};
+ghost use Rattle.spa_meet_commands.specs.Answers.{HasType, IsPairRefused, PairIn};
 
 use crate::answer::Failure;
-use spa_filter_pods::{FilterError, Side, filter_pods};
-use spa_negotiate_pods::{NegotiateError, negotiate_pods};
+use spa_bytes::u32_at;
+use spa_filter::laws::filters_settle;
+use spa_filter::settle;
+use spa_filter_pods::{FilterError, filter_pods};
+use spa_format::laws::pods_have_one_value;
+use spa_sink::GenError;
+use spa_typed_read::PodDeserializer;
+use spa_value::laws::trees_have_their_types;
+use spa_value::{Held, Object, Value};
 use spa_view::Pod;
+use spa_write::write_value;
 use std::alloc::Global;
 
 /// What is done with two objects.
 #[derive(Clone, Copy, PartialEq, Eq, Debug)]
 pub enum Work {
-    /// The object is sought in which they meet.
+    /// The object is sought in which they meet: the one to which they are filtered, with each choice at its default.
     Negotiate,
     /// The object is sought to which they are filtered.
     Filter,
@@ -30,53 +44,82 @@ pub fn of_pair(alloc: Global, work: Work, input: &[u8]) -> Result<Vec<u8>, Failu
     }
     match agreed(alloc, work, input, second) {
         Ok(met) => Ok(met),
-        Err(cause) => Err(Failure::Apart(cause)),
+        Err(cause) => Err(Failure::Apart(type_at(input), cause)),
     }
 }
 
 /// The encoding of the object on which those at the fronts of two inputs agree.
-#[tactic(auto, using(crate::proofs::Agreeing::told_apart))]
+#[tactic(auto, using(crate::proofs::Agreeing::unfiltered_apart, crate::proofs::Agreeing::unsettled_apart, crate::proofs::Agreeing::meet, crate::proofs::Agreeing::filtered))]
 pub(crate) fn agreed(alloc: Global, work: Work, a: &[u8], b: &[u8]) -> Result<Vec<u8>, FilterError>
     ensures agreed { IfOk result (λ met. AgreeIn work a.now b.now met.items) }
     ensures cause { IfErr result (ArentAgreed work a.now b.now) }
 {
+    filters_settle();
+    let met = match filter_pods(alloc, a, b) {
+        Ok(met) => met,
+        Err(cause) => return Err(cause),
+    };
     match work {
-        Work::Negotiate => match negotiate_pods(alloc, a, b) {
-            Ok(met) => Ok(met),
-            Err(cause) => Err(told(cause)),
-        },
-        Work::Filter => filter_pods(alloc, a, b),
+        Work::Filter => Ok(met),
+        Work::Negotiate => settled(alloc, met.as_slice()),
     }
 }
 
-/// A refusal of negotiation as one of filtering.
-fn told(cause: NegotiateError) -> FilterError
-    ensures { result ≡ told_as cause }
+/// The encoding of the object of a pod, with each choice at its default.
+fn settled(alloc: Global, pod: &[u8]) -> Result<Vec<u8>, FilterError>
+    requires { (v : Tree) × IsPod pod.now v × IsObject v }
+    ensures settled { IfOk result (λ out. (v : Tree) → IsPod pod.now v → out.items ≡ encoding_of (settled_of v)) }
+    ensures cause { IfErr result (λ e. (v : Tree) → IsPod pod.now v → IsUnsettled v e) }
 {
-    match cause {
-        NegotiateError::TypeMismatch => FilterError::TypeMismatch,
-        NegotiateError::Unsupported(key) => FilterError::Unsupported(key),
-        NegotiateError::Disjoint(key) => FilterError::Disjoint(key),
-        NegotiateError::Unread(side) => FilterError::Unread(side_of(side)),
-        NegotiateError::NotObject(side) => FilterError::NotObject(side_of(side)),
-        NegotiateError::TooLarge => FilterError::TooLarge,
-        NegotiateError::OutOfMemory => FilterError::OutOfMemory,
+    pods_have_one_value();
+    trees_have_their_types();
+    let value = match PodDeserializer::deserialize_any_from(alloc, pod) {
+        Ok((_, value)) => Held::from(value),
+        // What is a pod is refused for lack of memory alone.
+        Err(_) => return Err(FilterError::OutOfMemory),
+    };
+    match &*value {
+        Value::Object(object) => settled_object(alloc, object),
+        _ => unreachable!(),
     }
 }
 
-/// A side of negotiation as one of filtering.
-fn side_of(side: spa_negotiate_pods::Side) -> Side
-    ensures { result ≡ side_as side }
+/// The encoding of an object with each choice at its default.
+fn settled_object(alloc: Global, object: &Object) -> Result<Vec<u8>, FilterError>
+    ensures settled { IfOk result (λ out. out.items ≡ encoding_of (settled_of (object_view object.now))) }
+    ensures cause { IfErr result (IsUnwritten (settled_of (object_view object.now))) }
 {
-    match side {
-        spa_negotiate_pods::Side::First => Side::First,
-        spa_negotiate_pods::Side::Second => Side::Second,
+    let Ok(settled) = settle(alloc, object) else {
+        return Err(FilterError::OutOfMemory);
+    };
+    let value = Held::from(Value::Object(settled));
+    let mut out = Vec::new(alloc);
+    match write_value(alloc, &mut out, &*value) {
+        Ok(_) => Ok(out),
+        Err(GenError::TooLarge) => Err(FilterError::TooLarge),
+        // What a pod says has no NUL in a text.
+        Err(_) => Err(FilterError::OutOfMemory),
     }
 }
+
+/// The type of the object at the front; 0 where the input is too short to have one.
+pub(crate) fn type_at(input: &[u8]) -> u32
+    ensures { HasType input.now result }
+{
+    if input.len() < TYPE_END {
+        return 0;
+    }
+    u32_at(input, TYPE_AT)
+}
+
+/// Where the type of an object begins in its pod, and where it ends.
+const TYPE_AT: usize = 8;
+
+const TYPE_END: usize = 12;
 
 /// What follows the whole pod at the front; nothing where none is there.
 #[tactic(auto, using(crate::proofs::Agreeing::nothing_behind))]
-fn behind_front(bytes: &[u8]) -> &[u8]
+pub(crate) fn behind_front(bytes: &[u8]) -> &[u8]
     ensures { result.now ≡ rest_of bytes.now }
 {
     match Pod::from_bytes(bytes) {

@@ -8,7 +8,7 @@ use crate::readme::read::count;
 use crate::readme::result_codes::told;
 use crate::readme::rewrite::{all_rewritten, say_the_same};
 use crate::readme::write::{encoded_int, encoded_pair};
-use spa_spelling::bytes_spelled;
+use spa_spelling::{bytes_spelled, nested_structs};
 use std::alloc::{AllocError, Global};
 use std::process::Abort;
 use std::test::Fail;
@@ -157,20 +157,9 @@ fn reads(rt: HostRuntime) -> Result<(), Fail> {
 /// How many structs stand in one another: more than a stack of 8 MB holds of a function that calls itself for each.
 const LEVELS: u32 = 100_000;
 
-/// So many structs, each but the innermost with one struct in it.
-fn nested_structs(alloc: Global) -> Result<Vec<u8>, AllocError> {
-    let mut bytes = Vec::new(alloc);
-    for outer in 0..LEVELS {
-        let size = 8 * (LEVELS - 1 - outer);
-        bytes.extend_from_slice(&size.to_le_bytes())?;
-        bytes.extend_from_slice(&14u32.to_le_bytes())?;
-    }
-    Ok(bytes)
-}
-
 #[test]
 fn reads_at_any_depth(rt: HostRuntime) -> Result<(), Fail> {
-    let bytes = nested_structs(rt.alloc())?;
+    let bytes = nested_structs(rt.alloc(), LEVELS, &[0, 14])?;
     let found = count_at(rt.alloc(), bytes.as_slice())?;
     assert_number(&rt, found, 0, "the properties of a struct");
     Ok(())
@@ -204,9 +193,14 @@ const ALIKE: &[(&str, &str, bool)] = &[
     (FIXATED, BUFFERS, false),
 ];
 
+/// Those rows. This function alone names them: one that does is proved with all of them.
+fn pairs_alike() -> &'static [(&'static str, &'static str, bool)] {
+    ALIKE
+}
+
 #[test]
 fn rewrites(rt: HostRuntime) -> Result<(), Fail> {
-    for (one, other, wanted) in ALIKE {
+    for (one, other, wanted) in pairs_alike() {
         let are_same = are_same(rt.alloc(), one, other)?;
         assert_holds(&rt, are_same == *wanted, other);
     }
@@ -254,13 +248,18 @@ const RATES: &[(&str, Option<i32>)] = &[
     ("32 15 262147 4 65540 0 4 4 2 0", None),
 ];
 
+/// Those rows. This function alone names them: one that does is proved with all of them.
+fn rates() -> &'static [(&'static str, Option<i32>)] {
+    RATES
+}
+
 fn assert_rate(rt: &impl Abort, found: Option<i32>, wanted: Option<i32>, words: &str) {
     assert_eq!(rt; found, wanted, "of {words}");
 }
 
 #[test]
 fn looks(rt: HostRuntime) -> Result<(), Fail> {
-    for (words, wanted) in RATES {
+    for (words, wanted) in rates() {
         let format = bytes_spelled(rt.alloc(), *words)?;
         let found = sample_rate(format.as_slice());
         assert_rate(&rt, found, *wanted, *words);
@@ -289,9 +288,14 @@ fn looks_up(rt: HostRuntime) {
 /// Result codes, and what they say.
 const CODES: &[(i32, &str)] = &[(7, "done"), (1073741824, "done later"), (-22, "failed")];
 
+/// Those rows. This function alone names them: one that does is proved with all of them.
+fn codes() -> &'static [(i32, &'static str)] {
+    CODES
+}
+
 #[test]
 fn tells(rt: HostRuntime) {
-    for (code, wanted) in CODES {
+    for (code, wanted) in codes() {
         assert_holds(&rt, told(*code) == *wanted, wanted);
     }
 }

@@ -16,9 +16,14 @@ const COMMON: &[(u64, u64, Option<u64>)] = &[
     (u64::MAX, u64::MAX - 1, None),
 ];
 
+/// Those rows. This function alone names them: one that does is proved with all of them.
+fn pairs() -> &'static [(u64, u64, Option<u64>)] {
+    COMMON
+}
+
 #[test]
 fn common_multiples_are_the_least(rt: HostRuntime) {
-    for (x, y, wanted) in COMMON {
+    for (x, y, wanted) in pairs() {
         assert_eq!(rt; common_multiple(*x, *y), *wanted, "of {x} and {y}");
     }
 }
@@ -34,9 +39,14 @@ const FIRST: &[(u64, u64, u64, Option<u64>)] = &[
     (u64::MAX - 1, u64::MAX, 1 << 32, None),
 ];
 
+/// Those rows. This function alone names them: one that does is proved with all of them.
+fn ranges() -> &'static [(u64, u64, u64, Option<u64>)] {
+    FIRST
+}
+
 #[test]
 fn the_first_multiple_is_within_both_ends(rt: HostRuntime) {
-    for (low, high, step, wanted) in FIRST {
+    for (low, high, step, wanted) in ranges() {
         assert_eq!(rt;
             first_multiple(*low, *high, *step),
             *wanted,
@@ -57,9 +67,14 @@ const SIGNED: &[(i64, i64, u64, Option<i64>)] = &[
     (i64::MIN, 0, 1 << 63, Some(i64::MIN)),
 ];
 
+/// Those rows. This function alone names them: one that does is proved with all of them.
+fn signed_ranges() -> &'static [(i64, i64, u64, Option<i64>)] {
+    SIGNED
+}
+
 #[test]
 fn numbers_below_zero_have_multiples_too(rt: HostRuntime) {
-    for (low, high, step, wanted) in SIGNED {
+    for (low, high, step, wanted) in signed_ranges() {
         assert_eq!(rt;
             first_signed(*low, *high, *step),
             *wanted,
@@ -77,9 +92,14 @@ const OF_A_STEP: &[(u64, u64, bool)] = &[
     (13, 6, false),
 ];
 
+/// Those rows. This function alone names them: one that does is proved with all of them.
+fn numbers() -> &'static [(u64, u64, bool)] {
+    OF_A_STEP
+}
+
 #[test]
 fn no_number_is_a_multiple_of_zero(rt: HostRuntime) {
-    for (number, step, wanted) in OF_A_STEP {
+    for (number, step, wanted) in numbers() {
         assert_eq!(rt; is_multiple(*number, *step), *wanted, "{number} by {step}");
     }
 }
@@ -103,6 +123,11 @@ const NARROWED: &[((i32, i32, i32), i64, (i32, i32, i32))] = &[
     ((7, 90, 65_536), 65_537, (7, 0, 65_536)),
 ];
 
+/// Those rows. This function alone names them: one that does is proved with all of them.
+fn steps_narrowed() -> &'static [((i32, i32, i32), i64, (i32, i32, i32))] {
+    NARROWED
+}
+
 /// Steps of numbers of 32 bits.
 fn steps(low: i32, high: i32, step: i32) -> Steps
     ensures { result.low ≡ low × result.high ≡ high × result.step ≡ step }
@@ -116,7 +141,7 @@ fn steps(low: i32, high: i32, step: i32) -> Steps
 
 #[test]
 fn steps_are_narrowed_by_another(rt: HostRuntime) {
-    for ((low, high, step), other, (least_met, greatest_met, step_met)) in NARROWED {
+    for ((low, high, step), other, (least_met, greatest_met, step_met)) in steps_narrowed() {
         let found = narrowed(
             &steps(*low, *high, *step),
             *other,

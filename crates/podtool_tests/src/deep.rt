@@ -32,7 +32,19 @@ fn assert_row(
 }
 
 /// The words behind the size of a struct, and of an object with one property.
-const HEADS: [&[u32]; 2] = [&[14], &[15, 5, 3, 1, 0]];
+const HEADS: &[&[u32]] = &[&[14], &[15, 5, 3, 1, 0]];
+
+/// Compares what comes of deep pods with this truth value in the innermost, rewritten and fixated.
+fn assert_deep(
+    rt: &impl Abort,
+    alloc: Global,
+    pods: &[u8],
+    rewritten: Wanted<'_>,
+    fixated: Wanted<'_>,
+) -> Result<(), AllocError> {
+    assert_row(rt, alloc, "rewrite", pods, rewritten)?;
+    assert_row(rt, alloc, "fixate", pods, fixated)
+}
 
 /// A truth value of 1 stays as it is, one of 7 is rewritten to it, and a pod of no known type is refused.
 #[test]
@@ -42,17 +54,11 @@ fn deep_pods_are_rewritten(rt: HostRuntime) -> Result<(), AllocError> {
         let seven = nested_pods(rt.alloc(), DEEP, head, &[4, 2, 7, 0])?;
         let unknown = nested_pods(rt.alloc(), DEEP, head, &[4, 21, 7, 0])?;
         let (one, seven, unknown) = (one.as_slice(), seven.as_slice(), unknown.as_slice());
-        let refused: Wanted<'_> = (1, "podtool: byte 0: InvalidType\n", &[]);
-        let rows = [
-            ("rewrite", one, (0, "", one)),
-            ("rewrite", seven, (0, "", one)),
-            ("fixate", seven, (0, "", seven)),
-            ("rewrite", unknown, refused),
-            ("fixate", unknown, refused),
-        ];
-        for (word, given, wanted) in rows {
-            assert_row(&rt, rt.alloc(), word, given, wanted)?;
-        }
+        assert_deep(&rt, rt.alloc(), one, (0, "", one), (0, "", one))?;
+        assert_deep(&rt, rt.alloc(), seven, (0, "", one), (0, "", seven))?;
+        assert_deep(&rt, rt.alloc(), unknown, REFUSED, REFUSED)?;
     }
     Ok(())
 }
+
+const REFUSED: Wanted<'static> = (1, "podtool: byte 0: InvalidType\n", &[]);

@@ -41,25 +41,50 @@ pub(crate) fn assert_run(
 const INT: [u8; 16] = [4, 0, 0, 0, 4, 0, 0, 0, 3, 0, 0, 0, 0, 0, 0, 0];
 
 /// The three words of the program, and what each writes of an Int.
-const WORDS: [(&str, &[u8]); 3] = [("rewrite", &INT), ("fixate", &INT), ("show", b"0 4 4\n")];
+const WORDS: &[(&str, &[u8])] = &[("rewrite", &INT), ("fixate", &INT), ("show", b"0 4 4\n")];
+
+/// Those words. This function alone names them: one that does is proved with all of them.
+fn words() -> &'static [(&'static str, &'static [u8])] {
+    WORDS
+}
 
 /// More bytes than any of these runs writes, or says.
 const ROOM: usize = 100;
 
+/// Compares the run of a word over these bytes, or over a source that breaks off behind an Int, whose output is a device.
+fn assert_said(
+    rt: &impl Abort,
+    alloc: Global,
+    word: &str,
+    input: Source<'_>,
+    output: Device<'_>,
+    wanted: Wanted<'_>,
+) -> Result<(), AllocError> {
+    let mut room = [0; ROOM];
+    let faults = Device::new(&mut room, PIECE);
+    assert_run(rt, alloc, word, input, output, faults, wanted)
+}
+
+/// Compares what a word says of a source that breaks off.
+fn assert_broken(
+    rt: &impl Abort,
+    alloc: Global,
+    word: &str,
+    refusal: ErrorKind,
+    line: &str,
+) -> Result<(), AllocError> {
+    let mut room = [0; ROOM];
+    let output = Device::new(&mut room, PIECE);
+    let input = Source::broken(&INT, refusal, PIECE);
+    assert_said(rt, alloc, word, input, output, (1, line, &[]))
+}
+
 #[test]
 fn sources_break_off(rt: HostRuntime) -> Result<(), AllocError> {
-    let rows = [
-        (ErrorKind::UnexpectedEof, "podtool: read failed\n"),
-        (ErrorKind::OutOfMemory, WANTING),
-    ];
-    for (word, _) in WORDS {
-        for (refusal, line) in rows {
-            let (mut room, mut line_room) = ([0; ROOM], [0; ROOM]);
-            let output = Device::new(&mut room, PIECE);
-            let faults = Device::new(&mut line_room, PIECE);
-            let input = Source::broken(&INT, refusal, PIECE);
-            assert_run(&rt, rt.alloc(), word, input, output, faults, (1, line, &[]))?;
-        }
+    for (word, _) in words() {
+        let line = "podtool: read failed\n";
+        assert_broken(&rt, rt.alloc(), word, ErrorKind::UnexpectedEof, line)?;
+        assert_broken(&rt, rt.alloc(), word, ErrorKind::OutOfMemory, WANTING)?;
     }
     Ok(())
 }
@@ -67,72 +92,80 @@ fn sources_break_off(rt: HostRuntime) -> Result<(), AllocError> {
 /// What is said where a write is refused.
 const FAILED: &str = "podtool: write failed\n";
 
+/// Compares what a word writes of these bytes to a device that can't be flushed.
+fn assert_unflushed(
+    rt: &impl Abort,
+    alloc: Global,
+    word: &str,
+    given: &[u8],
+    wanted: &[u8],
+) -> Result<(), AllocError> {
+    let mut room = [0; ROOM];
+    let output = Device::unflushed(&mut room, PIECE);
+    let input = Source::whole(given, PIECE);
+    assert_said(rt, alloc, word, input, output, (1, FAILED, wanted))
+}
+
 #[test]
 fn outputs_are_not_flushed(rt: HostRuntime) -> Result<(), AllocError> {
-    for (word, written) in WORDS {
-        for (given, wanted) in [(&[][..], &[][..]), (&INT, written)] {
-            let (mut room, mut line_room) = ([0; ROOM], [0; ROOM]);
-            let output = Device::unflushed(&mut room, PIECE);
-            let faults = Device::new(&mut line_room, PIECE);
-            let input = Source::whole(given, PIECE);
-            assert_run(
-                &rt,
-                rt.alloc(),
-                word,
-                input,
-                output,
-                faults,
-                (1, FAILED, wanted),
-            )?;
-        }
+    for (word, written) in words() {
+        assert_unflushed(&rt, rt.alloc(), word, &[], &[])?;
+        assert_unflushed(&rt, rt.alloc(), word, &INT, written)?;
     }
     Ok(())
+}
+
+/// Compares what a word writes of an Int to a device that takes the first bytes of this alone, as many as are said.
+fn assert_full(
+    rt: &impl Abort,
+    alloc: Global,
+    word: &str,
+    written: &[u8],
+    count: usize,
+) -> Result<(), AllocError> {
+    let (taken, _) = written.split_at(count.min(written.len()));
+    let mut room = [0; ROOM];
+    let (room, _) = room.split_at_mut(count.min(ROOM));
+    let output = Device::new(room, PIECE);
+    let input = Source::whole(&INT, PIECE);
+    assert_said(rt, alloc, word, input, output, (1, FAILED, taken))
 }
 
 #[test]
 fn outputs_are_full(rt: HostRuntime) -> Result<(), AllocError> {
-    for (word, written) in WORDS {
+    for (word, written) in words() {
         for count in 0..6 {
-            let (mut room, mut line_room) = ([0; ROOM], [0; ROOM]);
-            let output = Device::new(&mut room[..count], PIECE);
-            let faults = Device::new(&mut line_room, PIECE);
-            let wanted = (1, FAILED, &written[..count]);
-            assert_run(
-                &rt,
-                rt.alloc(),
-                word,
-                Source::whole(&INT, PIECE),
-                output,
-                faults,
-                wanted,
-            )?;
+            assert_full(&rt, rt.alloc(), word, written, count)?;
         }
     }
     Ok(())
 }
 
+/// Words, their status for a byte that is no pod, and the three bytes of it for which there is room.
+const CUT: &[(&str, u8, &str)] = &[
+    ("rewrite", 1, "pod"),
+    ("fixate", 1, "pod"),
+    ("show", 1, "pod"),
+    ("other", 2, "usa"),
+];
+
+/// Compares what a word says of a byte that is no pod where there is room for three bytes of it.
+fn assert_cut(
+    rt: &impl Abort,
+    alloc: Global,
+    (word, status, said): (&str, u8, &str),
+) -> Result<(), AllocError> {
+    let (mut room, mut line_room) = ([0; ROOM], [0; 3]);
+    let output = Device::new(&mut room, PIECE);
+    let faults = Device::new(&mut line_room, PIECE);
+    let input = Source::whole(&[1], PIECE);
+    assert_run(rt, alloc, word, input, output, faults, (status, said, &[]))
+}
+
 #[test]
 fn refusals_that_cannot_be_said_change_nothing(rt: HostRuntime) -> Result<(), AllocError> {
-    let rows = [
-        ("rewrite", 1, "pod"),
-        ("fixate", 1, "pod"),
-        ("show", 1, "pod"),
-        ("other", 2, "usa"),
-    ];
-    for (word, status, said) in rows {
-        let (mut room, mut line_room) = ([0; ROOM], [0; 3]);
-        let output = Device::new(&mut room, PIECE);
-        let faults = Device::new(&mut line_room, PIECE);
-        let input = Source::whole(&[1], PIECE);
-        assert_run(
-            &rt,
-            rt.alloc(),
-            word,
-            input,
-            output,
-            faults,
-            (status, said, &[]),
-        )?;
+    for row in CUT {
+        assert_cut(&rt, rt.alloc(), *row)?;
     }
     Ok(())
 }

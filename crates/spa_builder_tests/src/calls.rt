@@ -1,6 +1,6 @@
 //! Lists of calls, made at once over a vector that held something.
 use crate::bytes::{assert_holds, spell};
-use crate::rows::{Answer, EVERY_ADD, ROWS, Row, call_of, every_add};
+use crate::rows::{Answer, EVERY_ADD, Row, all_rows, call_of, every_add};
 use spa_builder::{BuildCall, replay};
 use spa_utils::Errno;
 use spa_value::ValueArray;
@@ -52,7 +52,7 @@ fn assert_row(rt: &impl Abort, alloc: Global, row: Row) -> Result<(), AllocError
 
 #[test]
 fn calls_are_answered(rt: HostRuntime) -> Result<(), AllocError> {
-    for row in ROWS {
+    for row in all_rows() {
         assert_row(&rt, rt.alloc(), *row)?;
     }
     Ok(())

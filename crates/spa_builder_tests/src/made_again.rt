@@ -1,9 +1,9 @@
 //! Calls that want memory, made again. `rt try --test --fail-alloc N` refuses the Nth request: the call that makes it answers
 //! NOMEM and changes nothing, made again it is answered as it is with memory, and the same is built. So each test here passes
 //! whatever N is.
-use crate::added::{PODS, VALUES};
+use crate::added::{pods, values};
 use crate::bytes::{assert_holds, assert_holds_at, spell};
-use crate::rows::{ACCEPTED, Answer, EVERY_ADD, INVAL, ROWS, Row, call_of, every_add};
+use crate::rows::{ACCEPTED, Answer, EVERY_ADD, INVAL, Row, all_rows, call_of, every_add};
 use bitflags::Flags;
 use spa_builder::BuildCall::{Pop, PushArray, PushStruct};
 use spa_builder::{BuildCall, Builder};
@@ -106,7 +106,7 @@ fn builds(alloc: Global, calls: &[(Call<'_>, Answer)], words: &[u32]) -> bool {
 
 #[test]
 fn each_call_of_a_list(rt: HostRuntime) {
-    for row in ROWS {
+    for row in all_rows() {
         assert_holds(&rt, builds_row(rt.alloc(), *row), row.case);
     }
 }
@@ -224,7 +224,7 @@ fn assert_added(
 
 #[test]
 fn pods_and_what_they_say(rt: HostRuntime) -> Result<(), AllocError> {
-    for row in PODS {
+    for row in pods() {
         assert_added(&rt, rt.alloc(), *row)?;
     }
     Ok(())
@@ -252,7 +252,7 @@ fn assert_alone(rt: &impl Abort, alloc: Global, words: &[u32]) -> Result<(), All
 
 #[test]
 fn values_alone(rt: HostRuntime) -> Result<(), AllocError> {
-    for words in VALUES {
+    for words in values() {
         assert_alone(&rt, rt.alloc(), words)?;
     }
     Ok(())

@@ -59,7 +59,7 @@ pub(crate) struct Row {
     pub(crate) words: &'static [u32],
 }
 
-pub(crate) const ROWS: &[Row] = &[
+const ROWS: &[Row] = &[
     Row {
         case: "a text with a NUL in a struct",
         calls: &[
@@ -190,6 +190,11 @@ pub(crate) const ROWS: &[Row] = &[
         words: &[40, 14, 4, 4, 5, 0, 16, 14, 4, 8, 6513249, 0],
     },
 ];
+
+/// Those rows. This function alone names them: one that does is proved with all of them.
+pub(crate) fn all_rows() -> &'static [Row] {
+    ROWS
+}
 
 /// The words that a struct of every add is.
 pub(crate) const EVERY_ADD: &[u32] = &[

@@ -79,9 +79,14 @@ const NO_INTS: &[(&[u32], usize, Refusal)] = &[
     (&[4, 4], 4, Refusal::Short),
 ];
 
+/// Those rows. This function alone names them: one that does is proved with all of them.
+fn no_ints() -> &'static [(&'static [u32], usize, Refusal)] {
+    NO_INTS
+}
+
 #[test]
 fn arrays_are_refused(rt: HostRuntime) -> Result<(), Fail> {
-    for row in NO_INTS {
+    for row in no_ints() {
         assert_no_ints(&rt, rt.alloc(), *row)?;
     }
     Ok(())

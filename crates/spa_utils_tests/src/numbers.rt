@@ -68,9 +68,14 @@ const NAMED: &[(Table, u32, &str)] = &[
     ),
 ];
 
+/// Those rows. This function alone names them: one that does is proved with all of them.
+fn named_numbers() -> &'static [(Table, u32, &'static str)] {
+    NAMED
+}
+
 #[test]
 fn constants_have_their_names(rt: HostRuntime) {
-    for (table, number, name) in NAMED {
+    for (table, number, name) in named_numbers() {
         assert_same(&rt, &path_of(*table, *number), &Some(*name), *name);
     }
 }

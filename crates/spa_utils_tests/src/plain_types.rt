@@ -33,6 +33,11 @@ const TYPES: &[(SpaTypes, u32)] = &[
     (SpaTypes::Pod, 20),
 ];
 
+/// Those rows. This function alone names them: one that does is proved with all of them.
+fn types() -> &'static [(SpaTypes, u32)] {
+    TYPES
+}
+
 fn assert_type(rt: &impl Abort, type_: SpaTypes, number: u32) {
     assert_same(rt, &type_.as_raw(), &number, "a type");
     assert_same(rt, &SpaTypes::from_raw(number), &type_, "a type's number");
@@ -40,7 +45,7 @@ fn assert_type(rt: &impl Abort, type_: SpaTypes, number: u32) {
 
 #[test]
 fn types_have_their_numbers(rt: HostRuntime) {
-    for (type_, number) in TYPES {
+    for (type_, number) in types() {
         assert_type(&rt, *type_, *number);
     }
 }
@@ -54,6 +59,11 @@ const ERRORS: &[(Errno, u32, &str)] = &[
     (Errno::PROTO, 71, "71"),
 ];
 
+/// Those rows. This function alone names them: one that does is proved with all of them.
+fn errors() -> &'static [(Errno, u32, &'static str)] {
+    ERRORS
+}
+
 fn assert_error(rt: &impl Abort, alloc: Global, row: (Errno, u32, &str)) -> Result<(), AllocError> {
     let (error, number, text) = row;
     assert_same(rt, &error.raw_os_error(), &number, text);
@@ -65,7 +75,7 @@ fn assert_error(rt: &impl Abort, alloc: Global, row: (Errno, u32, &str)) -> Resu
 
 #[test]
 fn errors_have_their_numbers(rt: HostRuntime) -> Result<(), AllocError> {
-    for row in ERRORS {
+    for row in errors() {
         assert_error(&rt, rt.alloc(), *row)?;
     }
     Ok(())
@@ -78,6 +88,11 @@ const DIRECTIONS: &[(u32, u32, &str)] = &[
     (7, 7, "Direction::Unknown"),
     (2, 2, "Direction::Unknown"),
 ];
+
+/// Those rows. This function alone names them: one that does is proved with all of them.
+fn directions() -> &'static [(u32, u32, &'static str)] {
+    DIRECTIONS
+}
 
 fn assert_direction(
     rt: &impl Abort,
@@ -97,7 +112,7 @@ fn assert_direction(
 fn directions_turn_and_print(rt: HostRuntime) -> Result<(), AllocError> {
     assert_same(&rt, &Direction::Input.as_raw(), &0, "the input");
     assert_same(&rt, &Direction::Output.as_raw(), &1, "the output");
-    for row in DIRECTIONS {
+    for row in directions() {
         assert_direction(&rt, rt.alloc(), *row)?;
     }
     Ok(())

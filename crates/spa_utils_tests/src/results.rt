@@ -30,6 +30,11 @@ const CODES: &[(i32, Meaning)] = &[
     (i32::MIN, Meaning::Failed(2147483648)),
 ];
 
+/// Those rows. This function alone names them: one that does is proved with all of them.
+fn codes() -> &'static [(i32, Meaning)] {
+    CODES
+}
+
 fn meaning_of(code: i32) -> Meaning {
     match SpaResult::from_c(code).into_result() {
         Ok(SpaSuccess::Sync(number)) => Meaning::Done(number),
@@ -40,7 +45,7 @@ fn meaning_of(code: i32) -> Meaning {
 
 #[test]
 fn codes_have_three_meanings(rt: HostRuntime) {
-    for (code, wanted) in CODES {
+    for (code, wanted) in codes() {
         assert_same(&rt, &meaning_of(*code), wanted, "a code");
         let is_async = SpaResult::from_c(*code).is_async();
         assert_same(
@@ -66,6 +71,11 @@ const SEQUENCE: &[(i32, i32, i32, &str)] = &[
     (i32::MIN, 0, 1073741824, "AsyncSeq seq: 0 raw: 1073741824"),
 ];
 
+/// Those rows. This function alone names them: one that does is proved with all of them.
+fn sequence() -> &'static [(i32, i32, i32, &'static str)] {
+    SEQUENCE
+}
+
 fn assert_sequence(
     rt: &impl Abort,
     alloc: Global,
@@ -84,7 +94,7 @@ fn assert_sequence(
 
 #[test]
 fn sequence_numbers_are_the_low_bits(rt: HostRuntime) -> Result<(), AllocError> {
-    for row in SEQUENCE {
+    for row in sequence() {
         assert_sequence(&rt, rt.alloc(), *row)?;
     }
     let first = AsyncSeq::from_seq(1);
@@ -140,6 +150,11 @@ const ERRORS: &[(i32, u32, &str)] = &[
     (i32::MIN, 2147483648, "2147483648"),
 ];
 
+/// Those rows. This function alone names them: one that does is proved with all of them.
+fn errors() -> &'static [(i32, u32, &'static str)] {
+    ERRORS
+}
+
 fn assert_failed(rt: &impl Abort, alloc: Global, row: (i32, u32, &str)) -> Result<(), AllocError> {
     let (code, number, text) = row;
     let failed = Some(Meaning::Failed(number));
@@ -152,7 +167,7 @@ fn assert_failed(rt: &impl Abort, alloc: Global, row: (i32, u32, &str)) -> Resul
 
 #[test]
 fn errors_are_taken_as_such(rt: HostRuntime) -> Result<(), AllocError> {
-    for row in ERRORS {
+    for row in errors() {
         assert_failed(&rt, rt.alloc(), *row)?;
     }
     Ok(())

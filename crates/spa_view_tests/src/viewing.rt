@@ -90,6 +90,11 @@ const FLAGS: &[(&str, u32)] = &[
     ("DONT_FIXATE", 16),
 ];
 
+/// Those rows. This function alone names them: one that does is proved with all of them.
+fn named_flags() -> &'static [(&'static str, u32)] {
+    FLAGS
+}
+
 /// Words that are no object.
 const NO_OBJECTS: &str = "0 14
 4 15 5 0
@@ -486,7 +491,7 @@ fn retained_bits(bits: u32) -> u32 {
 
 #[test]
 fn flags_have_their_bits(rt: HostRuntime) {
-    for (name, bits) in FLAGS {
+    for (name, bits) in named_flags() {
         assert_bits(&rt, name, *bits);
     }
 }

@@ -25,10 +25,10 @@ fn is_printed(alloc: Global, value: &Value, depth: u32) -> Result<bool, AllocErr
 #[test]
 fn depth_ends_no_print(rt: HostRuntime) -> Result<(), Fail> {
     for depth in DEPTHS {
-        let input = between(rt.alloc(), &[], (depth, NONE), &[])?;
+        let input = between(rt.alloc(), &[], (*depth, NONE), &[])?;
         let value = read(rt.alloc(), input.as_slice())?;
-        let is_printed = is_printed(rt.alloc(), &*value, depth)?;
-        assert_holds(&rt, is_printed, "printed", depth);
+        let is_printed = is_printed(rt.alloc(), &*value, *depth)?;
+        assert_holds(&rt, is_printed, "printed", *depth);
     }
     Ok(())
 }
@@ -46,11 +46,11 @@ fn is_added(alloc: Global, value: &Value, wanted: &[u8]) -> Result<bool, Errno> 
 #[test]
 fn depth_ends_no_addition(rt: HostRuntime) -> Result<(), Fail> {
     for depth in DEPTHS {
-        let input = between(rt.alloc(), &[], (depth, NONE), &[])?;
-        let wanted = between(rt.alloc(), &[16, 14], (depth, NONE), &[4, 4, 3, 0])?;
+        let input = between(rt.alloc(), &[], (*depth, NONE), &[])?;
+        let wanted = between(rt.alloc(), &[16, 14], (*depth, NONE), &[4, 4, 3, 0])?;
         let value = read(rt.alloc(), input.as_slice())?;
         let is_added = is_added(rt.alloc(), &*value, wanted.as_slice())?;
-        assert_holds(&rt, is_added, "added", depth);
+        assert_holds(&rt, is_added, "added", *depth);
     }
     Ok(())
 }
@@ -70,10 +70,10 @@ fn is_opened(parser: &mut Parser, depth: u32) -> Result<bool, Errno> {
 #[test]
 fn depth_ends_no_parser(rt: HostRuntime) -> Result<(), Fail> {
     for depth in DEPTHS {
-        let input = between(rt.alloc(), &[], (depth, NONE), &[])?;
+        let input = between(rt.alloc(), &[], (*depth, NONE), &[])?;
         let mut parser = Parser::new(rt.alloc(), &input);
-        let is_opened = is_opened(&mut parser, depth)?;
-        assert_holds(&rt, is_opened, "opened and closed", depth);
+        let is_opened = is_opened(&mut parser, *depth)?;
+        assert_holds(&rt, is_opened, "opened and closed", *depth);
     }
     Ok(())
 }

@@ -51,10 +51,10 @@ fn is_rewritten(alloc: Global, bytes: &mut [u8], wanted: &[u8]) -> Result<bool, 
 fn depth_ends_no_rewriting_in_place(rt: HostRuntime) -> Result<(), Fail> {
     for header in HEADERS {
         for depth in DEPTHS {
-            let mut bytes = inside(rt.alloc(), depth, header, CHOICE)?;
-            let wanted = inside(rt.alloc(), depth, header, SHORTER)?;
+            let mut bytes = inside(rt.alloc(), *depth, header, CHOICE)?;
+            let wanted = inside(rt.alloc(), *depth, header, SHORTER)?;
             let is_rewritten = is_rewritten(rt.alloc(), bytes.as_mut_slice(), wanted.as_slice())?;
-            assert_holds(&rt, is_rewritten, "rewritten", depth);
+            assert_holds(&rt, is_rewritten, "rewritten", *depth);
         }
     }
     Ok(())

@@ -72,7 +72,7 @@ fn assert_members(rt: &impl Abort, alloc: Global, depth: u32) -> Result<(), Fail
 #[test]
 fn deep_members_are_kept_and_let_go(rt: HostRuntime) -> Result<(), Fail> {
     for depth in DEPTHS {
-        assert_members(&rt, rt.alloc(), depth)?;
+        assert_members(&rt, rt.alloc(), *depth)?;
     }
     Ok(())
 }
@@ -96,7 +96,7 @@ fn assert_properties(rt: &impl Abort, alloc: Global, depth: u32) -> Result<(), F
 #[test]
 fn deep_properties_are_kept_and_let_go(rt: HostRuntime) -> Result<(), Fail> {
     for depth in DEPTHS {
-        assert_properties(&rt, rt.alloc(), depth)?;
+        assert_properties(&rt, rt.alloc(), *depth)?;
     }
     Ok(())
 }

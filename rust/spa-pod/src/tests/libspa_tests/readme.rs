@@ -9,7 +9,7 @@ use crate::tests::libspa_tests::readme::read::count;
 use crate::tests::libspa_tests::readme::result_codes::told;
 use crate::tests::libspa_tests::readme::rewrite::{all_rewritten, say_the_same};
 use crate::tests::libspa_tests::readme::write::{encoded_int, encoded_pair};
-use crate::tests::spa_spelling::bytes_spelled;
+use crate::tests::spa_spelling::{bytes_spelled, nested_structs};
 use crate::shims::memory::AllocError;
 use crate::shims::test::Fail;
 
@@ -166,24 +166,13 @@ fn reads_answers() -> Result<(), Fail> {
 /// How many structs stand in one another: more than a stack of 8 MB holds of a function that calls itself for each.
 const LEVELS: u32 = 100_000;
 
-/// So many structs, each but the innermost with one struct in it.
-fn nested_structs() -> Result<Vec<u8>, AllocError> {
-    let mut bytes = Vec::new();
-    for outer in 0..LEVELS {
-        let size = 8 * (LEVELS - 1 - outer);
-        bytes.try_extend_from_slice(&size.to_le_bytes())?;
-        bytes.try_extend_from_slice(&14u32.to_le_bytes())?;
-    }
-    Ok(bytes)
-}
-
 #[test]
 fn reads_at_any_depth() {
     crate::shims::test::run(reads_at_any_depth_answers())
 }
 
 fn reads_at_any_depth_answers() -> Result<(), Fail> {
-    let bytes = nested_structs()?;
+    let bytes = nested_structs(LEVELS, &[0, 14])?;
     let found = count_at(bytes.as_slice())?;
     assert_number(found, 0, "the properties of a struct");
     Ok(())
@@ -219,13 +208,18 @@ const ALIKE: &[(&str, &str, bool)] = &[
     (FIXATED, BUFFERS, false),
 ];
 
+/// Those rows. This function alone names them: one that does is proved with all of them.
+fn pairs_alike() -> &'static [(&'static str, &'static str, bool)] {
+    ALIKE
+}
+
 #[test]
 fn rewrites() {
     crate::shims::test::run(rewrites_answers())
 }
 
 fn rewrites_answers() -> Result<(), Fail> {
-    for (one, other, wanted) in ALIKE {
+    for (one, other, wanted) in pairs_alike() {
         let are_same = are_same(one, other)?;
         assert_holds(are_same == *wanted, other);
     }
@@ -277,6 +271,11 @@ const RATES: &[(&str, Option<i32>)] = &[
     ("32 15 262147 4 65540 0 4 4 2 0", None),
 ];
 
+/// Those rows. This function alone names them: one that does is proved with all of them.
+fn rates() -> &'static [(&'static str, Option<i32>)] {
+    RATES
+}
+
 fn assert_rate(found: Option<i32>, wanted: Option<i32>, words: &str) {
     assert_eq!(found, wanted, "of {words}");
 }
@@ -287,7 +286,7 @@ fn looks() {
 }
 
 fn looks_answers() -> Result<(), Fail> {
-    for (words, wanted) in RATES {
+    for (words, wanted) in rates() {
         let format = bytes_spelled(*words)?;
         let found = sample_rate(format.as_slice());
         assert_rate(found, *wanted, *words);
@@ -320,9 +319,14 @@ fn looks_up() {
 /// Result codes, and what they say.
 const CODES: &[(i32, &str)] = &[(7, "done"), (1073741824, "done later"), (-22, "failed")];
 
+/// Those rows. This function alone names them: one that does is proved with all of them.
+fn codes() -> &'static [(i32, &'static str)] {
+    CODES
+}
+
 #[test]
 fn tells() {
-    for (code, wanted) in CODES {
+    for (code, wanted) in codes() {
         assert_holds(told(*code) == *wanted, wanted);
     }
 }

@@ -16,9 +16,14 @@ const COMMON: &[(u64, u64, Option<u64>)] = &[
     (u64::MAX, u64::MAX - 1, None),
 ];
 
+/// Those rows. This function alone names them: one that does is proved with all of them.
+fn pairs() -> &'static [(u64, u64, Option<u64>)] {
+    COMMON
+}
+
 #[test]
 fn common_multiples_are_the_least() {
-    for (x, y, wanted) in COMMON {
+    for (x, y, wanted) in pairs() {
         assert_eq!(common_multiple(*x, *y), *wanted, "of {x} and {y}");
     }
 }
@@ -34,9 +39,14 @@ const FIRST: &[(u64, u64, u64, Option<u64>)] = &[
     (u64::MAX - 1, u64::MAX, 1 << 32, None),
 ];
 
+/// Those rows. This function alone names them: one that does is proved with all of them.
+fn ranges() -> &'static [(u64, u64, u64, Option<u64>)] {
+    FIRST
+}
+
 #[test]
 fn the_first_multiple_is_within_both_ends() {
-    for (low, high, step, wanted) in FIRST {
+    for (low, high, step, wanted) in ranges() {
         assert_eq!(first_multiple(*low, *high, *step),
             *wanted,
             "of {step} from {low} to {high}"
@@ -56,9 +66,14 @@ const SIGNED: &[(i64, i64, u64, Option<i64>)] = &[
     (i64::MIN, 0, 1 << 63, Some(i64::MIN)),
 ];
 
+/// Those rows. This function alone names them: one that does is proved with all of them.
+fn signed_ranges() -> &'static [(i64, i64, u64, Option<i64>)] {
+    SIGNED
+}
+
 #[test]
 fn numbers_below_zero_have_multiples_too() {
-    for (low, high, step, wanted) in SIGNED {
+    for (low, high, step, wanted) in signed_ranges() {
         assert_eq!(first_signed(*low, *high, *step),
             *wanted,
             "of {step} from {low} to {high}"
@@ -75,9 +90,14 @@ const OF_A_STEP: &[(u64, u64, bool)] = &[
     (13, 6, false),
 ];
 
+/// Those rows. This function alone names them: one that does is proved with all of them.
+fn numbers() -> &'static [(u64, u64, bool)] {
+    OF_A_STEP
+}
+
 #[test]
 fn no_number_is_a_multiple_of_zero() {
-    for (number, step, wanted) in OF_A_STEP {
+    for (number, step, wanted) in numbers() {
         assert_eq!(is_multiple(*number, *step), *wanted, "{number} by {step}");
     }
 }
@@ -101,6 +121,11 @@ const NARROWED: &[((i32, i32, i32), i64, (i32, i32, i32))] = &[
     ((7, 90, 65_536), 65_537, (7, 0, 65_536)),
 ];
 
+/// Those rows. This function alone names them: one that does is proved with all of them.
+fn steps_narrowed() -> &'static [((i32, i32, i32), i64, (i32, i32, i32))] {
+    NARROWED
+}
+
 /// Steps of numbers of 32 bits.
 fn steps(low: i32, high: i32, step: i32) -> Steps {
     Steps {
@@ -112,7 +137,7 @@ fn steps(low: i32, high: i32, step: i32) -> Steps {
 
 #[test]
 fn steps_are_narrowed_by_another() {
-    for ((low, high, step), other, (least_met, greatest_met, step_met)) in NARROWED {
+    for ((low, high, step), other, (least_met, greatest_met, step_met)) in steps_narrowed() {
         let found = narrowed(
             &steps(*low, *high, *step),
             *other,

@@ -11,7 +11,7 @@ use crate::shims::memory::AllocError;
 
 /// The words of a pod; whether an array takes what it says, as a struct does; and the words of what is built where it is added
 /// to a struct and to an array in that; by the rules of the format.
-pub(crate) const PODS: &[(&[u32], bool, &[u32])] = &[
+const PODS: &[(&[u32], bool, &[u32])] = &[
     (
         &[4, 4, 3, 0],
         true,
@@ -59,8 +59,13 @@ pub(crate) const PODS: &[(&[u32], bool, &[u32])] = &[
     ),
 ];
 
+/// Those rows. This function alone names them: one that does is proved with all of them.
+pub(crate) fn pods() -> &'static [(&'static [u32], bool, &'static [u32])] {
+    PODS
+}
+
 /// The words of encodings: of each type of fixed size, of texts, bytes and bitmaps, of arrays, choices, structs and an object.
-pub(crate) const VALUES: &[&[u32]] = &[
+const VALUES: &[&[u32]] = &[
     &[0, 1],
     &[4, 2, 1, 0],
     &[4, 3, 4294967295, 0],
@@ -90,6 +95,11 @@ pub(crate) const VALUES: &[&[u32]] = &[
     &[0, 14],
     &[40, 15, 5, 3, 9, 2147483649, 16, 14, 4, 4, 3, 0],
 ];
+
+/// Those rows. This function alone names them: one that does is proved with all of them.
+pub(crate) fn values() -> &'static [&'static [u32]] {
+    VALUES
+}
 
 /// A text without NUL behind it, which is no value.
 const NO_VALUE: &[u32] = &[3, 8, 7303014, 0];

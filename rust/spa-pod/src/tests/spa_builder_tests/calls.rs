@@ -1,7 +1,7 @@
 //! Lists of calls, made at once over a vector that held something.
 use crate::shims::prelude::*;
 use crate::tests::spa_builder_tests::bytes::{assert_holds, spell};
-use crate::tests::spa_builder_tests::rows::{Answer, EVERY_ADD, ROWS, Row, call_of, every_add};
+use crate::tests::spa_builder_tests::rows::{Answer, EVERY_ADD, Row, all_rows, call_of, every_add};
 use crate::parts::spa_builder::{BuildCall, replay};
 use crate::parts::spa_utils::Errno;
 use crate::parts::spa_value::ValueArray;
@@ -52,7 +52,7 @@ fn assert_row(row: Row) -> Result<(), AllocError> {
 
 #[test]
 fn calls_are_answered() -> Result<(), AllocError> {
-    for row in ROWS {
+    for row in all_rows() {
         assert_row(*row)?;
     }
     Ok(())

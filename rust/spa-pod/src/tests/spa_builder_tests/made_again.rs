@@ -2,9 +2,9 @@
 //! NOMEM and changes nothing, made again it is answered as it is with memory, and the same is built. So each test here passes
 //! whatever N is.
 use crate::shims::prelude::*;
-use crate::tests::spa_builder_tests::added::{PODS, VALUES};
+use crate::tests::spa_builder_tests::added::{pods, values};
 use crate::tests::spa_builder_tests::bytes::{assert_holds, assert_holds_at, spell};
-use crate::tests::spa_builder_tests::rows::{ACCEPTED, Answer, EVERY_ADD, INVAL, ROWS, Row, call_of, every_add};
+use crate::tests::spa_builder_tests::rows::{ACCEPTED, Answer, EVERY_ADD, INVAL, Row, all_rows, call_of, every_add};
 use crate::shims::flags::Flags;
 use crate::parts::spa_builder::BuildCall::{Pop, PushArray, PushStruct};
 use crate::parts::spa_builder::{BuildCall, Builder};
@@ -106,7 +106,7 @@ fn builds(calls: &[(Call<'_>, Answer)], words: &[u32]) -> bool {
 
 #[test]
 fn each_call_of_a_list() {
-    for row in ROWS {
+    for row in all_rows() {
         assert_holds(builds_row(*row), row.case);
     }
 }
@@ -222,7 +222,7 @@ fn assert_added(
 
 #[test]
 fn pods_and_what_they_say() -> Result<(), AllocError> {
-    for row in PODS {
+    for row in pods() {
         assert_added(*row)?;
     }
     Ok(())
@@ -250,7 +250,7 @@ fn assert_alone(words: &[u32]) -> Result<(), AllocError> {
 
 #[test]
 fn values_alone() -> Result<(), AllocError> {
-    for words in VALUES {
+    for words in values() {
         assert_alone(words)?;
     }
     Ok(())

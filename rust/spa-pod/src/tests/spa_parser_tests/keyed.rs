@@ -101,6 +101,11 @@ const ROWS: &[(u32, u32, Left)] = &[
     (5, 1, (Ok(()), Id(3), 7)),
 ];
 
+/// Those rows. This function alone names them: one that does is proved with all of them.
+fn rows() -> &'static [(u32, u32, Left)] {
+    ROWS
+}
+
 fn assert_left(found: Left, row: (u32, u32, Left)) {
     let (type_, key, wanted) = row;
     assert_eq!(found, wanted, "at type {type_}, key {key}");
@@ -109,7 +114,7 @@ fn assert_left(found: Left, row: (u32, u32, Left)) {
 #[test]
 fn refused_properties() -> Result<(), AllocError> {
     let input = bytes_of(&[32, 15, 5, 3, 1, 0, 4, 4, 7, 0])?;
-    for (type_, key, wanted) in ROWS {
+    for (type_, key, wanted) in rows() {
         let found = int_of(&mut Parser::new(&input), *type_, *key)?;
         assert_left(found, (*type_, *key, *wanted));
     }

@@ -78,6 +78,11 @@ const ROWS: &[(&[u8], &str)] = &[
     ),
 ];
 
+/// Those rows. This function alone names them: one that does is proved with all of them.
+fn rows() -> &'static [(&'static [u8], &'static str)] {
+    ROWS
+}
+
 /// The name of the refusal, or that there is none.
 fn answer_to(input: &[u8]) -> &'static str {
     match PodDeserializer::deserialize_any_from(input) {
@@ -96,7 +101,7 @@ fn assert_answer(found: &str, wanted: &str, input: &[u8]) {
 
 #[test]
 fn wrong_sizes_are_refused_before_memory_is_asked_for() {
-    for (input, wanted) in ROWS {
+    for (input, wanted) in rows() {
         assert_answer(answer_to(input), wanted, input);
     }
 }

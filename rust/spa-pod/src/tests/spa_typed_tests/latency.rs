@@ -29,6 +29,11 @@ const FOUND: &[&str] = &[
     "104 15 262156 16 1 0 4 6 1065353216 0 3 0 8 5 5 0 3 0 8 5 6 0 2 0 4 4 256 0",
 ];
 
+/// Those rows. This function alone names them: one that does is proved with all of them.
+fn found() -> &'static [&'static str] {
+    FOUND
+}
+
 /// Objects that are refused, why, and for `Short`, `Tag` and `Text` how many bytes are left from the place on: a malformed property before,
 /// between or behind those that are found; a second one under a key, and a first; before a missing one; short ones; the first refused one in the
 /// order of the keys.
@@ -115,6 +120,11 @@ const REFUSED: &[(&str, &str, usize)] = &[
     ),
 ];
 
+/// Those rows. This function alone names them: one that does is proved with all of them.
+fn refused() -> &'static [(&'static str, &'static str, usize)] {
+    REFUSED
+}
+
 /// Compares what is read with that latency. Its numbers take no memory, and what is passed takes none.
 fn assert_latency(
     found: Result<(&[u8], Latency), DeserializeError<&[u8]>>,
@@ -138,7 +148,7 @@ fn properties_are_found_in_any_order() {
 }
 
 fn properties_are_found_in_any_order_answers() -> Result<(), Fail> {
-    for words in FOUND {
+    for words in found() {
         let input = bytes_spelled(words)?;
         assert_latency(read_latency(input.as_slice()), 0)?;
     }
@@ -167,7 +177,7 @@ fn malformed_properties_are_refused() {
 }
 
 fn malformed_properties_are_refused_answers() -> Result<(), Fail> {
-    for row in REFUSED {
+    for row in refused() {
         let input = bytes_spelled(row.0)?;
         let found = refusal(input.as_slice())?;
         assert_said(found.0, row.1, row.0);

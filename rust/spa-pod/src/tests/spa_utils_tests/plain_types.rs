@@ -33,6 +33,11 @@ const TYPES: &[(SpaTypes, u32)] = &[
     (SpaTypes::Pod, 20),
 ];
 
+/// Those rows. This function alone names them: one that does is proved with all of them.
+fn types() -> &'static [(SpaTypes, u32)] {
+    TYPES
+}
+
 fn assert_type(type_: SpaTypes, number: u32) {
     assert_same(&type_.as_raw(), &number, "a type");
     assert_same(&SpaTypes::from_raw(number), &type_, "a type's number");
@@ -40,7 +45,7 @@ fn assert_type(type_: SpaTypes, number: u32) {
 
 #[test]
 fn types_have_their_numbers() {
-    for (type_, number) in TYPES {
+    for (type_, number) in types() {
         assert_type(*type_, *number);
     }
 }
@@ -54,6 +59,11 @@ const ERRORS: &[(Errno, u32, &str)] = &[
     (Errno::PROTO, 71, "71"),
 ];
 
+/// Those rows. This function alone names them: one that does is proved with all of them.
+fn errors() -> &'static [(Errno, u32, &'static str)] {
+    ERRORS
+}
+
 fn assert_error(row: (Errno, u32, &str)) -> Result<(), AllocError> {
     let (error, number, text) = row;
     assert_same(&error.raw_os_error(), &number, text);
@@ -65,7 +75,7 @@ fn assert_error(row: (Errno, u32, &str)) -> Result<(), AllocError> {
 
 #[test]
 fn errors_have_their_numbers() -> Result<(), AllocError> {
-    for row in ERRORS {
+    for row in errors() {
         assert_error(*row)?;
     }
     Ok(())
@@ -78,6 +88,11 @@ const DIRECTIONS: &[(u32, u32, &str)] = &[
     (7, 7, "Direction::Unknown"),
     (2, 2, "Direction::Unknown"),
 ];
+
+/// Those rows. This function alone names them: one that does is proved with all of them.
+fn directions() -> &'static [(u32, u32, &'static str)] {
+    DIRECTIONS
+}
 
 fn assert_direction(
     row: (u32, u32, &str),
@@ -95,7 +110,7 @@ fn assert_direction(
 fn directions_turn_and_print() -> Result<(), AllocError> {
     assert_same(&Direction::Input.as_raw(), &0, "the input");
     assert_same(&Direction::Output.as_raw(), &1, "the output");
-    for row in DIRECTIONS {
+    for row in directions() {
         assert_direction(*row)?;
     }
     Ok(())

@@ -7,7 +7,7 @@ use crate::shims::memory::AllocError;
 use crate::shims::test::Fail;
 
 /// Few levels, and more than a stack of 8 MB holds of a function that calls itself for each of them.
-pub(crate) const DEPTHS: [u32; 2] = [300, 100_000];
+pub(crate) const DEPTHS: &[u32] = &[300, 100_000];
 
 /// The pod of None.
 pub(crate) const NONE: [u32; 2] = [0, 1];

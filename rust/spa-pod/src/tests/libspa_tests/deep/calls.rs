@@ -30,10 +30,10 @@ fn depth_ends_no_print() {
 
 fn depth_ends_no_print_answers() -> Result<(), Fail> {
     for depth in DEPTHS {
-        let input = between(&[], (depth, NONE), &[])?;
+        let input = between(&[], (*depth, NONE), &[])?;
         let value = read(input.as_slice())?;
-        let is_printed = is_printed(&*value, depth)?;
-        assert_holds(is_printed, "printed", depth);
+        let is_printed = is_printed(&*value, *depth)?;
+        assert_holds(is_printed, "printed", *depth);
     }
     Ok(())
 }
@@ -55,11 +55,11 @@ fn depth_ends_no_addition() {
 
 fn depth_ends_no_addition_answers() -> Result<(), Fail> {
     for depth in DEPTHS {
-        let input = between(&[], (depth, NONE), &[])?;
-        let wanted = between(&[16, 14], (depth, NONE), &[4, 4, 3, 0])?;
+        let input = between(&[], (*depth, NONE), &[])?;
+        let wanted = between(&[16, 14], (*depth, NONE), &[4, 4, 3, 0])?;
         let value = read(input.as_slice())?;
         let is_added = is_added(&*value, wanted.as_slice())?;
-        assert_holds(is_added, "added", depth);
+        assert_holds(is_added, "added", *depth);
     }
     Ok(())
 }
@@ -83,10 +83,10 @@ fn depth_ends_no_parser() {
 
 fn depth_ends_no_parser_answers() -> Result<(), Fail> {
     for depth in DEPTHS {
-        let input = between(&[], (depth, NONE), &[])?;
+        let input = between(&[], (*depth, NONE), &[])?;
         let mut parser = Parser::new(&input);
-        let is_opened = is_opened(&mut parser, depth)?;
-        assert_holds(is_opened, "opened and closed", depth);
+        let is_opened = is_opened(&mut parser, *depth)?;
+        assert_holds(is_opened, "opened and closed", *depth);
     }
     Ok(())
 }

@@ -56,10 +56,10 @@ fn depth_ends_no_rewriting_in_place() {
 fn depth_ends_no_rewriting_in_place_answers() -> Result<(), Fail> {
     for header in HEADERS {
         for depth in DEPTHS {
-            let mut bytes = inside(depth, header, CHOICE)?;
-            let wanted = inside(depth, header, SHORTER)?;
+            let mut bytes = inside(*depth, header, CHOICE)?;
+            let wanted = inside(*depth, header, SHORTER)?;
             let is_rewritten = is_rewritten(bytes.as_mut_slice(), wanted.as_slice())?;
-            assert_holds(is_rewritten, "rewritten", depth);
+            assert_holds(is_rewritten, "rewritten", *depth);
         }
     }
     Ok(())

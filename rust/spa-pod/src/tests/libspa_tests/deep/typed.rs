@@ -75,7 +75,7 @@ fn deep_members_are_kept_and_let_go() {
 
 fn deep_members_are_kept_and_let_go_answers() -> Result<(), Fail> {
     for depth in DEPTHS {
-        assert_members(depth)?;
+        assert_members(*depth)?;
     }
     Ok(())
 }
@@ -102,7 +102,7 @@ fn deep_properties_are_kept_and_let_go() {
 
 fn deep_properties_are_kept_and_let_go_answers() -> Result<(), Fail> {
     for depth in DEPTHS {
-        assert_properties(depth)?;
+        assert_properties(*depth)?;
     }
     Ok(())
 }

@@ -114,25 +114,10 @@ int32_t spav_string(const void *in, size_t n, uint32_t key, char *out, size_t ca
 	return proved_spav_string(some(in), n, key, some(out), cap, len);
 }
 
-/* How deep structs and objects may stand in one another to be read: the read calls itself for each level. */
-#define LEVELS 1000
-
-/* Whether they stand deeper in one of the pods. */
-static int nest_deeper(const uint8_t *pods, size_t n) {
-	uint32_t type, size;
-	size_t whole;
-	for (; proved_spav_front(pods, n, &type, &size, &whole); pods += whole, n -= whole)
-		if (!proved_spav_nests_within(pods, n, LEVELS))
-			return 1;
-	return 0;
-}
-
 int32_t proved_spav_read(const void *, size_t, struct spav_item *, size_t, size_t *, uint32_t *, size_t *);
 int32_t spav_read(const void *in, size_t n, struct spav_item *out, size_t room, size_t *count, uint32_t *kind, size_t *at) {
 	if (lacks(in, n) || lacks(out, room))
 		return -EFAULT;
-	if (nest_deeper(some(in), n))
-		return -ELOOP;
 	return proved_spav_read(some(in), n, some(out), room, count, kind, at);
 }
 

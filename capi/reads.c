@@ -1,10 +1,12 @@
 /* What libspav reads of pods is what PipeWire's own readers find: the items of spav_read beside its iterators, values under keys beside
- * spa_pod_parser_get_object, the elements of arrays and choices beside spa_pod_get_array and spa_pod_get_values. Each line of the input is a pod in
- * hexadecimal digits. It prints how many items and values agreed. */
+ * spa_pod_parser_get_object, the elements of arrays and choices beside spa_pod_get_array and spa_pod_get_values. And each pod is built again by
+ * spav_build, its arrays also beside spa_pod_builder_array. Each line of the input is a pod in hexadecimal digits. It prints how many items and values
+ * agreed, and how many pods and arrays were built. */
 #include <errno.h>
 #include <stdio.h>
 #include <stdlib.h>
 #include <string.h>
+#include <spa/pod/builder.h>
 #include <spa/pod/iter.h>
 #include <spa/pod/parser.h>
 #include "spav.h"
@@ -15,8 +17,9 @@ enum { INPUT = 1 << 14 };
 
 static char line[4 * INPUT];
 static struct spav_item items[INPUT];
-static size_t count, next, values;
+static size_t count, next, values, built, arrays;
 static const uint8_t *input;
+static size_t input_len;
 
 /* The numbers of a body of a type of fixed size. */
 static void see_fixed(const struct spav_item *item, const void *body) {
@@ -135,6 +138,111 @@ static void see_values(const struct spa_pod *pod, size_t n) {
 	}
 }
 
+static struct spav_call calls[INPUT];
+static size_t called;
+
+static void call(struct spav_call it) {
+	SEE(called < INPUT);
+	calls[called++] = it;
+}
+
+/* The call that adds a value of fixed size. */
+static void call_fixed(uint32_t type, const void *body) {
+	uint32_t words[2] = { 0, 0 };
+	uint64_t wide = 0;
+	bool long_body = type == SPA_TYPE_Long || type == SPA_TYPE_Double || type == SPA_TYPE_Fd;
+	if (long_body)
+		memcpy(&wide, body, 8);
+	else if (type != SPA_TYPE_None)
+		memcpy(words, body, type == SPA_TYPE_Rectangle || type == SPA_TYPE_Fraction ? 8 : 4);
+	if (type == SPA_TYPE_Int)
+		call(spav_add_int((int32_t)words[0]));
+	else if (type == SPA_TYPE_Long)
+		call(spav_add_long((int64_t)wide));
+	else if (type == SPA_TYPE_Fd)
+		call(spav_add_fd((int64_t)wide));
+	else
+		call(spav_call_of(type, words[0], words[1], wide));
+}
+
+/* The call that adds a whole array, whose elements lie in the input; alone it makes what PipeWire's builder makes of them. */
+static void call_array(const struct spa_pod *pod) {
+	static uint8_t ours[INPUT], theirs[INPUT];
+	uint32_t size = SPA_POD_ARRAY_VALUE_SIZE(pod), type = SPA_POD_ARRAY_VALUE_TYPE(pod), n = size ? SPA_POD_ARRAY_N_VALUES(pod) : 0;
+	const void *elements = SPA_POD_ARRAY_VALUES(pod);
+	size_t len, at;
+	struct spa_pod_builder builder = SPA_POD_BUILDER_INIT(theirs, INPUT);
+	struct spav_call whole = spav_add_array((enum spav_type)type, (size_t)((const uint8_t *)elements - input), n);
+	SEE(spa_pod_builder_array(&builder, size, type, n, elements) == 0 && spav_build(&whole, 1, input, input_len, ours, INPUT, &len, &at) == 0);
+	SEE(len == builder.state.offset && !memcmp(ours, theirs, len));
+	arrays++;
+	call(whole);
+}
+
+/* The calls that build a pod; there is none for a bitmap. */
+static bool call_pod(const struct spa_pod *pod) {
+	static const uint32_t least[] = { 1, 3, 4 };
+	const uint8_t *body = SPA_POD_BODY_CONST(pod);
+	size_t at = (size_t)(body - input);
+	uint32_t n, shape, size = SPA_POD_BODY_SIZE(pod);
+	uint64_t address = 0;
+	const struct spa_pod *member;
+	const struct spa_pod_prop *property;
+	bool all = true;
+	switch (pod->type) {
+	case SPA_TYPE_Bitmap:
+		return false;
+	case SPA_TYPE_String:
+		call(spav_add_string(at, (uint32_t)strlen((const char *)body)));
+		return true;
+	case SPA_TYPE_Bytes:
+		call(spav_add_bytes(at, size));
+		return true;
+	case SPA_TYPE_Pointer:
+		memcpy(&address, body + 8, size - 8);
+		call(spav_add_pointer(((const struct spa_pod_pointer_body *)body)->type, address));
+		return true;
+	case SPA_TYPE_Array:
+		call_array(pod);
+		return true;
+	case SPA_TYPE_Choice:
+		member = spa_pod_get_values(pod, &n, &shape);
+		call(spav_push_choice(shape, shape == SPA_CHOICE_None ? 0 : SPA_POD_CHOICE_FLAGS(pod)));
+		for (uint32_t i = 0; i < (shape < SPA_N_ELEMENTS(least) ? SPA_MIN(n, least[shape]) : n); i++)
+			call_fixed(member->type, SPA_PTROFF(SPA_POD_BODY_CONST(member), i * member->size, const void));
+		break;
+	case SPA_TYPE_Struct:
+		call(spav_push_struct());
+		SPA_POD_STRUCT_FOREACH(pod, member)
+			all = call_pod(member) && all;
+		break;
+	case SPA_TYPE_Object:
+		call(spav_push_object(SPA_POD_OBJECT_TYPE(pod), SPA_POD_OBJECT_ID(pod)));
+		SPA_POD_OBJECT_FOREACH((const struct spa_pod_object *)pod, property) {
+			call(spav_add_prop(property->key, property->flags));
+			all = call_pod(&property->value) && all;
+		}
+		break;
+	default:
+		call_fixed(pod->type, body);
+		return true;
+	}
+	call(spav_pop());
+	return all;
+}
+
+/* A pod built again is its rewriting. */
+static void see_built(const struct spa_pod *pod, size_t n) {
+	static uint8_t ours[INPUT], wanted[INPUT];
+	size_t len, wanted_len, at;
+	called = 0;
+	if (!call_pod(pod))
+		return;
+	SEE(spav_rewrite(pod, n, wanted, INPUT, &wanted_len, &at) == 0);
+	SEE(spav_build(calls, called, input, n, ours, INPUT, &len, &at) == 0 && len == wanted_len && !memcmp(ours, wanted, len));
+	built++;
+}
+
 int main(void) {
 	static uint8_t bytes[INPUT];
 	size_t read = 0;
@@ -148,6 +256,7 @@ int main(void) {
 			return 2;
 		memcpy(copy, bytes, n);
 		input = copy;
+		input_len = n;
 		const struct spa_pod *pod = (const struct spa_pod *)copy;
 		if (spav_read(copy, n, items, INPUT, &count, &kind, &at) == 0 && n) {
 			next = 0;
@@ -156,9 +265,10 @@ int main(void) {
 			read += count;
 			if (pod->type == SPA_TYPE_Object)
 				see_values(pod, n);
+			see_built(pod, n);
 		}
 		free(copy);
 	}
-	printf("reads: %zu items, %zu values under keys agree\n", read, values);
+	printf("reads: %zu items, %zu values under keys agree; %zu pods and %zu arrays are built as PipeWire's\n", read, values, built, arrays);
 	return 0;
 }

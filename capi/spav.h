@@ -272,21 +272,21 @@ int32_t spav_filter(const void *a, size_t n, const void *b, size_t m, void *out,
  * follow which. */
 
 /* What a call is that is no type's. */
-enum spav_word { SPAV_WORD_Prop = 256, SPAV_WORD_Pop = 257 };
+enum spav_word { SPAV_WORD_Prop = 256, SPAV_WORD_Pop = 257, SPAV_WORD_Array = 258 };
 
 struct spav_call {
 	uint32_t what;   /* the type of the value that is added, or of the pod that is begun; else a word of enum spav_word */
-	uint32_t first;  /* an Id, a truth value, a Float's bits, a width, a numerator; the type of a pointer or an object, a choice's shape, a key */
-	uint32_t second; /* a height, a denominator, an object's id, the flags of a choice or a property; how many bytes a text has */
+	uint32_t first;  /* an Id, a truth value, a Float's bits, a width, a numerator; the type of a pointer, an object or elements, a choice's shape, a key */
+	uint32_t second; /* a height, a denominator, an object's id, the flags of a choice or a property; how many bytes a text has, or elements an array */
 	int32_t number;  /* an Int */
 	int64_t wide;    /* a Long, the number of a file descriptor */
-	uint64_t bits;   /* a Double's bits, an address, the byte of `texts` at which a text begins, a frame */
+	uint64_t bits;   /* a Double's bits, an address, the byte of `texts` at which a text or elements begin, a frame or 0 */
 };
 
-/* Writes the pods that `count` calls build. Strings and bytes are parts of the n bytes `texts`.
+/* Writes the pods that `count` calls build. Strings, bytes and the elements of whole arrays are parts of the n bytes `texts`.
  *   0           *written bytes were written
  *   -ENOSPC     `cap` is less than *written, their length
- *   -EINVAL     calls[*at] can't come there or is no call: a string isn't UTF-8, holds NUL or runs past `texts`, a frame isn't the innermost pod's, ..
+ *   -EINVAL     calls[*at] can't come there or is no call: a string isn't UTF-8 or holds NUL, a part runs past `texts`, elements have no fixed size, ..
  *               Where *at is `count`, a pod is begun and not closed
  *   -EOVERFLOW  by calls[*at] the size of a pod is 2^32 or more
  *   -ENOMEM     memory was asked for and refused */
@@ -329,8 +329,15 @@ static inline struct spav_call spav_push_object(uint32_t type, uint32_t id) { re
 static inline struct spav_call spav_push_choice(uint32_t shape, uint32_t flags) { return spav_call_of(SPAV_TYPE_Choice, shape, flags, 0); }
 /* The key and the flags of a property, whose value the next call adds or begins. */
 static inline struct spav_call spav_add_prop(uint32_t key, uint32_t flags) { return spav_call_of(SPAV_WORD_Prop, key, flags, 0); }
-/* Closes the innermost pod that is begun, whose frame is how many are begun: 1 for the outermost. */
-static inline struct spav_call spav_pop(uint64_t frame) { return spav_call_of(SPAV_WORD_Pop, 0, 0, frame); }
+/* Adds an array of `count` elements of one type of fixed size, or of none. They are as C has them in an array, without padding, from the byte `from` of
+ * `texts` on: a Bool is an int32_t, a Rectangle or a Fraction two uint32_t. An array of None has none, whatever `count` is. */
+static inline struct spav_call spav_add_array(enum spav_type element_type, size_t from, uint32_t count) {
+	return spav_call_of(SPAV_WORD_Array, (uint32_t)element_type, count, from);
+}
+/* Closes the innermost pod that is begun. */
+static inline struct spav_call spav_pop(void) { return spav_call_of(SPAV_WORD_Pop, 0, 0, 0); }
+/* Closes the innermost pod that is begun, where so many are begun: 1 where it is the outermost. */
+static inline struct spav_call spav_pop_frame(uint64_t frame) { return spav_call_of(SPAV_WORD_Pop, 0, 0, frame); }
 
 /* Listing. */
 

@@ -16,13 +16,15 @@ use spa_view::Pod;
 use std::alloc::{AllocError, Global};
 use std::process::Abort;
 
-/// A call: one that lists have, or one that adds a value, a pod or an array of Ints whole.
+/// A call: one that lists have, or one that adds a value, a pod or an array of Ints whole, or an array over the bodies of Bools or Longs.
 #[derive(Clone, Copy)]
 enum Call<'a> {
     Listed(BuildCall<'a>),
     Value(&'a Value),
     Pod(Pod<'a>),
     Ints(&'a [i32]),
+    Bools(&'a [u8]),
+    Longs(&'a [u8]),
 }
 
 /// Begins, closes or gives up a pod, or adds a key.
@@ -66,6 +68,8 @@ fn make(builder: &mut Builder, call: Call<'_>) -> Answer {
         Call::Value(value) => builder.add_value(value),
         Call::Pod(pod) => builder.add_pod(pod),
         Call::Ints(ints) => builder.add_array_of(ints),
+        Call::Bools(bodies) => builder.add_array_in::<bool>(bodies),
+        Call::Longs(bodies) => builder.add_array_in::<i64>(bodies),
     }
 }
 
@@ -152,6 +156,25 @@ fn elements_at_once(rt: HostRuntime) {
     let words = &[32, 14, 20, 13, 4, 4, 10, 15, 19, 0];
     let is_built = builds_ints(rt.alloc(), &[10, 15, 19], words);
     assert_holds_at(&rt, is_built, "an array", words);
+}
+
+/// Whether arrays go into a struct over the bodies of their elements, also over none, parts of bodies are refused, and these words are built.
+fn builds_arrays(alloc: Global, words: &[u32]) -> bool {
+    let calls = [
+        (Call::Listed(PushStruct), ACCEPTED),
+        (Call::Bools(&[2, 0, 0, 0, 0, 0, 0, 0]), ACCEPTED),
+        (Call::Longs(&[7, 0, 0, 0]), INVAL),
+        (Call::Longs(&[]), ACCEPTED),
+        (Call::Listed(Pop(Frame(1))), ACCEPTED),
+    ];
+    builds(alloc, &calls, words)
+}
+
+#[test]
+fn bodies_at_once(rt: HostRuntime) {
+    let words = &[40, 14, 16, 13, 4, 2, 1, 0, 8, 13, 8, 5];
+    let is_built = builds_arrays(rt.alloc(), words);
+    assert_holds_at(&rt, is_built, "arrays", words);
 }
 
 /// Whether a struct takes what is added, an array in that does or doesn't, and these words are built.

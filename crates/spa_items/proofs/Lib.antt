@@ -2,3 +2,4 @@ pub mod Overlays
 pub mod Firsts
 pub mod Listed
 pub mod Placed
+pub mod Levels

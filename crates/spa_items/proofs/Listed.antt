@@ -9,7 +9,7 @@ use Rattle.spa_format.specs.Walk.{extent_behind, walk_behind}
 use Rattle.spa_format.specs.Words.{body_of, extent, word_at}
 use Rattle.spa_format.proofs.WalkLemmas.{walk_behind-end, walk_behind-there}
 use Rattle.spa_items.specs.Contents.{content, element, element_count, elements, values_of, word_or}
-use Rattle.spa_items.specs.Items.{before, head, items_along, items_in, items_inside, items_of, items_within, overlaid}
+use Rattle.spa_items.specs.Items.{before, head, items_along, items_in, items_inside, items_within}
 use Rattle.spa_items.specs.Puts.{AreElements, ArePut, IsFirst, first_of, item_of}
 use Rattle.spa_items.specs.declared.elements.Elements.{Elements}
 use Rattle.spa_items.specs.declared.item.Item.{Item}
@@ -20,7 +20,7 @@ none_within : (depth : ℕ) (keyed : Bool) (at : ℕ) (p : List ℕ) → items_w
 unfolding items_within
 none_within depth keyed at p = refl
 
-one_within : (n depth : ℕ) (keyed : Bool) (at : ℕ) (p : List ℕ) → let pod = drop (before keyed) p in
+pub one_within : (n depth : ℕ) (keyed : Bool) (at : ℕ) (p : List ℕ) → let pod = drop (before keyed) p in
     items_within (suc n) depth keyed at p
     ≡ head keyed depth at p ∷ items_inside (items_within n (depth + 1)) (word_at pod 4) (depth + 1) (at + before keyed + 8) (body_of pod)
 unfolding items_within
@@ -171,8 +171,3 @@ pub in_other : (n depth at type : ℕ) (b : List ℕ) → type ≢ 14 → is_obj
     elements type depth b ≡ items_inside (items_within n depth) type depth at b
 in_other n depth at type b ne e =
     neither (is_struct type) (is_object type (length b)) (items_in n depth false at b) (items_in n depth true (at + 8) (drop 8 b)) (elements type depth b) (ne_eqb type 14 ne) e
-
-pub all_listed : (input : List ℕ) (old new : List Item) (m : ℕ) → ArePut 0 (items_in (length input) 0 false 0 input) old m new →
-    (m ≡ length (items_of input)) × (new ≡ overlaid (items_of input) old)
-unfolding items_of
-all_listed input old new m a = (let c = a.counted in omega arith, a.written)

@@ -1,17 +1,24 @@
 //! The items of pods, and of all inside them.
-ghost use Rattle.std.specs.Prelude.{◌≡◌, ◌+◌, ◌≤◌, ◌<◌, ◌^◌, IfNone, IfSome, List, drop, false, if◌then◌else◌, length, ℕ};
+ghost use Rattle.std.specs.Prelude.{◌≡◌, ◌+◌, ◌≤◌, ◌<◌, ◌^◌, Decides, IfNone, IfSome, List, drop, false, if◌then◌else◌, length, ℕ};
 ghost use Rattle.spa_events.specs.Events.{is_object};
 ghost use Rattle.spa_format.specs.Front.{HasFront, front_of};
-ghost use Rattle.spa_format.specs.Walk.{extent_behind};
+ghost use Rattle.spa_format.specs.Pod.{AreMembers};
+ghost use Rattle.spa_format.specs.Tree.{Trees};
+ghost use Rattle.spa_format.specs.Walk.{extent_behind, walk};
 ghost use Rattle.spa_format.specs.Words.{header_size, word_at};
 ghost use Rattle.spa_items.specs.Items.{before, head, items_in, items_of, items_within, overlaid};
 ghost use Rattle.spa_items.specs.Puts.{ArePut, IsFirst, first_of, item_of};
+ghost use Rattle.spa_scan.specs.Depth.{NestsDeeper, SomeOf, levels_looked_into, member_depth};
 
 use crate::contents::{content, word_or};
 use crate::elements::{put, put_elements, values_of};
 use crate::item::Item;
 use spa_bytes::{HEADER_LEN, SECOND_WORD, open, u32_at};
+use spa_scan::{LEVELS, nests_within};
 use spa_utils::SpaTypes;
+
+/// How many levels of items there are at most: the innermost structs and objects may hold pods.
+const ITEM_LEVELS: usize = 1 + LEVELS as usize;
 
 /// Where pods one after another stand.
 #[derive(Clone, Copy)]
@@ -37,20 +44,43 @@ pub(crate) struct First<'a> {
 }
 
 /// Puts an item for each pod of the input, for each inside one, and for each element and value, over the first items of `out`, as far as it goes,
-/// and says how many they are: an item comes before those inside it, and these before what follows it.
+/// and says how many they are: an item comes before those inside it, and these before what follows it. `None`: structs and objects stand more than
+/// 1000 deep in one another in one of the pods, and `out` is as it was.
 ///
-/// It takes no memory, and calls itself as deep as structs and objects stand in one another.
-pub fn list_items(input: &[u8], out: &mut [Item]) -> usize
-    ensures count { result ≡ length (items_of input.now) }
-    ensures items { out.new ≡ overlaid (items_of input.now) out.old }
+/// It takes no memory, and calls itself for each level, at most 1001 deep.
+pub fn list_items(input: &[u8], out: &mut [Item]) -> Option<usize>
+    ensures count { IfSome result (λ count. count ≡ length (items_of input.now)) }
+    ensures items { IfSome result (λ _. out.new ≡ overlaid (items_of input.now) out.old) }
+    ensures shallow { IfSome result (λ _. (values : Trees) → AreMembers values input.now → member_depth values ≤ levels_looked_into) }
+    ensures deep { IfNone result (SomeOf (NestsDeeper levels_looked_into) (walk input.now)) }
+    ensures unchanged { IfNone result (out.new ≡ out.old) }
 {
+    if !nest_within_levels(input) {
+        return None;
+    }
     let level = Level {
-        levels: input.len(),
+        levels: input.len().min(ITEM_LEVELS),
         depth: 0,
         keyed: false,
         at: 0,
     };
-    list_pods(out, 0, level, input)
+    Some(list_pods(out, 0, level, input))
+}
+
+/// Whether structs and objects stand at most 1000 deep in one another in each of the pods.
+fn nest_within_levels(pods: &[u8]) -> bool
+    ensures exactly { (values : Trees) → AreMembers values pods.now → Decides result (member_depth values ≤ levels_looked_into) }
+    ensures deeper { result ≡ false → SomeOf (NestsDeeper levels_looked_into) (walk pods.now) }
+    ensures within { SomeOf (NestsDeeper levels_looked_into) (walk pods.now) → result ≡ false }
+{
+    let mut left = pods;
+    while let Some(front) = open(left) {
+        if !nests_within(left, LEVELS) {
+            return false;
+        }
+        left = front.rest;
+    }
+    true
 }
 
 /// The item of the pod at the front, which begins at the byte `at` of what it is read from, without those inside it.

@@ -1,9 +1,9 @@
 -- Items that are put over an output, where they fit and where they don't.
-use Rattle.std.proofs.Common.{◌≡◌, ℕ, ◌+◌, ◌-◌, ◌<◌, ◌≤◌, List, [], ◌∷◌, ◌++◌, length, take, drop, refl, sym, ap, subst, ◌∙◌, arith, length-take, length-drop}
+use Rattle.std.proofs.Common.{◌≡◌, ℕ, ◌<◌, ◌≤◌, List, [], ◌∷◌, ◌++◌, length, take, drop, refl, sym, ap, subst, ◌∙◌, arith, length-take, length-drop}
 use Rattle.std.specs.Prelude.{Bool, true, false, if◌then◌else◌}
 use Rattle.std.proofs.Math.Seq.{take-length}
 use Rattle.spa_format.specs.Front.{HasFront, front_of}
-use Rattle.spa_format.specs.Words.{body_of, extent, word_at}
+use Rattle.spa_format.specs.Words.{extent, word_at}
 use Rattle.spa_items.specs.Items.{head, items_of, overlaid}
 use Rattle.spa_items.specs.declared.item.Item.{Item}
 use Rattle.spa_view.specs.Settled.{child_place, holds_value, settled_bytes}

@@ -1,21 +1,26 @@
 -- Pods that are built by a list of calls, in the caller's memory: docs/CAPI.md, "Building".
-use Rattle.std.specs.Prelude.{◌≡◌, ◌≢◌, ◌+◌, ℕ, List, [], ◌∷◌, ◌++◌, length, take, drop, not, nat_eq, nat_le, if◌then◌else◌, Option, Some, None}
+use Rattle.std.specs.Prelude.{◌≡◌, ◌≢◌, ◌+◌, ◌*◌, ℕ, List, [], ◌∷◌, ◌++◌, length, map, take, drop, not, nat_eq, nat_le, if◌then◌else◌, Option, Some, None}
 use Rattle.std.specs.Option.{option_map}
+use Rattle.std.specs.Simd.{first_chunks}
 use Rattle.std.specs.Str.{is_utf8}
 use Rattle.spa_format.specs.Encoding.{member_encodings}
-use Rattle.spa_format.specs.Kind.{none, bool, id, int, long, float, double, rectangle, fraction, fd, type_number, none_kind, bool_kind, id_kind, int_kind, long_kind, float_kind, double_kind, rectangle_kind, fraction_kind, fd_kind}
-use Rattle.spa_format.specs.Tree.{Tree, fixed, string, bytes, pointer, string_type, bytes_type, array_type, struct_type, object_type, pointer_type, choice_type}
+use Rattle.spa_format.specs.Kind.{Fixed, Kind, body_size, content, none, bool, id, int, long, float, double, rectangle, fraction, fd, type_number, none_kind, bool_kind, id_kind, int_kind, long_kind, float_kind, double_kind, rectangle_kind, fraction_kind, fd_kind}
+use Rattle.spa_format.specs.Normal.{kept_elements}
+use Rattle.spa_format.specs.Tree.{Tree, array, fixed, string, bytes, pointer, string_type, bytes_type, array_type, struct_type, object_type, pointer_type, choice_type}
 use Rattle.spa_builder.specs.State.{State, start}
 use Rattle.spa_builder.specs.Step as builder
 use Rattle.spa_builder.specs.Step.{Outcome, Accepts, Inval, Nospc, add, add_prop, pop, push_array, push_choice, push_object, push_struct, step}
 use Rattle.spav.specs.declared.building.Call.{Call}
 
--- the numbers of the calls that add and begin nothing
+-- the numbers of the calls that are no type's
 abbrev pub key_number : ℕ
 key_number = 256
 
 abbrev pub pop_number : ℕ
 pop_number = 257
+
+abbrev pub array_number : ℕ
+array_number = 258
 
 -- this part of the texts, where they go so far
 abbrev pub part_of : List ℕ → (from len : ℕ) → Option (List ℕ)
@@ -25,6 +30,29 @@ part_of texts from len = if nat_le (from + len) (length texts) then Some (take l
 abbrev pub text_of : Option (List ℕ) → Option (List ℕ)
 text_of None = None
 text_of (Some text) = if is_utf8 text then Some text else None
+
+-- so many elements of a kind, whose bodies are one after another in this part of the texts; those of None have no bytes
+abbrev pub elements_in : Kind → (count : ℕ) → List ℕ → List Fixed
+elements_in k count b = kept_elements k (map (content k) (first_chunks (body_size k) count b))
+
+-- the array of these, where the texts go so far
+abbrev pub array_in : Kind → List ℕ → Call → Option Tree
+array_in k texts c = option_map (λ b. array k (elements_in k c.second b)) (part_of texts c.bits (c.second * body_size k))
+
+-- the array whose elements are of the type of this number, if that has a fixed size
+abbrev pub array_of : ℕ → List ℕ → Call → Option Tree
+array_of number texts c =
+    if nat_eq number (type_number none_kind) then array_in none_kind texts c
+    else (if nat_eq number (type_number bool_kind) then array_in bool_kind texts c
+    else (if nat_eq number (type_number id_kind) then array_in id_kind texts c
+    else (if nat_eq number (type_number int_kind) then array_in int_kind texts c
+    else (if nat_eq number (type_number long_kind) then array_in long_kind texts c
+    else (if nat_eq number (type_number float_kind) then array_in float_kind texts c
+    else (if nat_eq number (type_number double_kind) then array_in double_kind texts c
+    else (if nat_eq number (type_number rectangle_kind) then array_in rectangle_kind texts c
+    else (if nat_eq number (type_number fraction_kind) then array_in fraction_kind texts c
+    else (if nat_eq number (type_number fd_kind) then array_in fd_kind texts c
+    else None)))))))))
 
 -- what a call of this number adds, if anything
 abbrev pub added_by : ℕ → List ℕ → Call → Option Tree
@@ -42,22 +70,31 @@ added_by number texts c =
     else (if nat_eq number string_type then option_map string (text_of (part_of texts c.bits c.second))
     else (if nat_eq number bytes_type then option_map bytes (part_of texts c.bits c.second)
     else (if nat_eq number pointer_type then Some (pointer c.first c.bits)
-    else None))))))))))))
+    else (if nat_eq number array_number then array_of c.first texts c
+    else None)))))))))))))
+
+-- the frame of the pod that a call closes: the number 0 is for the innermost
+abbrev pub frame_of : State → Call → ℕ
+frame_of s c = if nat_eq c.bits 0 then length s.opened else c.bits
 
 -- which other call this number is, if any
-abbrev pub begun_by : ℕ → Call → Option builder.Call
-begun_by number c =
+abbrev pub begun_by : State → ℕ → Call → Option builder.Call
+begun_by s number c =
     if nat_eq number array_type then Some push_array
     else (if nat_eq number struct_type then Some push_struct
     else (if nat_eq number object_type then Some (push_object c.first c.second)
     else (if nat_eq number choice_type then Some (push_choice c.first c.second)
     else (if nat_eq number key_number then Some (add_prop c.first c.second)
-    else (if nat_eq number pop_number then Some (pop c.bits)
+    else (if nat_eq number pop_number then Some (pop (frame_of s c))
     else None)))))
 
+-- the call that adds a value, if there is one, or another call
+abbrev pub adds : Option Tree → Option builder.Call → Option builder.Call
+adds v other = elim v as (λ _. Option builder.Call) [ Some t ↦ Some (add t) | None ↦ other ]
+
 -- the call of a builder, if it is one
-abbrev pub said_by : ℕ → List ℕ → Call → Option builder.Call
-said_by number texts c = elim (added_by number texts c) as (λ _. Option builder.Call) [ Some v ↦ Some (add v) | None ↦ begun_by number c ]
+abbrev pub said_by : State → ℕ → List ℕ → Call → Option builder.Call
+said_by s number texts c = adds (added_by number texts c) (begun_by s number c)
 
 -- what a builder's call comes to; what is none is refused
 abbrev pub outcome_of : State → Option builder.Call → Outcome
@@ -65,7 +102,7 @@ outcome_of s None = Inval
 outcome_of s (Some call) = step s call
 
 abbrev pub outcome_in : List ℕ → State → Call → Outcome
-outcome_in texts s c = outcome_of s (said_by c.what texts c)
+outcome_in texts s c = outcome_of s (said_by s c.what texts c)
 
 -- the state behind calls that are accepted, one after another
 abbrev pub spelled_from : List ℕ → State → List Call → Option State

@@ -5,16 +5,17 @@ ghost use Rattle.spa_builder.specs.Answers.{Makes};
 ghost use Rattle.spa_builder.specs.Held.{IsAt};
 ghost use Rattle.spa_builder.specs.Replay.{IsAnswered};
 ghost use Rattle.spa_builder.specs.State.{State, start};
-ghost use Rattle.spa_builder.specs.Step.{Accepts, Inval, Nospc};
+ghost use Rattle.spa_builder.specs.Step.{Accepts, Inval, Nospc, pop, step};
 ghost use Rattle.spa_utils.specs.declared.errno.TheConstants.Errno.{INVAL, NOSPC};
 ghost use Rattle.spav.specs.Answers.{IsBuilt, IsDone, IsInvalid, IsNoMemory, IsNoRoom, IsPast, IsStopped};
-ghost use Rattle.spav.specs.Building.{Builds, LeavesOpen, StopsAt, begun_by, outcome_in, outcome_of, part_of, said_by, spelled_from};
+ghost use Rattle.spav.specs.Building.{Builds, LeavesOpen, StopsAt, adds, array_in, array_number, begun_by, frame_of, outcome_in, outcome_of, part_of, said_by, spelled_from};
 ghost use Rattle.spav.specs.Lists.{IsWritten};
 
 use crate::answers::{INVALID, NO_MEMORY, PAST};
 use crate::lists::put_front;
 use spa_builder::Builder;
-use spa_utils::{Errno, Float32, Float64, Fraction, Frame, Id, Rectangle, SpaTypes};
+use spa_fixed::CanonicalFixedSizedPod;
+use spa_utils::{Errno, Fd, Float32, Float64, Fraction, Frame, Id, Rectangle, SpaTypes};
 use std::alloc::Global;
 use std::str;
 
@@ -24,27 +25,31 @@ const KEY: u32 = 256;
 /// The number of a call that closes the innermost pod that is begun.
 const POP: u32 = 257;
 
+/// The number of a call that adds a whole array.
+const ARRAY: u32 = 258;
+
 /// A call of a builder.
 #[repr(C)]
 #[derive(Clone, Copy)]
 pub struct Call {
-    /// The type of the value that is added, or of the pod that is begun; or KEY, or POP.
+    /// The type of the value that is added, or of the pod that is begun; or KEY, or POP, or ARRAY.
     pub what: u32,
     /// An Id, a truth value (0 is false), the bits of a Float, a width, a numerator, a pointer's type, an object's type, a choice's
-    /// shape, a key.
+    /// shape, a key, the type of an array's elements.
     pub first: u32,
-    /// A height, a denominator, an object's id, a choice's flags, a property's flags, how many bytes a text has.
+    /// A height, a denominator, an object's id, a choice's flags, a property's flags, how many bytes a text has, how many elements an array.
     pub second: u32,
     /// An Int.
     pub number: i32,
     /// A Long, or the number of a file descriptor.
     pub wide: i64,
-    /// The bits of a Double, a pointer's address, the byte of the texts at which a text begins, the frame of the pod that is closed.
+    /// The bits of a Double, a pointer's address, the byte of the texts at which a text or the elements of an array begin, the frame of the pod that
+    /// is closed, or 0 for the innermost.
     pub bits: u64,
 }
 
-/// Writes the pods that a list of calls builds, one after another, to the front of `out`. The texts of strings, and bytes, are parts of
-/// `texts`.
+/// Writes the pods that a list of calls builds, one after another, to the front of `out`. The texts of strings, bytes, and the elements of whole
+/// arrays, without padding between, are parts of `texts`.
 ///
 /// 0: `written` is their length, and what is behind them is as it was. -ENOSPC: their length, `written`, is more than `out` has. -EINVAL: the
 /// call at the place `at` of the list can't come there, or says nothing; where `at` is how many calls there are, a pod that was begun isn't
@@ -138,13 +143,14 @@ fn make(builder: &mut Builder, texts: &[u8], call: &Call) -> Result<(), Errno>
         SpaTypes::String => add_text(builder, texts, call),
         SpaTypes::Bytes => add_part(builder, texts, call),
         SpaTypes::Pointer => builder.add_pointer(Id(call.first), call.bits),
+        SpaTypes(ARRAY) => add_array(builder, texts, call),
         _ => begin_or_close_pod(builder, call),
     }
 }
 
 /// Makes a call that begins or closes a pod, or says a key.
 fn begin_or_close_pod(builder: &mut Builder, call: &Call) -> Result<(), Errno>
-    ensures { (s : State) → IsAt builder.old s → Makes (outcome_of s (begun_by call.now.what call.now)) builder.old builder.new result }
+    ensures { (s : State) → IsAt builder.old s → Makes (outcome_of s (begun_by s call.now.what call.now)) builder.old builder.new result }
 {
     match SpaTypes(call.what) {
         SpaTypes::Array => {
@@ -160,19 +166,29 @@ fn begin_or_close_pod(builder: &mut Builder, call: &Call) -> Result<(), Errno>
             builder.push_choice(call.first, call.second)?;
         }
         SpaTypes(KEY) => return builder.add_prop(call.first, call.second),
-        SpaTypes(POP) => return builder.pop(Frame(call.bits as usize)),
+        SpaTypes(POP) => return close_pod(builder, call),
         _ => return Err(Errno::INVAL),
     }
     Ok(())
 }
 
-/// The part of the texts that a call names.
-fn part<'a>(texts: &'a [u8], call: &Call) -> Option<&'a [u8]>
-    ensures some { IfSome result (λ text. part_of texts.now call.now.bits call.now.second ≡ Some text.now) }
-    ensures none { IfNone result (part_of texts.now call.now.bits call.now.second ≡ None) }
+/// Closes the innermost pod, which the call's frame has to name, unless that is 0.
+fn close_pod(builder: &mut Builder, call: &Call) -> Result<(), Errno>
+    ensures { (s : State) → IsAt builder.old s → Makes (step s (pop (frame_of s call.now))) builder.old builder.new result }
 {
-    let from = call.bits as usize;
-    let len = call.second as usize;
+    let frame = if call.bits == 0 {
+        builder.open_frames()
+    } else {
+        call.bits as usize
+    };
+    builder.pop(Frame(frame))
+}
+
+/// The part of the texts from a byte on.
+fn part(texts: &[u8], from: usize, len: usize) -> Option<&[u8]>
+    ensures some { IfSome result (λ text. part_of texts.now from len ≡ Some text.now) }
+    ensures none { IfNone result (part_of texts.now from len ≡ None) }
+{
     if from > texts.len() || texts.len() - from < len {
         return None;
     }
@@ -181,19 +197,53 @@ fn part<'a>(texts: &'a [u8], call: &Call) -> Option<&'a [u8]>
 
 /// Adds the bytes that a call names.
 fn add_part(builder: &mut Builder, texts: &[u8], call: &Call) -> Result<(), Errno>
-    ensures { (s : State) → IsAt builder.old s → Makes (outcome_of s (said_by bytes_type texts.now call.now)) builder.old builder.new result }
+    ensures { (s : State) → IsAt builder.old s → Makes (outcome_of s (said_by s bytes_type texts.now call.now)) builder.old builder.new result }
 {
-    match part(texts, call) {
+    match part(texts, call.bits as usize, call.second as usize) {
         Some(bytes) => builder.add_bytes(bytes),
+        None => Err(Errno::INVAL),
+    }
+}
+
+/// Adds the array that a call names.
+fn add_array(builder: &mut Builder, texts: &[u8], call: &Call) -> Result<(), Errno>
+    ensures { (s : State) → IsAt builder.old s → Makes (outcome_of s (said_by s array_number texts.now call.now)) builder.old builder.new result }
+{
+    match SpaTypes(call.first) {
+        SpaTypes::None => add_array_of::<()>(builder, texts, call),
+        SpaTypes::Bool => add_array_of::<bool>(builder, texts, call),
+        SpaTypes::Id => add_array_of::<Id>(builder, texts, call),
+        SpaTypes::Int => add_array_of::<i32>(builder, texts, call),
+        SpaTypes::Long => add_array_of::<i64>(builder, texts, call),
+        SpaTypes::Float => add_array_of::<Float32>(builder, texts, call),
+        SpaTypes::Double => add_array_of::<Float64>(builder, texts, call),
+        SpaTypes::Rectangle => add_array_of::<Rectangle>(builder, texts, call),
+        SpaTypes::Fraction => add_array_of::<Fraction>(builder, texts, call),
+        SpaTypes::Fd => add_array_of::<Fd>(builder, texts, call),
+        _ => Err(Errno::INVAL),
+    }
+}
+
+/// Adds the array that a call names, of elements of one type.
+fn add_array_of<T: CanonicalFixedSizedPod>(
+    builder: &mut Builder,
+    texts: &[u8],
+    call: &Call,
+) -> Result<(), Errno>
+    ensures { (s : State) → IsAt builder.old s → Makes (outcome_of s (adds (array_in T.kind texts.now call.now) None)) builder.old builder.new result }
+{
+    let len = (call.second as usize).saturating_mul(T::SIZE);
+    match part(texts, call.bits as usize, len) {
+        Some(bodies) => builder.add_array_in::<T>(bodies),
         None => Err(Errno::INVAL),
     }
 }
 
 /// Adds the text that a call names.
 fn add_text(builder: &mut Builder, texts: &[u8], call: &Call) -> Result<(), Errno>
-    ensures { (s : State) → IsAt builder.old s → Makes (outcome_of s (said_by string_type texts.now call.now)) builder.old builder.new result }
+    ensures { (s : State) → IsAt builder.old s → Makes (outcome_of s (said_by s string_type texts.now call.now)) builder.old builder.new result }
 {
-    let Some(bytes) = part(texts, call) else {
+    let Some(bytes) = part(texts, call.bits as usize, call.second as usize) else {
         return Err(Errno::INVAL);
     };
     match str::from_utf8(bytes) {

@@ -1,10 +1,11 @@
 //! What the caller's pods hold, read into the caller's memory.
-ghost use Rattle.std.specs.Prelude.{◌≡◌, IfNone, IfSome, ℕ};
+ghost use Rattle.std.specs.Prelude.{◌≡◌, ◌≤◌, IfNone, IfSome, ℕ};
 ghost use Rattle.spa_format.specs.Front.{HasFront};
 ghost use Rattle.spa_format.specs.Pod.{AreMembers};
 ghost use Rattle.spa_format.specs.Tree.{Trees};
+ghost use Rattle.spa_scan.specs.Depth.{levels_looked_into, member_depth};
 ghost use Rattle.spa_view.specs.View.{pod_bytes};
-ghost use Rattle.spav.specs.Answers.{IsChanged, IsDone, IsFound, IsInvalid, IsListRead, IsMissing, IsNoRoom, IsTooDeep};
+ghost use Rattle.spav.specs.Answers.{IsChanged, IsDone, IsFound, IsInvalid, IsListRead, IsMissing, IsNoRoom, IsPut, IsTooDeep};
 ghost use Rattle.spav.specs.Faults.{FaultStands, NestsTooDeep};
 ghost use Rattle.spav.specs.Items.{ArePast, AreRead, BeginsNoElements, BeginsStruct, HasElements, HasMemberAt, HasNoElements, HasNoMember, HasNoValue, HasValueAt, SaysElements, SaysItem};
 ghost use Rattle.spav.specs.Reading.{BeginsObject};
@@ -52,6 +53,7 @@ const PROPERTIES_AT: usize = 16;
 /// 0: `count` is how many they are, and what is behind them is as it was. -ENOSPC: `count` is more than `out` has, which is full of the first of
 /// them. -EINVAL: the input isn't pods one after another; the first fault, of the kind `kind`, stands at the byte `at`. -ELOOP: structs and objects
 /// stand more than 1000 deep in one another. Where the answer is neither 0 nor -ENOSPC, `out` is unchanged.
+#[tactic(auto, using(crate::proofs::Nesting::too_deep_in))]
 #[unsafe(no_mangle)]
 pub extern "C" fn spav_read(
     input: &[u8],
@@ -61,8 +63,8 @@ pub extern "C" fn spav_read(
     at: &mut usize,
 ) -> i32
     ensures done { IsDone result → AreRead input.now count.new out.old out.new }
-    ensures pods { IsDone result → (values : Trees) × AreMembers values input.now }
     ensures room { IsNoRoom result → ArePast input.now count.new out.new }
+    ensures pods { IsPut result → (values : Trees) × AreMembers values input.now × (member_depth values ≤ levels_looked_into) }
     ensures refused { IsInvalid result → (top : ℕ) × FaultStands input.now kind.new top at.new }
     ensures deep { IsTooDeep result → NestsTooDeep input.now }
     ensures answers { IsListRead result }
@@ -77,8 +79,11 @@ pub extern "C" fn spav_read(
     if answer != DONE {
         return TOO_DEEP;
     }
-    *count = list_items(input, out);
-    if *count > out.len() {
+    let Some(listed) = list_items(input, out) else {
+        return TOO_DEEP;
+    };
+    *count = listed;
+    if listed > out.len() {
         return NO_ROOM;
     }
     DONE

@@ -1,11 +1,13 @@
 /* Stands between PipeWire's socket and its clients, and rewrites each message that passes, in both directions:
- *   guard [-d] [-v] [-n SEED] LISTEN CONNECT
+ *   guard [-d] [-v] [-n SEED] [-w FILE] LISTEN CONNECT
  * listens at the path LISTEN and connects each client to the socket CONNECT. A message's pods are rewritten leniently and forwarded with its file
  * descriptors. A message that conveys no values is forwarded as it came, or with -d dropped. -v prints each such fault. -n puts random bytes into padding before the
- * rewriting, as a careless client would. At SIGTERM or SIGINT it prints its counts.
+ * rewriting, as a careless client would. -w appends the pods of each message to FILE as they came: a recording, which `pod show` reads. At SIGTERM or SIGINT
+ * it prints its counts.
  * Built over the installed library by: cc guard.c -o guard -pthread $(pkg-config --cflags --libs spav) */
 #define _GNU_SOURCE
 #include <errno.h>
+#include <fcntl.h>
 #include <poll.h>
 #include <pthread.h>
 #include <signal.h>
@@ -24,6 +26,7 @@ enum { HEADER = 16, LENGTH_BITS = 24, MAX_FDS = 1024, FDS_A_READ = 253 };
 
 static bool drops, is_verbose;
 static unsigned noise;
+static int recording = -1;
 static const char *behind;
 static _Atomic uint64_t messages, bytes_in, bytes_out, changed, refused, descriptors, nanoseconds, connections;
 static volatile sig_atomic_t is_ended;
@@ -151,6 +154,8 @@ static bool forward(struct stream *s, uint8_t *message, size_t n, size_t fd_coun
 	bool is_noisy = noise && spav_check(pods, n, &noisy_at) == 0;
 	if (is_noisy)
 		add_noise(spav_walk_pods(pods, n), &s->seed);
+	if (recording >= 0 && write(recording, pods, n) != (ssize_t)n)
+		perror("guard: the recording");
 	clock_gettime(CLOCK_MONOTONIC, &before);
 	int32_t answer = rewrite(pods, n, s->out + HEADER, s->cap - HEADER, &written, &at);
 	clock_gettime(CLOCK_MONOTONIC, &after);
@@ -273,15 +278,17 @@ static void end(int number) {
 
 int main(int argc, char **argv) {
 	struct sigaction at_end = { .sa_handler = end };
-	for (int word; (word = getopt(argc, argv, "dvn:")) != -1;) {
-		if (word == '?')
+	for (int word; (word = getopt(argc, argv, "dvn:w:")) != -1;) {
+		if (word == 'w')
+			recording = open(optarg, O_WRONLY | O_CREAT | O_APPEND | O_CLOEXEC, 0666);
+		if (word == '?' || (word == 'w' && recording < 0))
 			return 2;
 		drops |= word == 'd';
 		is_verbose |= word == 'v';
 		noise = word == 'n' ? (unsigned)strtoul(optarg, NULL, 10) : noise;
 	}
 	if (argc - optind != 2) {
-		fprintf(stderr, "usage: guard [-d] [-v] [-n SEED] LISTEN CONNECT\n");
+		fprintf(stderr, "usage: guard [-d] [-v] [-n SEED] [-w FILE] LISTEN CONNECT\n");
 		return 2;
 	}
 	behind = argv[optind + 1];

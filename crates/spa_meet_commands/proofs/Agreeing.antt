@@ -14,7 +14,7 @@ use Rattle.spa_filter.specs.declared.error.FilterError.{FilterError}
 use Rattle.spa_filter.specs.declared.error.FilterError.TheVariants.{TypeMismatch, Missing, Unsupported, Disjoint, Unread, NotObject, TooLarge, OutOfMemory}
 use Rattle.spa_filter_pods.specs.Fronts.{AreFrontsRefused, BeginBoth, FilterIn, OnNoFilter}
 use Rattle.spa_fronts.specs.Fronts.{IsObject}
-use Rattle.spa_meet_commands.specs.Agreeing.{ArentAgreed, IsUnsettled, SettleIn, SettleTooLarge, no_memory, unfiltered, unsettled}
+use Rattle.spa_meet_commands.specs.Agreeing.{AreFiltered, ArentAgreed, IsUnsettled, SettleIn, SettleTooLarge, no_memory, unfiltered, unsettled}
 use Rattle.spa_meet_commands.specs.declared.pair.Work.{Work}
 use Rattle.spa_meet_commands.specs.declared.pair.Work.TheVariants.{Negotiate}
 
@@ -71,6 +71,15 @@ unsettled_apart a b pod e h why = apart e (why h.holds.met h.holds.pod)
       holds = record { met = h.holds.met; filter = h.holds.filter; large = w };
     }
 
+    filtered_to : AreFiltered a b
+    filtered_to = record {
+      ours = h.ours;
+      theirs = h.theirs;
+      first = h.first;
+      second = h.second;
+      holds = (h.holds.met, h.holds.filter);
+    }
+
     apart : (e : FilterError) → IsUnsettled h.holds.met e → ArentAgreed Negotiate a b e
     apart TypeMismatch w = absurd w
     apart (Missing key) w = absurd w
@@ -79,7 +88,7 @@ unsettled_apart a b pod e h why = apart e (why h.holds.met h.holds.pod)
     apart (Unread side) w = absurd w
     apart (NotObject side) w = absurd w
     apart TooLarge w = record { stands = unsettled (large w) refl; apart = tt }
-    apart OutOfMemory w = record { stands = no_memory refl; apart = tt }
+    apart OutOfMemory w = record { stands = no_memory filtered_to refl; apart = tt }
 
 -- behind a front that isn't there is nothing
 pub nothing_behind : (b : List ℕ) → ¬ (HasFront b) → [] ≡ rest_of b

@@ -34,11 +34,16 @@ abbrev pub AgreeIn : Work → (a b out : List ℕ) → Type 0
 AgreeIn Negotiate a b out = BeginBoth a b (SettleIn out)
 AgreeIn Filter a b out = BeginBoth a b (FilterIn out)
 
--- What two inputs are refused for: as to be filtered; of two that meet the answer may be too large once its choices are settled.
+-- the fronts of two inputs are pods of objects that filter to one
+abbrev pub AreFiltered : (a b : List ℕ) → Type 0
+AreFiltered a b = BeginBoth a b (λ ours theirs. (met : Tree) × IsFilter ours theirs met)
+
+-- What two inputs are refused for: as to be filtered; of two that filter to one, so that they meet, its choices aren't settled where the answer is
+-- too large or memory runs out.
 pub data Stands (a b : List ℕ) (e : FilterError) : Work → Type 0 where
   unfiltered : (work : Work) → AreFrontsRefused a b e → Stands a b e work
   unsettled : BeginBoth a b SettleTooLarge → e ≡ TooLarge → Stands a b e Negotiate
-  no_memory : e ≡ OutOfMemory → Stands a b e Negotiate
+  no_memory : AreFiltered a b → e ≡ OutOfMemory → Stands a b e Negotiate
 
 -- the same, and unless memory runs out or the answer is too large, the two don't agree
 pub record ArentAgreed (work : Work) (a b : List ℕ) (e : FilterError) : Type 0 where

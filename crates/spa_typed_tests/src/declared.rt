@@ -18,11 +18,11 @@ const CURVE: &str =
 const FORMAT: &str =
     "208 15 262147 4 65537 0 4 3 259 0 65539 0 4 4 48000 0 65540 0 4 4 2 0 65541 0 16 13 4 3 3 4 65550 0 80 14 3 8 28789 0 4 4 4294967294 0 4 3 7 0 20 13 4 6 1138491392 0 1065353216 0";
 
-/// The same without its channels.
+/// That format without its channels.
 const WITHOUT_CHANNELS: &str =
     "184 15 262147 4 65537 0 4 3 259 0 65539 0 4 4 48000 0 65541 0 16 13 4 3 3 4 65550 0 80 14 3 8 28789 0 4 4 4294967294 0 4 3 7 0 20 13 4 6 1138491392 0 1065353216 0";
 
-/// The same as the first in another order, with a property that isn't known among the others and a second rate behind the first.
+/// `FORMAT` in another order, with a property that isn't known among the others and a second rate behind the first.
 const MIXED: &str =
     "248 15 262147 4 65550 0 80 14 3 8 28789 0 4 4 4294967294 0 4 3 7 0 20 13 4 6 1138491392 0 1065353216 0 65540 0 4 4 2 0 9 0 0 1 65541 0 16 13 4 3 3 4 65539 0 4 4 48000 0 65539 0 4 4 1 0 65537 0 4 3 259 0";
 
@@ -79,12 +79,12 @@ fn read_again<'de, P: PodDeserialize<'de> + PodSerialize + Drop>(
     }
 }
 
-/// The same of a curve.
+/// A curve that is read, written again.
 fn curve_again(alloc: Global, input: &[u8]) -> Again<'_> {
     read_again::<Curve>(alloc, input)
 }
 
-/// The same of a format.
+/// A format that is read, written again.
 fn format_again(alloc: Global, input: &[u8]) -> Again<'_> {
     read_again::<AudioFormat>(alloc, input)
 }
@@ -247,7 +247,7 @@ fn misplaced_curve(curve: &Curve) -> Option<usize> {
     None
 }
 
-/// The same of a format in one of 224 bytes.
+/// The first length behind which a format isn't answered so, in an output of 224 bytes.
 fn misplaced_format(format: &AudioFormat) -> Option<usize> {
     for len in 0..=224 {
         if put_format(filled::<224>(len), format).err() != answer_behind(len) {

@@ -1,4 +1,4 @@
-//! What is told of an input that was written by hand.
+//! The events of an input that was written by hand.
 use crate::compare::assert_holds;
 use spa_events::{Event, NO_PARENT, list_events};
 
@@ -22,10 +22,10 @@ const INPUT: &[u8] = &[
 ];
 
 /// Type, size, depth and place of a pod, and the number of the event of the one around it.
-type Told = (u32, u32, usize, usize, usize);
+type Fields = (u32, u32, usize, usize, usize);
 
 /// The struct, its Int, its object, the Int and the struct in that, and the Id.
-const WANTED: &[Told] = &[
+const WANTED: &[Fields] = &[
     (14, 72, 0, 0, NO_PARENT),
     (4, 4, 1, 8, 0),
     (15, 48, 1, 24, 0),
@@ -34,11 +34,11 @@ const WANTED: &[Told] = &[
     (3, 4, 0, 80, NO_PARENT),
 ];
 
-/// Whether so many of these are told.
-fn are_told(events: &[Event], count: usize) -> bool {
+/// Whether the events are the first so many of the wanted ones.
+fn are_wanted(events: &[Event], count: usize) -> bool {
     for (event, wanted) in events.iter().zip(WANTED) {
-        let told = (event.type_, event.size, event.depth, event.at, event.parent);
-        if told != *wanted {
+        let found = (event.type_, event.size, event.depth, event.at, event.parent);
+        if found != *wanted {
             return false;
         }
     }
@@ -46,12 +46,12 @@ fn are_told(events: &[Event], count: usize) -> bool {
 }
 
 #[test]
-fn pods_are_told_before_those_inside_them(rt: HostRuntime) {
+fn pods_come_before_those_inside_them(rt: HostRuntime) {
     let mut out = [NOTHING; 7];
     let found = list_events(INPUT, &mut out);
     assert_holds(&rt, found == Some(6), "the count");
-    let (told, behind) = out.as_slice().split_at(6);
-    assert_holds(&rt, are_told(told, 6), "what is told");
+    let (events, behind) = out.as_slice().split_at(6);
+    assert_holds(&rt, are_wanted(events, 6), "the events");
     assert_holds(&rt, behind == [NOTHING].as_slice(), "what is behind");
 }
 
@@ -60,7 +60,7 @@ fn exact_room_is_enough(rt: HostRuntime) {
     let mut out = [NOTHING; 6];
     let found = list_events(INPUT, &mut out);
     assert_holds(&rt, found == Some(6), "the count");
-    assert_holds(&rt, are_told(&out, 6), "what is told");
+    assert_holds(&rt, are_wanted(&out, 6), "the events");
 }
 
 #[test]
@@ -68,7 +68,7 @@ fn too_little_room_is_filled(rt: HostRuntime) {
     let mut out = [NOTHING; 5];
     let found = list_events(INPUT, &mut out);
     assert_holds(&rt, found.is_none(), "the count");
-    assert_holds(&rt, are_told(&out, 5), "what is told");
+    assert_holds(&rt, are_wanted(&out, 5), "the events");
 }
 
 #[test]

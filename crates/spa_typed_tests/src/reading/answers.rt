@@ -76,7 +76,7 @@ fn named(alloc: Global, name: &str, input: &[u8]) -> Result<String, AllocError> 
     }
 }
 
-/// The same for arrays and choices.
+/// The answer of a read as an array or a choice of this name.
 fn listed(alloc: Global, name: &str, input: &[u8]) -> Result<String, AllocError> {
     match name {
         "nones" => answer::<Vec<()>>(alloc, input),
@@ -102,7 +102,7 @@ fn listed(alloc: Global, name: &str, input: &[u8]) -> Result<String, AllocError>
     }
 }
 
-/// The same for a user's own types, and for the calls, which have numbers.
+/// The answer of a read as a user's own type of this name, or of a call, which has a number.
 fn own(alloc: Global, name: &str, input: &[u8]) -> Result<String, AllocError> {
     match name {
         "screen" => screen_said(alloc, input),
@@ -126,7 +126,7 @@ fn own(alloc: Global, name: &str, input: &[u8]) -> Result<String, AllocError> {
     }
 }
 
-/// The same for a call, by its number.
+/// The answer of the call of this number.
 fn call_said(alloc: Global, name: &str, input: &[u8]) -> Result<String, AllocError> {
     match name.strip_prefix("call ").unwrap_or("").parse::<u8>() {
         Ok(call) => called(alloc, call, input),

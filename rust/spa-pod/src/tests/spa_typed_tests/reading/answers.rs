@@ -74,7 +74,7 @@ fn named(name: &str, input: &[u8]) -> Result<String, AllocError> {
     }
 }
 
-/// The same for arrays and choices.
+/// The answer of a read as an array or a choice of this name.
 fn listed(name: &str, input: &[u8]) -> Result<String, AllocError> {
     match name {
         "nones" => answer::<Vec<()>>(input),
@@ -100,7 +100,7 @@ fn listed(name: &str, input: &[u8]) -> Result<String, AllocError> {
     }
 }
 
-/// The same for a user's own types, and for the calls, which have numbers.
+/// The answer of a read as a user's own type of this name, or of a call, which has a number.
 fn own(name: &str, input: &[u8]) -> Result<String, AllocError> {
     match name {
         "screen" => screen_said(input),
@@ -124,7 +124,7 @@ fn own(name: &str, input: &[u8]) -> Result<String, AllocError> {
     }
 }
 
-/// The same for a call, by its number.
+/// The answer of the call of this number.
 fn call_said(name: &str, input: &[u8]) -> Result<String, AllocError> {
     match name.strip_prefix("call ").unwrap_or("").parse::<u8>() {
         Ok(call) => called(call, input),

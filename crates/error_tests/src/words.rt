@@ -3,7 +3,7 @@ use crate::compare::{assert_prints, assert_words};
 use spa_device::ReadError;
 use spa_filter::{FilterError, Side};
 use spa_fixed::{DeserializeError, Fault, FaultKind};
-use spa_negotiate_objects::{NegotiateError, Side as MeetingSide};
+use spa_negotiate_objects::NegotiateError;
 use spa_sink::GenError;
 use spa_text_read::Cause;
 use spa_utils::Errno;
@@ -97,11 +97,11 @@ const MEETINGS: &[(NegotiateError, &str)] = &[
     ),
     (NegotiateError::Disjoint(5), "no value for key 5 is in both"),
     (
-        NegotiateError::Unread(MeetingSide::First),
+        NegotiateError::Unread(Side::First),
         "the first object isn't a pod",
     ),
     (
-        NegotiateError::NotObject(MeetingSide::Second),
+        NegotiateError::NotObject(Side::Second),
         "the second pod isn't an object",
     ),
     (

@@ -4,14 +4,12 @@ use Rattle.std.specs.Cmp.{unsigned_Decides}
 use Rattle.std.specs.List.{All, Contains}
 use Rattle.std.proofs.lemmas.List.Elements.{All-cons, All-nil, All-append, All-contains, Contains-append_right}
 use Rattle.spa_format.specs.Tree.{Tree, object, Properties, no_properties, property, join_properties}
-use Rattle.spa_filter.specs.Keys.{key_list, distinct_of, keys_of}
-use Rattle.spa_filter.specs.PropertyLists.{contains}
-use Rattle.spa_filter.specs.Keys.{Offered, offered_at}
+use Rattle.spa_keyed_objects.specs.Keys.{Offered, contains, distinct_of, key_list, keys_of, offered_at}
 use Rattle.spa_filter.specs.Filtering.{Filters, FiltersEach, FiltersKeys, Agree, AgreeAt, CanFilter}
 use Rattle.spa_filter.specs.Refusals.{IsMissing, AreUnsupported, AreDisjoint, IsRefusedAt, IsKeyRefusal, IsRefusal, AreRefused, OnDisagreement}
 use Rattle.spa_filter.specs.declared.error.FilterError.{FilterError}
 use Rattle.spa_filter.specs.declared.error.FilterError.TheVariants.{TypeMismatch, Missing, Unsupported, Disjoint, OutOfMemory}
-use Rattle.spa_filter.proofs.KeyLists.{distinct_of-new, distinct_of-seen, distinct_of-split, key_list-join}
+use Rattle.spa_keyed_objects.proofs.KeyLists.{distinct_of-new, distinct_of-seen, distinct_of-split, key_list-join}
 
 FiltersEach-push : (ps qs rs : Properties) (k f : ℕ) (x : Tree) → FiltersEach ps qs rs →
     Filters (offered_at k ps) (offered_at k qs) f x →

@@ -1,7 +1,5 @@
 pub mod Outcomes
 pub mod Swapping
-pub mod KeyLists
-pub mod Places
 pub mod Agreeing
 pub mod Steps
 pub mod Objects

@@ -9,7 +9,7 @@ use Rattle.spa_value.specs.Views.{property_views}
 use Rattle.spa_value.specs.ObjectLaws.{ObjectsHaveTheirFields, ObjectsAreMadeOfFields}
 use Rattle.spa_filter.specs.declared.error.FilterError.{FilterError}
 use Rattle.spa_filter.specs.declared.error.FilterError.TheVariants.{TypeMismatch}
-use Rattle.spa_filter.specs.Keys.{keys_of}
+use Rattle.spa_keyed_objects.specs.Keys.{keys_of}
 use Rattle.spa_filter.specs.Filtering.{FiltersKeys, AgreeAt, IsFilter, CanFilter}
 use Rattle.spa_filter.specs.Settling.{settled_properties, settled_of}
 use Rattle.spa_filter.specs.Refusals.{IsRefusal, AreRefused}

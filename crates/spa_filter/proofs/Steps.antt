@@ -1,5 +1,5 @@
 -- Steps of filtering: one more property of a side is looked at.
-use Rattle.std.proofs.Common.{◌≡◌, ℕ, ◌+◌, ◌<◌, ◌==◌, Bool, true, false, not, if◌then◌else◌, true≢false, List, length, take, drop, get_or, refl, sym, ap, ◌∙◌, subst, None}
+use Rattle.std.proofs.Common.{◌≡◌, ℕ, ◌+◌, ◌<◌, Bool, true, false, List, length, take, drop, get_or, sym, ap, ◌∙◌, subst, None}
 use Rattle.std.specs.BTreeSet.{BTreeSet}
 use Rattle.std.specs.List.{All}
 use Rattle.spa_format.specs.Tree.{Properties, no_properties, property, join_properties}
@@ -7,37 +7,19 @@ use Rattle.spa_value.specs.declared.object.Property.{Property}
 use Rattle.spa_value.specs.View.{view}
 use Rattle.spa_value.specs.Views.{property_views, property_view}
 use Rattle.spa_value.specs.ObjectLaws.{PropertyListsGoOn, PropertyListsAreCut}
-use Rattle.spa_filter.specs.Keys.{key_list}
-use Rattle.spa_filter.specs.PropertyLists.{contains}
+use Rattle.spa_keyed_objects.specs.Keys.{key_list}
+use Rattle.spa_keyed_objects.specs.PropertyLists.{HasKeys, IsAdded, IsPushed, found_at}
+use Rattle.spa_keyed_objects.proofs.KeySets.{join_properties-assoc, there, absent, more_keys}
 use Rattle.spa_filter.specs.declared.error.FilterError.{FilterError}
 use Rattle.spa_filter.specs.declared.filtering.Filtered.{Filtered}
 use Rattle.spa_filter.specs.Filtering.{Filters, FiltersKeys, Agree, AgreeAt}
-use Rattle.spa_filter.specs.PropertyLists.{found_at, HasKeys, IsAdded, IsFiltered, IsPart, IsPushed}
+use Rattle.spa_filter.specs.PropertyLists.{IsFiltered, IsPart}
 use Rattle.spa_filter.specs.Refusals.{IsKeyRefusal, IsRefusal}
 use Rattle.spa_filter.proofs.Agreeing.{FiltersKeys-seen, FiltersKeys-new, IsRefusal-next, AgreeAt-push, found_there}
-use Rattle.spa_filter.proofs.KeyLists.{contains-key_list}
-
-pub join_properties-none : (ps : Properties) → join_properties ps no_properties ≡ ps
-join_properties-none no_properties = refl
-join_properties-none (property k f v ps) = ap (property k f v) (join_properties-none ps)
-
-join_properties-assoc : (ps qs rs : Properties) →
-    join_properties (join_properties ps qs) rs ≡ join_properties ps (join_properties qs rs)
-join_properties-assoc no_properties qs rs = refl
-join_properties-assoc (property k f v ps) qs rs =
-    ap (property k f v) (join_properties-assoc ps qs rs)
 
 -- what stands before a side, and the side's properties up to the i-th
 abbrev pub these : (before side : List Property) → ℕ → Properties
 these before side i = join_properties (property_views before) (property_views (take i side))
-
-not-false : (b : Bool) → not b ≡ false → b ≡ true
-not-false true h = refl
-not-false false h = absurd (true≢false h)
-
-not-true : (b : Bool) → not b ≡ true → b ≡ false
-not-true true h = absurd (true≢false (sym h))
-not-true false h = refl
 
 -- p is the i-th property of a side, and f was filtered so far
 module _ (go_on : PropertyListsGoOn) (are_cut : PropertyListsAreCut) (ours theirs before side : List Property)
@@ -73,19 +55,8 @@ module _ (go_on : PropertyListsGoOn) (are_cut : PropertyListsAreCut) (ours their
 
   -- its key was added to the keys, in which it was new or not
   module _ (is_new : Bool) (keys : BTreeSet ℕ) (added : IsAdded f.keys p.key is_new keys) where
-    there : is_new ≡ false → contains p.key (key_list (these before side i)) ≡ true
-    there was = sym (h.keys p.key) ∙ not-false _ (sym added.absent ∙ was)
-
-    absent : is_new ≡ true → contains p.key (key_list (these before side i)) ≡ false
-    absent was = sym (h.keys p.key) ∙ not-true _ (sym added.absent ∙ was)
-
-    more_keys : HasKeys keys (these before side (i + 1))
-    more_keys =
-        subst (HasKeys keys) one_more
-        (λ k.
-        let now = ap (λ b. if p.key == k then true else b) (h.keys k) in
-        let listed = contains-key_list k p.key p.flags.0 (view p.value) (these before side i) in
-        added.others k ∙ now ∙ sym listed)
+    keys_now : HasKeys keys (these before side (i + 1))
+    keys_now = subst (HasKeys keys) one_more (more_keys p f.keys keys is_new added (these before side i) h.keys)
 
     -- its key was there
     pub seen : is_new ≡ false → IsFiltered ours theirs (these before side (i + 1)) (record { met = f.met; keys = keys })
@@ -94,9 +65,9 @@ module _ (go_on : PropertyListsGoOn) (are_cut : PropertyListsAreCut) (ours their
           filters =
               subst (λ ss. FiltersKeys (property_views ours) (property_views theirs) ss met) one_more
               (FiltersKeys-seen (property_views ours) (property_views theirs) (these before side i) met p.key h.filters
-              p.flags.0 (view p.value) (there was));
+              p.flags.0 (view p.value) (there p f.keys keys is_new added (these before side i) h.keys was));
           agree = h.agree;
-          keys = more_keys;
+          keys = keys_now;
         }
 
     -- its key was not there, and q was appended, to which the two sides filter under it
@@ -108,7 +79,7 @@ module _ (go_on : PropertyListsGoOn) (are_cut : PropertyListsAreCut) (ours their
         let pushed_here = pushed ∙ ap (λ k. join_properties met (property k q.flags.0 (view q.value) no_properties)) same in
         let added =
         FiltersKeys-new (property_views ours) (property_views theirs) (these before side i) met p.key h.filters
-        p.flags.0 q.flags.0 (view p.value) (view q.value) (absent was) filters in
+        p.flags.0 q.flags.0 (view p.value) (view q.value) (absent p f.keys keys is_new added (these before side i) h.keys was) filters in
         let all =
         AgreeAt-push (property_views ours) (property_views theirs) met p.key q.flags.0 (view q.value) h.agree agree in
         record {
@@ -116,7 +87,7 @@ module _ (go_on : PropertyListsGoOn) (are_cut : PropertyListsAreCut) (ours their
               subst (λ rs. FiltersKeys (property_views ours) (property_views theirs) (these before side (i + 1)) rs) (sym pushed_here)
               (subst (λ ss. FiltersKeys (property_views ours) (property_views theirs) ss (join_properties met (property p.key q.flags.0 (view q.value) no_properties))) one_more added);
           agree = subst (λ rs. All (AgreeAt (property_views ours) (property_views theirs)) (key_list rs)) (sym pushed_here) all;
-          keys = subst (λ ks. HasKeys ks (these before side (i + 1))) (sym kept) more_keys;
+          keys = subst (λ ks. HasKeys ks (these before side (i + 1))) (sym kept) keys_now;
         }
 
     -- its key was not there, and is refused
@@ -125,4 +96,4 @@ module _ (go_on : PropertyListsGoOn) (are_cut : PropertyListsAreCut) (ours their
         IsRefusal (property_views ours) (property_views theirs) why
     refused was why r =
         IsRefusal-next (property_views ours) (property_views theirs) (these before side i) met p.key h.filters
-        p.flags.0 (view p.value) (join_properties after part.rest) why at h.agree (absent was) r
+        p.flags.0 (view p.value) (join_properties after part.rest) why at h.agree (absent p f.keys keys is_new added (these before side i) h.keys was) r

@@ -1,15 +1,9 @@
 -- Refusals in words: docs/NEGOTIATION.md, "To filter".
 use Rattle.std.specs.Prelude.{ℕ, List, ◌++◌, codes}
 use Rattle.std.specs.Fmt.{decimal}
+use Rattle.spa_keyed_objects.specs.Sides.{side_text}
 use Rattle.spa_filter.specs.declared.error.FilterError.{FilterError}
 use Rattle.spa_filter.specs.declared.error.FilterError.TheVariants as error
-use Rattle.spa_filter.specs.declared.error.Side.{Side}
-use Rattle.spa_filter.specs.declared.error.Side.TheVariants.{First, Second}
-
--- the word for a side
-abbrev pub side_text : Side → List ℕ
-side_text First = codes "first"
-side_text Second = codes "second"
 
 -- a refusal in words
 abbrev pub error_text : FilterError → List ℕ

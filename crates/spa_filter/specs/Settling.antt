@@ -2,7 +2,7 @@
 use Rattle.std.specs.Prelude.{⊤, ◌≡◌, Option, Some, None}
 use Rattle.spa_format.specs.Tree.{Tree, object, Properties, no_properties, property, join_properties}
 use Rattle.spa_offers.specs.Admits.{plain_of, IsCommon, IsPlain}
-use Rattle.spa_filter.specs.Keys.{Offered, offered_at, key_list, keys_of}
+use Rattle.spa_keyed_objects.specs.Keys.{Offered, key_list, keys_of, offered_at}
 use Rattle.spa_filter.specs.Filtering.{IsFilter}
 
 -- each property with its plain value, or the default of its choice

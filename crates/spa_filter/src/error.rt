@@ -2,18 +2,10 @@
 ghost use Rattle.std.specs.Prelude.{◌≡◌};
 ghost use Rattle.spa_filter.specs.declared.error.FilterError.TheVariants.{OutOfMemory};
 
+use spa_keyed_objects::Side;
 use std::alloc::AllocError;
 use std::error::Error;
 use std::fmt;
-
-/// One of the two sides that are filtered. It prints `first` or `second`.
-#[derive(Clone, Copy, PartialEq, Eq, Debug)]
-pub enum Side {
-    /// The first input.
-    First,
-    /// The second one.
-    Second,
-}
 
 /// Why two objects, or the objects of two pods, aren't filtered. The key in a refusal is the first of all keys, those of the first
 /// object before those that the second alone has, under which one of these stands.
@@ -38,20 +30,6 @@ pub enum FilterError {
     TooLarge,
     /// A growth was refused.
     OutOfMemory,
-}
-
-impl fmt::Display for Side {
-    ghost use Rattle.spa_filter.specs.ErrorTexts.{side_text};
-    ghost use Rattle.std.specs.Prelude.{Some};
-
-    ghost output = { λ side. Some (side_text side) };
-
-    fn fmt<W: fmt::Write>(&self, f: &mut fmt::Formatter<W>) -> fmt::Result {
-        match self {
-            Side::First => write!(f, "first"),
-            Side::Second => write!(f, "second"),
-        }
-    }
 }
 
 impl fmt::Display for FilterError {

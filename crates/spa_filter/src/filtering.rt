@@ -2,19 +2,19 @@
 ghost use Rattle.std.specs.Prelude.{◌≡◌, IfErr, IfOk, None, OnOk, Some};
 ghost use Rattle.std.specs.List.{All};
 ghost use Rattle.spa_format.specs.Tree.{join_properties};
-ghost use Rattle.spa_filter.specs.Keys.{keys_of};
+ghost use Rattle.spa_keyed_objects.specs.Keys.{keys_of};
+ghost use Rattle.spa_keyed_objects.specs.PropertyLists.{IsKeyed, found_at, offered_by};
 ghost use Rattle.spa_value.specs.View.{object_view, view};
 ghost use Rattle.spa_value.specs.Views.{property_views};
 ghost use Rattle.spa_filter.specs.Filtering.{Agree, AgreeAt, CanFilter, Filters, FiltersKeys, IsFilter};
 ghost use Rattle.spa_filter.specs.Keys.{IsMandatory};
-ghost use Rattle.spa_filter.specs.PropertyLists.{HasPlaces, IsFiltered, IsPart, found_at, offered_by};
+ghost use Rattle.spa_filter.specs.PropertyLists.{IsFiltered, IsPart};
 ghost use Rattle.spa_filter.specs.Refusals.{AreRefused, IsKeyRefusal, IsRefusal, OnDisagreement};
 
 use crate::error::FilterError;
-use crate::keyed::{Keyed, add_key};
-use crate::met::{Met, push};
 use crate::values::common;
 use bitflags::Flags;
+use spa_keyed_objects::{Keyed, Met, add_key, push};
 use spa_value::laws::{objects_are_their_fields, property_lists_are_in_order};
 use spa_value::{Object, Property, PropertyFlags};
 use std::alloc::Global;
@@ -90,7 +90,7 @@ fn filter_side(
     ours: &Keyed<'_>,
     theirs: &Keyed<'_>,
 ) -> Result<Filtered, FilterError>
-    requires places { HasPlaces ours.now.places ours.now.properties.now × HasPlaces theirs.now.places theirs.now.properties.now }
+    requires keyed { IsKeyed ours.now × IsKeyed theirs.now }
     requires part { IsPart ours.now.properties.now theirs.now.properties.now before.now side.now }
     requires filtered { IsFiltered ours.now.properties.now theirs.now.properties.now (property_views before.now) filtered }
     ensures filtered { IfOk result (IsFiltered ours.now.properties.now theirs.now.properties.now (join_properties (property_views before.now) (property_views side.now))) }
@@ -114,7 +114,7 @@ fn filter_key(
     ours: &Keyed<'_>,
     theirs: &Keyed<'_>,
 ) -> Result<Property, FilterError>
-    requires places { HasPlaces ours.now.places ours.now.properties.now × HasPlaces theirs.now.places theirs.now.properties.now }
+    requires keyed { IsKeyed ours.now × IsKeyed theirs.now }
     requires there { (found_at key ours.now.properties.now ≡ None) → ¬ (found_at key theirs.now.properties.now ≡ None) }
     ensures key { IfOk result (λ p. p.key ≡ key) }
     ensures filters { IfOk result (λ p. Filters (found_at key ours.now.properties.now) (found_at key theirs.now.properties.now) p.flags.0 (view p.value)) }

@@ -6,7 +6,7 @@ ghost use Rattle.spa_value.specs.Views.{property_views};
 ghost use Rattle.spa_offers.specs.Admits.{plain_of};
 ghost use Rattle.spa_filter.specs.Settling.{settled_of, settled_properties};
 
-use crate::met::{Met, push};
+use spa_keyed_objects::{Met, push};
 use spa_offers::{Element, default_of, offer_of};
 use spa_utils::Choice;
 use spa_value::laws::{objects_are_their_fields, property_lists_are_in_order};

@@ -12,8 +12,7 @@ use Rattle.spa_fronts.proofs.Both.{begin_both}
 use Rattle.spa_fronts.proofs.Joined.{behind_none, behind_on, join_properties-assoc, object_large, object_written}
 use Rattle.spa_fronts.proofs.Sides.{IsNext}
 use Rattle.spa_filter.specs.Filtering.{AgreeAt, CanFilter}
-use Rattle.spa_filter.specs.Keys.{key_list, keys_of, offered_at}
-use Rattle.spa_filter.specs.PropertyLists.{contains}
+use Rattle.spa_keyed_objects.specs.Keys.{contains, key_list, keys_of, offered_at}
 use Rattle.spa_filter.specs.Refusals.{AreRefused, IsKeyRefusal, IsRefusal}
 use Rattle.spa_filter.specs.declared.error.FilterError.{FilterError}
 use Rattle.spa_filter.specs.declared.error.FilterError.TheVariants.{Missing, Unsupported, Disjoint, OutOfMemory}

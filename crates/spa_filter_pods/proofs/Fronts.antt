@@ -4,8 +4,8 @@ use Rattle.spa_format.specs.Pod.{IsPod}
 use Rattle.spa_format.specs.Tree.{Tree, object}
 use Rattle.spa_filter.specs.Filtering.{CanFilter}
 use Rattle.spa_filter.specs.Refusals.{AreRefused, OnDisagreement}
-use Rattle.spa_filter.specs.declared.error.Side.{Side}
-use Rattle.spa_filter.specs.declared.error.Side.TheVariants.{First, Second}
+use Rattle.spa_keyed_objects.specs.declared.side.Side.{Side}
+use Rattle.spa_keyed_objects.specs.declared.side.Side.TheVariants.{First, Second}
 use Rattle.spa_filter.specs.declared.error.FilterError.{FilterError}
 use Rattle.spa_filter.specs.declared.error.FilterError.TheVariants.{TypeMismatch, Missing, Unsupported, Disjoint, Unread, NotObject, TooLarge, OutOfMemory}
 use Rattle.spa_filter.proofs.Agreeing.{cannot_filter}

@@ -2,8 +2,7 @@
 use Rattle.std.proofs.Common.{◌≡◌, ℕ, Bool, true, false, ◌==◌, if◌then◌else◌, refl, ap, ◌∙◌, true≢false, Option, Some, None}
 use Rattle.std.specs.Cmp.{unsigned_Decides}
 use Rattle.spa_format.specs.Tree.{Tree, Properties, no_properties, property, join_properties}
-use Rattle.spa_filter.specs.Keys.{Offered, offered_at, key_list}
-use Rattle.spa_filter.specs.PropertyLists.{contains}
+use Rattle.spa_keyed_objects.specs.Keys.{Offered, contains, key_list, offered_at}
 use Rattle.spa_fronts.specs.Written.{Found, found_at, has_key}
 use Rattle.spa_filter_pods.specs.Written.{offered}
 

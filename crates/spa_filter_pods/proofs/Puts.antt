@@ -7,7 +7,8 @@ use Rattle.spa_format.specs.Writable.{IsTooLarge}
 use Rattle.spa_fronts.specs.Written.{IsWritten}
 use Rattle.spa_filter.specs.CommonPods as common
 use Rattle.spa_offers.specs.Admits.{plain_of}
-use Rattle.spa_filter.specs.Keys.{IsMandatory, Offered}
+use Rattle.spa_keyed_objects.specs.Keys.{Offered}
+use Rattle.spa_filter.specs.Keys.{IsMandatory}
 use Rattle.spa_filter.specs.Refusals.{IsKeyRefusal}
 use Rattle.spa_filter.specs.declared.error.FilterError.{FilterError}
 use Rattle.spa_filter.specs.declared.error.FilterError.TheVariants.{Unsupported, Disjoint, TooLarge, OutOfMemory}

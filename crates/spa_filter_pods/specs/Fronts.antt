@@ -9,8 +9,8 @@ use Rattle.spa_leaf.specs.Reading.{MayLackMemory}
 pub use Rattle.spa_fronts.specs.Fronts.{BeginBoth, BeginsObject, BeginsOther}
 use Rattle.spa_filter.specs.Filtering.{IsFilter}
 use Rattle.spa_filter.specs.Refusals.{AreRefused}
-use Rattle.spa_filter.specs.declared.error.Side.{Side}
-use Rattle.spa_filter.specs.declared.error.Side.TheVariants.{First, Second}
+use Rattle.spa_keyed_objects.specs.declared.side.Side.{Side}
+use Rattle.spa_keyed_objects.specs.declared.side.Side.TheVariants.{First, Second}
 use Rattle.spa_filter.specs.declared.error.FilterError.{FilterError}
 use Rattle.spa_filter.specs.declared.error.FilterError.TheVariants.{Unread, NotObject, TooLarge, OutOfMemory}
 

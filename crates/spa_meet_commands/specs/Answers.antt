@@ -6,7 +6,8 @@ use Rattle.spa_format.specs.Words.{header_size, word_at}
 use Rattle.spa_names.specs.Lookup.{keys_of, name_of}
 use Rattle.spa_filter.specs.declared.error.FilterError.{FilterError}
 use Rattle.spa_filter.specs.declared.error.FilterError.TheVariants as cause
-use Rattle.spa_filter.specs.ErrorTexts.{error_text, side_text}
+use Rattle.spa_keyed_objects.specs.Sides.{side_text}
+use Rattle.spa_filter.specs.ErrorTexts.{error_text}
 use Rattle.spa_meet_commands.specs.Agreeing.{AgreeIn, ArentAgreed}
 use Rattle.spa_meet_commands.specs.declared.pair.Work.{Work}
 use Rattle.spa_meet_commands.specs.declared.answer.Failure.{Failure}

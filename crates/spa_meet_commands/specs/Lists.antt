@@ -8,8 +8,8 @@ use Rattle.spa_format.specs.Fixation.{walk_size}
 use Rattle.spa_fronts.specs.Fronts.{BeginsOther, IsObject}
 use Rattle.spa_filter.specs.declared.error.FilterError.{FilterError}
 use Rattle.spa_filter.specs.declared.error.FilterError.TheVariants.{TypeMismatch, Missing, Unsupported, Disjoint}
-use Rattle.spa_filter.specs.declared.error.Side.{Side}
-use Rattle.spa_filter.specs.declared.error.Side.TheVariants.{First, Second}
+use Rattle.spa_keyed_objects.specs.declared.side.Side.{Side}
+use Rattle.spa_keyed_objects.specs.declared.side.Side.TheVariants.{First, Second}
 use Rattle.spa_meet_commands.specs.Agreeing.{Agree, AgreeIn, ArentAgreed}
 use Rattle.spa_meet_commands.specs.Answers.{HasType}
 use Rattle.spa_meet_commands.specs.declared.pair.Work.{Work}

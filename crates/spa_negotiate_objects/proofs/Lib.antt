@@ -9,6 +9,5 @@ pub mod Settling
 pub mod Sharing
 pub mod Refusing
 pub mod Steps
-pub mod Places
 pub mod Objects
 mod MetValues

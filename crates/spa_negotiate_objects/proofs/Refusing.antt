@@ -5,9 +5,9 @@ use Rattle.std.proofs.lemmas.List.Elements.{All-contains, Contains-append_right}
 use Rattle.spa_format.specs.Tree.{Tree, object, Properties, property, join_properties}
 use Rattle.spa_negotiate_objects.specs.declared.error.NegotiateError.{NegotiateError}
 use Rattle.spa_negotiate_objects.specs.declared.error.NegotiateError.TheVariants.{TypeMismatch, Unsupported, Disjoint, OutOfMemory}
-use Rattle.spa_negotiate_objects.specs.Keys.{value_at, key_list, keys_of}
+use Rattle.spa_keyed_objects.specs.Keys.{contains, key_list, keys_of}
+use Rattle.spa_negotiate_objects.specs.Keys.{value_at}
 use Rattle.spa_negotiate_objects.specs.Meeting.{SettlesKeys, Agree, AgreeAt, CanMeet}
-use Rattle.spa_negotiate_objects.specs.PropertyLists.{contains}
 use Rattle.spa_negotiate_objects.specs.Refusals.{AreUnsupported, AreDisjoint, IsRefusedAt, IsKeyRefusal, IsRefusal, AreRefused, OnDisagreement}
 use Rattle.spa_negotiate_objects.proofs.Settling.{IsRefusedAt-first}
 

@@ -4,12 +4,13 @@ use Rattle.std.specs.List.{All}
 use Rattle.std.proofs.lemmas.List.Elements.{All-cons, All-nil}
 use Rattle.spa_format.specs.Tree.{Tree, Properties, no_properties, property, join_properties}
 use Rattle.spa_negotiate_objects.specs.Admits.{IsPlain, plain_of}
-use Rattle.spa_negotiate_objects.specs.Keys.{value_at, key_list, distinct_of, keys_of}
+use Rattle.spa_keyed_objects.specs.Keys.{contains, distinct_of, key_list, keys_of}
+use Rattle.spa_keyed_objects.proofs.KeyLists.{distinct_of-new, distinct_of-seen, distinct_of-split, key_list-join}
+use Rattle.spa_negotiate_objects.specs.Keys.{value_at}
 use Rattle.spa_negotiate_objects.specs.Meeting.{Settles, SettlesEach, SettlesKeys, AgreeAt}
-use Rattle.spa_negotiate_objects.specs.PropertyLists.{contains}
 use Rattle.spa_negotiate_objects.specs.Refusals.{IsRefusedAt}
 use Rattle.spa_negotiate_objects.proofs.Agreeing.{Agree-settled}
-use Rattle.spa_negotiate_objects.proofs.KeyLists.{distinct_of-new, distinct_of-seen, distinct_of-split, key_list-join, value_at-absent, value_at-behind, value_at-before, value_at-joined}
+use Rattle.spa_negotiate_objects.proofs.KeyLists.{value_at-absent, value_at-behind, value_at-before, value_at-joined}
 
 SettlesEach-push : (ps qs rs : Properties) (k : ℕ) (x : Tree) → SettlesEach ps qs rs → IsPlain x →
     Settles (value_at k ps) (value_at k qs) x →

@@ -1,5 +1,5 @@
 -- Steps of a negotiation: one more property is looked at.
-use Rattle.std.proofs.Common.{◌≡◌, ℕ, ◌+◌, ◌<◌, ◌==◌, Bool, true, false, not, if◌then◌else◌, true≢false, List, length, take, drop, get_or, refl, sym, ap, ◌∙◌, subst, Some}
+use Rattle.std.proofs.Common.{◌≡◌, ℕ, ◌+◌, ◌<◌, Bool, true, false, List, length, take, drop, get_or, sym, ap, ◌∙◌, subst, Some}
 use Rattle.std.specs.BTreeSet.{BTreeSet}
 use Rattle.spa_format.specs.Tree.{Tree, Properties, no_properties, property, join_properties}
 use Rattle.spa_value.specs.declared.object.Property.{Property}
@@ -9,23 +9,13 @@ use Rattle.spa_value.specs.ObjectLaws.{PropertyListsGoOn, PropertyListsAreCut}
 use Rattle.spa_negotiate_objects.specs.declared.error.NegotiateError.{NegotiateError}
 use Rattle.spa_negotiate_objects.specs.declared.negotiation.Settled.{Settled}
 use Rattle.spa_negotiate_objects.specs.Admits.{IsPlain, plain_of}
-use Rattle.spa_negotiate_objects.specs.Keys.{key_list}
+use Rattle.spa_keyed_objects.specs.PropertyLists.{HasKeys, IsAdded}
+use Rattle.spa_keyed_objects.proofs.KeySets.{join_properties-assoc, there, absent, more_keys}
 use Rattle.spa_negotiate_objects.specs.Meeting.{Settles, SettlesKeys}
-use Rattle.spa_negotiate_objects.specs.PropertyLists.{found_at, contains, HasKeys, IsAdded, SettlesListed, IsSettled, IsPushed}
+use Rattle.spa_negotiate_objects.specs.PropertyLists.{found_at, SettlesListed, IsSettled}
 use Rattle.spa_negotiate_objects.specs.Refusals.{IsKeyRefusal, IsRefusal}
 use Rattle.spa_negotiate_objects.proofs.Settling.{SettlesKeys-seen, SettlesKeys-first, SettlesKeys-other}
-use Rattle.spa_negotiate_objects.proofs.KeyLists.{contains-key_list}
 use Rattle.spa_negotiate_objects.proofs.Refusing.{IsRefusal-first}
-
-pub join_properties-none : (ps : Properties) → join_properties ps no_properties ≡ ps
-join_properties-none no_properties = refl
-join_properties-none (property k f v ps) = ap (property k f v) (join_properties-none ps)
-
-pub join_properties-assoc : (ps qs rs : Properties) →
-    join_properties (join_properties ps qs) rs ≡ join_properties ps (join_properties qs rs)
-join_properties-assoc no_properties qs rs = refl
-join_properties-assoc (property k f v ps) qs rs =
-    ap (property k f v) (join_properties-assoc ps qs rs)
 
 -- the first side's properties up to the i-th
 abbrev pub firsts : (ours : List Property) → ℕ → Properties
@@ -35,31 +25,14 @@ firsts ours i = property_views (take i ours)
 abbrev pub others : (ours theirs : List Property) → ℕ → Properties
 others ours theirs i = join_properties (property_views ours) (property_views (take i theirs))
 
-not-false : (b : Bool) → not b ≡ false → b ≡ true
-not-false true h = refl
-not-false false h = absurd (true≢false h)
-
-not-true : (b : Bool) → not b ≡ true → b ≡ false
-not-true true h = absurd (true≢false (sym h))
-not-true false h = refl
+-- a property with this key and value, and empty flags, was appended
+abbrev IsPushed : (old : List Property) → ℕ → Tree → (new : List Property) → Type 0
+IsPushed old key x new =
+    property_views new ≡ join_properties (property_views old) (property key 0 x no_properties)
 
 -- The i-th property of a side, p, is looked at, where s was settled so far. Its key was added to the keys, in which it was new or not.
 module _ (go_on : PropertyListsGoOn) (are_cut : PropertyListsAreCut) (ours theirs : List Property)
     (i : ℕ) (p : Property) (s : Settled) (is_new : Bool) (keys : BTreeSet ℕ) (added : IsAdded s.keys p.key is_new keys) where
-  -- the properties before p, whose keys were there
-  module _ (before : Properties) (has : HasKeys s.keys before) where
-    there : is_new ≡ false → contains p.key (key_list before) ≡ true
-    there e = sym (has p.key) ∙ not-false _ (sym added.absent ∙ e)
-
-    absent : is_new ≡ true → contains p.key (key_list before) ≡ false
-    absent e = sym (has p.key) ∙ not-true _ (sym added.absent ∙ e)
-
-    more_keys : HasKeys keys (join_properties before (property_view p))
-    more_keys k =
-        let now = ap (λ b. if p.key == k then true else b) (has k) in
-        let listed = contains-key_list k p.key p.flags.0 (view p.value) before in
-        added.others k ∙ now ∙ sym listed
-
   -- p is the first side's: the keys before it are settled
   module _ (l : i < length ours) (e : p ≡ get_or ours i p)
       (h : IsSettled ours theirs (firsts ours i) s) where
@@ -67,7 +40,7 @@ module _ (go_on : PropertyListsGoOn) (are_cut : PropertyListsAreCut) (ours their
     one_more_first = sym (go_on ours i p l e)
 
     pub first_keys : HasKeys keys (firsts ours (i + 1))
-    first_keys = subst (HasKeys keys) one_more_first (more_keys (firsts ours i) h.keys)
+    first_keys = subst (HasKeys keys) one_more_first (more_keys p s.keys keys is_new added (firsts ours i) h.keys)
 
     -- its key was there
     pub first_seen : is_new ≡ false → SettlesListed ours theirs (firsts ours (i + 1)) s.met.properties.items
@@ -76,7 +49,7 @@ module _ (go_on : PropertyListsGoOn) (are_cut : PropertyListsAreCut) (ours their
         let ts = property_views theirs in
         let met = property_views s.met.properties.items in
         let before = firsts ours i in
-        let key = there before h.keys was in
+        let key = there p s.keys keys is_new added before h.keys was in
         subst (λ ss. SettlesListed ours theirs ss s.met.properties.items) one_more_first
         (SettlesKeys-seen os ts before met p.key h.settles p.flags.0 (view p.value) key)
 
@@ -92,7 +65,7 @@ module _ (go_on : PropertyListsGoOn) (are_cut : PropertyListsAreCut) (ours their
         let before = firsts ours i in
         let behind = property_views (drop (i + 1) ours) in
         let at = are_cut ours i p l e in
-        let key = absent before h.keys was in
+        let key = absent p s.keys keys is_new added before h.keys was in
         let new =
         SettlesKeys-first os ts before met behind p.key p.flags.0 (view p.value) x at h.settles key
         plain settles in
@@ -110,7 +83,7 @@ module _ (go_on : PropertyListsGoOn) (are_cut : PropertyListsAreCut) (ours their
         let before = firsts ours i in
         let behind = property_views (drop (i + 1) ours) in
         let at = are_cut ours i p l e in
-        let key = absent before h.keys was in
+        let key = absent p s.keys keys is_new added before h.keys was in
         IsRefusal-first os ts before met behind p.key p.flags.0 (view p.value) why at h.settles key r
 
   -- p is the second side's: the first side's keys are settled, and the second side's before it
@@ -123,7 +96,7 @@ module _ (go_on : PropertyListsGoOn) (are_cut : PropertyListsAreCut) (ours their
         ∙ ap (join_properties (property_views ours)) (sym (go_on theirs i p l e))
 
     pub other_keys : HasKeys keys (others ours theirs (i + 1))
-    other_keys = subst (HasKeys keys) one_more_other (more_keys (others ours theirs i) h.keys)
+    other_keys = subst (HasKeys keys) one_more_other (more_keys p s.keys keys is_new added (others ours theirs i) h.keys)
 
     -- its key was there
     pub other_seen : is_new ≡ false →
@@ -133,7 +106,7 @@ module _ (go_on : PropertyListsGoOn) (are_cut : PropertyListsAreCut) (ours their
         let ts = property_views theirs in
         let met = property_views s.met.properties.items in
         let before = others ours theirs i in
-        let key = there before h.keys was in
+        let key = there p s.keys keys is_new added before h.keys was in
         subst (λ ss. SettlesListed ours theirs ss s.met.properties.items) one_more_other
         (SettlesKeys-seen os ts before met p.key h.settles p.flags.0 (view p.value) key)
 
@@ -148,7 +121,7 @@ module _ (go_on : PropertyListsGoOn) (are_cut : PropertyListsAreCut) (ours their
         let before = others ours theirs i in
         let behind = property_views (drop (i + 1) theirs) in
         let at = are_cut theirs i p l e in
-        let key = absent before h.keys was in
+        let key = absent p s.keys keys is_new added before h.keys was in
         let new =
         SettlesKeys-other os ts (firsts theirs i) met behind p.key p.flags.0 (view p.value) x at
         h.settles key plain settles in

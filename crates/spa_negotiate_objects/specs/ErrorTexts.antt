@@ -1,15 +1,9 @@
 -- Refusals in words: docs/NEGOTIATION.md, "Refusals".
 use Rattle.std.specs.Prelude.{ℕ, List, ◌++◌, codes}
 use Rattle.std.specs.Fmt.{decimal}
+use Rattle.spa_keyed_objects.specs.Sides.{side_text}
 use Rattle.spa_negotiate_objects.specs.declared.error.NegotiateError.{NegotiateError}
 use Rattle.spa_negotiate_objects.specs.declared.error.NegotiateError.TheVariants as error
-use Rattle.spa_negotiate_objects.specs.declared.error.Side.{Side}
-use Rattle.spa_negotiate_objects.specs.declared.error.Side.TheVariants.{First, Second}
-
--- the word for a side
-abbrev pub side_text : Side → List ℕ
-side_text First = codes "first"
-side_text Second = codes "second"
 
 -- a refusal in words
 abbrev pub error_text : NegotiateError → List ℕ

@@ -3,7 +3,8 @@ use Rattle.std.specs.Prelude.{⊤, ◌≡◌, ℕ, Option, Some, None}
 use Rattle.std.specs.List.{All}
 use Rattle.spa_format.specs.Tree.{Tree, object, Properties, no_properties, property, join_properties}
 use Rattle.spa_negotiate_objects.specs.Admits.{IsPlain, IsSupported, IsCommon, HasCommon, plain_of}
-use Rattle.spa_negotiate_objects.specs.Keys.{value_at, key_list, keys_of}
+use Rattle.spa_keyed_objects.specs.Keys.{key_list, keys_of}
+use Rattle.spa_negotiate_objects.specs.Keys.{value_at}
 
 -- x settles what the two sides have under one key: where both have a value, x is admitted by both;
 -- where one side has, x is that value, or its default where it is a choice

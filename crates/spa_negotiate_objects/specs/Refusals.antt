@@ -3,7 +3,8 @@ use Rattle.std.specs.Prelude.{⊤, ◌≡◌, ℕ, List, ◌∷◌, ◌++◌, Op
 use Rattle.std.specs.List.{All}
 use Rattle.spa_format.specs.Tree.{Tree, object, Properties}
 use Rattle.spa_negotiate_objects.specs.Admits.{IsSupported, HasCommon}
-use Rattle.spa_negotiate_objects.specs.Keys.{value_at, keys_of}
+use Rattle.spa_keyed_objects.specs.Keys.{keys_of}
+use Rattle.spa_negotiate_objects.specs.Keys.{value_at}
 use Rattle.spa_negotiate_objects.specs.Meeting.{AgreeAt}
 use Rattle.spa_negotiate_objects.specs.declared.error.NegotiateError.{NegotiateError}
 use Rattle.spa_negotiate_objects.specs.declared.error.NegotiateError.TheVariants.{TypeMismatch, Unsupported, Disjoint, OutOfMemory}

@@ -2,18 +2,10 @@
 ghost use Rattle.std.specs.Prelude.{◌≡◌};
 ghost use Rattle.spa_negotiate_objects.specs.declared.error.NegotiateError.TheVariants.{OutOfMemory};
 
+use spa_keyed_objects::Side;
 use std::alloc::AllocError;
 use std::error::Error;
 use std::fmt;
-
-/// One of the two sides that meet. It prints `first` or `second`.
-#[derive(Clone, Copy, PartialEq, Eq, Debug)]
-pub enum Side {
-    /// The first input.
-    First,
-    /// The second one.
-    Second,
-}
 
 /// Why two objects, or the objects of two pods, don't meet. The key in a refusal is the first of the first object's keys under
 /// which one of these stands.
@@ -34,20 +26,6 @@ pub enum NegotiateError {
     TooLarge,
     /// A growth was refused.
     OutOfMemory,
-}
-
-impl fmt::Display for Side {
-    ghost use Rattle.spa_negotiate_objects.specs.ErrorTexts.{side_text};
-    ghost use Rattle.std.specs.Prelude.{Some};
-
-    ghost output = { λ side. Some (side_text side) };
-
-    fn fmt<W: fmt::Write>(&self, f: &mut fmt::Formatter<W>) -> fmt::Result {
-        match self {
-            Side::First => write!(f, "first"),
-            Side::Second => write!(f, "second"),
-        }
-    }
 }
 
 impl fmt::Display for NegotiateError {

@@ -4,12 +4,12 @@
 mod admission;
 mod element;
 mod error;
-mod keyed;
 pub mod laws;
 mod negotiation;
 mod numbers;
 mod offer;
 
-pub use error::{NegotiateError, Side};
+pub use error::NegotiateError;
 pub use negotiation::{common, negotiate};
 pub use offer::is_supported;
+pub use spa_keyed_objects::Side;

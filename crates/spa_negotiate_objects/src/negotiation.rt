@@ -1,5 +1,5 @@
 //! Two objects meet.
-ghost use Rattle.std.specs.Prelude.{◌≡◌, IfErr, IfOk, List, OnOk, Some};
+ghost use Rattle.std.specs.Prelude.{◌≡◌, IfErr, IfOk, List, MatchOption, None, OnOk, Some};
 ghost use Rattle.spa_format.specs.Tree.{join_properties};
 ghost use Rattle.spa_value.specs.declared.object.Property.{Property};
 ghost use Rattle.spa_value.specs.View.{object_view, view};
@@ -7,15 +7,16 @@ ghost use Rattle.spa_value.specs.Views.{property_views};
 ghost use Rattle.spa_negotiate_objects.specs.Admits.{IsCommon, IsPlain};
 ghost use Rattle.spa_negotiate_objects.specs.Meeting.{CanMeet, Meet, Settles};
 ghost use Rattle.spa_negotiate_objects.specs.Offers.{BothAdmit, IsIndexed, IsOfferRefusal};
-ghost use Rattle.spa_negotiate_objects.specs.PropertyLists.{HasPlaces, IsPushed, IsSettled, SettlesListed, found_at};
+ghost use Rattle.spa_keyed_objects.specs.PropertyLists.{IsKeyed};
+ghost use Rattle.spa_negotiate_objects.specs.PropertyLists.{IsSettled, SettlesListed, found_at};
 ghost use Rattle.spa_negotiate_objects.specs.Refusals.{AreRefused, IsKeyRefusal, IsRefusal, OnDisagreement};
 
 use crate::admission::first_common;
 use crate::error::NegotiateError;
-use crate::keyed::{Keyed, add_key};
 use crate::offer::{Offer, offer_of, settled};
+use spa_keyed_objects::{Keyed, Met, add_key, push};
 use spa_value::laws::{objects_are_their_fields, property_lists_are_in_order};
-use spa_value::{Object, Property, Value, discard};
+use spa_value::{Object, Property, Value};
 use std::alloc::{AllocError, Global};
 use std::collections::BTreeSet;
 
@@ -59,32 +60,6 @@ pub fn negotiate(alloc: Global, a: &Object, b: &Object) -> Result<Object, Negoti
     })
 }
 
-/// Settled properties. Their values may be nested deep, so they are taken apart by a loop.
-struct Met {
-    properties: Vec<Property>,
-}
-
-impl Met {
-    /// The properties themselves.
-    fn into_properties(self) -> Vec<Property>
-        ensures { result ≡ self.properties }
-    {
-        let Met { properties } = self;
-        properties
-    }
-}
-
-impl Drop for Met {
-    fn drop(self) {
-        let Met { properties } = self;
-        discard(Value::Object(Object {
-            type_: 0,
-            id: 0,
-            properties,
-        }));
-    }
-}
-
 /// Settled properties, and the keys that were settled.
 #[derive(Drop)]
 struct Settled {
@@ -94,19 +69,18 @@ struct Settled {
 
 /// The settled properties of the first side.
 fn settle_first(alloc: Global, a: &[Property], b: &Keyed<'_>) -> Result<Settled, NegotiateError>
-    requires { HasPlaces b.now.places b.now.properties.now }
+    requires { IsKeyed b.now }
     ensures settled { IfOk result (IsSettled a.now b.now.properties.now (property_views a.now)) }
     ensures cause { IfErr result (IsRefusal (property_views a.now) (property_views b.now.properties.now)) }
 {
     property_lists_are_in_order();
-    let mut met = Met {
-        properties: Vec::new(alloc),
-    };
+    let mut met = Met::new(alloc);
     let mut keys = BTreeSet::new(alloc);
     for property in a {
         if add_key(&mut keys, property.key)? {
             let value = settle(alloc, property, b)?;
-            push(&mut met, property.key, value)?;
+            let plain = Property::new(property.key, value);
+            push(&mut met, plain)?;
         }
     }
     Ok(Settled { met, keys })
@@ -121,7 +95,8 @@ fn settle_rest(first: Settled, b: &[Property]) -> Result<Vec<Property>, AllocErr
     for property in b {
         if add_key(&mut keys, property.key)? {
             let value = settled(&property.value)?;
-            push(&mut met, property.key, value)?;
+            let alone = Property::new(property.key, value);
+            push(&mut met, alone)?;
         }
     }
     Ok(met.into_properties())
@@ -129,14 +104,25 @@ fn settle_rest(first: Settled, b: &[Property]) -> Result<Vec<Property>, AllocErr
 
 /// A plain value that settles the key of a property of the first side, where the second side has these.
 fn settle(alloc: Global, property: &Property, others: &Keyed<'_>) -> Result<Value, NegotiateError>
-    requires { HasPlaces others.now.places others.now.properties.now }
+    requires { IsKeyed others.now }
     ensures plain { IfOk result (λ x. IsPlain (view x)) }
     ensures settles { IfOk result (λ x. Settles (Some (view property.now.value)) (found_at property.now.key others.now.properties.now) (view x)) }
     ensures cause { IfErr result (IsKeyRefusal property.now.key (Some (view property.now.value)) (found_at property.now.key others.now.properties.now)) }
 {
-    match others.find(property.key) {
+    match value_of(others, property.key) {
         Some(other) => common(alloc, property.key, &property.value, other),
         None => Ok(settled(&property.value)?),
+    }
+}
+
+/// The value of the first property with this key.
+fn value_of<'a>(properties: &Keyed<'a>, key: u32) -> Option<&'a Value>
+    requires { IsKeyed properties.now }
+    ensures { MatchOption result (found_at key properties.now.properties.now ≡ None) (λ value. found_at key properties.now.properties.now ≡ Some (view value.now)) }
+{
+    match properties.find(key) {
+        Some(property) => Some(&property.value),
+        None => None,
     }
 }
 
@@ -171,17 +157,4 @@ fn common_of(
         Some(value) => Ok(value.clone()?),
         None => Err(NegotiateError::Disjoint(key)),
     }
-}
-
-/// Appends a property with empty flags.
-fn push(met: &mut Met, key: u32, value: Value) -> Result<(), AllocError>
-    ensures { OnOk result (IsPushed met.old.properties.items key (view value) met.new.properties.items) }
-{
-    property_lists_are_in_order();
-    if let Err(error) = met.properties.reserve(1) {
-        discard(value);
-        return Err(error);
-    }
-    met.properties.push_reserved(Property::new(key, value));
-    Ok(())
 }

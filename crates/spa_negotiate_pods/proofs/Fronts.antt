@@ -5,8 +5,8 @@ use Rattle.spa_format.specs.Fixation.{all_settled, are_settled}
 use Rattle.spa_format.specs.Pod.{IsPod}
 use Rattle.spa_format.specs.Tree.{Tree, object, Properties}
 use Rattle.spa_format.specs.Walk.{ArePropertiesOf, property_walk, properties_of}
-use Rattle.spa_negotiate_objects.specs.declared.error.Side.{Side}
-use Rattle.spa_negotiate_objects.specs.declared.error.Side.TheVariants.{First, Second}
+use Rattle.spa_keyed_objects.specs.declared.side.Side.{Side}
+use Rattle.spa_keyed_objects.specs.declared.side.Side.TheVariants.{First, Second}
 use Rattle.spa_negotiate_objects.specs.declared.error.NegotiateError.{NegotiateError}
 use Rattle.spa_negotiate_objects.specs.declared.error.NegotiateError.TheVariants.{TypeMismatch, Unsupported, Disjoint, Unread, NotObject, TooLarge, OutOfMemory}
 use Rattle.spa_negotiate_pods.specs.Fronts.{MeetIn, OnNoMeeting, IsFrontRefused, AreFrontsRefused, AreViewsRefused}

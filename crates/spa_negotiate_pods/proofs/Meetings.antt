@@ -9,9 +9,9 @@ use Rattle.spa_fronts.proofs.Both.{begin_both}
 use Rattle.spa_fronts.proofs.Joined.{behind_none, behind_on, object_large, object_written}
 use Rattle.spa_fronts.proofs.Sides.{IsNext}
 use Rattle.spa_negotiate_objects.specs.Admits.{plain_of}
-use Rattle.spa_negotiate_objects.specs.Keys.{value_at, key_list, keys_of}
+use Rattle.spa_keyed_objects.specs.Keys.{contains, key_list, keys_of}
+use Rattle.spa_negotiate_objects.specs.Keys.{value_at}
 use Rattle.spa_negotiate_objects.specs.Meeting.{AgreeAt, CanMeet, SettlesKeys}
-use Rattle.spa_negotiate_objects.specs.PropertyLists.{contains}
 use Rattle.spa_negotiate_objects.specs.Refusals.{AreRefused, IsKeyRefusal, IsRefusal}
 use Rattle.spa_negotiate_objects.specs.declared.error.NegotiateError.{NegotiateError}
 use Rattle.spa_negotiate_objects.specs.declared.error.NegotiateError.TheVariants.{Unsupported, Disjoint, OutOfMemory}

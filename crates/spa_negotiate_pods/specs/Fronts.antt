@@ -9,8 +9,8 @@ use Rattle.spa_leaf.specs.Reading.{MayLackMemory}
 pub use Rattle.spa_fronts.specs.Fronts.{BeginBoth, BeginsObject, BeginsOther, IsObject}
 use Rattle.spa_negotiate_objects.specs.Meeting.{Meet}
 use Rattle.spa_negotiate_objects.specs.Refusals.{AreRefused}
-use Rattle.spa_negotiate_objects.specs.declared.error.Side.{Side}
-use Rattle.spa_negotiate_objects.specs.declared.error.Side.TheVariants.{First, Second}
+use Rattle.spa_keyed_objects.specs.declared.side.Side.{Side}
+use Rattle.spa_keyed_objects.specs.declared.side.Side.TheVariants.{First, Second}
 use Rattle.spa_negotiate_objects.specs.declared.error.NegotiateError.{NegotiateError}
 use Rattle.spa_negotiate_objects.specs.declared.error.NegotiateError.TheVariants.{Unread, NotObject, TooLarge, OutOfMemory}
 

@@ -1,10 +1,9 @@
 pub mod Answers
 pub mod Building
 pub mod Faults
-pub mod Filtering
 pub mod Items
 pub mod Lenient
 pub mod Lists
-pub mod Negotiation
 pub mod Reading
 pub mod Searching
+pub mod Sides

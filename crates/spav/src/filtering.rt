@@ -5,14 +5,15 @@ ghost use Rattle.spa_filter.specs.Refusals.{AreRefused};
 ghost use Rattle.spa_filter.specs.declared.error.FilterError.TheVariants.{Disjoint, Missing, OutOfMemory, TypeMismatch, Unsupported};
 ghost use Rattle.spa_filter_pods.specs.Fronts.{AreFrontsRefused, BeginBoth, FilterIn, FilterTooLarge};
 ghost use Rattle.spav.specs.Answers.{IsDisjoint, IsDone, IsFiltered, IsInvalid, IsMissing, IsNoMemory, IsNoRoom, IsOther, IsPast, IsUnfiltered, IsUnsupported};
-ghost use Rattle.spav.specs.Filtering.{HasNoObject, number_of};
 ghost use Rattle.spav.specs.Lists.{IsWritten};
+ghost use Rattle.spav.specs.Sides.{HasNoObject};
 
 use crate::answers::{
-    DISJOINT, FIRST, INVALID, MISSING, NO_MEMORY, OTHER, PAST, SECOND, UNSUPPORTED,
+    DISJOINT, INVALID, MISSING, NO_MEMORY, OTHER, PAST, UNSUPPORTED,
 };
 use crate::lists::put_front;
-use spa_filter_pods::{FilterError, Side, filter_pods};
+use crate::sides::number_of;
+use spa_filter_pods::{FilterError, filter_pods};
 use std::alloc::Global;
 
 /// Writes the object to which the objects at the fronts of two inputs are filtered to the front of `out`: it admits exactly what both
@@ -72,15 +73,5 @@ pub extern "C" fn spav_filter(
         }
         Err(FilterError::TooLarge) => PAST,
         Err(FilterError::OutOfMemory) => NO_MEMORY,
-    }
-}
-
-/// The number of an input.
-fn number_of(side: Side) -> u32
-    ensures { result ≡ number_of side }
-{
-    match side {
-        Side::First => FIRST,
-        Side::Second => SECOND,
     }
 }

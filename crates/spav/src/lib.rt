@@ -18,6 +18,7 @@ mod lists;
 mod negotiation;
 mod questions;
 mod reading;
+mod sides;
 
 /// The number of the interface that the header of the same number describes, as in the name of the shared library.
 #[unsafe(no_mangle)]

@@ -6,11 +6,12 @@ ghost use Rattle.spa_negotiate_objects.specs.Refusals.{AreRefused};
 ghost use Rattle.spa_negotiate_objects.specs.declared.error.NegotiateError.TheVariants.{Disjoint, OutOfMemory, TypeMismatch, Unsupported};
 ghost use Rattle.spav.specs.Answers.{IsApart, IsDisjoint, IsDone, IsInvalid, IsMet, IsNoMemory, IsNoRoom, IsOther, IsPast, IsUnsupported};
 ghost use Rattle.spav.specs.Lists.{IsWritten};
-ghost use Rattle.spav.specs.Negotiation.{HasNoObject, number_of};
+ghost use Rattle.spav.specs.Sides.{HasNoObject};
 
-use crate::answers::{DISJOINT, FIRST, INVALID, NO_MEMORY, OTHER, PAST, SECOND, UNSUPPORTED};
+use crate::answers::{DISJOINT, INVALID, NO_MEMORY, OTHER, PAST, UNSUPPORTED};
 use crate::lists::put_front;
-use spa_negotiate_pods::{NegotiateError, Side, negotiate_pods};
+use crate::sides::number_of;
+use spa_negotiate_pods::{NegotiateError, negotiate_pods};
 use std::alloc::Global;
 
 /// Writes the object in which the objects at the fronts of two inputs meet to the front of `out`: under each key of either a value
@@ -64,15 +65,5 @@ pub extern "C" fn spav_negotiate(
         }
         Err(NegotiateError::TooLarge) => PAST,
         Err(NegotiateError::OutOfMemory) => NO_MEMORY,
-    }
-}
-
-/// The number of an input.
-fn number_of(side: Side) -> u32
-    ensures { result ≡ number_of side }
-{
-    match side {
-        Side::First => FIRST,
-        Side::Second => SECOND,
     }
 }

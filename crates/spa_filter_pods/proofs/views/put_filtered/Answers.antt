@@ -1,5 +1,5 @@
 use Rattle.std.proofs.Common.{Some, None}
-use Rattle.spa_filter.specs.Keys.{offered_at}
+use Rattle.spa_keyed_objects.specs.Keys.{offered_at}
 use Rattle.spa_filter_pods.specs.Written.{offered}
 use Rattle.spa_filter_pods.proofs.Lookups.{offered_none, offered_some}
 use Rattle.spa_fronts.proofs.Passing.{if_err, on_ok}

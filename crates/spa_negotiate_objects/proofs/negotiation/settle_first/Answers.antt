@@ -1,4 +1,5 @@
 use Rattle.std.proofs.Common.{◌+◌, sym, ap, ◌∙◌, subst}
+use Rattle.spa_format.specs.Tree.{property, no_properties, join_properties}
 use Rattle.spa_value.specs.View.{view}
 use Rattle.spa_value.specs.Views.{property_views}
 use Rattle.spa_negotiate_objects.specs.declared.negotiation.Settled.{Settled}
@@ -34,7 +35,12 @@ loop-property-preserved c =
     elim c.if-branch.branch [
       | then-branch+in_ok-value+in_ok-push w ↦
           let x = w.in_ok-value in
-          let pushed = ap (λ v. property_views v.properties.items) w.met-is ∙ w.in_ok-push.ensures in
+          let plain = w.new-plain.ensures in
+          let pushed =
+          ap (λ v. property_views v.properties.items) w.met-is
+          ∙ w.in_ok-push.ensures
+          ∙ (λ i. join_properties (property_views l.met.properties.items)
+          (property (plain.key i) (plain.flags i) (view (plain.value i)) no_properties)) in
           record {
             settles =
                 first_new law.first law.cut ours theirs i p s _ _ added more is l.invariant w.if-branch.true

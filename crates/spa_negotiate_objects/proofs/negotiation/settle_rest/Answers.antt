@@ -1,11 +1,12 @@
 use Rattle.std.proofs.Common.{◌+◌, sym, ap, ◌∙◌, subst}
 use Rattle.std.proofs.lemmas.List.{take_all}
-use Rattle.spa_format.specs.Tree.{join_properties}
+use Rattle.spa_format.specs.Tree.{property, no_properties, join_properties}
 use Rattle.spa_value.specs.View.{view}
 use Rattle.spa_value.specs.Views.{property_views}
+use Rattle.spa_keyed_objects.proofs.KeySets.{join_properties-none}
 use Rattle.spa_negotiate_objects.specs.declared.negotiation.Settled.{Settled}
 use Rattle.spa_negotiate_objects.specs.PropertyLists.{SettlesListed, IsSettled}
-use Rattle.spa_negotiate_objects.proofs.Steps.{join_properties-none, others, other_seen, other_new, other_keys}
+use Rattle.spa_negotiate_objects.proofs.Steps.{others, other_seen, other_new, other_keys}
 use Rattle.spa_negotiate_objects.proofs.negotiation.settle_rest.Goals.{then-branch+in_ok-value+in_ok-push, else-branch}
 use Rattle.spa_negotiate_objects.proofs.negotiation.settle_rest.Goals as goal
 
@@ -29,7 +30,12 @@ loop-property-preserved c = λ ours begun.
     elim c.if-branch.branch [
       | then-branch+in_ok-value+in_ok-push w ↦
           let x = w.in_ok-value in
-          let pushed = ap (λ v. property_views v.properties.items) w.met-is ∙ w.in_ok-push.ensures in
+          let plain = w.new-alone.ensures in
+          let pushed =
+          ap (λ v. property_views v.properties.items) w.met-is
+          ∙ w.in_ok-push.ensures
+          ∙ (λ i. join_properties (property_views l.met.properties.items)
+          (property (plain.key i) (plain.flags i) (view (plain.value i)) no_properties)) in
           record {
             settles =
                 other_new law.first law.cut ours theirs i p s _ _ added more is settled w.if-branch.true

@@ -1,19 +1,20 @@
-//! Properties of an answer, as it is made.
+//! The properties of an answer, as it is made.
 ghost use Rattle.std.specs.Prelude.{◌≡◌, [], OnOk};
-ghost use Rattle.spa_filter.specs.PropertyLists.{IsPushed};
+ghost use Rattle.spa_keyed_objects.specs.PropertyLists.{IsPushed};
 
 use spa_value::laws::property_lists_are_in_order;
 use spa_value::{Object, Property, Value, discard};
 use std::alloc::{AllocError, Global};
 
-/// Properties of an answer. Their values may be nested deep, so they are taken apart by a loop.
-pub(crate) struct Met {
-    pub(crate) properties: Vec<Property>,
+/// The properties of an answer. Their values may nest deep, so they are dropped by a loop and not by calls in one another.
+pub struct Met {
+    /// The properties so far.
+    pub properties: Vec<Property>,
 }
 
 impl Met {
     /// No properties yet.
-    pub(crate) fn new(alloc: Global) -> Met
+    pub fn new(alloc: Global) -> Met
         ensures { result.properties.items ≡ [] }
     {
         Met {
@@ -21,8 +22,8 @@ impl Met {
         }
     }
 
-    /// The properties themselves.
-    pub(crate) fn into_properties(self) -> Vec<Property>
+    /// Gives the properties away.
+    pub fn into_properties(self) -> Vec<Property>
         ensures { result ≡ self.properties }
     {
         let Met { properties } = self;
@@ -41,8 +42,8 @@ impl Drop for Met {
     }
 }
 
-/// Appends a property.
-pub(crate) fn push(met: &mut Met, property: Property) -> Result<(), AllocError>
+/// Appends a property. An error says that memory was refused; the property is dropped then, and the others stay.
+pub fn push(met: &mut Met, property: Property) -> Result<(), AllocError>
     ensures { OnOk result (IsPushed met.old.properties.items property met.new.properties.items) }
 {
     property_lists_are_in_order();

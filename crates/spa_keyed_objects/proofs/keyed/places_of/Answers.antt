@@ -1,7 +1,7 @@
 use Rattle.std.proofs.Common.{◌≡◌, ◌+◌, ◌-◌, ◌<◌, length, get_or, arith}
 use Rattle.std.proofs.lemmas.List.{get_or_default}
-use Rattle.spa_negotiate_objects.proofs.Places.{placed}
-use Rattle.spa_negotiate_objects.proofs.keyed.places_of.Goals as goal
+use Rattle.spa_keyed_objects.proofs.Places.{placed}
+use Rattle.spa_keyed_objects.proofs.keyed.places_of.Goals as goal
 
 pub loop-left-preserved : goal.loop-left-preserved
 loop-left-preserved c =

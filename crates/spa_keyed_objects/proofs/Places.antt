@@ -6,9 +6,9 @@ use Rattle.std.specs.Ordering.{is_eq, nat_cmp}
 use Rattle.std.specs.declared.cmp.Ordering.TheVariants.{Less, Equal, Greater}
 use Rattle.std.specs.Prelude.{nat_lt}
 use Rattle.std.proofs.lemmas.List.{drop_more, get_or_default}
-use Rattle.spa_filter.specs.Keys.{Offered}
+use Rattle.spa_keyed_objects.specs.Keys.{Offered}
 use Rattle.spa_value.specs.declared.object.Property.{Property}
-use Rattle.spa_filter.specs.PropertyLists.{found_at, offered_by, IsFoundAt}
+use Rattle.spa_keyed_objects.specs.PropertyLists.{found_at, offered_by, IsFoundAt}
 
 -- two keys compare as equal where they are
 is_eq-same : (j : ℕ) → is_eq (nat_cmp j j) ≡ true

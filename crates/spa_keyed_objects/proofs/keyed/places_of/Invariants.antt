@@ -1,8 +1,8 @@
 use Rattle.std.proofs.Common.{ℕ, ◌≤◌, length, drop}
 use Rattle.std.specs.BTreeMap.{get}
 use Rattle.std.specs.Ordering.{nat_cmp}
-use Rattle.spa_negotiate_objects.specs.PropertyLists.{found_at, IsFoundAt}
-use Rattle.spa_negotiate_objects.proofs.keyed.places_of.Given as goal
+use Rattle.spa_keyed_objects.specs.PropertyLists.{found_at, IsFoundAt}
+use Rattle.spa_keyed_objects.proofs.keyed.places_of.Given as goal
 
 abbrev pub invariant-loop-left : goal.invariant-loop-left
 invariant-loop-left l =

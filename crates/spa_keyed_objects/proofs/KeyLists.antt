@@ -1,22 +1,21 @@
--- Keys, each once, as a list grows; and the value under a key.
+-- Keys, each once, as a list grows.
 use Rattle.std.proofs.Common.{◌≡◌, ℕ, List, [], ◌∷◌, ◌++◌, Bool, true, false, not, cond, ◌==◌, if◌then◌else◌, refl, sym, ap, ◌∙◌, true≢false}
 use Rattle.std.specs.List.{filter}
 use Rattle.std.specs.Cmp.{unsigned_Decides}
 use Rattle.std.proofs.lemmas.List.{append-nil}
 use Rattle.std.proofs.lemmas.List.Elements.{filter-append}
 use Rattle.spa_format.specs.Tree.{Tree, Properties, no_properties, property, join_properties}
-use Rattle.spa_filter.specs.Keys.{key_list, distinct_of}
-use Rattle.spa_filter.specs.PropertyLists.{contains}
+use Rattle.spa_keyed_objects.specs.Keys.{key_list, distinct_of, contains}
 
 -- these numbers without one
 abbrev without : ℕ → List ℕ → List ℕ
 without j ks = filter (λ i. not (i == j)) ks
 
 -- the test of two numbers
-test-self : (n : ℕ) → (n == n) ≡ true
+pub test-self : (n : ℕ) → (n == n) ≡ true
 test-self n = (unsigned_Decides n n).1 refl
 
-test-true : (m n : ℕ) → (m == n) ≡ true → m ≡ n
+pub test-true : (m n : ℕ) → (m == n) ≡ true → m ≡ n
 test-true m n = (unsigned_Decides m n).0
 
 test-flipped_by : (m n : ℕ) (b : Bool) → (n == m) ≡ b → (m == n) ≡ false → (n == m) ≡ false

@@ -1,9 +1,9 @@
--- Negotiation in the caller's memory: docs/CAPI.md, "Negotiation".
+-- Two inputs that lack an object: docs/CAPI.md, "Negotiation".
 use Rattle.std.specs.Prelude.{◌≡◌, ◌⊎◌, ℕ, List}
 use Rattle.spa_format.specs.Front.{IsRefused}
-use Rattle.spa_negotiate_pods.specs.Fronts.{BeginsObject, BeginsOther}
-use Rattle.spa_negotiate_objects.specs.declared.error.Side.{Side}
-use Rattle.spa_negotiate_objects.specs.declared.error.Side.TheVariants.{First, Second}
+use Rattle.spa_fronts.specs.Fronts.{BeginsObject, BeginsOther}
+use Rattle.spa_keyed_objects.specs.declared.side.Side.{Side}
+use Rattle.spa_keyed_objects.specs.declared.side.Side.TheVariants.{First, Second}
 
 -- the number of an input
 abbrev pub number_of : Side → ℕ

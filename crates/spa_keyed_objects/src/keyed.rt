@@ -1,31 +1,35 @@
 //! Properties that are found by their keys, and sets of keys.
 ghost use Rattle.std.specs.Prelude.{◌≡◌, IfOk, MatchOption, None, Some};
-ghost use Rattle.spa_filter.specs.PropertyLists.{HasPlaces, IsAdded, found_at, offered_by};
+ghost use Rattle.spa_keyed_objects.specs.PropertyLists.{HasPlaces, IsAdded, IsKeyed, found_at, offered_by};
 
 use spa_value::Property;
 use std::alloc::{AllocError, Global};
 use std::collections::{BTreeMap, BTreeSet};
 
-/// Properties, and the place of the first one with each key.
+/// Properties, and the index of the first one with each key.
 #[derive(Drop)]
-pub(crate) struct Keyed<'a> {
-    properties: &'a [Property],
+pub struct Keyed<'a> {
+    /// The properties.
+    pub properties: &'a [Property],
     places: BTreeMap<u32, usize>,
 }
 
 impl<'a> Keyed<'a> {
-    /// These properties.
-    pub(crate) fn new(alloc: Global, properties: &'a [Property]) -> Result<Keyed<'a>, AllocError>
+    /// Indexes these properties, in a time that grows with n log n for n of them.
+    ///
+    /// # Errors
+    /// Where memory for the index is refused.
+    pub fn new(alloc: Global, properties: &'a [Property]) -> Result<Keyed<'a>, AllocError>
         ensures properties { IfOk result (λ keyed. keyed.properties.now ≡ properties.now) }
-        ensures places { IfOk result (λ keyed. HasPlaces keyed.places keyed.properties.now) }
+        ensures keyed { IfOk result (λ keyed. IsKeyed keyed) }
     {
         let places = places_of(alloc, properties)?;
         Ok(Keyed { properties, places })
     }
 
-    /// The first property with this key.
-    pub(crate) fn find(&self, key: u32) -> Option<&'a Property>
-        requires { HasPlaces self.now.places self.now.properties.now }
+    /// The first property with this key, in a time that grows with log n.
+    pub fn find(&self, key: u32) -> Option<&'a Property>
+        requires { IsKeyed self.now }
         ensures { MatchOption result (found_at key self.now.properties.now ≡ None) (λ p. found_at key self.now.properties.now ≡ Some (offered_by p.now)) }
     {
         match self.places.get(&key) {
@@ -35,8 +39,8 @@ impl<'a> Keyed<'a> {
     }
 }
 
-/// The place of the first property with each key: the last property is put first, and each one takes the place of a later
-/// one with its key.
+/// The index of the first property with each key. The last property is inserted first, and each one replaces a later one with
+/// its key.
 fn places_of(alloc: Global, properties: &[Property]) -> Result<BTreeMap<u32, usize>, AllocError>
     ensures { IfOk result (λ places. HasPlaces places properties.now) }
 {
@@ -49,8 +53,8 @@ fn places_of(alloc: Global, properties: &[Property]) -> Result<BTreeMap<u32, usi
     Ok(places)
 }
 
-/// Adds a key, and answers whether it is new.
-pub(crate) fn add_key(keys: &mut BTreeSet<u32>, key: u32) -> Result<bool, AllocError>
+/// Adds a key to the set, and answers whether it is new there. An error says that memory was refused.
+pub fn add_key(keys: &mut BTreeSet<u32>, key: u32) -> Result<bool, AllocError>
     ensures { IfOk result (λ is_new. IsAdded keys.old key is_new keys.new) }
 {
     let is_new = keys.insert(key)?;

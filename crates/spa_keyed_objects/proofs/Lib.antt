@@ -1,0 +1,3 @@
+pub mod KeyLists
+pub mod KeySets
+mod Places

@@ -1,11 +1,15 @@
 // A malloc that refuses requests, loaded before the C library's own (LD_PRELOAD). Where REFUSED is a number, the request with
 // that number is refused, from 1 on, and a byte on the descriptor MARK says so. Where it is `each`, the process splits at every
-// request: a copy of it is refused that one and runs to its end, and what it wrote and its status go to MARK, as a line
-// 'NUMBER STATUS LENGTH' and so many bytes; then the process goes on, with the memory.
+// request: a copy of it is refused that one and runs to its end, and what it wrote and its status go to the file MARK; then the
+// process goes on, with the memory. Copies one after another that end alike are told together: a line 'LAST COUNT STATUS LENGTH',
+// the number of the last one's request and how many they are, and so many bytes. Where PART is 'K/N', only every N-th request is
+// refused so, from the K-th on: N such processes refuse each. SKIPPED has addresses in the program, `HEX,HEX,..`: copies return from
+// the functions there as soon as they are called.
 #define _GNU_SOURCE
 #include <dlfcn.h>
 #include <errno.h>
 #include <fcntl.h>
+#include <link.h>
 #include <stdio.h>
 #include <stdlib.h>
 #include <string.h>
@@ -26,6 +30,16 @@ static int mark, refuses_each, keeps_all;
 // Where SAMPLE is a number above 0, only some requests are refused so: the first so many, as many of every other one, and so on.
 static long sample, next = 1, step = 1, count;
 
+// Which part of the requests is refused here.
+static long part = 1, parts = 1;
+
+// How the last copies ended: what they wrote, their status, how many there were, and where the line about them stands in the file.
+static char text[1 << 20], last[1 << 20];
+static size_t last_length;
+static int last_code;
+static long alike;
+static off_t line_at;
+
 static void start(void) {
   real_malloc = dlsym(RTLD_NEXT, "malloc");
   real_realloc = dlsym(RTLD_NEXT, "realloc");
@@ -37,6 +51,32 @@ static void start(void) {
   mark = atoi(getenv("MARK"));
   const char *some = getenv("SAMPLE");
   sample = some ? atol(some) : 0;
+  const char *own = getenv("PART");
+  if (own && sscanf(own, "%ld/%ld", &part, &parts) != 2)
+    abort();
+}
+
+// Where the program was loaded.
+static int find_program(struct dl_phdr_info *info, size_t size, void *base) {
+  (void)size;
+  *(char **)base = (char *)info->dlpi_addr;
+  return 1;
+}
+
+// Has the functions at SKIPPED return at once: by the instruction `ret` in place of their first one.
+static void skip_functions(void) {
+  const char *given = getenv("SKIPPED");
+  char *base = NULL;
+  dl_iterate_phdr(find_program, &base);
+  while (given && *given) {
+    char *end;
+    char *code = base + strtoul(given, &end, 16);
+    char *page = (char *)((size_t)code & -(size_t)sysconf(_SC_PAGESIZE));
+    if (mprotect(page, code + 1 - page, PROT_READ | PROT_WRITE | PROT_EXEC) != 0)
+      abort();
+    *code = (char)0xc3;
+    given = *end == ',' ? end + 1 : end;
+  }
 }
 
 static void say(const char *bytes, size_t length) {
@@ -51,15 +91,26 @@ static void say(const char *bytes, size_t length) {
 
 // Tells how the copy ended that was refused this request, and what it wrote.
 static void tell(int wrote, int status) {
-  static char text[1 << 20];
   off_t length = lseek(wrote, 0, SEEK_CUR);
   size_t told = length < (off_t)sizeof text ? (size_t)length : sizeof text;
   if (pread(wrote, text, told, 0) != (ssize_t)told)
     abort();
   int code = WIFEXITED(status) ? WEXITSTATUS(status) : -WTERMSIG(status);
+  int is_like_last = alike > 0 && code == last_code && told == last_length && memcmp(text, last, told) == 0;
+  alike = is_like_last ? alike + 1 : 1;
+  if (!is_like_last)
+    line_at = lseek(mark, 0, SEEK_END);
   char line[64];
-  say(line, snprintf(line, sizeof line, "%ld %d %zu\n", requests, code, told));
+  int size = snprintf(line, sizeof line, "%12ld %12ld %4d %8zu\n", requests, alike, code, told);
+  if (pwrite(mark, line, size, line_at) != size)
+    abort();
+  if (is_like_last)
+    return;
+  lseek(mark, 0, SEEK_END);
   say(text, told);
+  memcpy(last, text, told);
+  last_length = told;
+  last_code = code;
 }
 
 // Splits the process, and answers whether this is the copy.
@@ -72,6 +123,7 @@ static int is_copy(void) {
     refuses_each = 0;
     keeps_all = 1;
     alarm(SECONDS);
+    skip_functions();
     if (dup2(wrote, STDOUT_FILENO) < 0 || dup2(wrote, STDERR_FILENO) < 0)
       abort();
     // What the copy reads leaves the place where the process goes on reading.
@@ -92,7 +144,7 @@ static int is_copy(void) {
 // Whether this request is one of those to be refused.
 static int is_chosen(void) {
   if (!sample)
-    return 1;
+    return requests % parts == part % parts;
   if (requests < next)
     return 0;
   if (++count % sample == 0)

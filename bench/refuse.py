@@ -11,9 +11,10 @@ short, `pod read` on what `json` makes of these; `pod`'s words meet and filter r
 don't, as one input and as two files. A run must end as it does with memory, or write nothing and say that it is out of memory; `pod
 show`, which writes as it goes, may have written a beginning. A row of a program must have its answer or say so. A test must pass,
 or end by an error that says so and by nothing else. Status 1 where one doesn't, or where a test has more requests than could be
-refused in SECONDS seconds (from the environment, 600).
+refused in SECONDS seconds (from the environment, 600). JOBS processes (from the environment, 1) share the requests of a test.
 """
 
+import contextlib
 import os
 import pathlib
 import re
@@ -21,6 +22,7 @@ import struct
 import subprocess
 import sys
 import tempfile
+import time
 
 HERE = pathlib.Path(__file__).resolve().parent
 PROGRAMS = ("podtool", "pod")
@@ -38,8 +40,11 @@ WORDS = (
 )
 AGREEING = ("meet", "filter")
 SECONDS = int(os.environ.get("SECONDS", "600"))
+JOBS = int(os.environ.get("JOBS", "1"))
 # How long a test is tried of which only some requests are refused.
 SAMPLE_SECONDS = 10
+# Has the C library keep all memory in pages of 2 MB, of which it asks for 32 at once: a process with much memory is copied in less time.
+WIDE_PAGES = {"GLIBC_TUNABLES": "glibc.malloc.hugetlb=1:glibc.malloc.top_pad=67108864:glibc.malloc.mmap_threshold=4294967296"}
 
 # An object of type 5 whose key 1 is a Range of Ints, and pods that follow it, by what they are.
 RANGE = (56, 15, 5, 3, 1, 0, 28, 19, 1, 0, 4, 4, 5, 2, 10, 0)
@@ -54,6 +59,15 @@ OTHERS = {
     "a struct": (0, 14),
     "nothing": (),
 }
+
+# Functions that only empty nested values. That they end is proved, and no allocator is handed to them. A copy skips them: of a value 100,000
+# levels deep they are nearly all of its time, and there is a copy for each request.
+EMPTYING = (
+    "spa_value::emptying::discard",
+    "spa_value::nested_copies::Copies::give_up",
+    "spa_read::nest::Nest::give_up",
+    "spa_text_read::inside::Inside::give_up",
+)
 
 # How a test passes, and how one ends by an error that says that memory is wanting: 12 is the number of NOMEM.
 PASSED = (0, b"\ntest result: ok\n")
@@ -152,35 +166,54 @@ def refuse_in_programs(library, programs, sample):
 
 
 def copies(told):
-    """What refuse.c told of each copy of a test: the number of the request, and what it ended with."""
+    """What refuse.c told of copies of a test that ended alike: the number of the last one's request, how many they are, and how they ended."""
     at = 0
     while (end := told.find(b"\n", at)) >= 0:
-        number, status, length = map(int, told[at:end].split())
+        number, count, status, length = map(int, told[at:end].split())
         at = end + 1 + length
-        yield number, (status, told[end + 1 : at])
+        yield number, count, (status, told[end + 1 : at])
+
+
+def emptying(program):
+    """The addresses of the program's functions that do nothing but empty nested values, as refuse.c takes them."""
+    listed = subprocess.run(["nm", program], check=True, capture_output=True, text=True).stdout
+    found = re.findall(r"^(\w+) [tT] (.*)$", listed, re.MULTILINE)
+    return ",".join(address for address, name in found if name in EMPTYING)
 
 
 def refuse_each(library, command, given, passed, is_refused, sample):
     """Refuses requests of a command, which ends so with memory, and returns how many there were and what is wrong with it."""
-    with tempfile.TemporaryFile() as mark, tempfile.TemporaryFile() as source:
-        source.write(given)
-        source.seek(0)
-        env = {**os.environ, "LD_PRELOAD": library, "REFUSED": "each", "SAMPLE": str(sample), "MARK": str(mark.fileno())}
-        how = {"env": env, "stdin": source, "stdout": subprocess.PIPE, "stderr": subprocess.STDOUT, "pass_fds": (mark.fileno(),)}
-        wrong = []
-        try:
-            ran = subprocess.run(command, timeout=SAMPLE_SECONDS if sample else SECONDS, **how)
-            if (ran.returncode, ran.stdout) != passed:
-                wrong.append(f"with memory: {(ran.returncode, ran.stdout)}")
-        except subprocess.TimeoutExpired:
-            if not sample:
-                wrong.append(f"not all its requests were refused in {SECONDS} seconds")
-        mark.seek(0)
-        ended = list(copies(mark.read()))
-    for number, (status, wrote) in ended:
-        if (status, wrote) != passed and not is_refused(status, wrote):
-            wrong.append(f"request {number}: {(status, wrote)}")
-    return len(ended), wrong
+    limit = SAMPLE_SECONDS if sample else SECONDS
+    parts = 1 if sample else JOBS
+    runs, wrong = 0, []
+    with contextlib.ExitStack() as files:
+        started = []
+        for part in range(1, parts + 1):
+            mark, source, wrote = (files.enter_context(tempfile.TemporaryFile()) for _ in range(3))
+            source.write(given)
+            source.seek(0)
+            told = {"REFUSED": "each", "SKIPPED": emptying(command[0]), "SAMPLE": str(sample), "PART": f"{part}/{parts}", "MARK": str(mark.fileno())}
+            env = {**os.environ, **WIDE_PAGES, "LD_PRELOAD": library, **told}
+            ran = subprocess.Popen(command, env=env, stdin=source, stdout=wrote, stderr=subprocess.STDOUT, pass_fds=(mark.fileno(),))
+            started.append((ran, mark, wrote))
+        ends_at = time.monotonic() + limit
+        for ran, mark, wrote in started:
+            try:
+                status = ran.wait(max(0, ends_at - time.monotonic()))
+                wrote.seek(0)
+                if (found := (status, wrote.read())) != passed:
+                    wrong.append(f"with memory: {found}")
+            except subprocess.TimeoutExpired:
+                ran.kill()
+                ran.wait()
+                if not sample:
+                    wrong.append(f"not all its requests were refused in {limit} seconds")
+            mark.seek(0)
+            for number, count, ended in copies(mark.read()):
+                runs += count
+                if ended != passed and not is_refused(*ended):
+                    wrong.append(f"request {number}, of {count} that end so: {ended}")
+    return runs, wrong
 
 
 def refuse_in_test(library, program, test, sample):

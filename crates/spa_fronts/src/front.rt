@@ -10,8 +10,7 @@ ghost use Rattle.spa_rewrite.specs.Rewriting.{IsRewriting};
 use crate::object_view::ObjectView;
 use spa_bytes::{HEADER_LEN, SECOND_WORD, open, u32_at};
 use spa_fixed::DeserializeError;
-use spa_rewrite::{Rejected, look_at_pod, rewrite};
-use spa_scan::canonical_front;
+use spa_rewrite::{Rejected, canonical_front, look_at_pod, rewrite};
 use spa_utils::SpaTypes;
 use std::alloc::Global;
 

@@ -1,4 +1,4 @@
-//! Rewritings written elsewhere, of pods that may get shorter.
+//! Pods rewritten into another buffer, where they may get shorter.
 ghost use Rattle.std.specs.Prelude.{◌≡◌, ◌≢◌, ◌+◌, ◌-◌, ◌<◌, ◌≤◌, ◌++◌, Bool, IfNone, IfSome, [], drop, false, length, take};
 ghost use Rattle.spa_format.specs.Tree.{choice_type};
 ghost use Rattle.spa_format.specs.Words.{header_size};
@@ -12,14 +12,13 @@ use spa_bytes::{
     HEADER_LEN, extent_of, joined, open, two_words, u32_at, u64_at, wide_body, word_body,
 };
 use spa_rewrite::{
-    SECOND_HEADER, begins_word, behind_key, patch_all, patch_leaf, patch_values, surplus_of_each,
-    taken_len,
+    SECOND_HEADER, begins_word, behind_key, canonical_stretch, patch_all, patch_leaf, patch_values,
+    surplus_of_each, taken_len,
 };
-use spa_scan::canonical_stretch;
 use spa_utils::SpaTypes;
 
-/// Puts the rewritings of all pods that the input is at the front of an output that is at least as long as the input, and answers how many
-/// bytes they take; what is behind them stays as it was. To a shorter output it writes nothing, and only answers that. It takes no memory.
+/// Writes the rewritings of all pods of the input to the front of an output that is at least as long as the input, and answers how many
+/// bytes they take; what is behind them stays as it was. To a shorter output it writes nothing, and answers the length alone. It takes no memory.
 ///
 /// `None` says that the input isn't pods one after another, or that structs and objects stand more than `LEVELS` deep in one another in
 /// them: then it writes nothing.
@@ -55,7 +54,7 @@ fn put_first(bytes: &[u8], out: &mut [u8])
     }
 }
 
-/// By how many bytes the rewritings of all pods that the bytes are are shorter than these. `None` says what it says there.
+/// By how many bytes the rewritings of all pods are shorter than these. `None` says what `surplus_of_each` says by it.
 #[inline(always)]
 pub(crate) fn surplus_behind(pods: &[u8]) -> Option<usize>
     ensures there { IfSome result (λ surplus. AreShorter pods.now surplus) }
@@ -86,7 +85,7 @@ fn write_rest(surplus: usize, pods: &[u8], out: &mut [u8])
     write_steady(surplus, pods, out);
 }
 
-/// The same of pods that aren't shorter: patched in a copy.
+/// Writes the rewritings of pods that don't get shorter: these are copied, and patched in the copy.
 #[inline(never)]
 fn write_steady(surplus: usize, pods: &[u8], out: &mut [u8])
     requires room { length pods.now ≤ length out.old }
@@ -132,7 +131,7 @@ fn write_front(type_: u32, size: usize, pod: &[u8], out: &mut [u8]) -> usize
     }
 }
 
-/// The same of a pod that holds no others, or of one that no value says.
+/// Does what `write_leaf` does, by a call of its own.
 #[inline(never)]
 fn write_alone(type_: u32, size: usize, pod: &[u8], out: &mut [u8]) -> usize
     requires pod { IsPodOf pod.now type_ size }
@@ -173,7 +172,7 @@ fn write_pods(keyed: bool, pods: &[u8], out: &mut [u8]) -> usize
     }
 }
 
-/// The same of the pod at the front, which is a word and no truth value.
+/// Writes the rewriting of the pod at the front, which is a word and no truth value.
 #[inline(always)]
 fn write_word(pods: &[u8], out: &mut [u8])
     requires word { BeginsWord pods.now }
@@ -217,7 +216,7 @@ fn first_words(bytes: &[u8]) -> [u8; 8]
     wide_body(u64_at(bytes, 0))
 }
 
-/// The same of one pod.
+/// Writes the rewriting of one pod to the front of an output, and answers how many bytes it takes.
 #[cycle(writing)]
 #[inline(always)]
 fn write_pod(type_: u32, size: usize, pod: &[u8], out: &mut [u8]) -> usize
@@ -249,7 +248,7 @@ pub(crate) fn holds_whole(type_: u32, size: usize) -> Option<bool>
     None
 }
 
-/// The same of a struct or an object: what it holds, and then its header.
+/// Writes the rewriting of a struct or an object: of its pods, and then its header.
 #[cycle(writing)]
 #[inline(always)]
 fn write_inner(keyed: bool, pod: &[u8], out: &mut [u8]) -> usize
@@ -276,7 +275,7 @@ pub(crate) fn inner_type(keyed: bool) -> u32
     }
 }
 
-/// The same of a pod that holds no others, or of one that no value says.
+/// Writes the rewriting of a pod that holds no others. Of one that no value says it promises only what stays as it was.
 #[inline(always)]
 fn write_leaf(type_: u32, size: usize, pod: &[u8], out: &mut [u8]) -> usize
     requires pod { IsPodOf pod.now type_ size }
@@ -298,7 +297,7 @@ fn write_leaf(type_: u32, size: usize, pod: &[u8], out: &mut [u8]) -> usize
     }
 }
 
-/// The same of a choice: copied without its surplus values, and patched there.
+/// Writes the rewriting of a choice: it is copied without its surplus values, and patched there.
 #[inline(always)]
 fn write_choice(size: usize, pod: &[u8], out: &mut [u8]) -> usize
     requires pod { IsPodOf pod.now choice_type size }

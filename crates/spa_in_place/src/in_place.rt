@@ -12,9 +12,9 @@ use crate::place::place_all;
 use spa_fixed::{DeserializeError, Fault};
 use spa_leaf::error_at;
 use spa_rewrite::{
-    Rejected, look_at_pods, patch_all, rewrite_in_parts, steady_stretch, surplus_of_all,
+    Rejected, canonical_stretch, look_at_pods, patch_all, rewrite_in_parts, steady_stretch,
+    surplus_of_all,
 };
-use spa_scan::canonical_stretch;
 use std::alloc::Global;
 
 /// Puts the rewritings of all pods that the bytes are at their front, and answers how many bytes these take: never more than the

@@ -1,4 +1,4 @@
-//! Pods that may get shorter, made their rewritings at the front of where they lie.
+//! Pods compacted in place: their rewritings, which may be shorter, at the front of the buffer.
 ghost use Rattle.std.specs.Prelude.{◌≡◌, ◌+◌, ◌-◌, ◌<◌, ◌≤◌, ◌++◌, Bool, IfSome, drop, false, length, take};
 ghost use Rattle.spa_format.specs.Tree.{choice_type};
 ghost use Rattle.spa_format.specs.Typed.{IsBytes};
@@ -11,10 +11,10 @@ ghost use Rattle.spa_rewrite.specs.Steady.{IsPodOf, key_size};
 use crate::across::{holds_whole, inner_type};
 use spa_bytes::{HEADER_LEN, extent_of, open, two_words, u32_at};
 use spa_rewrite::{
-    SECOND_HEADER, behind_key, patch_all, patch_leaf, patch_values, place_behind, steady_stretch,
-    taken_len,
+    SECOND_HEADER, behind_key, canonical_stretch, patch_all, patch_leaf, patch_values,
+    place_behind, steady_stretch, taken_len,
 };
-use spa_scan::{canonical_stretch, leaf_members, leaf_properties};
+use spa_scan::{leaf_members, leaf_properties};
 use spa_utils::SpaTypes;
 
 /// How many bytes a run has at least that was worth the look.
@@ -23,8 +23,8 @@ const LONG_RUN: usize = 64;
 /// How many bytes are moved pod by pod, where a list in a pod begins or a run was shorter, before the next run is looked for.
 const UNLOOKED: usize = 1024;
 
-/// Makes all pods that the bytes are, which are so many bytes shorter then, their rewritings at their front, and answers how many bytes these
-/// take. Structs and objects may stand at any depth that end where the one around them does: where they end then is known before.
+/// Replaces all pods of a buffer by their rewritings, which are so many bytes shorter, at its front, and answers how many bytes these take. A
+/// struct or object that ends where the one around it does may stand at any depth: its new end is known before.
 #[inline(never)]
 pub(crate) fn place_all(surplus: usize, bytes: &mut [u8]) -> usize
     requires { AreShorter bytes.old surplus }
@@ -93,8 +93,8 @@ fn run_len(
     if len == 0 { None } else { Some(len) }
 }
 
-/// How many bytes the first of these pods take that are their own rewritings; where these are few of the outermost pods, the noisy ones that
-/// are as long. Inside others only leaves are looked at: a look at structs would be one at each level that they stand in.
+/// How many bytes the first canonical pods take; where these are few of the outermost pods, those whose encodings are as long as they are. Inside
+/// others only pods that hold none are looked at: a look at structs would be one at each level that they stand in.
 fn run_at(outermost: bool, keyed: bool, noisy: &mut bool, left: &[u8]) -> usize
     ensures within { result ≤ length left.now }
     ensures its { AreRun noisy.new keyed (take result left.now) }
@@ -117,7 +117,7 @@ fn run_at(outermost: bool, keyed: bool, noisy: &mut bool, left: &[u8]) -> usize
     steady.len()
 }
 
-/// Moves a run from one place down to another, and makes noisy pods their rewritings there.
+/// Moves a run from one place down to another, and replaces pods that aren't canonical by their encodings there.
 #[inline(always)]
 fn put_run(noisy: bool, bytes: &mut [u8], from: usize, to: usize, len: usize)
     requires run { from + len ≤ length bytes.old }
@@ -172,7 +172,7 @@ fn put_header(keyed: bool, bytes: &mut [u8], at: usize, to: usize, end: usize) -
     move_key(keyed, bytes, at + HEADER_LEN, body)
 }
 
-/// Makes the pods behind the first `gap` bytes their rewritings, at the front of all these bytes, with key and flags before each where
+/// Replaces the pods behind the first `gap` bytes by their rewritings, at the front of all these bytes, with key and flags before each where
 /// `keyed` is set, and answers how many bytes they take. Of bytes that aren't such pods it promises only what stays as it was.
 #[cycle(placing)]
 fn place(keyed: bool, bytes: &mut [u8], gap: usize) -> usize
@@ -229,7 +229,7 @@ fn move_down(bytes: &mut [u8], gap: usize, len: usize)
     bytes.copy_within(gap..gap + len, 0);
 }
 
-/// The same of one pod.
+/// Replaces the pod behind the first `gap` bytes by its rewriting, at the front of all these bytes, and answers how many bytes it takes.
 #[cycle(placing)]
 fn place_pod(type_: u32, size: usize, bytes: &mut [u8], gap: usize) -> usize
     requires pod { IsPodOf (drop gap bytes.old) type_ size }
@@ -243,7 +243,7 @@ fn place_pod(type_: u32, size: usize, bytes: &mut [u8], gap: usize) -> usize
     }
 }
 
-/// The same of a struct or an object: what it holds, and then its header.
+/// Replaces a struct or an object there: its pods, and then its header.
 #[cycle(placing)]
 fn place_inner(keyed: bool, bytes: &mut [u8], gap: usize) -> usize
     requires pod { IsInner (drop gap bytes.old) keyed }
@@ -258,7 +258,7 @@ fn place_inner(keyed: bool, bytes: &mut [u8], gap: usize) -> usize
     len
 }
 
-/// The same of a pod that holds no others, or of one that no value says.
+/// Replaces a pod there that holds no others. Of one that no value says it promises only what stays as it was.
 fn place_leaf(type_: u32, size: usize, bytes: &mut [u8], gap: usize) -> usize
     requires pod { IsPodOf (drop gap bytes.old) type_ size }
     requires no_inner { (keyed : Bool) → ¬ (HoldsWhole type_ size keyed) }
@@ -279,7 +279,7 @@ fn place_leaf(type_: u32, size: usize, bytes: &mut [u8], gap: usize) -> usize
     }
 }
 
-/// The same of a choice: moved without its surplus values, and patched there.
+/// Replaces a choice there: it is moved without its surplus values, and patched.
 fn place_choice(size: usize, bytes: &mut [u8], gap: usize) -> usize
     requires pod { IsPodOf (drop gap bytes.old) choice_type size }
     requires gap { gap ≤ length bytes.old }

@@ -51,9 +51,9 @@ leaf_shallow here body rest type o s l r c =
     let t : type_of v ≡ type = sym q.0 ∙ sym o.its_type in
     leaf_depth v body (λ e. s (sym t ∙ e)) (λ e. l (sym t ∙ e)) (subst (IsBody v) (sym o.its_body) q.1)
 
--- so it is no canonical pod, where none is found of so many levels
+-- so it is no canonical pod, where only structs and objects may be
 pub leaf_differs : (here body rest : List ℕ) (type : ℕ) → Opens here type body rest → type ≢ struct_type → (type ≡ object_type → length body < header_size) →
-    ((r : List ℕ) (c : BeginsCanonical here r) → levels_looked_into < depth_of c.value) → (r : List ℕ) → ¬ (BeginsCanonical here r)
+    ((r : List ℕ) (c : BeginsCanonical here r) → 0 < depth_of c.value) → (r : List ℕ) → ¬ (BeginsCanonical here r)
 leaf_differs here body rest type o s l f r c =
     let z = leaf_shallow here body rest type o s l r c in
     let d = f r c in
@@ -66,7 +66,7 @@ own_rest here rest e c = subst (BeginsCanonical here) (sym e) c
 pub meets_leaf : (keyed canonical now : Bool) (left here body rest : List ℕ) (type n : ℕ) → IsBytes left → IsBehindKey keyed left here →
     Opens here type body rest → type ≢ struct_type → (type ≡ object_type → length body < header_size) → IsShorterBody type body n →
     (now ≡ true → canonical ≡ true) → (now ≡ true → BeginsCanonical here (rest_of here)) →
-    (now ≡ false → (canonical ≡ false) ⊎ ((r : List ℕ) (c : BeginsCanonical here r) → levels_looked_into < depth_of c.value)) →
+    (now ≡ false → (canonical ≡ false) ⊎ ((r : List ℕ) (c : BeginsCanonical here r) → 0 < depth_of c.value)) →
     AreMet canonical keyed left rest now n
 meets_leaf keyed canonical now left here body rest type n h k o s l b c own differs =
     let some = some_left keyed left here k o.there in
@@ -95,8 +95,8 @@ goes_over asked all keyed canonical now pods left rest Then waiting surplus n w 
 
 -- a pod without members is accepted
 pub leaf_exactly : (asked result : Bool) (input rest : List ℕ) → rest ≡ rest_of input → (result ≡ true → BeginsCanonical input (rest_of input)) →
-    (result ≡ false → (asked ≡ false) ⊎ ((r : List ℕ) (c : BeginsCanonical input r) → levels_looked_into < depth_of c.value)) →
-    (((r : List ℕ) (c : BeginsCanonical input r) → levels_looked_into < depth_of c.value) → (r : List ℕ) → ¬ (BeginsCanonical input r)) →
+    (result ≡ false → (asked ≡ false) ⊎ ((r : List ℕ) (c : BeginsCanonical input r) → 0 < depth_of c.value)) →
+    (((r : List ℕ) (c : BeginsCanonical input r) → 0 < depth_of c.value) → (r : List ℕ) → ¬ (BeginsCanonical input r)) →
     asked ≡ true → Decides result (BeginsCanonical input rest)
 leaf_exactly asked result input rest e own differs none a = (
   λ t. own_rest input rest e (own t),
@@ -130,7 +130,7 @@ pub front_stops : (input : List ℕ) (why : Refusal) → Says (λ k. StandsAtFro
 front_stops input why f = says_through (λ k. StandsAtFront k input) (λ k. Stands k input input) ⊥ ⊥ (λ k x. at_front input refl x) (λ n. n) why f
 
 -- what is rejected is a pod of no value, or of one with more levels
-fault_refuses : (input place : List ℕ) (why : Refusal) → Says (λ k. Stands k place input) ⊥ why → IsRefused input
+pub fault_refuses : (input place : List ℕ) (why : Refusal) → Says (λ k. Stands k place input) ⊥ why → IsRefused input
 fault_refuses input place refusal.Short s = format.refused Short place input s
 fault_refuses input place refusal.Text s = format.refused Text place input s
 fault_refuses input place refusal.InvalidType s = format.refused InvalidType place input s

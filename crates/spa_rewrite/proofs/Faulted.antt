@@ -10,7 +10,7 @@ use Rattle.spa_format.specs.Tree.{Shape, none_choice, range_choice, step_choice,
 use Rattle.spa_format.specs.Normal.{kept_flags}
 use Rattle.spa_format.specs.Pod.{AreElements, IsArray, IsBody, least_count, values_taken}
 use Rattle.spa_format.specs.Front.{HasFront, IsRefused}
-use Rattle.spa_format.specs.Faults.{Fault, Short, Text, InvalidType, InvalidChoiceType, MissingChoiceValues, WrongSize, IsInvalidType, of_elements, of_values, IsWrongArray, IsWrongSize, of_fixed, of_choice, of_pointer, LacksValues, StandsAtFront, at_front, choice_header_size}
+use Rattle.spa_format.specs.Faults.{Fault, Short, Text, InvalidType, InvalidChoiceType, MissingChoiceValues, WrongSize, IsInvalidType, of_elements, IsWrongArray, IsWrongSize, of_fixed, of_choice, of_pointer, LacksValues, StandsAtFront, at_front, choice_header_size}
 use Rattle.spa_format.specs.Opened.{OpensHeaderAlone, no_front, no_parts, short_object}
 use Rattle.spa_format.proofs.FixedKinds.{kind_of_content, size_fits}
 use Rattle.spa_format.proofs.Refused.{begun}
@@ -23,10 +23,10 @@ use Rattle.spa_leaf.proofs.Refusals.{at_front_of, says_through}
 use Rattle.spa_leaf.proofs.Steps.{pod_read}
 use Rattle.spa_scan.specs.Depth.{depth_of}
 use Rattle.spa_rewrite.specs.Look.{StandsInside, StopsAt}
-use Rattle.spa_rewrite.specs.Steady.{IsBehindKey}
+use Rattle.spa_rewrite.specs.Steady.{AreSteadyInside, IsBehindKey}
 use Rattle.spa_rewrite.proofs.Bodies.{fewer, listed}
 use Rattle.spa_rewrite.proofs.Looks.{stands_first}
-use Rattle.spa_rewrite.proofs.SteadyFound.{leaf_depth}
+use Rattle.spa_rewrite.proofs.SteadyFound.{leaf_depth, steady_first, steady_key}
 use Rattle.spa_rewrite.proofs.SteadyLemmas.{steady_array}
 
 -- no pod begins there, and not for what is inside it
@@ -59,6 +59,7 @@ stops_first keyed left here k l f = record {
   refused = f.refused;
   alone = f.alone;
   stands = λ c s. stands_first keyed left here c here k l (at_front here refl s);
+  other = λ s. let first = steady_first keyed left here k l s in f.refused first.value (record { there = first.there; pod = first.pod });
 }
 
 only_short : (b : List ℕ) (k : Fault) → length b < header_size → StandsAtFront k b → k ≡ Short
@@ -77,11 +78,13 @@ stops_key true left e l some =
       refused = f.refused;
       alone = f.alone;
       stands = λ c s. (no_properties, [], left, refl, refl, inl (only_short left c l s, refl, (λ n. let z = ap length n in omega arith), l));
+      other = steady_key left l some;
     }
 
 pub stops_in : (keyed all : Bool) (left pods place : List ℕ) → ((k : Fault) (at : List ℕ) → StandsInside keyed left at k → StandsInside all pods at k) →
-    StopsAt keyed left place → StopsAt all pods place
-stops_in keyed all left pods place f s = record { refused = s.refused; alone = s.alone; stands = λ k a. f k place (s.stands k a) }
+    (AreSteadyInside all pods → AreSteadyInside keyed left) → StopsAt keyed left place → StopsAt all pods place
+stops_in keyed all left pods place f g s =
+    record { refused = s.refused; alone = s.alone; stands = λ k a. f k place (s.stands k a); other = λ t. s.other (g t) }
 
 -- what is known of the body at such a place
 pub record IsFaultyBody (type : ℕ) (body : List ℕ) : Type 0 where

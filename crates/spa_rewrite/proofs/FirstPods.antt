@@ -1,6 +1,5 @@
 -- First pods of an input, and what is true of all if it is of the others.
 use Rattle.std.proofs.Common.{◌≡◌, ℕ, List, ◌++◌, sym, ap, ◌∙◌, subst, append_assoc}
-use Rattle.std.specs.Borrow.{Bor}
 use Rattle.spa_format.specs.Tree.{Trees, join_members}
 use Rattle.spa_format.specs.Pod.{AreMembers}
 use Rattle.spa_format.proofs.Sequences.{members_joined}

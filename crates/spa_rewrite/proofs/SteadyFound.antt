@@ -1,5 +1,5 @@
 -- Pods whose rewritings are as long as they are: what a look at them can't miss.
-use Rattle.std.proofs.Common.{◌≡◌, ◌≢◌, ℕ, ◌+◌, ◌/◌, ◌-◌, ◌<◌, ◌≤◌, inl, inr, List, ◌++◌, length, drop, refl, sym, ap, ◌∙◌, subst, arith, append_assoc, length-append, length-drop}
+use Rattle.std.proofs.Common.{◌≡◌, ◌≢◌, ℕ, ◌+◌, ◌/◌, ◌<◌, ◌≤◌, inl, inr, List, ◌++◌, length, drop, refl, sym, ap, ◌∙◌, subst, arith, append_assoc, length-append, length-drop}
 use Rattle.std.specs.Prelude.{◌⊎◌, Bool, true, false, max}
 use Rattle.std.proofs.lemmas.List.{length-take-le}
 use Rattle.spa_format.specs.Words.{extent, header_size, padded_size, word_at, word_bytes}
@@ -14,28 +14,34 @@ use Rattle.spa_format.proofs.Encodings.{length-property_encoding, length-word_by
 use Rattle.spa_format.proofs.Fronts.{front_of_whole, length-body_of, of_whole_front}
 use Rattle.spa_format.proofs.Shapes.{array_only, choice_only, object_only, pointer_only, string_only, struct_only}
 use Rattle.spa_format.proofs.Short.{length-framed, short_members, short_props, shortest}
+use Rattle.spa_format.proofs.Unique.{one_value, same_members, same_props}
 use Rattle.spa_bytes.specs.Opening.{Opens}
 use Rattle.spa_scan.specs.Canonical.{IsCanonicalText}
-use Rattle.spa_scan.specs.Depth.{depth_of, member_depth, property_depth}
+use Rattle.spa_scan.specs.Depth.{depth_of, member_depth}
 use Rattle.spa_rewrite.specs.Elements.{HasValues}
-use Rattle.spa_rewrite.specs.Steady.{AreSteadyInsideWithin, AreSteadyPropertiesWithin, AreSteadyWithin, BeginsSteady, IsBehindKey, IsInside, IsSteadyBody}
+use Rattle.spa_rewrite.specs.Nesting.{AreCanonicalInside}
+use Rattle.spa_rewrite.specs.Shorter.{AreShorterInside, BeginsShorter}
+use Rattle.spa_rewrite.specs.Steady.{AreSteady, AreSteadyInside, AreSteadyProperties, AreSteadyWithin, BeginsSteady, IsBehindKey, IsInside, IsSteadyBody}
 use Rattle.spa_rewrite.proofs.SteadyLemmas.{kept_length}
 
 -- the first of such pods, behind its key and flags where it has any, and the others
-pub record FirstIsSteady (levels : ℕ) (keyed : Bool) (here : List ℕ) : Type 0 where
+pub record FirstIsSteady (keyed : Bool) (here : List ℕ) : Type 0 where
   pub there : HasFront here
   pub value : Tree
   pub pod : IsPod (front_of here) value
   pub long : length (encoding_of value) ≡ length (front_of here)
-  pub shallow : depth_of value ≤ levels
-  pub others : AreSteadyInsideWithin levels keyed (rest_of here)
+  pub others : AreSteadyInside keyed (rest_of here)
 
-pub steady_first : (levels : ℕ) (keyed : Bool) (left here : List ℕ) → IsBehindKey keyed left here → 0 < length left →
-    AreSteadyInsideWithin levels keyed left → FirstIsSteady levels keyed here
-steady_first levels false left here k l s =
-    subst (FirstIsSteady levels false) (sym k) (of_members s.pods.values s.pods.members s.pods.long s.shallow)
+-- where they nest in so many levels at most
+pub record FirstIsSteadyWithin (levels : ℕ) (left : List ℕ) : Type 0 where
+  pub its : FirstIsSteady false left
+  pub shallow : depth_of its.value ≤ levels
+  pub others : AreSteadyWithin levels (rest_of left)
+
+pub first_within_levels : (levels : ℕ) (left : List ℕ) → 0 < length left → AreSteadyWithin levels left → FirstIsSteadyWithin levels left
+first_within_levels levels left l s = of_members s.pods.values s.pods.members s.pods.long s.shallow
   where
-    of_members : (vs : Trees) → AreMembers vs left → length (member_encodings vs) ≡ length left → member_depth vs ≤ levels → FirstIsSteady levels false left
+    of_members : (vs : Trees) → AreMembers vs left → length (member_encodings vs) ≡ length left → member_depth vs ≤ levels → FirstIsSteadyWithin levels left
     of_members no_trees m e d = absurd (let z = ap length m in omega arith)
     of_members (member v vs) m e d =
         let f = front_of_whole left m.0 m.1 (type_of v) (IsBody v) m.2 m.3 in
@@ -46,25 +52,25 @@ steady_first levels false left here k l s =
         let n : max (depth_of v) (member_depth vs) ≤ levels = d in
         let same : length (encoding_of v) ≡ length m.0 = omega arith in
         let more : length (member_encodings vs) ≡ length m.1 = omega arith in
-        let behind : AreSteadyWithin levels (rest_of left) = record {
-          pods = record { values = vs; members = subst (AreMembers vs) f.2 m.4; long = more ∙ ap length f.2 };
-          shallow = omega arith;
-        } in
-        record {
+        let behind : AreSteady (rest_of left) = record { values = vs; members = subst (AreMembers vs) f.2 m.4; long = more ∙ ap length f.2 } in
+        let first : FirstIsSteady false left = record {
           there = f.0;
           value = v;
           pod = subst (λ b. IsPod b v) f.1 m.3;
           long = same ∙ ap length f.1;
-          shallow = omega arith;
           others = behind;
-        }
-steady_first levels true left here k l s =
-    subst (FirstIsSteady levels true) (sym k.1) (of_properties s.properties.values s.properties.properties s.properties.long s.shallow)
+        } in
+        record { its = first; shallow = omega arith; others = record { pods = behind; shallow = omega arith } }
+
+pub steady_first : (keyed : Bool) (left here : List ℕ) → IsBehindKey keyed left here → 0 < length left → AreSteadyInside keyed left → FirstIsSteady keyed here
+steady_first false left here k l s =
+    let within : AreSteadyWithin (member_depth s.values) left = record { pods = s; shallow = omega arith } in
+    subst (FirstIsSteady false) (sym k) (first_within_levels (member_depth s.values) left l within).its
+steady_first true left here k l s = subst (FirstIsSteady true) (sym k.1) (of_properties s.values s.properties s.long)
   where
-    of_properties : (ps : Properties) → AreProperties ps left → length (property_encodings ps) ≡ length left → property_depth ps ≤ levels →
-        FirstIsSteady levels true (drop header_size left)
-    of_properties no_properties m e d = absurd (let z = ap length m in omega arith)
-    of_properties (property key flags v ps) m e d =
+    of_properties : (ps : Properties) → AreProperties ps left → length (property_encodings ps) ≡ length left → FirstIsSteady true (drop header_size left)
+    of_properties no_properties m e = absurd (let z = ap length m in omega arith)
+    of_properties (property key flags v ps) m e =
         let behind = drop header_size left in
         let f = front_of_whole behind m.3 m.4 (type_of v) (IsBody v) m.5 m.6 in
         let a = shortest m.3 v m.6 in
@@ -73,19 +79,15 @@ steady_first levels true left here k l s =
         let g = ap length m.5 ∙ length-append m.3 m.4 in
         let h = length-drop 8 left in
         let r = m.0 in
-        let n : max (depth_of v) (property_depth ps) ≤ levels = d in
         let same : length (encoding_of v) ≡ length m.3 = omega arith in
         let more : length (property_encodings ps) ≡ length m.4 = omega arith in
-        let others : AreSteadyPropertiesWithin levels (rest_of behind) = record {
-          properties = record { values = ps; properties = subst (AreProperties ps) f.2 m.7; long = more ∙ ap length f.2 };
-          shallow = omega arith;
-        } in
+        let others : AreSteadyProperties (rest_of behind) =
+        record { values = ps; properties = subst (AreProperties ps) f.2 m.7; long = more ∙ ap length f.2 } in
         record {
           there = f.0;
           value = v;
           pod = subst (λ b. IsPod b v) f.1 m.6;
           long = same ∙ ap length f.1;
-          shallow = omega arith;
           others = others;
         }
 
@@ -93,45 +95,63 @@ steady_first levels true left here k l s =
 pub none_missed : (levels : ℕ) (left : List ℕ) → 0 < length left → AreSteadyWithin levels left →
     ((rest : List ℕ) (c : BeginsSteady left rest) → levels < depth_of c.value) → ⊥
 none_missed levels left l s m =
-    let f = steady_first levels false left left refl l s in
+    let f = first_within_levels levels left l s in
+    let i = f.its in
     let shallow = f.shallow in
-    let deep = m (rest_of left) (record { value = f.value; begins = record { begins = record { there = f.there; pod = f.pod }; follows = refl }; long = f.long }) in
+    let deep = m (rest_of left) (record { value = i.value; begins = record { begins = record { there = i.there; pod = i.pod }; follows = refl }; long = i.long }) in
     omega arith
 
 pub never : (b : Bool) → b ≡ true → b ≡ false → ⊥
 never b t f = let e : true ≡ false = sym t ∙ f in cc
 
 -- what is left has a key and flags, if any have
-pub steady_key : (levels : ℕ) (keyed : Bool) (left : List ℕ) → keyed ≡ true → length left < header_size → 0 < length left →
-    AreSteadyInsideWithin levels keyed left → ⊥
-steady_key levels false left e s l a = never false e refl
-steady_key levels true left e s l a = of_properties a.properties.values a.properties.properties
+pub steady_key : (left : List ℕ) → length left < header_size → 0 < length left → ¬ (AreSteadyProperties left)
+steady_key left s l a = of_properties a.values a.properties
   where
     of_properties : (ps : Properties) → AreProperties ps left → ⊥
     of_properties no_properties m = let z = ap length m in omega arith
     of_properties (property key flags v ps) m = let r = m.0 in omega arith
 
 -- what is left behind the first
-pub steady_left : (levels : ℕ) (keyed : Bool) (left here rest : List ℕ) → IsBehindKey keyed left here → rest ≡ rest_of here → 0 < length left →
-    AreSteadyInsideWithin levels keyed left → AreSteadyInsideWithin levels keyed rest
-steady_left levels keyed left here rest k e l s =
-    subst (AreSteadyInsideWithin levels keyed) (sym e) (steady_first levels keyed left here k l s).others
+pub steady_left : (levels : ℕ) (left rest : List ℕ) → rest ≡ rest_of left → 0 < length left → AreSteadyWithin levels left → AreSteadyWithin levels rest
+steady_left levels left rest e l s = subst (AreSteadyWithin levels) (sym e) (first_within_levels levels left l s).others
 
--- where it is known which of both stand there
-pub inside_left : (keyed inner : Bool) (pods left : List ℕ) → keyed ≡ inner →
-    ((levels : ℕ) → AreSteadyInsideWithin levels inner pods → AreSteadyInsideWithin levels inner left) → (levels : ℕ) →
-    AreSteadyInsideWithin levels keyed pods → AreSteadyInsideWithin levels keyed left
-inside_left keyed inner pods left e f levels s =
-    subst (λ k. AreSteadyInsideWithin levels k left) (sym e) (f levels (subst (λ k. AreSteadyInsideWithin levels k pods) e s))
+-- a pod among them is as long as its encoding
+pub first_steady : (keyed : Bool) (left here rest : List ℕ) (n : ℕ) → 0 < length left → IsBehindKey keyed left here → BeginsShorter here rest n →
+    AreSteadyInside keyed left → (n ≡ 0) × AreSteadyInside keyed rest
+first_steady keyed left here rest n l k b s =
+    let f = steady_first keyed left here k l s in
+    let v = ap (λ x. length (encoding_of x)) (one_value (front_of here) f.value b.value f.pod b.begins.begins.pod) in
+    let x = f.long in
+    let y = b.long in
+    (omega arith, subst (AreSteadyInside keyed) (sym b.begins.follows) f.others)
 
--- the body of such a pod, whose value nests in so many levels at most
-pub record IsSteadyBodyWithin (levels type : ℕ) (body : List ℕ) : Type 0 where
-  pub its : IsSteadyBody type body
-  pub shallow : depth_of its.value ≤ levels
+-- members or properties are by one number of bytes longer than their encodings
+pub one_surplus : (keyed : Bool) (pods : List ℕ) (n : ℕ) → AreShorterInside keyed pods n → AreSteadyInside keyed pods → n ≡ 0
+one_surplus false pods n s t =
+    let v = ap (λ x. length (member_encodings x)) (same_members s.values t.values pods s.members t.members) in
+    let x = s.long in
+    let y = t.long in
+    omega arith
+one_surplus true pods n s t =
+    let v = ap (λ x. length (property_encodings x)) (same_props s.values t.values pods s.properties t.properties) in
+    let x = s.long in
+    let y = t.long in
+    omega arith
 
-pub body_of_value : (levels : ℕ) (here body rest : List ℕ) (type : ℕ) (v : Tree) → IsPod (front_of here) v →
-    length (encoding_of v) ≡ length (front_of here) → depth_of v ≤ levels → Opens here type body rest → IsSteadyBodyWithin levels type body
-body_of_value levels here body rest type v p l d o =
+pub none_shorter : (keyed : Bool) (pods : List ℕ) (n : ℕ) → AreShorterInside keyed pods n → n ≡ 0 → AreSteadyInside keyed pods
+none_shorter false pods n s z = let x = s.long in record { values = s.values; members = s.members; long = omega arith }
+none_shorter true pods n s z = let x = s.long in record { values = s.values; properties = s.properties; long = omega arith }
+
+-- canonical ones are as long as their encodings
+pub canonical_steady : (keyed : Bool) (pods : List ℕ) → AreCanonicalInside keyed pods → AreSteadyInside keyed pods
+canonical_steady true pods c = record { values = c.values; properties = c.properties; long = ap length (sym c.same) }
+canonical_steady false pods c = record { values = c.values; members = c.members; long = ap length (sym c.same) }
+
+-- the body of such a pod
+pub body_of_value : (here body rest : List ℕ) (type : ℕ) (v : Tree) → IsPod (front_of here) v → length (encoding_of v) ≡ length (front_of here) →
+    Opens here type body rest → (s : IsSteadyBody type body) × (s.value ≡ v)
+body_of_value here body rest type v p l o =
     let q = of_whole_front here (type_of v) (IsBody v) p in
     let size : length body ≡ word_at here 0 = ap length o.its_body ∙ length-body_of here o.there in
     let a = length-framed (type_of v) (encoded_body v) in
@@ -143,43 +163,32 @@ body_of_value levels here body rest type v p l d o =
       its_body = subst (IsBody v) (sym o.its_body) q.1;
       long = omega arith;
     } in
-    record { its = whole; shallow = d }
+    (whole, refl)
 
-pub first_body : (levels : ℕ) (keyed : Bool) (left here body rest : List ℕ) (type : ℕ) → IsBehindKey keyed left here → 0 < length left →
-    AreSteadyInsideWithin levels keyed left → Opens here type body rest → IsSteadyBodyWithin levels type body
-first_body levels keyed left here body rest type k l s o =
-    let f = steady_first levels keyed left here k l s in
-    body_of_value levels here body rest type f.value f.pod f.long f.shallow o
+pub first_body : (keyed : Bool) (left here body rest : List ℕ) (type : ℕ) → IsBehindKey keyed left here → 0 < length left → AreSteadyInside keyed left →
+    Opens here type body rest → IsSteadyBody type body
+first_body keyed left here body rest type k l s o =
+    let f = steady_first keyed left here k l s in
+    (body_of_value here body rest type f.value f.pod f.long o).0
 
 -- what stands in the body of a struct or of an object
-pub inside_within : (levels type : ℕ) (body inside : List ℕ) (keyed : Bool) → IsInside type body keyed inside →
-    IsSteadyBodyWithin levels type body → (0 < levels) × AreSteadyInsideWithin (levels - 1) keyed inside
-inside_within levels type body inside false i s =
-    let o = struct_only s.its.value (s.its.its_type ∙ i.0) in
-    let b : AreMembers o.0 body = subst (λ x. IsBody x body) o.1 s.its.its_body in
-    let v = ap depth_of o.1 in
-    let d = s.shallow in
+pub inside_steady : (type : ℕ) (body inside : List ℕ) (keyed : Bool) → IsInside type body keyed inside → IsSteadyBody type body → AreSteadyInside keyed inside
+inside_steady type body inside false i s =
+    let o = struct_only s.value (s.its_type ∙ i.0) in
+    let b : AreMembers o.0 body = subst (λ x. IsBody x body) o.1 s.its_body in
     let e = ap (λ x. padded_size (length (encoded_body x))) o.1 in
-    let l = s.its.long in
+    let l = s.long in
     let n = short_members o.0 body b in
     let w = whole_members o.0 in
     let same : length (member_encodings o.0) ≡ length body = omega arith in
-    let some : 0 < levels = omega arith in (
-      some,
-      record {
-        pods = record { values = o.0; members = subst (AreMembers o.0) (sym i.1) b; long = same ∙ ap length (sym i.1) };
-        shallow = omega arith;
-      },
-    )
-inside_within levels type body inside true i s =
-    let o = object_only s.its.value (s.its.its_type ∙ i.0) in
+    record { values = o.0; members = subst (AreMembers o.0) (sym i.1) b; long = same ∙ ap length (sym i.1) }
+inside_steady type body inside true i s =
+    let o = object_only s.value (s.its_type ∙ i.0) in
     let ps = o.2 in
-    let b = subst (λ x. IsBody x body) o.3 s.its.its_body in
+    let b = subst (λ x. IsBody x body) o.3 s.its_body in
     let p : AreProperties ps (drop 8 body) = b.3 in
-    let v = ap depth_of o.3 in
-    let d = s.shallow in
     let e = ap (λ x. padded_size (length (encoded_body x))) o.3 in
-    let l = s.its.long in
+    let l = s.long in
     let e0 = length-append (word_bytes o.0) (word_bytes o.1 ++ property_encodings ps) in
     let e1 = length-append (word_bytes o.1) (property_encodings ps) in
     let e2 = length-word_bytes o.0 in
@@ -189,27 +198,7 @@ inside_within levels type body inside true i s =
     let h = length-drop 8 body in
     let long = i.1 in
     let same : length (property_encodings ps) ≡ length (drop 8 body) = omega arith in
-    let some : 0 < levels = omega arith in (
-      some,
-      record {
-        properties = record { values = ps; properties = subst (AreProperties ps) (sym i.2) p; long = same ∙ ap length (sym i.2) };
-        shallow = omega arith;
-      },
-    )
-
--- what nests in fewer levels nests in so many
-pub within_more : (fewer levels : ℕ) (keyed : Bool) (body : List ℕ) → fewer ≤ levels → AreSteadyInsideWithin fewer keyed body →
-    AreSteadyInsideWithin levels keyed body
-within_more fewer levels false body l s = let d = s.shallow in record { pods = s.pods; shallow = omega arith }
-within_more fewer levels true body l s = let d = s.shallow in record { properties = s.properties; shallow = omega arith }
-
--- the members of a struct, or the properties of an object, that nothing follows
-pub last_within : (levels : ℕ) (keyed inner : Bool) (left here body rest inside : List ℕ) (type : ℕ) → IsBehindKey keyed left here →
-    Opens here type body rest → 0 < length left → IsInside type body inner inside → AreSteadyInsideWithin levels keyed left →
-    AreSteadyInsideWithin levels inner inside
-last_within levels keyed inner left here body rest inside type k o l i s =
-    let b = first_body levels keyed left here body rest type k l s o in
-    within_more (levels - 1) levels inner inside (omega arith) (inside_within levels type body inside inner i b).1
+    record { values = ps; properties = subst (AreProperties ps) (sym i.2) p; long = same ∙ ap length (sym i.2) }
 
 -- no struct or object stands in a value of another type
 pub leaf_depth : (v : Tree) (body : List ℕ) → type_of v ≢ struct_type → (type_of v ≡ object_type → length body < header_size) → IsBody v body → depth_of v ≡ 0
@@ -273,5 +262,5 @@ steady_behind (member v vs) first rest levels m s =
     let e : all ≡ m.0 ++ (m.1 ++ rest) = ap (λ x. x ++ rest) m.2 ∙ append_assoc m.0 m.1 rest in
     let f = front_of_whole all m.0 (m.1 ++ rest) (type_of v) (IsBody v) e m.3 in
     let h = f.0.header in
-    let behind = steady_left levels false all all (m.1 ++ rest) refl f.2 (omega arith) s in
+    let behind = steady_left levels all (m.1 ++ rest) f.2 (omega arith) s in
     steady_behind vs m.1 rest levels m.4 behind

@@ -103,13 +103,6 @@ steady_inside type body inside true i s =
       long = ap padded_size size;
     }
 
--- a struct or an object that nothing follows
-pub steady_last : (keyed inner : Bool) (left here body rest inside : List ℕ) (type : ℕ) → IsBehindKey keyed left here →
-    Opens here type body rest → length rest ≡ 0 → IsInside type body inner inside → AreSteadyInside inner inside →
-    AreSteadyInside keyed left
-steady_last keyed inner left here body rest inside type k o z i s =
-    steady_step keyed left here rest k (steady_opened here body rest type o (steady_inside type body inside inner i s)) (steady_none keyed rest z)
-
 -- bodies without members
 pub steady_text : (body : List ℕ) → IsCanonicalText body → IsSteadyBody string_type body
 steady_text body t =
@@ -274,8 +267,3 @@ left_shorter false left here body rest type k o =
     let w = o.there.whole in
     let d = ap length k in
     omega arith
-
--- where it is known which of both stand there
-pub inside_is : (keyed inner : Bool) (left pods : List ℕ) → keyed ≡ inner → (AreSteadyInside inner left → AreSteadyInside inner pods) →
-    AreSteadyInside keyed left → AreSteadyInside keyed pods
-inside_is keyed inner left pods e f s = subst (λ k. AreSteadyInside k pods) (sym e) (f (subst (λ k. AreSteadyInside k left) e s))

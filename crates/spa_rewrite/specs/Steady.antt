@@ -8,7 +8,7 @@ use Rattle.spa_format.specs.Encoding.{encoded_body, encoding_of, fixed_bodies, m
 use Rattle.spa_format.specs.Front.{front_of}
 use Rattle.spa_format.specs.Typed.{IsBytes}
 use Rattle.spa_leaf.specs.Reading.{BeginsWith}
-use Rattle.spa_scan.specs.Depth.{member_depth, property_depth}
+use Rattle.spa_scan.specs.Depth.{member_depth}
 use Rattle.spa_rewrite.specs.Tails.{TailAppends}
 use Rattle.spa_rewrite.specs.declared.tail.Tail.{Tail}
 
@@ -33,14 +33,6 @@ AreSteadyInside false body = AreSteady body
 pub record AreSteadyWithin (levels : ℕ) (body : List ℕ) : Type 0 where
   pub pods : AreSteady body
   pub shallow : member_depth pods.values ≤ levels
-
-pub record AreSteadyPropertiesWithin (levels : ℕ) (body : List ℕ) : Type 0 where
-  pub properties : AreSteadyProperties body
-  pub shallow : property_depth properties.values ≤ levels
-
-abbrev pub AreSteadyInsideWithin : ℕ → Bool → List ℕ → Type 0
-AreSteadyInsideWithin levels true body = AreSteadyPropertiesWithin levels body
-AreSteadyInsideWithin levels false body = AreSteadyWithin levels body
 
 -- the input begins with a pod whose rewriting is as long, and this follows it
 pub record BeginsSteady (input rest : List ℕ) : Type 0 where

@@ -20,7 +20,7 @@ use crate::surplus::leaf_surplus;
 use spa_bytes::{HEADER_LEN, SECOND_WORD, open, u32_at};
 use spa_fixed::{FLAGS_SHAPE, Refusal};
 use spa_leaf::VALUE_TYPE_AT;
-use spa_scan::{LEVELS, canonical_front, fixed_len, leaf_front, nests_within};
+use spa_scan::{LEVELS, fixed_len, leaf_front, nests_within};
 use spa_utils::SpaTypes;
 
 /// A pod that is accepted.
@@ -55,9 +55,11 @@ pub enum Rejected<'a> {
 
 /// What is found inside a struct or an object.
 #[derive(Clone, Copy)]
-enum Found<'a> {
+pub(crate) enum Found<'a> {
     /// Accepted pods: whether they are canonical, and by how many bytes their encodings are shorter.
     Fits(bool, usize),
+    /// The look ended at a pod that isn't canonical, if that is asked, and else at one whose encoding is shorter.
+    Differs,
     /// A fault stands at the front of these bytes.
     Stops(&'a [u8]),
     /// There is no room for one more list that waits.
@@ -76,7 +78,7 @@ enum Met<'a> {
 }
 
 /// How many lists can wait in the short array.
-const FEW: usize = 16;
+pub(crate) const FEW: usize = 16;
 
 /// How many can wait in the long one, which is taken where the short one is full.
 const MANY: usize = 1000;
@@ -260,12 +262,13 @@ fn look_at_front<'a>(
             surplus,
         });
     };
-    match look_into(inside.keyed, canonical, inside.pods, frames) {
+    match look_into(false, inside.keyed, canonical, inside.pods, frames) {
         Found::Fits(canonical, surplus) => Ok(AcceptedPod {
             rest: front.rest,
             canonical,
             surplus,
         }),
+        Found::Differs => unreachable!(),
         Found::Stops(place) => Err(Rejected::Fault(place, fault(place))),
         Found::TooDeep => Err(Rejected::TooDeep),
     }
@@ -283,56 +286,72 @@ fn first_leaf(canonical: bool, input: &[u8]) -> Option<&[u8]>
     short_front(input)
 }
 
-/// Looks inside a struct or an object: at what follows its first pods that hold no others, if anything does.
+/// Looks inside a struct or an object: at what follows its first pods that hold no others, if anything does. `ends` says whether the look
+/// ends at the first difference: at a pod that isn't canonical, if that is asked, and else at one whose encoding is shorter.
 #[inline(always)]
-fn look_into<'a>(
+pub(crate) fn look_into<'a>(
+    ends: bool,
     keyed: bool,
     canonical: bool,
     pods: &'a [u8],
     frames: &mut [Inside<'a>],
 ) -> Found<'a>
-    ensures { IsFound canonical levels_looked_into keyed pods.now result }
+    ensures { IsFound ends canonical levels_looked_into keyed pods.now result }
 {
     if !canonical {
-        return look_on(keyed, canonical, pods, frames);
+        return look_on(ends, keyed, canonical, pods, frames);
     }
     let left = behind_canonical(keyed, pods);
     if left.is_empty() {
         return Found::Fits(canonical, 0);
     }
-    look_on(keyed, canonical, left, frames)
+    look_on(ends, keyed, canonical, left, frames)
 }
 
 /// Looks inside with this array, and where it is too short with the long one.
 #[inline(always)]
-fn look_on<'a>(keyed: bool, canonical: bool, pods: &'a [u8], frames: &mut [Inside<'a>]) -> Found<'a>
-    ensures { IsFound canonical levels_looked_into keyed pods.now result }
+fn look_on<'a>(
+    ends: bool,
+    keyed: bool,
+    canonical: bool,
+    pods: &'a [u8],
+    frames: &mut [Inside<'a>],
+) -> Found<'a>
+    ensures { IsFound ends canonical levels_looked_into keyed pods.now result }
 {
-    match look_inside(keyed, canonical, pods, frames) {
+    match look_inside(ends, keyed, canonical, pods, frames) {
         Found::Fits(canonical, surplus) => Found::Fits(canonical, surplus),
+        Found::Differs => Found::Differs,
         Found::Stops(place) => Found::Stops(place),
-        Found::TooDeep => look_deep(keyed, canonical, pods),
+        Found::TooDeep => look_deep(ends, keyed, canonical, pods),
     }
 }
 
 /// Looks inside a struct or an object with the long array alone.
 #[cold]
 #[inline(never)]
-fn look_deep(keyed: bool, canonical: bool, pods: &[u8]) -> Found<'_>
-    ensures { IsFound canonical levels_looked_into keyed pods.now result }
+fn look_deep(ends: bool, keyed: bool, canonical: bool, pods: &[u8]) -> Found<'_>
+    ensures { IsFound ends canonical levels_looked_into keyed pods.now result }
 {
-    look_inside(keyed, canonical, pods, &mut [Inside { keyed, pods }; MANY])
+    look_inside(
+        ends,
+        keyed,
+        canonical,
+        pods,
+        &mut [Inside { keyed, pods }; MANY],
+    )
 }
 
 /// Looks inside a struct or an object. What is left behind an inner one waits in the array; nothing waits where nothing is left.
 #[inline(never)]
 fn look_inside<'a>(
+    ends: bool,
     are_keyed: bool,
     are_canonical: bool,
     pods: &'a [u8],
     frames: &mut [Inside<'a>],
 ) -> Found<'a>
-    ensures { IsFound are_canonical (length frames.old) are_keyed pods.now result }
+    ensures { IsFound ends are_canonical (length frames.old) are_keyed pods.now result }
 {
     let (mut waiting, mut surplus) = (0, 0);
     let (mut keyed, mut canonical) = (are_keyed, are_canonical);
@@ -350,6 +369,9 @@ fn look_inside<'a>(
         }
         match meet(keyed, canonical, left) {
             Met::Leaves(rest, are_all, more) => {
+                if ends && is_difference(are_canonical, are_all, more) {
+                    return Found::Differs;
+                }
                 canonical = are_all;
                 surplus += more;
                 left = rest;
@@ -371,6 +393,15 @@ fn look_inside<'a>(
             Met::Fault(place) => return Found::Stops(place),
         }
     }
+}
+
+/// Whether pods differ from what is looked for: canonical ones, if these are asked for, and else such that are as long as their encodings.
+#[inline(always)]
+fn is_difference(asked: bool, canonical: bool, surplus: usize) -> bool
+    ensures canonical { asked ≡ true → result ≡ true → canonical ≡ false }
+    ensures steady { asked ≡ false → result ≡ true → 0 < surplus }
+{
+    if asked { !canonical } else { surplus > 0 }
 }
 
 /// What stands first in pods: accepted ones that hold no others, a struct or an object, or a fault. `canonical` says whether all pods before are
@@ -495,12 +526,12 @@ fn behind_leaves(keyed: bool, pods: &[u8]) -> (&[u8], usize)
 fn stays_canonical(canonical: bool, pod: &[u8]) -> bool
     ensures so_far { result ≡ true → canonical ≡ true }
     ensures own { result ≡ true → BeginsCanonical pod.now (rest_of pod.now) }
-    ensures differs { result ≡ false → (canonical ≡ false) ⊎ ((rest : List ℕ) (c : BeginsCanonical pod.now rest) → levels_looked_into < depth_of c.value) }
+    ensures differs { result ≡ false → (canonical ≡ false) ⊎ ((rest : List ℕ) (c : BeginsCanonical pod.now rest) → 0 < depth_of c.value) }
 {
     if !canonical {
         return false;
     }
-    match canonical_front(pod) {
+    match leaf_front(pod) {
         Some(_) => true,
         None => false,
     }

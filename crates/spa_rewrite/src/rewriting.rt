@@ -13,13 +13,12 @@ ghost use Rattle.spa_rewrite.specs.Steady.{TakesSteady};
 ghost use Rattle.spa_rewrite.specs.Tails.{KeepsStart};
 ghost use Rattle.spa_scan.specs.Depth.{levels_looked_into};
 
+use crate::leading::{canonical_stretch, steady_stretch};
 use crate::look::{Rejected, look_at_pod, look_at_pods};
 use crate::pod::rewrite_pod;
-use crate::steady::steady_stretch;
 use crate::tail::Tail;
 use spa_fixed::{DeserializeError, Refusal};
 use spa_leaf::error_at;
-use spa_scan::canonical_stretch;
 use spa_sink::PodSink;
 use std::alloc::Global;
 use std::mem;
@@ -113,8 +112,8 @@ pub fn rewrite_all<'a>(
     }
 }
 
-/// The rewritings of all pods that the input consists of, in two parts: the first bytes of the input, as far as they are their
-/// own rewriting, and the rewritings of the pods behind them.
+/// The rewritings of all pods that the input consists of, in two parts: the first pods of the input, as far as they are canonical, and the
+/// rewritings of the pods behind them.
 ///
 /// One after the other they are what `rewrite_all` appends, and the call is refused exactly as that one. It asks for memory
 /// for the second part alone: a program that writes the first one from the input itself needs no room for it.
@@ -193,7 +192,7 @@ fn rewrite_pods<'a>(
     rewrite_others(alloc, rest, tail)
 }
 
-/// The same, of pods the first of which isn't its own rewriting: it isn't looked at for that again.
+/// Appends the rewritings of pods behind the bytes that stay, where the first pod isn't canonical: whether it is isn't asked again.
 fn rewrite_others<'a>(
     alloc: Global,
     input: &'a [u8],
@@ -242,7 +241,7 @@ fn put_steady<'a>(left: &'a [u8], tail: &mut Tail) -> Option<&'a [u8]>
     }
 }
 
-/// Appends the first pods, as many as are their own rewritings, and gives what follows them. `None` says that memory ran out.
+/// Appends the first pods, as many as are canonical, and gives what follows them. `None` says that memory ran out.
 fn put_stretch<'a>(left: &'a [u8], tail: &mut Tail) -> Option<&'a [u8]>
     ensures taken { IfSome result (λ rest. TakesStretch left.now tail.old rest.now tail.new) }
     ensures pod { IfNone result ((v : Tree) × Begins left.now v) }

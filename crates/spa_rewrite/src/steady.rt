@@ -1,15 +1,15 @@
-//! Pods whose rewritings are as long as they are: a look that writes nothing and takes no memory.
-ghost use Rattle.std.specs.Prelude.{◌≡◌, ◌≢◌, ◌+◌, ◌<◌, ◌≤◌, ◌++◌, IfNone, IfSome, List, [], length, true, ℕ};
+//! Pods that hold no others and whose encodings are as long as they are; and what stands inside a struct or an object.
+ghost use Rattle.std.specs.Prelude.{◌≡◌, ◌≢◌, ◌+◌, ◌<◌, ◌≤◌, IfNone, IfSome, length, true};
 ghost use Rattle.spa_format.specs.Kind.{Kind, body_size, type_number};
 ghost use Rattle.spa_format.specs.Tree.{array_type, choice_type, object_type, struct_type};
 ghost use Rattle.spa_format.specs.Words.{header_size};
-ghost use Rattle.spa_rewrite.specs.Steady.{AreSteady, AreSteadyInside, AreSteadyInsideWithin, AreSteadyProperties, AreSteadyPropertiesWithin, AreSteadyWithin, BeginsSteady, IsBehindKey, IsInside, IsSteadyBody};
+ghost use Rattle.spa_rewrite.specs.Steady.{BeginsSteady, IsBehindKey, IsInside, IsSteadyBody};
 ghost use Rattle.spa_scan.specs.Canonical.{IsFixedLen};
-ghost use Rattle.spa_scan.specs.Depth.{depth_of, levels_looked_into};
+ghost use Rattle.spa_scan.specs.Depth.{depth_of};
 
 use crate::elements::{elements_of, values_of};
-use spa_bytes::{HEADER_LEN, POINTER_LEN, SECOND_WORD, SHORT_POINTER_LEN, open, u32_at};
-use spa_scan::{LEVELS, fixed_len, is_text};
+use spa_bytes::{HEADER_LEN, POINTER_LEN, SECOND_WORD, SHORT_POINTER_LEN, u32_at};
+use spa_scan::{fixed_len, is_text};
 use spa_utils::SpaTypes;
 
 /// The length in bytes of a body of one word.
@@ -31,87 +31,6 @@ pub(crate) struct Inside<'a> {
     pub(crate) keyed: bool,
     /// The pods, one after another.
     pub(crate) pods: &'a [u8],
-}
-
-/// The first pods whose rewritings are as long as they are, as many as are found, and what follows them. A pod in which structs and
-/// objects stand more than `LEVELS` deep in one another, those at the end of the one around them aside, isn't looked into.
-pub fn steady_stretch(input: &[u8]) -> (&[u8], &[u8])
-    ensures parts { input.now ≡ result.0.now ++ result.1.now }
-    ensures steady { AreSteady result.0.now }
-    // Nothing follows where the input is such pods that nest no deeper.
-    ensures all { AreSteadyWithin levels_looked_into input.now → result.1.now ≡ [] }
-{
-    let mut left = input;
-    while let Some(rest) = steady_front(left) {
-        left = rest;
-    }
-    input.split_at(input.len() - left.len())
-}
-
-/// What follows the pod at the front, where its rewriting is found to be as long as it is.
-fn steady_front(input: &[u8]) -> Option<&[u8]>
-    ensures taken { IfSome result (λ rest. BeginsSteady input.now rest.now) }
-    ensures shorter { IfSome result (λ rest. length rest.now + 8 ≤ length input.now) }
-    ensures missed { IfNone result ((rest : List ℕ) (c : BeginsSteady input.now rest) → levels_looked_into < depth_of c.value) }
-{
-    let Some(front) = open(input) else {
-        return None;
-    };
-    let steady = match inside_of(front.type_, front.body) {
-        Some(inside) => are_steady_inside(inside.keyed, inside.pods, LEVELS),
-        None => is_steady_leaf(front.type_, front.body),
-    };
-    if steady { Some(front.rest) } else { None }
-}
-
-/// Whether the bytes are pods one after another whose rewritings are as long as they are, with key and flags before each where
-/// `keyed` is set.
-#[cycle(steady)]
-fn are_steady(keyed: bool, body: &[u8], levels: u32) -> bool
-    ensures steady { result ≡ true → AreSteadyInside keyed body.now }
-    ensures found { AreSteadyInsideWithin levels keyed body.now → result ≡ true }
-{
-    are_steady_inside(keyed, body, levels)
-}
-
-/// The same in place: what stands in the first pods of an input needs no call.
-#[cycle(steady)]
-#[inline(always)]
-fn are_steady_inside(keyed: bool, body: &[u8], levels: u32) -> bool
-    ensures steady { result ≡ true → AreSteadyInside keyed body.now }
-    ensures found { AreSteadyInsideWithin levels keyed body.now → result ≡ true }
-{
-    let mut properties = keyed;
-    let mut left = body;
-    while !left.is_empty() {
-        let Some(here) = behind_key(properties, left) else {
-            return false;
-        };
-        if let Some(rest) = short_front(here) {
-            left = behind_short(properties, rest);
-        } else {
-            let Some(front) = open(here) else {
-                return false;
-            };
-            if let Some(inside) = inside_of(front.type_, front.body) {
-                if front.rest.is_empty() {
-                    properties = inside.keyed;
-                    left = inside.pods;
-                } else {
-                    if levels == 0 || !are_steady(inside.keyed, inside.pods, levels - 1) {
-                        return false;
-                    }
-                    left = front.rest;
-                }
-            } else {
-                if !is_steady_leaf(front.type_, front.body) {
-                    return false;
-                }
-                left = front.rest;
-            }
-        }
-    }
-    true
 }
 
 /// What is left of properties without the first key and flags, where these are there, and of pods all.
@@ -159,55 +78,6 @@ fn is_short(size: u32, type_: u32) -> bool
     size == TWO_WORDS && fixed_len(type_) == TWO_WORDS
 }
 
-/// What follows the first pods whose bodies are one or two words and of a kind of fixed size, with key and flags before each where
-/// `keyed` is set.
-#[inline(always)]
-fn behind_short(keyed: bool, pods: &[u8]) -> &[u8]
-    ensures steady { AreSteadyInside keyed result.now → AreSteadyInside keyed pods.now }
-    ensures left { (levels : ℕ) → AreSteadyInsideWithin levels keyed pods.now → AreSteadyInsideWithin levels keyed result.now }
-    ensures within { length result.now ≤ length pods.now }
-{
-    if keyed {
-        return behind_short_properties(pods);
-    }
-    let mut left = pods;
-    while let Some(rest) = short_front(left) {
-        left = rest;
-    }
-    left
-}
-
-/// The same of properties.
-#[inline(always)]
-fn behind_short_properties(pods: &[u8]) -> &[u8]
-    ensures steady { AreSteadyProperties result.now → AreSteadyProperties pods.now }
-    ensures left { (levels : ℕ) → AreSteadyPropertiesWithin levels pods.now → AreSteadyPropertiesWithin levels result.now }
-    ensures within { length result.now ≤ length pods.now }
-{
-    let mut left = pods;
-    while let Some(rest) = short_property(left) {
-        left = rest;
-    }
-    left
-}
-
-/// What follows the property at the front, where the body of its value is one or two words and of a kind of fixed size.
-#[inline(always)]
-fn short_property(input: &[u8]) -> Option<&[u8]>
-    ensures steady { IfSome result (λ rest. AreSteadyProperties rest.now → AreSteadyProperties input.now) }
-    ensures left { IfSome result (λ rest. (levels : ℕ) → AreSteadyPropertiesWithin levels input.now → AreSteadyPropertiesWithin levels rest.now) }
-    ensures shorter { IfSome result (λ rest. length rest.now + 24 ≤ length input.now) }
-{
-    if input.len() < HEADER_LEN {
-        return None;
-    }
-    let (_, here) = input.split_at(HEADER_LEN);
-    match short_front(here) {
-        Some(rest) => Some(rest),
-        None => None,
-    }
-}
-
 /// What stands in the body of a struct or of an object; None for other types, and where an object's type and id aren't there.
 #[inline(always)]
 pub(crate) fn inside_of(type_: u32, body: &[u8]) -> Option<Inside<'_>>
@@ -245,7 +115,7 @@ pub(crate) fn is_steady_leaf(type_: u32, body: &[u8]) -> bool
     }
 }
 
-/// The same of the kinds of fixed size.
+/// Whether this is the body of a value of fixed size.
 fn is_steady_fixed(type_: u32, body: &[u8]) -> bool
     ensures steady { result ≡ true → IsSteadyBody type_ body.now }
     ensures found { (k : Kind) → type_ ≡ type_number k → length body.now ≡ body_size k → result ≡ true }
@@ -254,7 +124,7 @@ fn is_steady_fixed(type_: u32, body: &[u8]) -> bool
     len <= TWO_WORDS && body.len() == len as usize
 }
 
-/// The same of arrays.
+/// Whether this is the body of an array: these are as long as their encodings.
 fn is_steady_array(body: &[u8]) -> bool
     ensures steady { result ≡ true → IsSteadyBody array_type body.now }
     ensures found { IsSteadyBody array_type body.now → result ≡ true }
@@ -265,7 +135,7 @@ fn is_steady_array(body: &[u8]) -> bool
     }
 }
 
-/// The same of choices: what they hold beyond the values that they take is within the padding.
+/// Whether this is the body of a choice whose values beyond those that it takes are within the padding.
 #[inline(always)]
 fn is_steady_choice(body: &[u8]) -> bool
     ensures steady { result ≡ true → IsSteadyBody choice_type body.now }

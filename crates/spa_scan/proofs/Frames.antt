@@ -3,7 +3,7 @@ use Rattle.std.proofs.Common.{List, [], ap, append_assoc, arith, drop, inr, leng
 use Rattle.std.proofs.Math.Seq.{take-add}
 use Rattle.std.proofs.lemmas.List.{length-take-le, take_at, nil_from_length, take-append-drop}
 use Rattle.spa_format.specs.Words.{body_of, extent, header_size, padded_size, padding, wide_at, wide_bytes, word_at, word_bytes}
-use Rattle.spa_format.specs.Tree.{Tree, Trees, fixed, member, no_properties, no_trees, object, object_type, pointer, pointer_type, property, struct, struct_type, type_of}
+use Rattle.spa_format.specs.Tree.{Tree, Trees, fixed, member, no_properties, no_trees, object, object_type, pointer, pointer_type, property, type_of}
 use Rattle.spa_format.specs.Pod.{AreMembers, AreProperties, IsBody}
 use Rattle.spa_format.specs.Encoding.{framed, encoded_body, property_encodings}
 use Rattle.spa_format.specs.Typed.{IsBytes}
@@ -80,13 +80,6 @@ one_more_property input behind rest h l d c r =
       same = sym (take-append-drop 8 input) ∙ ap (λ x. take 8 input ++ x) (sym d ∙ all) ∙ ap (λ x. x ++ (encoding ++ property_encodings r.values)) head
           ∙ append_assoc (word_bytes (word_at input 0)) (word_bytes (word_at input 4)) (encoding ++ property_encodings r.values);
     }
-
--- a struct at the end of its struct
-pub struct_last : (input body rest : List ℕ) (type : ℕ) → OpensPadded input type body rest → type ≡ struct_type → length rest ≡ 0 → AreCanonical body → AreCanonical input
-struct_last input body rest type o k e c =
-    let b : IsCanonicalBody type body = record { value = struct c.values; its_type = sym k; its_body = c.members; same = c.same } in
-    let z : rest ≡ [] = nil_from_length rest e in
-    one_more input rest (canonical_front input body rest type o b) (subst AreCanonical (sym z) no_members)
 
 pub padded_of : (input body rest : List ℕ) (type : ℕ) → IsBytes input → Opens input type body rest → HasZeros (drop 8 input) (length body) → OpensPadded input type body rest
 padded_of input body rest type h o z =

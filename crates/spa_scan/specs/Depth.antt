@@ -4,7 +4,7 @@ use Rattle.spa_format.specs.Words.{body_of, header_size, word_at}
 use Rattle.spa_format.specs.Front.{HasFront}
 use Rattle.spa_format.specs.Walk.{property_walk, walk}
 use Rattle.spa_format.specs.Tree.{Tree, fixed, string, bytes, bitmap, array, choice, pointer, struct, object, struct_type, object_type, Trees, no_trees, member, Properties, no_properties, property}
-use Rattle.spa_scan.specs.Canonical.{AreCanonical, AreCanonicalProperties, IsCanonicalBody}
+use Rattle.spa_scan.specs.Canonical.{AreCanonical}
 
 -- One for a struct or an object, and what its deepest member or property has. No other value holds pods.
 abbrev mutual
@@ -51,17 +51,7 @@ IsDeepBody (suc n) type body =
 abbrev pub levels_looked_into : ℕ
 levels_looked_into = 1000
 
--- a body that is as its value is written, which nests in so many levels at most
-pub record IsShallowBody (levels type : ℕ) (body : List ℕ) : Type 0 where
-  pub its : IsCanonicalBody type body
-  pub shallow : depth_of its.value ≤ levels
-
--- pods one after another that are their own rewritings and nest no deeper
+-- canonical pods one after another that nest in so many levels at most
 pub record AreShallow (levels : ℕ) (body : List ℕ) : Type 0 where
   pub pods : AreCanonical body
   pub shallow : member_depth pods.values ≤ levels
-
--- the same with key and flags before each
-pub record AreShallowProperties (levels : ℕ) (body : List ℕ) : Type 0 where
-  pub properties : AreCanonicalProperties body
-  pub shallow : property_depth properties.values ≤ levels

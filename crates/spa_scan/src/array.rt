@@ -44,7 +44,7 @@ fn is_sized_array(body: &[u8]) -> bool
     elements.len() % HEADER_LEN == 0
 }
 
-/// The same as `is_array`, of elements of any kind.
+/// Does what `is_array` does, for elements of any kind.
 fn is_any_array(body: &[u8]) -> bool
     ensures canonical { result ≡ true → IsCanonicalArray body.now }
     ensures found { IsCanonicalArray body.now → result ≡ true }

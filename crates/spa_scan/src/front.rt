@@ -1,7 +1,7 @@
 //! Pods at the front of an input: those of fixed size, and any with zeros as padding.
 ghost use Rattle.std.specs.Prelude.{◌≡◌, ◌≢◌, ◌+◌, ◌<◌, ◌≤◌, ◌⊎◌, IfNone, IfSome, List, drop, length, true, ℕ};
 ghost use Rattle.spa_format.specs.Kind.{Kind, body_size, bool_kind, type_number};
-ghost use Rattle.spa_format.specs.Words.{header_size, padded_size};
+ghost use Rattle.spa_format.specs.Words.{padded_size};
 ghost use Rattle.spa_scan.specs.Canonical.{BeginsCanonical, HasZeros, IsFixedLen, IsSized, OpensPadded};
 
 use spa_bytes::{Front, HEADER_LEN, SECOND_WORD, open, u32_at, u64_at};
@@ -58,7 +58,7 @@ fn has_zeros(behind: &[u8], size: usize) -> bool
     last >> (8 * over as u32) == 0
 }
 
-/// What follows the pod at the front, where that is its own rewriting and of a kind of fixed size, None aside.
+/// What follows the pod at the front, where that is canonical and of a kind of fixed size, None aside.
 #[inline(always)]
 pub(crate) fn fixed_front(input: &[u8]) -> Option<&[u8]>
     ensures taken { IfSome result (λ rest. BeginsCanonical input.now rest.now) }
@@ -75,26 +75,7 @@ pub(crate) fn fixed_front(input: &[u8]) -> Option<&[u8]>
     Some(rest)
 }
 
-/// The same behind a key and flags.
-#[inline(always)]
-pub(crate) fn fixed_property(input: &[u8]) -> Option<&[u8]>
-    ensures header { IfSome result (λ _. header_size ≤ length input.now) }
-    ensures taken { IfSome result (λ rest. BeginsCanonical (drop header_size input.now) rest.now) }
-    ensures shorter { IfSome result (λ rest. length rest.now + 24 ≤ length input.now) }
-    ensures missed { IfNone result ((rest : List ℕ) (c : BeginsCanonical (drop header_size input.now) rest) → ¬ (IsSized c.value)) }
-{
-    if input.len() < HEADER_LEN + SHORT_POD {
-        return None;
-    }
-    let (_, behind) = input.split_at(HEADER_LEN);
-    if !is_short_pod(behind) {
-        return None;
-    }
-    let (_, rest) = behind.split_at(SHORT_POD);
-    Some(rest)
-}
-
-/// Whether the pod at the front is its own rewriting and of a kind of fixed size, None aside.
+/// Whether the pod at the front is canonical and of a kind of fixed size, None aside.
 #[inline(always)]
 fn is_short_pod(input: &[u8]) -> bool
     requires long { 16 ≤ length input.now }

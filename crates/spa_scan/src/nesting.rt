@@ -1,4 +1,4 @@
-//! How deep structs and objects stand in one another, told without memory.
+//! How deep structs and objects stand in one another, counted without memory.
 ghost use Rattle.std.specs.Prelude.{Decides, ◌≡◌, ◌≤◌, drop, false};
 ghost use Rattle.spa_format.specs.Front.{Begins};
 ghost use Rattle.spa_format.specs.Pod.{AreMembers, AreProperties, IsBody};
@@ -29,7 +29,7 @@ pub fn nests_within(input: &[u8], levels: u32) -> bool
     }
 }
 
-/// The same of the body of a pod of this type: no call of its own for a pod that holds no others.
+/// Whether at most so many structs and objects stand in one another in a pod of this type with this body. A pod that holds no others needs no call.
 #[cycle(nesting)]
 #[inline(always)]
 fn body_nests_within(type_: u32, body: &[u8], levels: u32) -> bool
@@ -53,7 +53,7 @@ fn body_nests_within(type_: u32, body: &[u8], levels: u32) -> bool
     }
 }
 
-/// The same of each of the pods that stand one after another.
+/// Whether at most so many stand in one another in each pod of a list.
 #[cycle(nesting)]
 fn members_nest_within(body: &[u8], levels: u32) -> bool
     ensures exactly { (vs : Trees) → AreMembers vs body.now → Decides result (member_depth vs ≤ levels) }
@@ -70,7 +70,7 @@ fn members_nest_within(body: &[u8], levels: u32) -> bool
     true
 }
 
-/// The same of properties.
+/// Whether at most so many stand in one another in the pod of each property.
 #[cycle(nesting)]
 fn properties_nest_within(body: &[u8], levels: u32) -> bool
     ensures exactly { (ps : Properties) → AreProperties ps body.now → Decides result (property_depth ps ≤ levels) }

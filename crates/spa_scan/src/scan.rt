@@ -1,63 +1,25 @@
-//! Pods that are their own rewriting, found by one look that writes nothing and takes no memory.
-ghost use Rattle.std.specs.Prelude.{◌≡◌, ◌+◌, ◌<◌, ◌≤◌, ◌++◌, IfNone, IfSome, List, [], length, true, ℕ};
-ghost use Rattle.spa_format.specs.Front.{HasFront};
+//! Pods that hold no others and are canonical, one after another.
+ghost use Rattle.std.specs.Prelude.{◌≡◌, ◌+◌, ◌<◌, ◌≤◌, ◌⊎◌, ◌++◌, IfNone, IfSome, List, false, length, true, ℕ};
+ghost use Rattle.spa_format.specs.Tree.{object_type, struct_type};
 ghost use Rattle.spa_scan.specs.Canonical.{AreCanonical, AreCanonicalProperties, BeginsCanonical, BeginsCanonicalProperty, IsCanonicalBody, IsSized};
-ghost use Rattle.spa_scan.specs.Depth.{AreShallow, AreShallowProperties, IsShallowBody, depth_of, levels_looked_into};
+ghost use Rattle.spa_scan.specs.Depth.{depth_of};
 
 use crate::array::{is_array, is_choice};
-use crate::front::{fixed_front, fixed_property, padded_front};
+use crate::front::{fixed_front, padded_front};
 use crate::text::is_text;
 use spa_bytes::{HEADER_LEN, POINTER_LEN, SECOND_WORD, u32_at};
 use spa_utils::SpaTypes;
 
-/// How deep structs and objects may stand in one another to be looked into, structs at the end of a struct aside. The look
-/// calls itself at each level: this bounds the stack that it takes.
+/// How many structs and objects may stand in one another in a pod that is looked into without memory.
 pub const LEVELS: u32 = 1000;
 
-/// What follows the pod at the front, where a look over its bytes finds that it is its own rewriting: its padding is zeros,
-/// its truth values are 0 or 1, its choices hold no surplus values, its pointers take 16 bytes, and the same holds of its
-/// members. It takes no memory.
-///
-/// `None` says that it isn't, or that structs and objects stand more than `LEVELS` deep in one another: such a pod may not be
-/// looked into, and may still be its own rewriting.
-pub fn canonical_front(input: &[u8]) -> Option<&[u8]>
-    ensures taken { IfSome result (λ rest. BeginsCanonical input.now rest.now) }
-    ensures shorter { IfSome result (λ rest. length rest.now + 8 ≤ length input.now) }
-    ensures missed { IfNone result ((rest : List ℕ) (c : BeginsCanonical input.now rest) → levels_looked_into < depth_of c.value) }
-{
-    if let Some(rest) = fixed_front(input) {
-        return Some(rest);
-    }
-    let Some(front) = padded_front(input) else {
-        return None;
-    };
-    if is_body(front.type_, front.body, LEVELS) {
-        Some(front.rest)
-    } else {
-        None
-    }
-}
-
-/// The first pods, as many as `canonical_front` finds to be their own rewritings, and what follows them.
-pub fn canonical_stretch(input: &[u8]) -> (&[u8], &[u8])
-    ensures parts { input.now ≡ result.0.now ++ result.1.now }
-    ensures canonical { AreCanonical result.0.now }
-    ensures front { 0 < length result.0.now → HasFront input.now }
-    // Nothing follows where the input is such pods that nest no deeper.
-    ensures all { AreShallow levels_looked_into input.now → result.1.now ≡ [] }
-{
-    let mut left = input;
-    while let Some(rest) = canonical_front(left) {
-        left = rest;
-    }
-    input.split_at(input.len() - left.len())
-}
-
-/// What follows the pod at the front, where that is its own rewriting and neither a struct nor an object.
+/// What follows the pod at the front, where that is canonical and neither a struct nor an object.
 #[inline(always)]
 pub fn leaf_front(input: &[u8]) -> Option<&[u8]>
     ensures taken { IfSome result (λ rest. BeginsCanonical input.now rest.now) }
     ensures shorter { IfSome result (λ rest. length rest.now + 8 ≤ length input.now) }
+    // No other canonical pod than a struct or an object is missed.
+    ensures missed { IfNone result ((rest : List ℕ) (c : BeginsCanonical input.now rest) → 0 < depth_of c.value) }
 {
     if let Some(rest) = fixed_front(input) {
         return Some(rest);
@@ -73,27 +35,30 @@ pub fn leaf_front(input: &[u8]) -> Option<&[u8]>
 
 /// Whether pods of this type hold no others.
 #[inline(always)]
-fn is_looked_into(type_: u32) -> bool {
+fn is_looked_into(type_: u32) -> bool
+    ensures { result ≡ false → (type_ ≡ struct_type) ⊎ (type_ ≡ object_type) }
+{
     type_ != SpaTypes::Struct.0 && type_ != SpaTypes::Object.0
 }
 
-/// The same as `leaf_front`, of a pod that isn't of fixed size.
+/// What follows the pod at the front, where that is canonical, not of fixed size, and neither a struct nor an object.
 #[inline(always)]
 fn leaf_body_front(input: &[u8]) -> Option<&[u8]>
     ensures taken { IfSome result (λ rest. BeginsCanonical input.now rest.now) }
     ensures shorter { IfSome result (λ rest. length rest.now + 8 ≤ length input.now) }
+    ensures missed { IfNone result ((rest : List ℕ) (c : BeginsCanonical input.now rest) → ¬ (IsSized c.value) → 0 < depth_of c.value) }
 {
     let Some(front) = padded_front(input) else {
         return None;
     };
-    if is_any_body(front.type_, front.body, 0) {
+    if is_any_body(front.type_, front.body) {
         Some(front.rest)
     } else {
         None
     }
 }
 
-/// The same behind a key and flags.
+/// What follows the property at the front, where its pod is one that `leaf_front` passes.
 #[inline(always)]
 fn leaf_property(input: &[u8]) -> Option<&[u8]>
     ensures taken { IfSome result (λ rest. BeginsCanonicalProperty input.now rest.now) }
@@ -133,79 +98,25 @@ pub fn leaf_properties(input: &[u8]) -> (&[u8], &[u8])
     input.split_at(input.len() - left.len())
 }
 
-/// Whether the bytes are pods one after another that are their own rewritings.
-#[cycle(scan)]
-fn are_members(body: &[u8], levels: u32) -> bool
-    ensures canonical { result ≡ true → AreCanonical body.now }
-    ensures found { AreShallow levels body.now → result ≡ true }
-{
-    let mut left = body;
-    loop {
-        if let Some(rest) = fixed_front(left) {
-            left = rest;
-        } else if left.is_empty() {
-            return true;
-        } else {
-            let Some(front) = padded_front(left) else {
-                return false;
-            };
-            if front.type_ == SpaTypes::Struct.0 && front.rest.is_empty() {
-                left = front.body;
-            } else {
-                if !is_any_body(front.type_, front.body, levels) {
-                    return false;
-                }
-                left = front.rest;
-            }
-        }
-    }
-}
-
-/// The same of properties.
-#[cycle(scan)]
-fn are_properties(body: &[u8], levels: u32) -> bool
-    ensures canonical { result ≡ true → AreCanonicalProperties body.now }
-    ensures found { AreShallowProperties levels body.now → result ≡ true }
-{
-    let mut left = body;
-    loop {
-        if let Some(rest) = fixed_property(left) {
-            left = rest;
-        } else if left.len() <= HEADER_LEN {
-            return left.is_empty();
-        } else {
-            let (_, behind) = left.split_at(HEADER_LEN);
-            let Some(front) = padded_front(behind) else {
-                return false;
-            };
-            if !is_any_body(front.type_, front.body, levels) {
-                return false;
-            }
-            left = front.rest;
-        }
-    }
-}
-
-/// The same as `is_body`, with the looks at choices, strings and arrays in place: these need no call.
-#[cycle(scan)]
+/// Whether a body of this type, which holds no pods, is as its value is written. Choices, strings and arrays are looked at in place: these need no
+/// call.
 #[inline(always)]
-fn is_any_body(type_: u32, body: &[u8], levels: u32) -> bool
+fn is_any_body(type_: u32, body: &[u8]) -> bool
     ensures canonical { result ≡ true → IsCanonicalBody type_ body.now }
-    ensures found { (c : IsShallowBody levels type_ body.now) → ¬ (IsSized c.its.value) → result ≡ true }
+    ensures found { (c : IsCanonicalBody type_ body.now) → depth_of c.value ≡ 0 → ¬ (IsSized c.value) → result ≡ true }
 {
     match SpaTypes(type_) {
         SpaTypes::Choice => is_choice(body),
         SpaTypes::String => is_text(body),
         SpaTypes::Array => is_array(body),
-        _ => is_body(type_, body, levels),
+        _ => is_body(type_, body),
     }
 }
 
-/// Whether a body of this type is as the value that it says is written.
-#[cycle(scan)]
-fn is_body(type_: u32, body: &[u8], levels: u32) -> bool
+/// Whether a body of this type, which holds no pods, is as its value is written.
+fn is_body(type_: u32, body: &[u8]) -> bool
     ensures canonical { result ≡ true → IsCanonicalBody type_ body.now }
-    ensures found { (c : IsShallowBody levels type_ body.now) → ¬ (IsSized c.its.value) → result ≡ true }
+    ensures found { (c : IsCanonicalBody type_ body.now) → depth_of c.value ≡ 0 → ¬ (IsSized c.value) → result ≡ true }
 {
     match SpaTypes(type_) {
         SpaTypes::String => is_text(body),
@@ -213,14 +124,6 @@ fn is_body(type_: u32, body: &[u8], levels: u32) -> bool
         SpaTypes::Bitmap => true,
         SpaTypes::Choice => is_choice(body),
         SpaTypes::Array => is_array(body),
-        SpaTypes::Struct => levels > 0 && are_members(body, levels - 1),
-        SpaTypes::Object => {
-            if levels == 0 || body.len() < HEADER_LEN {
-                return false;
-            }
-            let (_, properties) = body.split_at(HEADER_LEN);
-            are_properties(properties, levels - 1)
-        }
         SpaTypes::Pointer => body.len() == POINTER_LEN && u32_at(body, SECOND_WORD) == 0,
         SpaTypes::None => body.is_empty(),
         _ => false,

@@ -13,7 +13,7 @@ pub fn is_text(body: &[u8]) -> bool
     is_ascii_string(body) || holds_text(body)
 }
 
-/// The same, of ASCII characters alone.
+/// Whether the body of a string is ASCII characters other than NUL, and one NUL behind them.
 #[inline(always)]
 fn is_ascii_string(body: &[u8]) -> bool
     ensures { result ≡ true → IsCanonicalText body.now }
@@ -27,7 +27,7 @@ fn is_ascii_string(body: &[u8]) -> bool
     is_ascii_text(text)
 }
 
-/// The same as `is_text`, of any characters.
+/// Does what `is_text` does, for characters of any length.
 fn holds_text(body: &[u8]) -> bool
     ensures canonical { result ≡ true → IsCanonicalText body.now }
     ensures found { IsCanonicalText body.now → result ≡ true }
@@ -69,7 +69,7 @@ fn is_ascii_text(text: &[u8]) -> bool
     true
 }
 
-/// The same of fewer than eight bytes.
+/// Whether each of fewer than eight bytes is an ASCII character other than NUL.
 #[inline(always)]
 fn is_short_ascii_text(text: &[u8]) -> bool
     ensures { result ≡ true → IsAsciiFor (length text.now) text.now }
@@ -82,7 +82,7 @@ fn is_short_ascii_text(text: &[u8]) -> bool
     are_four_ascii(text) & are_four_ascii(last)
 }
 
-/// The same, byte by byte.
+/// Whether each byte is an ASCII character other than NUL, byte by byte.
 fn are_ascii_bytes(text: &[u8]) -> bool
     ensures { result ≡ true → IsAsciiFor (length text.now) text.now }
 {
@@ -96,7 +96,7 @@ fn are_ascii_bytes(text: &[u8]) -> bool
     true
 }
 
-/// The same of the first eight bytes.
+/// Whether each of the first eight bytes is an ASCII character other than NUL.
 #[inline(always)]
 fn are_ascii(word: &[u8]) -> bool
     requires { 8 ≤ length word.now }
@@ -112,7 +112,7 @@ fn are_ascii(word: &[u8]) -> bool
         & is_ascii(word[7])
 }
 
-/// The same of the first four bytes.
+/// Whether each of the first four bytes is an ASCII character other than NUL.
 #[inline(always)]
 fn are_four_ascii(word: &[u8]) -> bool
     requires { 4 ≤ length word.now }

@@ -11,8 +11,7 @@ ghost use Rattle.spav.specs.Lists.{ListIsRefused, ListIsWritten, ListLacksRoom};
 use crate::answers::{DONE, INVALID, NO_MEMORY, NO_ROOM};
 use spa_fixed::DeserializeError;
 use spa_in_place::{rewrite_across, rewrite_into};
-use spa_rewrite::{accept_all, rewrite_all};
-use spa_scan::canonical_stretch;
+use spa_rewrite::{accept_all, canonical_stretch, rewrite_all};
 use std::alloc::Global;
 
 /// Writes the rewritings of all pods that the input consists of, one after another, to the front of `out`.

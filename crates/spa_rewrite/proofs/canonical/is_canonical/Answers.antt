@@ -1,27 +1,26 @@
-use Rattle.std.proofs.Common.{sym, ◌∙◌, arith}
-use Rattle.std.proofs.lemmas.Bool.{true_from_ne_false}
-use Rattle.std.specs.Cmp.Lexicographic.{other_text, same_text}
-use Rattle.spa_rewrite.proofs.Own.{before_rest, own_is_same, same_is_own}
+use Rattle.std.proofs.Common.{◌≡◌, List, ℕ, subst}
+use Rattle.std.specs.Borrow.{Bor}
+use Rattle.std.specs.Prelude.{Decides, false, true}
+use Rattle.spa_fixed.specs.declared.fault.Refusal.{Refusal}
+use Rattle.spa_format.specs.Front.{rest_of}
+use Rattle.spa_scan.specs.Canonical.{BeginsCanonical}
+use Rattle.spa_rewrite.specs.Look.{IsRejected}
+use Rattle.spa_rewrite.specs.declared.look.Rejected.{Rejected}
+use Rattle.spa_rewrite.specs.declared.look.Rejected.TheVariants as rejected
+use Rattle.spa_rewrite.proofs.Accepted.{fault_refuses}
 use Rattle.spa_rewrite.proofs.canonical.is_canonical.Goals as goal
-
-pub returns-then-nests_within-clause-exactly : goal.returns-then-nests_within-clause-exactly
-returns-then-nests_within-clause-exactly c = (
-  λ e. absurd (let f = e in grind arith),
-  λ k.
-      absurd (let deep = c.in-None.ensures.missed _ k in let shallow = (c.nests_within.ensures.exactly k.value k.begins.begins).0 c.if-nests_within.true in omega arith),
-)
 
 pub returns-in-Ok-clause-exactly : goal.returns-in-Ok-clause-exactly
 returns-in-Ok-clause-exactly c =
-    let r = c.in-Ok.ensures.rewriting in
-    let front = c.split_at.ensures.front ∙ before_rest _ _ _ r c.in-Ok.ensures.rest in
-    let h = c.eq.ensures in
-    let out = c.as_slice.ensures.value in (
-      λ e.
-          same_is_own _ _ r (sym front ∙ same_text _ _ (sym e ∙ h) ∙ out),
-      λ k.
-          true_from_ne_false _ (λ f. other_text _ _ (sym f ∙ h) (front ∙ own_is_same _ _ _ r k ∙ sym out)),
-    )
+    let a = c.in-Ok.ensures.accepted in
+    subst (λ r. Decides c.in-Ok.pod.canonical (BeginsCanonical c.args.input.now r)) a.shorter.begins.follows a.exactly
 
-pub returns-in-Err-OutOfMemory-clause-memory : goal.returns-in-Err-OutOfMemory-clause-memory
-returns-in-Err-OutOfMemory-clause-memory c = c.nests_within.ensures.deeper c.if-nests_within.false
+-- a malformed front is no canonical pod
+differs : (input : List ℕ) (place : Bor (List ℕ)) (why : Refusal) (r : Rejected) → r ≡ rejected.Fault place why → IsRejected input r →
+    Decides false (BeginsCanonical input (rest_of input))
+differs input place why r e s =
+    let f = fault_refuses input place.now why (subst (IsRejected input) e s) in
+    (λ t. absurd (let z : false ≡ true = t in cc), λ c. absurd (f c.value c.begins.begins))
+
+pub returns-in-Fault-clause-exactly : goal.returns-in-Fault-clause-exactly
+returns-in-Fault-clause-exactly c = differs _ _ _ _ c.in-Fault.is c.in-Err.ensures.rejected

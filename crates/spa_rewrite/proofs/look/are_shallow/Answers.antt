@@ -1,4 +1,4 @@
-use Rattle.std.proofs.Common.{◌≡◌, arith, refl, subst, sym}
+use Rattle.std.proofs.Common.{arith, refl, subst, sym}
 use Rattle.std.specs.Prelude.{false}
 use Rattle.spa_scan.specs.Depth.{levels_looked_into}
 use Rattle.spa_rewrite.specs.Shorter.{ArePodsWithin}

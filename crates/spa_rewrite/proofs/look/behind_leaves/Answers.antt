@@ -1,5 +1,5 @@
 use Rattle.std.proofs.Common.{arith, refl, subst, ◌≡◌, ◌+◌}
-use Rattle.std.specs.Prelude.{true, false}
+use Rattle.std.specs.Prelude.{false}
 use Rattle.spa_rewrite.specs.Look.{Passes}
 use Rattle.spa_rewrite.proofs.Looks.{passes_more, passes_none, passes_pod, some_left, steady_shorter}
 use Rattle.spa_rewrite.proofs.ShorterLemmas.{shorter_opened}

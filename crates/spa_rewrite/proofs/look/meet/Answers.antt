@@ -1,4 +1,4 @@
-use Rattle.std.proofs.Common.{arith, ◌≡◌, ◌+◌}
+use Rattle.std.proofs.Common.{arith}
 use Rattle.spa_format.specs.Typed.{IsBytes}
 use Rattle.spa_rewrite.proofs.Accepted.{meets_leaf}
 use Rattle.spa_rewrite.proofs.Faulted.{leaf_there, short_there, stops_first, stops_key}

@@ -1,11 +1,10 @@
 use Rattle.std.proofs.Common.{◌≡◌, ◌-◌, ◌∙◌, arith, inl, inr, length, refl}
-use Rattle.std.specs.Prelude.{false}
 use Rattle.std.proofs.lemmas.Bool.{cases_lt}
 use Rattle.std.proofs.lemmas.List.{drop_all}
 use Rattle.spa_scan.specs.Depth.{levels_looked_into}
 use Rattle.spa_rewrite.proofs.SteadyFound.{none_missed, steady_left}
 use Rattle.spa_rewrite.proofs.SteadyLemmas.{more_steady, no_steady, steady_parts}
-use Rattle.spa_rewrite.proofs.steady.steady_stretch.Goals as goal
+use Rattle.spa_rewrite.proofs.leading.steady_stretch.Goals as goal
 
 pub loop-rest-init : goal.loop-rest-init
 loop-rest-init c = (no_steady _, λ s. s)
@@ -16,7 +15,7 @@ loop-rest-preserved c =
     let taken = c.in-Some.ensures.taken in (
       more_steady _ _ _ c.loop-rest.invariant.0 taken,
       λ s.
-          steady_left levels_looked_into false _ _ _ refl taken.begins.follows (omega arith) (c.loop-rest.invariant.1 s),
+          steady_left levels_looked_into _ _ taken.begins.follows (omega arith) (c.loop-rest.invariant.1 s),
     )
 
 pub returns-clause-steady : goal.returns-clause-steady

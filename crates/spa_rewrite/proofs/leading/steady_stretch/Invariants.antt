@@ -2,7 +2,7 @@ use Rattle.std.proofs.Common.{length}
 use Rattle.spa_scan.specs.Depth.{levels_looked_into}
 use Rattle.spa_rewrite.specs.Steady.{AreSteadyWithin}
 use Rattle.spa_rewrite.proofs.SteadyLemmas.{IsSteadyStretch}
-use Rattle.spa_rewrite.proofs.steady.steady_stretch.Given as goal
+use Rattle.spa_rewrite.proofs.leading.steady_stretch.Given as goal
 
 abbrev pub invariant-loop-rest : goal.invariant-loop-rest
 invariant-loop-rest l =

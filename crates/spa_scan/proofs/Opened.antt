@@ -1,0 +1,72 @@
+-- Canonical pods, opened: what is in their bodies, and what is left behind them.
+use Rattle.std.proofs.Common.{◌≡◌, ℕ, ◌<◌, ◌⊎◌, inl, inr, List, ◌++◌, length, drop, sym, ap, ◌∙◌, subst, arith, length-append, append_assoc}
+use Rattle.std.specs.Prelude.{IfNone, None, Option, Some}
+use Rattle.std.proofs.lemmas.List.{drop_at}
+use Rattle.spa_format.specs.Words.{word_at, word_bytes, wide_bytes}
+use Rattle.spa_format.specs.Tree.{struct_type, object_type, pointer_type}
+use Rattle.spa_format.specs.Pod.{IsBody}
+use Rattle.spa_format.specs.Encoding.{encoded_body, property_encodings}
+use Rattle.spa_format.specs.Front.{rest_of}
+use Rattle.spa_format.specs.Typed.{IsBytes}
+use Rattle.spa_format.proofs.Shapes.{object_only, pointer_only, struct_only}
+use Rattle.spa_format.proofs.WordLemmas.{length-wide_bytes, length-word_bytes, word_inside}
+use Rattle.spa_scan.specs.Canonical.{AreCanonical, AreCanonicalProperties, BeginsCanonical, IsCanonicalBody}
+use Rattle.spa_scan.specs.Depth.{AreShallow, depth_of}
+use Rattle.spa_scan.proofs.Made.{made_front, made_members}
+
+-- what follows where an option holds none
+pub none_then : {X P Q : Type 0} (o : Option X) → IfNone o P → (P → Q) → IfNone o Q
+none_then None p f = f p
+none_then (Some x) p f = tt
+
+-- what is left behind the first
+pub shallow_rest : (levels : ℕ) (left rest : List ℕ) → IsBytes left → 0 < length left → rest ≡ rest_of left → AreShallow levels left → AreShallow levels rest
+shallow_rest levels left rest h l e s =
+    let m = made_members left h l s.pods in
+    let d = m.depth in
+    let k = s.shallow in
+    let c : AreShallow levels (rest_of left) = record { pods = m.others; shallow = omega arith } in
+    subst (AreShallow levels) (sym e) c
+
+-- a struct or an object holds pods
+pub holds_pods : (input rest : List ℕ) → IsBytes input → (c : BeginsCanonical input rest) (type : ℕ) → type ≡ word_at input 4 →
+    (type ≡ struct_type) ⊎ (type ≡ object_type) → 0 < depth_of c.value
+holds_pods input rest h c type w e =
+    let m = made_front input rest h c in
+    let t = sym m.its_type ∙ sym w in
+    elim e [
+      | inl s ↦ let i = struct_only c.value (t ∙ s) in let d = ap depth_of i.1 in omega arith
+      | inr o ↦ let i = object_only c.value (t ∙ o) in let d = ap depth_of i.3 in omega arith
+    ]
+
+-- what the bodies of each type hold
+pub struct_inside : (type : ℕ) (body : List ℕ) → type ≡ struct_type → IsCanonicalBody type body → AreCanonical body
+struct_inside type body t c =
+    let i = struct_only c.value (c.its_type ∙ t) in
+    record { values = i.0; members = subst (λ x. IsBody x body) i.1 c.its_body; same = c.same ∙ ap encoded_body i.1 }
+
+pub object_inside : (type : ℕ) (body : List ℕ) → type ≡ object_type → IsCanonicalBody type body → AreCanonicalProperties (drop 8 body)
+object_inside type body t c =
+    let i = object_only c.value (c.its_type ∙ t) in
+    let b = subst (λ x. IsBody x body) i.3 c.its_body in
+    let e0 = length-append (word_bytes i.0) (word_bytes i.1) in
+    let e1 = length-word_bytes i.0 in
+    let e2 = length-word_bytes i.1 in
+    let two : length (word_bytes i.0 ++ word_bytes i.1) ≡ 8 = omega arith in
+    let rest : drop 8 body ≡ property_encodings i.2 =
+    ap (drop 8) (c.same ∙ ap encoded_body i.3 ∙ sym (append_assoc (word_bytes i.0) (word_bytes i.1) (property_encodings i.2)))
+    ∙ drop_at (word_bytes i.0 ++ word_bytes i.1) (property_encodings i.2) 8 two in
+    record { values = i.2; properties = b.3; same = rest }
+
+pub pointer_of_body : (type : ℕ) (body : List ℕ) → type ≡ pointer_type → IsCanonicalBody type body → (length body ≡ 16) × (word_at body 4 ≡ 0)
+pointer_of_body type body t c =
+    let i = pointer_only c.value (c.its_type ∙ t) in
+    let e = c.same ∙ ap encoded_body i.2 in
+    let l = ap length e in
+    let e0 = length-append (word_bytes i.0) (word_bytes 0 ++ wide_bytes i.1) in
+    let e1 = length-append (word_bytes 0) (wide_bytes i.1) in
+    let e2 = length-word_bytes i.0 in
+    let e3 = length-word_bytes 0 in
+    let e4 = length-wide_bytes i.1 in
+    let long : length body ≡ 16 = omega arith in
+    (long, ap (λ b. word_at b 4) e ∙ word_inside (word_bytes i.0) (wide_bytes i.1) 0 4 e2 (omega arith))

@@ -1,0 +1,43 @@
+use Rattle.std.proofs.Common.{◌≡◌, ◌∙◌, arith, refl, rules, subst, sym}
+use Rattle.std.proofs.lemmas.Bool.{eq-eqb, eqb-true}
+use Rattle.spa_format.specs.Typed.{IsBytes}
+use Rattle.spa_format.specs.Tree.{bitmap, bytes, string}
+use Rattle.spa_scan.specs.Canonical.{IsCanonicalBody}
+use Rattle.spa_scan.proofs.Frames.{none_of, pointer_of}
+use Rattle.spa_scan.proofs.Opened.{pointer_of_body}
+use Rattle.spa_scan.proofs.Parts.{array_body_of}
+use Rattle.spa_scan.proofs.scan.is_body.Goals as goal
+
+pub returns-in-String-clause-canonical : goal.returns-in-String-clause-canonical
+returns-in-String-clause-canonical c = λ e.
+    let s = c.is_text.ensures.canonical e in
+    record { value = string s.0; its_type = sym (let is : c.args.type_ ≡ 8 = search rules in is); its_body = (s.1, s.2); same = s.2 }
+
+pub returns-in-Bytes-clause-canonical : goal.returns-in-Bytes-clause-canonical
+returns-in-Bytes-clause-canonical c = λ _.
+    record { value = bytes c.args.body.now; its_type = sym (let is : c.args.type_ ≡ 9 = search rules in is); its_body = refl; same = refl }
+
+pub returns-in-Bitmap-clause-canonical : goal.returns-in-Bitmap-clause-canonical
+returns-in-Bitmap-clause-canonical c = λ _.
+    record { value = bitmap c.args.body.now; its_type = sym (let is : c.args.type_ ≡ 12 = search rules in is); its_body = refl; same = refl }
+
+pub returns-in-Array-clause-canonical : goal.returns-in-Array-clause-canonical
+returns-in-Array-clause-canonical c = λ e.
+    subst (λ k. IsCanonicalBody k c.args.body.now) (sym (let is : c.args.type_ ≡ 13 = search rules in is)) (array_body_of _ (c.is_array.ensures.canonical e))
+
+pub returns-then-body-eq-POINTER_LEN-clause-canonical : goal.returns-then-body-eq-POINTER_LEN-clause-canonical
+returns-then-body-eq-POINTER_LEN-clause-canonical c =
+    let bytes : IsBytes c.args.body.now = λ i. omega (arith, c.type_inv.body i) in
+    λ e. pointer_of _ _ bytes c.if-body-eq-POINTER_LEN.true (let is : c.args.type_ ≡ 17 = search rules in is) (sym c.u32_at.ensures ∙ eqb-true _ _ e)
+
+pub returns-in-None-clause-canonical : goal.returns-in-None-clause-canonical
+returns-in-None-clause-canonical c = λ e. none_of _ _ (let is : c.args.type_ ≡ 1 = search rules in is) (eqb-true _ _ (sym c.is_empty.ensures ∙ e))
+
+pub returns-then-body-eq-POINTER_LEN-clause-found : goal.returns-then-body-eq-POINTER_LEN-clause-found
+returns-then-body-eq-POINTER_LEN-clause-found c = λ k _ _.
+    eq-eqb _ 0
+    (c.u32_at.ensures ∙ (pointer_of_body _ _ (let is : c.args.type_ ≡ 17 = search rules in is) k).1)
+
+pub returns-else-body-eq-POINTER_LEN-clause-found : goal.returns-else-body-eq-POINTER_LEN-clause-found
+returns-else-body-eq-POINTER_LEN-clause-found c = λ k _ _.
+    eq-eqb _ 16 (pointer_of_body _ _ (let is : c.args.type_ ≡ 17 = search rules in is) k).0

@@ -2,19 +2,24 @@
 
 WORDS = {
     'parts/spa_value/macros.rs': [
-        ('`property!(in alloc; key, ..)`, where `alloc` is what a list takes memory from.', '`property!(key, ..)`.'),
-        ('`object!(in alloc; type, id, properties..)`, where `alloc` is what the list takes memory from.', '`object!(type, id, properties..)`.'),
+        ('`property!(in alloc; key, ..)`, where `alloc` is the allocator of a list in it.', '`property!(key, ..)`.'),
+        ('`object!(in alloc; type, id, properties..)`, where `alloc` is the allocator of its list of properties.', '`object!(type, id, properties..)`.'),
     ],
     'parts/spa_sink/sink.rs': [
-        ('/// The allocator that its bytes lie in, where it has one. A writer may put together in memory of this allocator what it appends then:',
-         '/// Whether it takes memory as it grows. A writer may put together in memory what it appends then:'),
-        ('A sink that has none keeps the default.', 'A sink that takes none keeps the default.'),
+        ("/// The allocator of the sink's bytes, where it has one. A writer may put together bytes in memory of this allocator before it appends them:",
+         '/// Whether the sink takes memory as it grows. A writer may put together bytes in memory of its own before it appends them:'),
+        ('A sink without an allocator keeps the default.', 'A sink that takes none keeps the default.'),
     ],
     'parts/spa_write/sized.rs': [
-        ('/// Where the sink names an allocator, the encoding', '/// Where the sink has memory of its own, the encoding'),
-        ('/// this allocator: so a value', '/// memory: so a value'),
+        ('/// Where the sink names an allocator, the encoding of a struct or an object with more than 64 values in it is put together in memory of that\n'
+         '/// allocator by a loop,',
+         '/// Where the sink takes memory, the encoding of a struct or an object with more than 64 values in it is put together in memory\n'
+         '/// by a loop,'),
+        ('/// a sink without an allocator, is written', '/// a sink that takes no memory, is written'),
+        ('/// memory. Where a sink without an allocator knows', '/// memory. Where such a sink knows'),
+        ('/// this allocator, so the nesting depth', '/// memory, so the nesting depth'),
     ],
-    'parts/spa_write/nested.rs': [('/// The encoding of a value, in memory of this allocator: also', '/// The encoding of a value: also')],
+    'parts/spa_write/nested.rs': [('/// The encoding of a value, in memory of this allocator.', '/// The encoding of a value.')],
     'parts/spa_print/printed.rs': [
         ('/// level from its allocator, and', '/// level, and'),
         ('/// This value, printed with memory of this allocator.', '/// This value, printed.'),

@@ -3,7 +3,7 @@
 //! This crate holds no function of its own. It gives the parts, each of which is a crate, under the paths of libspa.
 #![tactic(auto)]
 
-/// Numbers that other parts of PipeWire speak of.
+/// Numbers that other parts of PipeWire use.
 pub mod constants {
     pub use spa_utils::constants::ID_INVALID;
 }
@@ -22,7 +22,7 @@ pub mod utils {
         };
     }
 
-    /// Result codes, which say an error, a value, or that the answer comes later.
+    /// Result codes: an error, a value, or an answer that comes later.
     pub mod result {
         pub use spa_result::{AsyncSeq, Error, SpaResult, SpaSuccess};
     }
@@ -86,7 +86,7 @@ pub mod pod {
         };
     }
 
-    /// Taking pods one by one.
+    /// Reading pods one by one.
     pub mod parser {
         pub use spa_parser::{Parser, laws, parser_get};
     }

@@ -128,7 +128,7 @@ const BUFFERS: &str = "
 4 0 4 4 4 0
 6 0 20 19 4 0 4 4 14 0";
 
-/// The same with the shape words of the choices at 0.
+/// `BUFFERS` with the shape words of the choices at 0.
 const FIXATED: &str = "
 192 15 262148 5
 1 0 28 19 0 0 4 4 2 1 32 0
@@ -137,7 +137,7 @@ const FIXATED: &str = "
 4 0 4 4 4 0
 6 0 20 19 0 0 4 4 14 0";
 
-/// The same without the values that aren't meant any more.
+/// `FIXATED` without the surplus values of its None choices.
 const REWRITTEN: &str = "
 176 15 262148 5
 1 0 20 19 0 0 4 4 2 0
@@ -154,7 +154,7 @@ fn reads(rt: HostRuntime) -> Result<(), Fail> {
     Ok(())
 }
 
-/// How many structs stand in one another: more than a stack of 8 MB holds of a function that calls itself for each.
+/// How many structs are nested in one another: a function that calls itself for each needs more than a stack of 8 MB.
 const LEVELS: u32 = 100_000;
 
 #[test]

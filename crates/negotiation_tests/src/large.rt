@@ -1,4 +1,4 @@
-//! Objects of many keys, of Enums of many alternatives, and of values that stand deep in one another.
+//! Objects of many keys, of Enums of many alternatives, and of deeply nested values.
 use crate::answers::assert_meet;
 use spa_spelling::{bytes_of, push_words};
 use std::alloc::{AllocError, Global};
@@ -20,7 +20,7 @@ fn rising(alloc: Global) -> Result<Vec<u8>, AllocError> {
     Ok(bytes)
 }
 
-/// The same downwards, with another id.
+/// The bytes of an object with the keys of `rising` in descending order, and another id.
 fn falling(alloc: Global) -> Result<Vec<u8>, AllocError> {
     let mut bytes = bytes_of(alloc, &[8 + 24 * (COUNT + 1), 15, 5, 7])?;
     for below in 0..COUNT + 1 {

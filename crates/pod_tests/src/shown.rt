@@ -47,10 +47,10 @@ fn an_input_that_breaks_off_is_refused(rt: HostRuntime) -> Result<(), AllocError
 /// How many levels the deepest pod has.
 const LEVELS: u32 = 100_000;
 
-/// Room for so many lines, which don't grow with their depth.
+/// Room for this many lines, whose length doesn't grow with their depth.
 const ROOM: usize = LEVELS as usize * 120;
 
-/// Whether `show` shows so many levels.
+/// Whether `show` shows this many levels.
 fn is_deep_shown(rt: &HostRuntime) -> Result<bool, AllocError> {
     let bytes = nested_structs(rt.alloc(), LEVELS - 1, &[0, 14])?;
     let mut room = vec![in rt.alloc(); 0; ROOM]?;

@@ -30,7 +30,7 @@ fn status(rt: &HostRuntime) -> Option<u8> {
     ))
 }
 
-/// The status of a run that memory is refused, of which it tells. Where the line can't be written, nothing changes.
+/// The status of a run for which memory ran out, which it reports. Where the line can't be written, nothing changes.
 fn refused(rt: &HostRuntime) -> u8 {
     let answer = Answer::Refused(Failure::OutOfMemory);
     let _ = tell(&mut rt.stderr(), &answer);

@@ -1,11 +1,11 @@
-//! Pods that stand deep in one another.
+//! Deeply nested pods.
 use crate::streams::{Wanted, assert_run};
 use spa_spelling::nested_pods;
 use std::alloc::{AllocError, Global};
 use std::process::Abort;
 use test_streams::{ALL, Device, Source};
 
-/// How many structs or objects stand in one another: more than a stack holds that grows with each level.
+/// How many structs or objects are nested in one another: a stack that grows with each level doesn't suffice for them.
 const DEEP: u32 = 20_000;
 
 /// Compares the run of a word over all these bytes with what is wanted.

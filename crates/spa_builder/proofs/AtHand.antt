@@ -124,7 +124,7 @@ own_begins b v l p = record {
   pod = subst (λ c. IsPod c v) (sym (own_front b l)) p;
 }
 
--- one that is its own rewriting is found
+-- a canonical pod is found
 pub looked_into : (s : State) (b : List ℕ) (v : Tree) → length b ≡ extent (word_at b 0) →
     IsCopied s b v →
     ((rest : List ℕ) (c : BeginsCanonical b rest) → levels_looked_into < depth_of c.value) → ⊥

@@ -1,4 +1,4 @@
--- How the bytes and the frames of a builder hold a state.
+-- How the bytes and the frames of a builder represent a state.
 use Rattle.std.specs.Prelude.{◌≡◌, ℕ, ◌+◌, List, [], ◌∷◌, ◌++◌, length, min, IsTrue, Option, Some, None}
 use Rattle.spa_format.specs.Words.{word_bytes}
 use Rattle.spa_format.specs.Kind.{none_kind, type_number, Fixed, kind_of}
@@ -11,7 +11,7 @@ use Rattle.spa_builder.specs.declared.begun.What.{What}
 use Rattle.spa_builder.specs.declared.begun.Elements.{Elements}
 use Rattle.spa_builder.specs.declared.begun.Stage.TheVariants.{Struct, Property, Object, Array, Choice}
 
--- what a builder holds
+-- the fields of a builder: its bytes and its frames
 pub record Held : Type 0 where
   pub bytes : List ℕ
   pub frames : List BegunPod
@@ -24,11 +24,11 @@ abbrev pub first_type : List Fixed → Option ℕ
 first_type [] = None
 first_type (x ∷ xs) = Some (type_number (kind_of x))
 
--- what is known of elements where there are none
+-- the elements of a frame without elements
 abbrev pub no_elements : Elements
 no_elements = record { shape = 0; first = None; count = 0 }
 
--- what the frame of a partial tree says; values of a choice are counted up to four
+-- stage and elements of the frame of a partial tree; values of a choice are counted up to four
 abbrev pub what_of : Partial → What
 what_of (open_struct vs) = record { stage = Struct; elements = no_elements }
 what_of (open_object t i ps) = record { stage = Object; elements = no_elements }
@@ -43,7 +43,7 @@ type_of_partial (open_property t i ps k f) = object_type
 type_of_partial (open_array xs) = array_type
 type_of_partial (open_choice h f xs) = choice_type
 
--- the bytes of the body so far
+-- the bytes of the body of an open tree so far
 abbrev pub body_so_far : Partial → List ℕ
 body_so_far (open_struct vs) = member_encodings vs
 body_so_far (open_object t i ps) = word_bytes t ++ (word_bytes i ++ property_encodings ps)
@@ -51,7 +51,7 @@ body_so_far (open_property t i ps k f) = word_bytes t ++ (word_bytes i ++ (prope
 body_so_far (open_array xs) = array_body (child_kind xs) xs
 body_so_far (open_choice h f xs) = word_bytes (shape_number h) ++ (word_bytes f ++ array_body (child_kind xs) xs)
 
--- with its header, whose size word is 0 until it is closed
+-- the bytes of an open tree so far: its header, whose size word is 0 until it is closed, and its body
 abbrev pub so_far : Partial → List ℕ
 so_far p = word_bytes 0 ++ (word_bytes (type_of_partial p) ++ body_so_far p)
 
@@ -59,7 +59,7 @@ abbrev pub all_so_far : List Partial → List ℕ
 all_so_far [] = []
 all_so_far (p ∷ ps) = all_so_far ps ++ so_far p
 
--- the frames of open trees behind so many bytes, the outermost first
+-- the frames of open trees behind `base` bytes, the outermost first
 abbrev pub frames_of : ℕ → List Partial → List BegunPod
 frames_of base [] = []
 frames_of base (p ∷ ps) = frames_of base ps ++ (record { start = base + length (all_so_far ps); what = what_of p }) ∷ []
@@ -69,12 +69,13 @@ abbrev pub IsFair : Partial → Type 0
 IsFair (open_array xs) = child_kind xs ≡ none_kind → fixed_bodies xs ≡ []
 IsFair p = Unit {0}
 
--- trees are open in such trees alone as take any tree
+-- each tree with an open tree inside it takes trees of any type
 abbrev pub IsNested : List Partial → Type 0
 IsNested [] = Unit {0}
 IsNested (p ∷ ps) = IsFair p × IsTrue (takes_trees ps) × IsNested ps
 
--- The bytes are the encodings of the closed values and what there is of each open one, and the frames are theirs.
+-- The builder is at this state: its bytes are the encodings of the closed values and the bytes of each open tree so far, and the frames are those
+-- of the open trees.
 pub record IsAt (held : Held) (s : State) : Type 0 where
   pub bytes : held.bytes ≡ member_encodings s.closed ++ all_so_far s.opened
   pub frames : held.frames ≡ frames_of (length (member_encodings s.closed)) s.opened

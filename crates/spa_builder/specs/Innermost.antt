@@ -1,4 +1,4 @@
--- What the innermost open tree takes, and what is there once it took it.
+-- What the innermost open tree takes, and the open trees after that.
 use Rattle.std.specs.Prelude.{ℕ, ◌+◌, ◌-◌, nat_lt, List, [], ◌∷◌, ◌++◌, length, Bool, true, false, Option, Some, None}
 use Rattle.spa_format.specs.Words.{header_size, size_limit}
 use Rattle.spa_format.specs.Kind.{Fixed}
@@ -13,7 +13,7 @@ abbrev pub innermost_of : ℕ → List Partial → Option BegunPod
 innermost_of base [] = None
 innermost_of base (p ∷ ps) = Some (record { start = base + length (all_so_far ps); what = what_of p })
 
--- the open trees where the innermost, which takes any tree, got this one
+-- the open trees after the innermost, which takes trees of any type, took this one
 abbrev pub filled : List Partial → Tree → List Partial
 filled [] v = []
 filled (open_struct vs ∷ ps) v = open_struct (with_tree vs v) ∷ ps
@@ -22,7 +22,7 @@ filled (open_property t i qs k f ∷ ps) v = open_object t i (with_property qs k
 filled (open_array xs ∷ ps) v = open_array xs ∷ ps
 filled (open_choice h f xs ∷ ps) v = open_choice h f xs ∷ ps
 
--- the closed values where no tree was open
+-- the closed values after this value was added, which is closed where no tree is open
 abbrev pub closed_with : Trees → List Partial → Tree → Trees
 closed_with closed [] v = with_tree closed v
 closed_with closed (p ∷ ps) v = closed
@@ -36,7 +36,7 @@ waits (open_property t i qs k f ∷ ps) = true
 waits (open_array xs ∷ ps) = false
 waits (open_choice h f xs ∷ ps) = false
 
--- an object is innermost in which no key waits
+-- the innermost open tree is an object in which no key waits
 abbrev pub takes_key : List Partial → Bool
 takes_key [] = false
 takes_key (open_struct vs ∷ ps) = false
@@ -45,7 +45,7 @@ takes_key (open_property t i qs k f ∷ ps) = false
 takes_key (open_array xs ∷ ps) = false
 takes_key (open_choice h f xs ∷ ps) = false
 
--- elements of a fixed size stand there
+-- the open tree takes elements of fixed size: it is an array or a choice
 abbrev pub has_elements : Partial → Bool
 has_elements (open_struct vs) = false
 has_elements (open_object t i qs) = false
@@ -57,7 +57,7 @@ abbrev pub takes_elements : List Partial → Bool
 takes_elements [] = false
 takes_elements (p ∷ ps) = has_elements p
 
--- the first element is to come
+-- the open tree is an array or a choice without elements yet
 abbrev pub is_first : Partial → Bool
 is_first (open_struct vs) = false
 is_first (open_object t i qs) = false
@@ -85,7 +85,7 @@ with_element (open_choice h f xs) x = open_choice h f (xs ++ x ∷ [])
 abbrev pub most_padding : ℕ
 most_padding = 7
 
--- Whether so many bytes more leave the outermost size word within 32 bits. Where a tree is inside it, padding may still come.
+-- Whether the size of the outermost open tree still fits 32 bits after `more` bytes. Where a tree is open inside it, padding may follow.
 abbrev pub has_room_for : ℕ → List Partial → Bool
 has_room_for more [] = true
 has_room_for more (p ∷ []) = nat_lt (length (all_so_far (p ∷ [])) - header_size + more) size_limit

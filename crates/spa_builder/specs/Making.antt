@@ -1,4 +1,4 @@
--- Values made call by call: docs/FORMAT.md, "Making pods call by call".
+-- Values that are built call by call: docs/FORMAT.md, "Making pods call by call".
 use Rattle.std.specs.Prelude.{◌≡◌, ℕ, ◌+◌, ◌-◌, List, [], ◌∷◌, ◌++◌, length, Some}
 use Rattle.spa_format.specs.Tree.{Tree, fixed, struct, object, Trees, no_trees, member, Properties, no_properties, property}
 use Rattle.spa_builder.specs.State.{State}
@@ -6,11 +6,11 @@ use Rattle.spa_builder.specs.Step.{Call, abandon, add, add_prop, pop, push_array
 use Rattle.spa_builder.specs.Held.{Held, IsAt}
 use Rattle.spa_builder.specs.Replay.{spelled_from}
 
--- this value is closed and nothing else, and nothing is begun
+-- the state with this value closed, no other value, and no open tree
 abbrev pub built : Tree → State
 built v = record { closed = member v no_trees; opened = [] }
 
--- the calls that make a value where so many trees are open: a struct and an object are begun, get what is in them, and are closed
+-- the calls that build a value where `n` trees are open: a struct or an object is opened, gets its members or properties, and is closed
 abbrev mutual
   pub calls_for : ℕ → Tree → List Call
   calls_for n (struct vs) = push_struct ∷ (member_calls (n + 1) vs ++ pop (n + 1) ∷ [])
@@ -25,7 +25,7 @@ abbrev mutual
   property_calls n no_properties = []
   property_calls n (property k f v ps) = add_prop k f ∷ (calls_for n v ++ property_calls n ps)
 
--- how many trees are open behind such a call
+-- how many trees are open after such a call, where `n` were before
 abbrev pub open_behind : ℕ → Call → ℕ
 open_behind n (add v) = n
 open_behind n (add_prop k f) = n
@@ -36,7 +36,7 @@ open_behind n (push_choice h f) = n + 1
 open_behind n (pop frame) = n - 1
 open_behind n (abandon frame) = n - 1
 
--- with so many trees open, these calls, each of which the model accepts, bring the builder to this state
+-- with `n` trees open, these calls, each of which the model accepts, bring the builder to this state
 pub record ComesTo (n : ℕ) (t : State) (calls : List Call) (builder : Held) : Type 0 where
   pub state : State
   pub at : IsAt builder state

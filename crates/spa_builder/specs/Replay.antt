@@ -1,4 +1,4 @@
--- Whole runs: the answers to a list of calls, and what the calls that were accepted spell: docs/FORMAT.md, "Making pods call by call".
+-- Whole runs: the answers to a list of calls, and the bytes that the accepted calls build: docs/FORMAT.md, "Making pods call by call".
 use Rattle.std.specs.Prelude.{◌≡◌, ℕ, List, [], ◌∷◌, map, Result, Ok, Err, Option, Some, None}
 use Rattle.spa_format.specs.Kind.{none, bool, id, int, long, float, double, rectangle, fraction, fd}
 use Rattle.spa_format.specs.Tree.{fixed, string, bytes, pointer}
@@ -12,7 +12,7 @@ use Rattle.spa_builder.specs.declared.build_call.BuildCall.TheVariants.{AddNone,
 use Rattle.spa_utils.specs.declared.errno.Errno.{Errno}
 use Rattle.spa_utils.specs.declared.errno.TheConstants.Errno.{NOMEM, INVAL, NOSPC}
 
--- the model's call
+-- the model's call for a call of the builder
 abbrev pub call_of : BuildCall → Call
 call_of AddNone = add (fixed none)
 call_of (AddBool x) = add (fixed (bool x))
@@ -42,7 +42,7 @@ calls_of calls = map call_of calls
 abbrev pub Answer : Type 0
 Answer = Result (Unit {0}) Errno
 
--- The answer, by what the step comes to. A call that the step accepts may want memory.
+-- The answer fits the outcome of the model's step. A call that the step accepts may want memory.
 abbrev pub IsAnswered : Outcome → Answer → Type 0
 IsAnswered (Accepts s) (Ok x) = Unit {0}
 IsAnswered (Accepts s) (Err e) = e ≡ NOMEM
@@ -51,12 +51,12 @@ IsAnswered Inval (Err e) = e ≡ INVAL
 IsAnswered Nospc (Ok x) = ⊥
 IsAnswered Nospc (Err e) = e ≡ NOSPC
 
--- the state behind a call that was answered so
+-- the state after a call with this outcome and this answer
 abbrev pub behind : State → Outcome → Answer → State
 behind s (Accepts t) (Ok x) = t
 behind s o a = s
 
--- each call has its answer, after those before it
+-- each call has an answer that fits the state after the calls before it
 abbrev pub AreAnswered : State → List Call → List Answer → Type 0
 AreAnswered s [] [] = Unit {0}
 AreAnswered s (c ∷ cs) (a ∷ rs) = IsAnswered (step s c) a × AreAnswered (behind s (step s c) a) cs rs
@@ -70,7 +70,7 @@ accepted (c ∷ cs) [] = []
 accepted (c ∷ cs) (Ok x ∷ rs) = c ∷ accepted cs rs
 accepted (c ∷ cs) (Err e ∷ rs) = accepted cs rs
 
--- the state behind calls that the step accepts, one after another
+-- the state after these calls; None where the model's step accepts not all of them
 abbrev pub spelled_from : State → List Call → Option State
 spelled_from s [] = Some s
 spelled_from s (c ∷ cs) = elim (step s c) as (λ _. Option State) [ Accepts t ↦ spelled_from t cs | Inval ↦ None | Nospc ↦ None ]
@@ -78,12 +78,12 @@ spelled_from s (c ∷ cs) = elim (step s c) as (λ _. Option State) [ Accepts t 
 abbrev pub spelled : List Call → Option State
 spelled cs = spelled_from start cs
 
--- The calls are answered as the model answers, and the bytes hold what the accepted calls spell.
+-- The calls are answered as the model answers, and the bytes are those that the accepted calls build.
 pub record IsReplayed (calls : List Call) (answers : List Answer) (bytes : List ℕ) : Type 0 where
   pub answered : AreAnswered start calls answers
   pub spells : (s : State) × (spelled (accepted calls answers) ≡ Some s) × Spells bytes s
 
--- the same of a builder that is still running
+-- The calls are answered as the model answers, and the builder is at the state to which the accepted calls bring it.
 pub record IsRunning (calls : List Call) (answers : List Answer) (builder : Held) : Type 0 where
   pub answered : AreAnswered start calls answers
   pub at : (s : State) × (spelled (accepted calls answers) ≡ Some s) × IsAt builder s

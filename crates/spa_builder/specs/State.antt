@@ -1,9 +1,9 @@
--- What a builder has come to: the values that are closed, and the trees that are still open: docs/FORMAT.md, "Making pods call by call".
+-- The state of a builder: the values that are closed, and the trees that are still open: docs/FORMAT.md, "Making pods call by call".
 use Rattle.std.specs.Prelude.{ℕ, List, []}
 use Rattle.spa_format.specs.Kind.{Fixed}
 use Rattle.spa_format.specs.Tree.{Shape, Tree, Trees, no_trees, member, Properties, no_properties, property, join_members, join_properties}
 
--- a tree of which a part is there
+-- an open tree: a part of it is there
 pub data Partial : Type 0 where
   open_struct : Trees → Partial
   open_object : (type id : ℕ) → Properties → Partial
@@ -14,13 +14,13 @@ pub data Partial : Type 0 where
 
 pub record State : Type 0 where
   pub closed : Trees
-  -- the innermost first
+  -- the open trees, the innermost first
   pub opened : List Partial
 
 abbrev pub start : State
 start = record { closed = no_trees; opened = [] }
 
--- one more at the end
+-- the trees with one more at the end
 abbrev pub with_tree : Trees → Tree → Trees
 with_tree vs v = join_members vs (member v no_trees)
 

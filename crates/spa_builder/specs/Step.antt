@@ -1,4 +1,4 @@
--- One call of a builder, on trees: the next state, or which refusal: docs/FORMAT.md, "Making pods call by call".
+-- One call of a builder, on trees: the next state, or the refusal: docs/FORMAT.md, "Making pods call by call".
 use Rattle.std.specs.Prelude.{ℕ, ◌+◌, List, [], ◌∷◌, ◌++◌, length, Bool, true, false, cond, ◌&&◌, ◌||◌, not, nat_eq, nat_lt, Option, Some, None}
 use Rattle.std.specs.List.{list_any}
 use Rattle.spa_format.specs.Words.{extent, header_size, size_limit}
@@ -18,9 +18,9 @@ pub data Call : Type 0 where
   push_array : Call
   -- the shape word of the choice, and its flags
   push_choice : (shape flags : ℕ) → Call
-  -- the frame is the number of open trees after its push
+  -- closes the innermost tree; its frame is the number of open trees after it was opened
   pop : ℕ → Call
-  -- the same frame, of the tree that is given up
+  -- gives up the innermost tree; its frame is the number of open trees after it was opened
   abandon : ℕ → Call
 
 pub data Outcome : Type 0 where
@@ -28,14 +28,14 @@ pub data Outcome : Type 0 where
   Inval : Outcome
   Nospc : Outcome
 
--- the shape with this number
+-- the shape of this shape word; None where no shape has it
 abbrev pub shape_of : ℕ → Option Shape
 shape_of n = cond (nat_eq n 0) (Some none_choice) (cond (nat_eq n 1) (Some range_choice) (cond (nat_eq n 2) (Some step_choice) (cond (nat_eq n 3) (Some enum_choice) (cond (nat_eq n 4) (Some flags_choice) None))))
 
 abbrev pub is_nul : ℕ → Bool
 is_nul x = nat_eq x 0
 
--- a text in the value holds NUL
+-- whether a text in the value holds NUL
 abbrev mutual
   pub has_nul : Tree → Bool
   has_nul (string s) = list_any is_nul s
@@ -59,7 +59,7 @@ abbrev pub array_takes : List Fixed → Fixed → Bool
 array_takes [] x = true
 array_takes (y ∷ ys) x = same_kind y x
 
--- a choice without alternatives or flags takes no more values than it needs
+-- a choice of another shape than Enum and Flags takes no more values than it needs
 abbrev pub has_place : Shape → ℕ → Bool
 has_place none_choice n = nat_lt n (least_count none_choice)
 has_place range_choice n = nat_lt n (least_count range_choice)
@@ -72,7 +72,7 @@ abbrev pub choice_takes : Shape → List Fixed → Fixed → Bool
 choice_takes h [] x = not (same_kind none x)
 choice_takes h (y ∷ ys) x = same_kind y x && has_place h (length (y ∷ ys))
 
--- the partial tree with one value more, where it takes that value
+-- the open tree with one more value; None where it doesn't take that value
 abbrev pub added : Partial → Tree → Option Partial
 added (open_struct vs) v = Some (open_struct (with_tree vs v))
 added (open_object t i ps) v = None
@@ -82,17 +82,17 @@ added (open_array xs) v = None
 added (open_choice h f xs) (fixed x) = cond (choice_takes h xs x) (Some (open_choice h f (xs ++ x ∷ []))) None
 added (open_choice h f xs) v = None
 
--- a value goes to the innermost open tree, or to the closed values where none is open
+-- the state after a value is added to the innermost open tree, or to the closed values where none is open; None where it isn't allowed
 abbrev pub placed : Trees → List Partial → Tree → Option State
 placed closed [] v = Some (record { closed = with_tree closed v; opened = [] })
 placed closed (p ∷ ps) v = elim (added p v) as (λ _. Option State) [ Some q ↦ Some (record { closed = closed; opened = q ∷ ps }) | None ↦ None ]
 
--- a key and its flags go to an object in which no key waits
+-- the state after a key and flags are added to the innermost open tree; None where that isn't an object in which no key waits
 abbrev pub keyed : Trees → List Partial → ℕ → ℕ → Option State
 keyed closed (open_object t i qs ∷ ps) k f = Some (record { closed = closed; opened = open_property t i qs k f ∷ ps })
 keyed closed ps k f = None
 
--- a tree of any type may begin here
+-- a tree of any type is allowed next
 abbrev pub takes_trees : List Partial → Bool
 takes_trees [] = true
 takes_trees (open_struct vs ∷ ps) = true
@@ -104,21 +104,21 @@ takes_trees (open_choice h f xs ∷ ps) = false
 abbrev pub begun : Partial → State → Option State
 begun p s = cond (takes_trees s.opened) (Some (record { closed = s.closed; opened = p ∷ s.opened })) None
 
--- the kind of the elements: None where there is none
+-- the kind of the elements; that of None where there are no elements
 abbrev pub child_kind : List Fixed → Kind
 child_kind [] = none_kind
 child_kind (x ∷ xs) = kind_of x
 
--- An array's tree. Where it is empty or has None elements alone, it is a None array of no units.
+-- The tree of an array of these elements. Where it has no elements or only None elements, it is an array of None without elements.
 abbrev pub array_of : List Fixed → Tree
 array_of xs = array (child_kind xs) (kept_elements (child_kind xs) xs)
 
--- a choice's tree, where it has the values that it needs
+-- the tree of a choice of these values; None where it lacks values
 abbrev pub choice_of : Shape → ℕ → List Fixed → Option Tree
 choice_of h f [] = None
 choice_of h f (x ∷ xs) = cond (nat_lt (length (x ∷ xs)) (least_count h)) None (Some (choice h f (kind_of x) x xs))
 
--- the value that an open tree becomes
+-- the value that an open tree becomes when it is closed; None where it can't be closed
 abbrev pub finished : Partial → Option Tree
 finished (open_struct vs) = Some (struct vs)
 finished (open_object t i ps) = Some (object t i ps)
@@ -126,7 +126,7 @@ finished (open_property t i ps k f) = None
 finished (open_array xs) = Some (array_of xs)
 finished (open_choice h f xs) = choice_of h f xs
 
--- the size word that an open tree would have without the trees inside it: a waiting key is 8 bytes
+-- the size that an open tree has without the open trees inside it: a waiting key and its flags have 8 bytes
 abbrev pub own_size : Partial → ℕ
 own_size (open_struct vs) = length (encoded_body (struct vs))
 own_size (open_object t i ps) = length (encoded_body (object t i ps))
@@ -134,28 +134,28 @@ own_size (open_property t i ps k f) = length (encoded_body (object t i ps)) + he
 own_size (open_array xs) = length (encoded_body (array_of xs))
 own_size (open_choice h f xs) = choice_header_size + length (fixed_bodies xs)
 
--- Each open tree's size word fits 32 bits, where so many bytes are inside the innermost,
--- and the trees inside each are counted as closed.
+-- The size of each open tree fits a word of 32 bits, where `inside` bytes are added to the innermost, and the open trees inside each are
+-- counted as closed.
 abbrev pub all_fit : ℕ → List Partial → Bool
 all_fit inside [] = true
 all_fit inside (p ∷ ps) = nat_lt (own_size p + inside) size_limit && all_fit (extent (own_size p + inside)) ps
 
--- the next state, where there is one and its sizes fit
+-- the outcome: the next state where there is one and its sizes fit, else INVAL or NOSPC
 abbrev pub sized : Bool → Option State → Outcome
 sized fits None = Inval
 sized fits (Some s) = cond (fits && all_fit 0 s.opened) (Accepts s) Nospc
 
--- the next state, where there is one
+-- the outcome: the next state where there is one, else INVAL
 abbrev pub taken : Option State → Outcome
 taken None = Inval
 taken (Some s) = Accepts s
 
--- the innermost tree is closed, where the frame is its own
+-- the state after the innermost tree is closed; None where the frame isn't its own, or it can't be closed
 abbrev pub closes : Trees → List Partial → ℕ → Option State
 closes closed [] frame = None
 closes closed (p ∷ ps) frame = cond (nat_eq frame (length (p ∷ ps))) (elim (finished p) as (λ _. Option State) [ Some v ↦ placed closed ps v | None ↦ None ]) None
 
--- the innermost tree is given up with what is in it, where the frame is its own: the state is that before its push
+-- the state after the innermost tree is given up, which is that before it was opened; None where the frame isn't its own
 abbrev pub abandoned : Trees → List Partial → ℕ → Option State
 abandoned closed [] frame = None
 abandoned closed (p ∷ ps) frame = cond (nat_eq frame (length (p ∷ ps))) (Some (record { closed = closed; opened = ps })) None

@@ -34,9 +34,9 @@ use std::marker::Model;
 
 /// Builds pods call by call, one behind another, at the end of one vector.
 ///
-/// A value goes to the innermost pod that is begun, or is a top-level pod where none is. A call is refused with INVAL
-/// where it can't come there, with NOSPC where the size of the value or of a pod that is begun would be 4294967296 or more
-/// after it, and with NOMEM where there is no memory; in this order. A refused call changes nothing.
+/// A value is added to the innermost open pod, or is a top-level pod where no pod is open. A call is refused as INVAL
+/// where it isn't allowed there, as NOSPC where it would make the size of the value or of an open pod 4294967296 or more,
+/// and as NOMEM where there is no memory; in this order. A refused call changes nothing.
 #[derive(Drop)]
 pub struct Builder {
     bytes: Written,
@@ -63,25 +63,25 @@ impl Builder {
         Builder { bytes, frames }
     }
 
-    /// What the vector holds: the pods that are closed, and behind them what there is of those that are begun.
+    /// The bytes of the vector: the closed pods, and behind them those of the open pods so far.
     pub fn as_bytes(&self) -> &[u8]
         ensures { (s : State) → IsAt self.now s → Spells result.now s }
     {
         self.bytes.as_slice()
     }
 
-    /// How many pods are begun. It is the number in the innermost one's frame.
+    /// How many pods are open. It is the number of the innermost one's frame.
     pub fn open_frames(&self) -> usize
         ensures { (s : State) → IsAt self.now s → result ≡ length s.opened }
     {
         self.frames.len()
     }
 
-    /// The vector with the pods that were made, each closed. INVAL where one is begun: the vector is given up then.
+    /// The vector with the pods that were built. Refused as INVAL where a pod is open: the vector is given up then.
     pub fn finish(self) -> Result<Vec<u8>, Errno>
         ensures made { (s : State) → IsAt self s → IfOk result (λ made. (s.opened ≡ []) × (made.items ≡ member_encodings s.closed)) }
         ensures refused { (s : State) → IsAt self s → IfErr result (λ e. (e ≡ INVAL) × (s.opened ≢ [])) }
-        // One value alone is given as its encoding.
+        // A single value gives its encoding.
         ensures built { (v : Tree) → IsAt self (built v) → IsOkAnd result (λ made. made.items ≡ encoding_of v) }
     {
         if self.frames.len() > 0 {
@@ -90,14 +90,14 @@ impl Builder {
         Ok(self.bytes.into_inner())
     }
 
-    /// The vector, whatever is begun.
+    /// The vector, also where pods are open.
     pub fn into_inner(self) -> Vec<u8>
         ensures { (s : State) → IsAt self s → Spells result.items s }
     {
         self.bytes.into_inner()
     }
 
-    /// Adds a value that says nothing.
+    /// Adds a None.
     #[inline(always)]
     pub fn add_none(&mut self) -> Result<(), Errno>
         ensures { (s : State) → IsAt self.old s → Makes (step s (add (fixed none))) self.old self.new result }
@@ -153,7 +153,7 @@ impl Builder {
         add_fixed(&mut self.bytes, &mut self.frames, &value)
     }
 
-    /// Adds a text. One that holds NUL is INVAL.
+    /// Adds a text. Refused as INVAL also where it holds NUL.
     #[inline(always)]
     pub fn add_string(&mut self, value: &str) -> Result<(), Errno>
         ensures { (s : State) → IsAt self.old s → Makes (step s (add (string value.now))) self.old self.new result }
@@ -231,8 +231,8 @@ impl Builder {
         add_values(&mut self.bytes, &mut self.frames, values)
     }
 
-    /// Adds a whole array of this type over the bodies of its elements, which stand in these bytes one after another: also of none. INVAL: the
-    /// bytes are no whole number of bodies. It asks for no memory but the builder's own.
+    /// Adds a whole array of this type from the bodies of its elements, one after another in these bytes; there may be none. Refused as INVAL also
+    /// where the bytes aren't a whole number of bodies. It asks for no memory but the builder's own.
     pub fn add_array_in<T: CanonicalFixedSizedPod>(&mut self, bodies: &[u8]) -> Result<(), Errno>
         ensures made { (s : State) (xs : List Fixed) → IsAt self.old s → AreElements T.kind xs bodies.now → Makes (step s (add (array T.kind xs))) self.old self.new result }
         ensures refused { ¬ (AreWhole T.SIZE bodies.now) → IsErrAnd result (λ e. e ≡ INVAL) × (self.new ≡ self.old) }
@@ -243,17 +243,17 @@ impl Builder {
         add_bodies::<T>(&mut self.bytes, &mut self.frames, bodies)
     }
 
-    /// Adds any value: one of fixed size as the call of its kind does, and any other as it is written. It is gone through
-    /// once: where it may come next, want of memory or a size word in it past 32 bits is answered where it is found, though
-    /// a text in the value holds NUL.
+    /// Adds any value: one of fixed size as the call of its kind does, any other as its encoding. The value is walked once:
+    /// where it is allowed next, want of memory, or a size in it that doesn't fit 32 bits, is answered where it is found, even
+    /// if a later text in the value holds NUL.
     pub fn add_value(&mut self, value: &Value) -> Result<(), Errno>
         ensures { (s : State) → IsAt self.old s → MakesValue s (view value.now) self.old self.new result }
     {
         add_any(&mut self.bytes, &mut self.frames, value)
     }
 
-    /// Adds the value that a pod says, as `add_value` does. Where any value may stand, a pod that is its own rewriting, and
-    /// nests no more than 1000 deep, is copied; any other is read first, and one of no value is INVAL.
+    /// Adds the value of a pod, as `add_value` does. Where a value of any type is allowed, a canonical pod with a nesting depth
+    /// of at most 1000 is copied; any other is read first. Refused as INVAL also where the pod is of no value.
     pub fn add_pod(&mut self, pod: Pod<'_>) -> Result<(), Errno>
         ensures makes { (s : State) → IsAt self.old s → MakesPod s (pod_bytes pod.entry) self.old self.new result }
         ensures copied { (s : State) (v : Tree) → IsAt self.old s → IsCopied s (pod_bytes pod.entry) v → Makes (step s (add v)) self.old self.new result }
@@ -261,7 +261,7 @@ impl Builder {
         add_seen(&mut self.bytes, &mut self.frames, &pod)
     }
 
-    /// Adds the key and the flags of a property. The next call adds or begins its value.
+    /// Adds the key and the flags of a property. The next call has to add its value or open it.
     #[inline(always)]
     pub fn add_prop(&mut self, key: u32, flags: u32) -> Result<(), Errno>
         ensures { (s : State) → IsAt self.old s → Makes (step s (add_prop key flags)) self.old self.new result }
@@ -269,7 +269,7 @@ impl Builder {
         add_key(&mut self.bytes, &mut self.frames, key, flags)
     }
 
-    /// Begins an array. Its elements are of the first one's kind, of fixed size.
+    /// Opens an array. Its elements have to be of the first one's kind, of fixed size.
     #[inline(always)]
     pub fn push_array(&mut self) -> Result<Frame, Errno>
         ensures step { (s : State) → IsAt self.old s → Makes (step s push_array) self.old self.new result }
@@ -286,9 +286,9 @@ impl Builder {
         )
     }
 
-    /// Begins a choice of this shape: 0 None, 1 Range, 2 Step, 3 Enum, 4 Flags, and any other number is INVAL. Its
-    /// values are of the first one's kind, of fixed size and not None. There is at least one value: of a Range default,
-    /// minimum and maximum, of a Step these and the step. Only Enum and Flags take more.
+    /// Opens a choice of this shape: 0 None, 1 Range, 2 Step, 3 Enum, 4 Flags; any other number is refused as INVAL. Its
+    /// values have to be of the first one's kind, of fixed size and not None. There has to be at least one value: of a Range
+    /// default, minimum and maximum, of a Step these and the step. Only Enum and Flags take more.
     pub fn push_choice(&mut self, shape: u32, flags: u32) -> Result<Frame, Errno>
         ensures step { (s : State) → IsAt self.old s → Makes (step s (push_choice shape flags)) self.old self.new result }
         ensures frame { (s : State) → IsAt self.old s → IfOk result (λ f. f.0 ≡ length s.opened + 1) }
@@ -311,7 +311,7 @@ impl Builder {
         )
     }
 
-    /// Begins a struct.
+    /// Opens a struct.
     #[inline(always)]
     pub fn push_struct(&mut self) -> Result<Frame, Errno>
         ensures step { (s : State) → IsAt self.old s → Makes (step s push_struct) self.old self.new result }
@@ -328,7 +328,7 @@ impl Builder {
         )
     }
 
-    /// Begins an object.
+    /// Opens an object of this type and id.
     #[inline(always)]
     pub fn push_object(&mut self, type_: u32, id: u32) -> Result<Frame, Errno>
         ensures step { (s : State) → IsAt self.old s → Makes (step s (push_object type_ id)) self.old self.new result }
@@ -345,8 +345,8 @@ impl Builder {
         )
     }
 
-    /// Closes the innermost pod that is begun, which this frame names. Any other frame is INVAL, and so is an object
-    /// where a key waits for its value, and a choice that lacks values. It is never NOSPC.
+    /// Closes the innermost open pod, whose frame this has to be. Refused as INVAL for any other frame, for an object in
+    /// which a key waits for its value, and for a choice that lacks values. Never NOSPC.
     #[inline(always)]
     pub fn pop(&mut self, frame: Frame) -> Result<(), Errno>
         ensures { (s : State) → IsAt self.old s → Makes (step s (pop frame.0)) self.old self.new result }
@@ -354,9 +354,9 @@ impl Builder {
         close(&mut self.bytes, &mut self.frames, frame.0)
     }
 
-    /// Gives up the innermost pod that is begun, which this frame names, with all that was added to it: everything is as it
-    /// was before its push, and a key that waited for it waits again. Any other frame is INVAL. It is never NOSPC, and
-    /// wants no memory.
+    /// Gives up the innermost open pod, whose frame this has to be, with all that was added to it: everything is as it was
+    /// before the pod was opened, and a key that waited for it waits again. Refused as INVAL for any other frame. Never NOSPC or
+    /// NOMEM.
     pub fn abandon(&mut self, frame: Frame) -> Result<(), Errno>
         ensures { (s : State) → IsAt self.old s → Makes (step s (abandon frame.0)) self.old self.new result }
     {

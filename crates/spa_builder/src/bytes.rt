@@ -1,5 +1,5 @@
-//! What is appended to the vector, and what is written over. Each call makes its one growth first: a refused one
-//! changes nothing.
+//! Appends bytes to the vector, and overwrites words in it. Each call makes room first: a refused call changes nothing,
+//! but where its doc says so.
 ghost use Rattle.std.specs.Prelude.{◌≡◌, ◌+◌, ◌<◌, ◌≤◌, ◌*◌, ◌++◌, List, ℕ, length, replicate, take, drop, IfErr, OnErr, OnOk};
 ghost use Rattle.spa_fixed.specs.Reading.{AreWhole};
 ghost use Rattle.spa_format.specs.Encoding.{array_body, encoding_of, fixed_bodies, framed};
@@ -27,7 +27,7 @@ fn padding_len(size: usize) -> usize
     (HEADER_LEN - size % HEADER_LEN) % HEADER_LEN
 }
 
-/// Appends zeros up to a multiple of 8, behind a body of this size.
+/// Appends the padding behind a body of this size: zeros up to a multiple of 8 bytes.
 #[inline(always)]
 pub(crate) fn put_padding(bytes: &mut Written, size: usize) -> Result<(), Errno>
     ensures ok { OnOk result (bytes.new ≡ bytes.old ++ padding size) }
@@ -37,7 +37,7 @@ pub(crate) fn put_padding(bytes: &mut Written, size: usize) -> Result<(), Errno>
     bytes.append_first([0; HEADER_LEN], padding_len(size))
 }
 
-/// Appends the pod of a value of fixed size.
+/// Appends the encoding of a value of fixed size.
 #[inline(always)]
 pub(crate) fn put_fixed_pod<T: CanonicalFixedSizedPod>(
     bytes: &mut Written,
@@ -50,7 +50,7 @@ pub(crate) fn put_fixed_pod<T: CanonicalFixedSizedPod>(
     bytes.append_first(pod_bytes(value), extent_of(T::SIZE as u32))
 }
 
-/// Appends a pod whose body is at hand in two parts.
+/// Appends a pod whose body is given in two parts.
 #[inline(always)]
 pub(crate) fn put_pod(
     bytes: &mut Written,
@@ -68,7 +68,7 @@ pub(crate) fn put_pod(
     bytes.append_parts(header, front, back, padding_len(size))
 }
 
-/// Appends the bodies of the elements that these bodies say, each written as its value is. What was appended stays where memory is wanting.
+/// Appends the canonical bodies of the elements with these bodies. Where memory runs out, what was appended stays.
 fn put_each<T: CanonicalFixedSizedPod>(bytes: &mut Written, bodies: &[u8]) -> Result<(), Errno>
     requires { AreWhole T.SIZE bodies.now }
     ensures ok { OnOk result ((xs : List Fixed) → AreElements T.kind xs bodies.now → bytes.new ≡ bytes.old ++ fixed_bodies xs) }
@@ -84,8 +84,7 @@ fn put_each<T: CanonicalFixedSizedPod>(bytes: &mut Written, bodies: &[u8]) -> Re
     Ok(())
 }
 
-/// Appends the pod of an array of this type over the bodies of its elements, each written as its value is. What was appended stays where memory is
-/// wanting.
+/// Appends the encoding of an array of this type from the bodies of its elements. Where memory runs out, what was appended stays.
 pub(crate) fn put_bodies<T: CanonicalFixedSizedPod>(
     bytes: &mut Written,
     bodies: &[u8],
@@ -104,7 +103,7 @@ pub(crate) fn put_bodies<T: CanonicalFixedSizedPod>(
     put_padding(bytes, size)
 }
 
-/// The pod of a pointer.
+/// The encoding of a pointer.
 pub(crate) fn pointer_pod(type_: u32, address: u64) -> [u8; POINTER_POD_LEN]
     ensures { result ≡ encoding_of (pointer type_ address) }
 {

@@ -1,4 +1,4 @@
-//! Whole lists of calls.
+//! Makes whole lists of calls.
 ghost use Rattle.std.specs.Prelude.{◌≡◌, [], IfErr, IfOk, length, vec_capacity};
 ghost use Rattle.spa_builder.specs.State.{State, start};
 ghost use Rattle.spa_builder.specs.Step.{step};
@@ -12,7 +12,7 @@ use crate::builder::Builder;
 use spa_utils::Errno;
 use std::mem;
 
-/// Makes one call, and answers whether it was accepted.
+/// Makes one call, with its refusals.
 fn apply(builder: &mut Builder, call: &BuildCall<'_>) -> Result<(), Errno>
     ensures { (s : State) → IsAt builder.old s → Makes (step s (call_of call.now)) builder.old builder.new result }
 {
@@ -53,11 +53,11 @@ fn apply(builder: &mut Builder, call: &BuildCall<'_>) -> Result<(), Errno>
     }
 }
 
-/// Makes the calls on a new builder over the vector that is held, and gives each one's answer, in order; a frame is
-/// answered by `Ok(())`. Where there is no memory for the answers, it answers NOMEM and the vector stays as it was.
+/// Makes the calls on a new builder over the vector `held`, and gives the answer of each, in order; a frame is answered as
+/// `Ok(())`. Refused as NOMEM where there is no memory for the answers: the vector stays as it was.
 pub fn replay(held: &mut Vec<u8>, calls: &[BuildCall<'_>]) -> Result<Vec<Result<(), Errno>>, Errno>
-    // Each answer is what the model's step says after the calls that were accepted before it, or want of
-    // memory where that step accepts the call, and the vector holds what the accepted calls spell.
+    // Each answer is that of the model's step after the calls that were accepted before it, or want of
+    // memory where that step accepts the call; and the vector has the bytes that the accepted calls build.
     ensures run { IfOk result (λ answers. IsReplayed (calls_of calls.now) answers.items held.new.items) }
     ensures memory { IfErr result (λ e. e ≡ NOMEM) }
     ensures kept { IfErr result (λ e. held.new.items ≡ held.old.items) }
@@ -72,7 +72,7 @@ pub fn replay(held: &mut Vec<u8>, calls: &[BuildCall<'_>]) -> Result<Vec<Result<
     Ok(answers)
 }
 
-/// The answers of the calls, for which there is room.
+/// Makes the calls, and appends their answers, for which there is room.
 fn run(builder: &mut Builder, calls: &[BuildCall<'_>], answers: &mut Vec<Result<(), Errno>>)
     requires start { IsAt builder.old start }
     requires none { answers.old.items ≡ [] }

@@ -1,4 +1,4 @@
-//! Elements of arrays and choices: which may come next.
+//! Which elements of arrays and choices are allowed next.
 ghost use Rattle.std.specs.Prelude.{◌≡◌, List, ℕ, true, false, is_some};
 ghost use Rattle.spa_format.specs.Kind.{Fixed, kind_of, type_number};
 ghost use Rattle.spa_format.specs.Tree.{Shape, shape_number};
@@ -12,12 +12,12 @@ use crate::begun::{BegunPod, Elements, Stage, What};
 use spa_fixed::{NONE_SHAPE, RANGE_SHAPE, STEP_SHAPE};
 use spa_utils::SpaTypes;
 
-/// The least counts of values of a range and of a step; one is the least for the others.
+/// The least numbers of values of a Range and of a Step; of the others it is one.
 const RANGE_COUNT: u32 = 3;
 
 const STEP_COUNT: u32 = 4;
 
-/// Whether elements of a fixed size stand there.
+/// Whether the innermost open pod takes elements of fixed size: it is an array or a choice.
 #[inline(always)]
 pub(crate) fn takes_elements(innermost: Option<BegunPod>) -> bool
     ensures { (base : ℕ) (ps : List Partial) → innermost ≡ innermost_of base ps → result ≡ takes_elements ps }
@@ -28,14 +28,14 @@ pub(crate) fn takes_elements(innermost: Option<BegunPod>) -> bool
     }
 }
 
-/// Whether the first element is to come.
+/// Whether the pod is an array or a choice without elements yet.
 pub(crate) fn is_first(what: What) -> bool
     ensures { (p : Partial) → what ≡ what_of p → result ≡ is_first p }
 {
     matches!(what.stage, Stage::Array | Stage::Choice) && what.elements.first.is_none()
 }
 
-/// Whether a choice of this shape with so many values takes one more.
+/// Whether a choice of this shape with `count` values takes one more.
 fn has_place(shape: u32, count: u32) -> bool
     ensures { (h : Shape) → shape ≡ shape_number h → result ≡ has_place h count }
 {
@@ -47,7 +47,7 @@ fn has_place(shape: u32, count: u32) -> bool
     }
 }
 
-/// Whether an element of this type may come next.
+/// Whether an element of this type is allowed next in the pod.
 pub(crate) fn takes_element(what: What, type_: u32) -> bool
     ensures { (p : Partial) (x : Fixed) → what ≡ what_of p → type_ ≡ type_number (kind_of x) → result ≡ takes_element p x }
 {
@@ -65,7 +65,7 @@ pub(crate) fn takes_element(what: What, type_: u32) -> bool
     }
 }
 
-/// What the frame says with one element more.
+/// The pod's stage and elements after one more element of this type.
 pub(crate) fn with_element(what: What, type_: u32) -> What
     ensures with { (p : Partial) (x : Fixed) → what ≡ what_of p → type_ ≡ type_number (kind_of x) → takes_element p x ≡ true → result ≡ what_of (with_element p x) }
     ensures something { is_nothing what ≡ false → is_nothing result ≡ false }
@@ -87,7 +87,7 @@ pub(crate) fn with_element(what: What, type_: u32) -> What
     }
 }
 
-/// Whether a tree of which this is known is a value when it is closed.
+/// Whether the pod may be closed: it lacks no value.
 #[inline(always)]
 pub(crate) fn is_finished(what: What) -> bool
     ensures { (p : Partial) → what ≡ what_of p → result ≡ is_some (finished p) }

@@ -1,4 +1,4 @@
-//! The list of frames: what may come next, and what a frame says once it came.
+//! The stack of the frames of the open pods: what is allowed next, and how a frame changes by it.
 ghost use Rattle.std.specs.Prelude.{◌≡◌, ◌+◌, ◌<◌, ◌≤◌, ◌*◌, ◌∷◌, ◌++◌, [], List, ℕ, IfErr, IfSome, IsTrue, OnErr, OnOk, false, length, vec_capacity};
 ghost use Rattle.spa_format.specs.Tree.{Tree};
 ghost use Rattle.spa_format.specs.Words.{size_limit};
@@ -19,7 +19,7 @@ use std::alloc::Global;
 use std::marker::Model;
 use std::mem;
 
-/// The numbers that a size word can't hold begin here.
+/// The least number that a size word can't hold.
 pub(crate) const SIZE_LIMIT: usize = 1 << 32;
 
 /// No frame.
@@ -34,8 +34,8 @@ const NO_FRAME: BegunPod = BegunPod {
 /// The most bytes of padding.
 const PADDING_MAX: usize = HEADER_LEN - 1;
 
-/// The numbers of bytes of a pod with its header that its size word can't hold begin here. Where a pod is open inside it,
-/// there may be padding to come.
+/// The least length in bytes of a pod, with its header, that its size word can't hold. Where a pod is open inside it,
+/// padding may follow.
 #[inline(always)]
 fn most_bytes(alone: bool) -> usize
     ensures { result ≡ most_bytes alone }
@@ -47,7 +47,7 @@ fn most_bytes(alone: bool) -> usize
     }
 }
 
-/// Whether it is no pod.
+/// Whether the stage is that of no pod.
 #[inline(always)]
 fn is_nothing(what: What) -> bool
     ensures { result ≡ is_nothing what }
@@ -55,8 +55,8 @@ fn is_nothing(what: What) -> bool
     matches!(what.stage, Stage::Nothing)
 }
 
-/// The list, with room for one frame more where there is the memory. It is handed over whole, and not lent, so that a
-/// builder whose calls are inlined can lie in registers.
+/// The list, with room for one more frame where there is memory for it. It is moved and not borrowed, so that a builder
+/// whose calls are inlined can be kept in registers.
 #[cold]
 #[inline(never)]
 fn roomier(mut outer: Vec<BegunPod>) -> Vec<BegunPod>
@@ -66,7 +66,7 @@ fn roomier(mut outer: Vec<BegunPod>) -> Vec<BegunPod>
     outer
 }
 
-/// Makes room for one frame more.
+/// Makes room for one more frame. Refused as NOMEM.
 #[inline(always)]
 fn make_room(outer: &mut Vec<BegunPod>) -> Result<(), Errno>
     ensures room { OnOk result (length outer.new.items < vec_capacity outer.new) }
@@ -84,7 +84,7 @@ fn make_room(outer: &mut Vec<BegunPod>) -> Result<(), Errno>
     Err(Errno::NOMEM)
 }
 
-/// The list with this frame behind it, for which there is room. It is handed over whole, as above.
+/// The list with this frame at its end, for which there is room. It is moved, as in `roomier`.
 #[inline(never)]
 fn longer(mut outer: Vec<BegunPod>, frame: BegunPod) -> Vec<BegunPod>
     requires { length outer.items < vec_capacity outer }
@@ -96,7 +96,7 @@ fn longer(mut outer: Vec<BegunPod>, frame: BegunPod) -> Vec<BegunPod>
     outer
 }
 
-/// Puts a frame behind the others, for which there is room.
+/// Appends a frame, for which there is room.
 #[inline(always)]
 fn put(outer: &mut Vec<BegunPod>, frame: BegunPod)
     requires { length outer.old.items < vec_capacity outer.old }
@@ -106,7 +106,7 @@ fn put(outer: &mut Vec<BegunPod>, frame: BegunPod)
     *outer = longer(mem::replace(outer, Vec::new(alloc)), frame);
 }
 
-/// The frames of the pods that are begun.
+/// The frames of the open pods.
 #[derive(Drop)]
 pub(crate) struct Frames {
     outer: Vec<BegunPod>,
@@ -128,7 +128,7 @@ impl Model for Frames {
 }
 
 impl Frames {
-    /// None.
+    /// No frames.
     pub(crate) fn new(alloc: Global) -> Frames
         ensures { result ≡ [] }
     {
@@ -140,7 +140,7 @@ impl Frames {
         }
     }
 
-    /// How many there are.
+    /// How many frames there are.
     #[inline(always)]
     pub(crate) fn len(&self) -> usize
         ensures { result ≡ length self.now }
@@ -151,7 +151,7 @@ impl Frames {
         self.outer.len() + 1
     }
 
-    /// The innermost.
+    /// The innermost frame. None: no pod is open.
     #[inline(always)]
     pub(crate) fn innermost(&self) -> Option<BegunPod>
         ensures last { (base : ℕ) (ps : List Partial) → self.now ≡ frames_of base ps → result ≡ innermost_of base ps }
@@ -163,7 +163,7 @@ impl Frames {
         Some(self.innermost)
     }
 
-    /// Whether so many bytes more leave every size word within 32 bits: the outermost is the greatest.
+    /// Whether every size word still fits 32 bits after `more` bytes: that of the outermost pod is the greatest.
     #[inline(always)]
     pub(crate) fn has_room(&self, len: usize, more: usize) -> bool
         requires within { (base : ℕ) × (ps : List Partial) × (self.now ≡ frames_of base ps) × (len ≡ base + length (all_so_far ps)) × IsTrue (has_room_for 0 ps) }
@@ -176,7 +176,7 @@ impl Frames {
         len + more < self.end
     }
 
-    /// Sets what the innermost says.
+    /// Sets stage and elements of the innermost frame.
     #[inline(always)]
     pub(crate) fn set_innermost(&mut self, what: What)
         requires { is_nothing what ≡ false }
@@ -185,7 +185,7 @@ impl Frames {
         self.innermost.what = what;
     }
 
-    /// Sets the stage of the innermost.
+    /// Sets the stage of the innermost frame.
     #[inline(always)]
     pub(crate) fn set_stage(&mut self, stage: Stage)
         requires { no_stage stage ≡ false }
@@ -194,8 +194,8 @@ impl Frames {
         self.innermost.what.stage = stage;
     }
 
-    /// Begins a frame in the innermost, and appends the bytes with which its pod begins. The frame has its memory first: a
-    /// refused call changes nothing.
+    /// Pushes a frame, and appends the bytes with which its pod begins. Memory for the frame comes first, so a refused call
+    /// changes nothing.
     #[inline(always)]
     pub(crate) fn push<const N: usize>(
         &mut self,
@@ -226,7 +226,7 @@ impl Frames {
         Ok(())
     }
 
-    /// Drops the innermost.
+    /// Drops the innermost frame.
     #[inline(always)]
     pub(crate) fn pop(&mut self)
         requires { (base : ℕ) × (p : Partial) × (ps : List Partial) × (self.old ≡ frames_of base (p ∷ ps)) }
@@ -243,7 +243,7 @@ impl Frames {
     }
 }
 
-/// Whether a tree of any type may begin there.
+/// Whether a value of any type is allowed next.
 #[inline(always)]
 pub(crate) fn takes_trees(innermost: Option<BegunPod>) -> bool
     ensures { (base : ℕ) (ps : List Partial) → innermost ≡ innermost_of base ps → result ≡ takes_trees ps }
@@ -254,7 +254,7 @@ pub(crate) fn takes_trees(innermost: Option<BegunPod>) -> bool
     }
 }
 
-/// Whether a key waits there for its value.
+/// Whether a key waits for its value in the innermost open pod.
 #[inline(always)]
 fn waits(innermost: Option<BegunPod>) -> bool
     ensures { (base : ℕ) (ps : List Partial) → innermost ≡ innermost_of base ps → result ≡ waits ps }
@@ -265,7 +265,7 @@ fn waits(innermost: Option<BegunPod>) -> bool
     }
 }
 
-/// Whether an object stands there in which no key waits.
+/// Whether the innermost open pod is an object in which no key waits.
 #[inline(always)]
 pub(crate) fn takes_key(innermost: Option<BegunPod>) -> bool
     ensures { (base : ℕ) (ps : List Partial) → innermost ≡ innermost_of base ps → result ≡ takes_key ps }
@@ -276,8 +276,8 @@ pub(crate) fn takes_key(innermost: Option<BegunPod>) -> bool
     }
 }
 
-/// Whether a value that isn't an element, with a body of this size, may come next: INVAL where none may, NOSPC where a
-/// size word would be past 32 bits.
+/// Checks that a value that isn't an element, with a body of this size, is allowed next. Refused as INVAL where none is, and as NOSPC where a
+/// size word wouldn't fit 32 bits.
 #[inline(always)]
 pub(crate) fn admit(len: usize, frames: &Frames, size: usize) -> Result<(), Errno>
     requires { (base : ℕ) × (ps : List Partial) × (frames.now ≡ frames_of base ps) × (len ≡ base + length (all_so_far ps)) × IsTrue (has_room_for 0 ps) }
@@ -295,7 +295,7 @@ pub(crate) fn admit(len: usize, frames: &Frames, size: usize) -> Result<(), Errn
     Ok(())
 }
 
-/// A value came into the innermost tree, whose frame was read before: a key that waited has it.
+/// Marks that a value was added to the innermost open pod, whose frame was read before: a key that waited doesn't any more.
 #[inline(always)]
 pub(crate) fn fill(frames: &mut Frames, innermost: Option<BegunPod>)
     ensures { (base : ℕ) (ps : List Partial) (v : Tree) → IsTrue (takes_trees ps) → frames.old ≡ frames_of base ps → innermost ≡ innermost_of base ps → frames.new ≡ frames_of base (filled ps v) }

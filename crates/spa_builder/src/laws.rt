@@ -1,4 +1,4 @@
-//! Laws.
+//! Laws of building, over the definitions alone. Each function does nothing: its contract is the law.
 ghost use Rattle.std.specs.Prelude.{◌≡◌, ◌<◌, ◌^◌, ◌∷◌, [], ℕ, List, IfErr, MatchResult, OnOk, Result, Some, length};
 ghost use Rattle.spa_format.specs.Tree.{Properties, Tree, object, property_node_count};
 ghost use Rattle.spa_format.specs.Writable.{IsWritable};
@@ -12,20 +12,20 @@ ghost use Rattle.spa_utils.specs.declared.errno.Errno.{Errno};
 ghost use Rattle.spa_utils.specs.declared.frame.Frame.{Frame};
 ghost use Rattle.spa_utils.specs.declared.errno.TheConstants.Errno.{NOMEM};
 
-/// Made call by call, a value comes to what it comes to as one: each call is accepted where the value would be.
+/// Building a value call by call gives the state that adding it as one value gives: each call is accepted where that would be.
 pub fn values_are_made_call_by_call()
     ensures made { (s t : State) (v : Tree) → step s (add v) ≡ Accepts t → spelled_from s (calls_for (length s.opened) v) ≡ Some t }
     ensures begins { (v : Tree) (b : Held) → IsWritable v → IsAt b start → ComesTo 0 (built v) (calls_for 0 v) b }
     ensures built { (v : Tree) → IsWritable v → spelled (calls_for 0 v) ≡ Some (built v) }
 {}
 
-/// A builder that comes to a state by some calls goes on with each that it answers by `Ok`, and refuses none but for want of
-/// memory. The last one brings it there.
+/// A builder that these calls bring to a state is brought there by the calls behind the first, once that is answered `Ok`; it refuses the
+/// first only for want of memory. The last call brings it to the state.
 pub fn calls_go_on()
     ensures answered { (n : ℕ) (t : State) (c : Call) (cs : List Call) (old new : Held) (r : Result (Unit {0}) Errno) → ComesTo n t (c ∷ cs) old → ((s : State) → IsAt old s → Makes (step s c) old new r) → MatchResult r (λ _. ComesTo (open_behind n c) t cs new) (λ e. (e ≡ NOMEM) × (new ≡ old)) }
     ensures begun { (n : ℕ) (t : State) (c : Call) (cs : List Call) (old new : Held) (r : Result Frame Errno) → ComesTo n t (c ∷ cs) old → ((s : State) → IsAt old s → Makes (step s c) old new r) → MatchResult r (λ _. ComesTo (open_behind n c) t cs new) (λ e. (e ≡ NOMEM) × (new ≡ old)) }
     ensures last { (n : ℕ) (t : State) (c : Call) (old new : Held) (r : Result (Unit {0}) Errno) → ComesTo n t (c ∷ []) old → ((s : State) → IsAt old s → Makes (step s c) old new r) → OnOk r (IsAt new t) × IfErr r (λ e. e ≡ NOMEM) }
-    // What is closed is named by the frame that its push answered.
+    // A pod is closed by the frame that opening it answered.
     ensures frame { (n m frame : ℕ) (t : State) (cs : List Call) (b : Held) → frame ≡ m → ComesTo n t (pop m ∷ cs) b → ComesTo n t (pop frame ∷ cs) b }
 {}
 

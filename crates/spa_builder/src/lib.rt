@@ -1,4 +1,4 @@
-//! Pods built call by call, into one vector.
+//! Builds pods call by call, into one vector.
 #![tactic(auto)]
 
 mod begun;

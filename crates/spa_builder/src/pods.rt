@@ -1,4 +1,4 @@
-//! Pods that are at hand, added as the values that they say.
+//! Adds the values of given pods.
 ghost use Rattle.std.specs.Prelude.{◌≡◌, ◌≢◌, ℕ, List, None, is_some, length, true};
 ghost use Rattle.spa_format.specs.Pod.{IsPod};
 ghost use Rattle.spa_format.specs.Tree.{Tree, Trees, type_of};
@@ -28,7 +28,7 @@ use spa_utils::Errno;
 use spa_value::Held;
 use spa_view::{Pod, whole_bytes};
 
-/// Whether a value of this type may come next.
+/// Whether a value of this type is allowed next.
 fn takes_type(innermost: Option<BegunPod>, type_: u32) -> bool
     ensures { (base : ℕ) (closed : Trees) (ps : List Partial) (v : Tree) → innermost ≡ innermost_of base ps → type_of v ≡ type_ → result ≡ is_some (placed closed ps v) }
 {
@@ -44,7 +44,7 @@ fn takes_type(innermost: Option<BegunPod>, type_: u32) -> bool
     takes_element(open.what, type_)
 }
 
-/// What a builder answers where a pod can't be read.
+/// The builder's error for a pod that can't be read.
 fn errno_of(why: Refusal) -> Errno
     ensures memory { why ≡ refusal.OutOfMemory → result ≡ NOMEM }
     ensures value { why ≢ refusal.OutOfMemory → result ≡ INVAL }
@@ -55,7 +55,7 @@ fn errno_of(why: Refusal) -> Errno
     }
 }
 
-/// Adds the value that these bytes, a whole pod, are read as, where such a value may come next.
+/// Reads a whole pod, and adds its value, where a value of its type is allowed next.
 fn add_read(bytes: &mut Written, frames: &mut Frames, pod: &[u8]) -> Result<(), Errno>
     requires holds { IsHeld (held bytes.old frames.old) }
     requires whole { length pod.now ≡ extent (word_at pod.now 0) }
@@ -70,7 +70,7 @@ fn add_read(bytes: &mut Written, frames: &mut Frames, pod: &[u8]) -> Result<(), 
     }
 }
 
-/// Adds the value of a whole pod that is its own rewriting, where a tree of any type may stand: its bytes are copied.
+/// Adds the value of a whole canonical pod, where a value of any type is allowed, by copying the bytes.
 fn add_copied(bytes: &mut Written, frames: &mut Frames, pod: &[u8]) -> Result<(), Errno>
     requires holds { IsHeld (held bytes.old frames.old) }
     requires whole { length pod.now ≡ extent (word_at pod.now 0) }
@@ -83,7 +83,7 @@ fn add_copied(bytes: &mut Written, frames: &mut Frames, pod: &[u8]) -> Result<()
     add_encoding(bytes, frames, u32_at(pod, 0) as usize, pod)
 }
 
-/// Adds the value of a pod: where a tree of any type may stand, the bytes of one that is its own rewriting are copied.
+/// Adds the value of a pod. Where a value of any type is allowed, the bytes of a canonical pod are copied.
 pub(crate) fn add_seen(bytes: &mut Written, frames: &mut Frames, pod: &Pod<'_>) -> Result<(), Errno>
     requires { IsHeld (held bytes.old frames.old) }
     ensures makes { (s : State) → IsAt (held bytes.old frames.old) s

@@ -1,4 +1,4 @@
-//! Values of any type, added.
+//! Adds values of any type.
 ghost use Rattle.std.specs.Prelude.{◌≡◌, ◌≢◌, ◌++◌, IfErr, IfOk, OnErr, OnOk, length};
 ghost use Rattle.spa_format.specs.Encoding.{encoding_of};
 ghost use Rattle.spa_format.specs.Kind.{Fixed};
@@ -18,7 +18,7 @@ use spa_value::Value;
 use spa_value::laws::trees_have_their_types;
 use spa_write::write_sized;
 
-/// What a builder answers where a value can't be written.
+/// The builder's error for a value that can't be written.
 fn errno_of(refusal: GenError) -> Errno
     ensures { result ≡ errno_of refusal }
 {
@@ -29,7 +29,7 @@ fn errno_of(refusal: GenError) -> Errno
     }
 }
 
-/// Appends the encoding of a value, and answers its length. A refused value changes nothing.
+/// Appends the encoding of a value, and answers its length in bytes. A refused value changes nothing.
 fn put_value(bytes: &mut Written, value: &Value) -> Result<usize, Errno>
     ensures length { IfOk result (λ n. n ≡ length (encoding_of (view value.now))) }
     ensures put { OnOk result (bytes.new ≡ bytes.old ++ encoding_of (view value.now)) }
@@ -47,7 +47,7 @@ fn put_value(bytes: &mut Written, value: &Value) -> Result<usize, Errno>
     }
 }
 
-/// Adds a value that isn't of fixed size, as it is written.
+/// Adds a value that isn't of fixed size, by its encoding.
 fn add_written(bytes: &mut Written, frames: &mut Frames, value: &Value) -> Result<(), Errno>
     requires holds { IsHeld (held bytes.old frames.old) }
     requires long { (x : Fixed) → view value.now ≢ fixed x }

@@ -3,7 +3,7 @@ use Rattle.std.specs.Prelude.{◌≡◌, ℕ, ◌+◌, ◌<◌, ◌≤◌, List,
 use Rattle.spa_format.specs.Words.{word_at, body_of, header_size, size_limit}
 use Rattle.spa_format.specs.Front.{HasFront, rest_of}
 
--- the front is there, and these are its type number, its body and what follows it
+-- the front is there, and these are its type number, its body and the bytes that follow it
 pub record Opens (input : List ℕ) (type : ℕ) (body rest : List ℕ) : Type 0 where
   pub there : HasFront input
   pub its_type : type ≡ word_at input 4

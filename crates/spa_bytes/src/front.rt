@@ -1,4 +1,4 @@
-//! The front of an input: the pod that its first size word names, where it is there.
+//! Opens the front of an input: the pod that its first size word names.
 ghost use Rattle.std.specs.Prelude.{◌≡◌, ◌+◌, ◌≤◌, IfNone, IfSome};
 ghost use Rattle.spa_format.specs.Front.{HasFront};
 ghost use Rattle.spa_format.specs.Words.{extent, header_size, size_limit};
@@ -13,11 +13,11 @@ pub struct Front<'de> {
     pub type_: u32,
     /// The bytes behind the header, as many as the size word says, without the padding.
     pub body: &'de [u8],
-    /// What follows the pod and its padding.
+    /// The bytes that follow the pod and its padding.
     pub rest: &'de [u8],
 }
 
-/// How many bytes a pod takes whose body has this many: its header, the body, and the padding.
+/// The length in bytes of a pod whose body has `size` bytes: its header, the body, and the padding.
 #[inline(always)]
 pub fn extent_of(size: u32) -> usize
     ensures extent { result ≡ extent size }
@@ -26,7 +26,7 @@ pub fn extent_of(size: u32) -> usize
     HEADER_LEN + (size as usize).div_ceil(HEADER_LEN) * HEADER_LEN
 }
 
-/// Opens the pod that the first size word names, where all of it is there.
+/// Opens the pod that the first size word names. None: it isn't all there.
 pub fn open(input: &[u8]) -> Option<Front<'_>>
     ensures there { IfSome result (λ front. Opens input.now front.type_ front.body.now front.rest.now) }
     ensures short { IfNone result (¬ (HasFront input.now)) }

@@ -1,4 +1,4 @@
-//! Numbers in bytes.
+//! Reads and writes numbers in bytes, least byte first.
 ghost use Rattle.std.specs.Prelude.{◌≡◌, ◌+◌, ◌≤◌, ◌++◌, drop, length, replicate, take};
 ghost use Rattle.spa_format.specs.Words.{word_bytes, wide_bytes, wide_at, word_at};
 
@@ -16,7 +16,7 @@ pub const POINTER_LEN: usize = 16;
 /// The length in bytes of a pointer's body whose address has four bytes, which is read and never written.
 pub const SHORT_POINTER_LEN: usize = 12;
 
-/// The word at this place, least byte first.
+/// The word at the offset `at`, least byte first.
 #[tactic(auto, unfolding(spa_format::specs::Words::word_at))]
 pub fn u32_at(bytes: &[u8], at: usize) -> u32
     requires { at + 4 ≤ length bytes.now }
@@ -26,7 +26,7 @@ pub fn u32_at(bytes: &[u8], at: usize) -> u32
     u32::from_le_bytes([word[0], word[1], word[2], word[3]])
 }
 
-/// The number in the eight bytes at this place, least byte first.
+/// The number of the eight bytes at the offset `at`, least byte first.
 #[tactic(auto, unfolding(spa_format::specs::Words::wide_at))]
 pub fn u64_at(bytes: &[u8], at: usize) -> u64
     requires { at + 8 ≤ length bytes.now }
@@ -38,7 +38,7 @@ pub fn u64_at(bytes: &[u8], at: usize) -> u64
     ])
 }
 
-/// Two words as bytes.
+/// The eight bytes of two words.
 #[tactic(auto, unfolding(spa_format::specs::Words::word_bytes))]
 pub fn two_words(first: u32, second: u32) -> [u8; 8]
     ensures { result ≡ word_bytes first ++ word_bytes second }
@@ -48,7 +48,7 @@ pub fn two_words(first: u32, second: u32) -> [u8; 8]
     [a, b, c, d, e, f, g, h]
 }
 
-/// A word as bytes, and four zeros.
+/// The four bytes of a word, and four zeros.
 #[tactic(auto, unfolding(spa_format::specs::Words::word_bytes))]
 pub fn word_body(number: u32) -> [u8; 8]
     ensures front { take 4 result ≡ word_bytes number }
@@ -58,7 +58,7 @@ pub fn word_body(number: u32) -> [u8; 8]
     [a, b, c, d, 0, 0, 0, 0]
 }
 
-/// A number in eight bytes.
+/// The eight bytes of a number.
 #[tactic(auto, unfolding(spa_format::specs::Words::wide_bytes))]
 pub fn wide_body(number: u64) -> [u8; 8]
     ensures { result ≡ wide_bytes number }
@@ -66,7 +66,7 @@ pub fn wide_body(number: u64) -> [u8; 8]
     number.to_le_bytes()
 }
 
-/// Eight bytes, and eight more.
+/// Eight bytes, and eight more behind them.
 pub fn joined(front: [u8; 8], back: [u8; 8]) -> [u8; 16]
     ensures { result ≡ front ++ back }
 {

@@ -1,5 +1,5 @@
-//! What a program's author writes over the library, known by its contracts alone: a video format, made call by call by the builder and
-//! taken apart again by the parser; and negotiation from bytes to bytes.
+//! Programs over the library, which know it by its contracts alone: a video format, which the builder makes call by call and the parser
+//! reads again; and negotiation from bytes to bytes.
 #![tactic(auto)]
 
 mod meeting;

@@ -35,7 +35,7 @@ pub fn negotiate_by_values(alloc: Global, a: &[u8], b: &[u8]) -> Result<Vec<u8>,
     ensures value { IfOk result (λ bytes. BeginBoth a.now b.now (MeetIn bytes.items)) }
     // and which needs no fixation;
     ensures fixated { IfOk result (λ bytes. IsTrue (all_settled (property_walk (properties_of bytes.items)))) }
-    // and a refusal is one that stands.
+    // and a refusal is a right one.
     ensures cause { IfErr result (AreFrontsRefused a.now b.now) }
 {
     meetings_are_plain();

@@ -62,15 +62,15 @@ impl<W: Write + Drop> IoSink<W> {
     }
 }
 
-/// What is written by one attempt after another.
+/// A device that is written to by one attempt after another.
 trait Attempts {
-    /// The bytes that it holds, where they are known.
+    /// The bytes that the device has, where they are known.
     ghost holds: { Self → Option (List ℕ) };
 
-    /// The first, handed these bytes, took so many of them and is the second; or it failed and is the second.
+    /// The device before, handed these bytes, took this many of them, or failed where the number is None, and is the device after.
     ghost attempts: { Self → List ℕ → Option ℕ → Self → Type 0 };
 
-    /// One write: how many bytes it took, or nothing where it failed.
+    /// One write: answers how many bytes the device took. None: it failed.
     fn attempt(&mut self, bytes: &[u8]) -> Option<usize>
         ensures { attempts self.old bytes.now result self.new };
 
@@ -94,8 +94,8 @@ impl<W: Write> Attempts for W {
     }
 }
 
-/// Hands the bytes over by one write after another, until all are taken or one fails, which isn't tried again. The answer is how
-/// many were taken, and whether one failed.
+/// Hands the bytes to the device by one write after another, until all are taken or a write fails, which isn't tried again. Answers
+/// how many bytes were taken, and whether a write failed.
 fn hand_over<D: Attempts>(device: &mut D, bytes: &[u8]) -> (usize, bool)
     ensures { Handed D.attempts device.new result.1 result.0 device.old bytes.now }
 {
@@ -127,14 +127,13 @@ impl<W: Write + Drop> PodSink for IoSink<W> {
 
     ghost never_large = { λ a b n r. no_other a b n TooLarge r (λ p. Prim.cc (p)) (λ p. Prim.cc (p)) };
 
-    /// Hands the device the bytes until it has taken them all. The first write that fails ends this with `Io`; the device has
-    /// taken a beginning of the bytes then. `Failed` is answered, and nothing is written, where one of the counts has no
-    /// room.
+    /// Hands the bytes to the device until it has taken them all. Refused as `Io` where a write fails: the device has taken a
+    /// beginning of the bytes then. Refused as `Failed`, and nothing is written, where one of the counts would overflow.
     fn append(&mut self, bytes: &[u8]) -> Result<(), GenError>
         ensures ok { OnOk result (Took W.contents self.old bytes.now self.new) }
         ensures begun { OnErr result ((count : ℕ) × Took W.contents self.old (take count bytes.now) self.new) }
         ensures cause { IfErr result (λ e. RefusesBytes self.old (length bytes.now) self.new e) }
-        // Where all bytes are taken no write failed, and where it is refused with `Io` one did.
+        // Where all bytes are taken no write failed, and where it is refused as `Io` one did.
         ensures all { OnOk result (self.new.failures ≡ self.old.failures) }
         ensures one { IfErr result (λ e. e ≡ Io → self.new.failures ≡ self.old.failures + 1) }
         ensures unchanged { IfErr result (λ e. e ≡ Failed → self.new ≡ self.old) }

@@ -1,4 +1,4 @@
-//! An input, read whole.
+//! Reads a whole input.
 ghost use Rattle.std.specs.Prelude.{IfOk};
 ghost use Rattle.spa_device.specs.Whole.{IsAllOf};
 
@@ -10,7 +10,7 @@ use std::io::{ErrorKind, Read};
 /// Why an input wasn't read whole.
 #[derive(Clone, Copy, Debug)]
 pub enum ReadError {
-    /// A growth was refused.
+    /// Memory ran out.
     OutOfMemory,
     /// The reader failed.
     Failed,
@@ -32,7 +32,7 @@ impl fmt::Display for ReadError {
 
 impl Error for ReadError {}
 
-/// All bytes that the reader gives.
+/// Reads all bytes that the reader gives.
 pub fn read_whole<R: Read>(alloc: Global, input: &mut R) -> Result<Vec<u8>, ReadError>
     ensures { IfOk result (λ bytes. IsAllOf (R.remaining input.old) bytes.items) }
 {

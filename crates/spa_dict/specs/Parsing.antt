@@ -1,4 +1,4 @@
--- What a text reads as: docs/FORMAT.md, "Dictionaries".
+-- The value as which a text reads: docs/FORMAT.md, "Dictionaries".
 use Rattle.std.specs.Prelude.{◌≡◌, ℕ, ◌<◌, ◌^◌, ◌⊎◌, ◌↔◌, IsTrue, List, Option, SomeIff, IsSomeAnd, ℤ, pos, Bool, codes, FitsSigned}
 use Rattle.std.specs.Str.Parse.{IsNumeral, digits_value, signed_digits_value, without_leading_plus, without_leading_sign}
 use Rattle.std.specs.Int.{Width, w32}
@@ -34,6 +34,6 @@ ReadsSigned w text answer = SomeIff answer (IsSignedText w text) (signed_of text
 abbrev pub IsTrueText : List ℕ → Type 0
 IsTrueText text = (text ≡ codes "true") ⊎ (IsSignedText w32 text × (signed_of text ≡ pos 1))
 
--- there is always an answer, and it is true exactly for those
+-- there is always an answer, and it is true exactly for such texts
 abbrev pub ReadsBool : List ℕ → Option Bool → Type 0
 ReadsBool text answer = IsSomeAnd answer (λ b. IsTrue b ↔ IsTrueText text)

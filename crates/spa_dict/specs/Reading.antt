@@ -1,4 +1,4 @@
--- What a look-up answers: docs/FORMAT.md, "Dictionaries".
+-- The answers of a look-up: docs/FORMAT.md, "Dictionaries".
 use Rattle.std.specs.Prelude.{◌≡◌, ℕ, List, Option, Some, None, Result, MatchOption, MatchResult}
 use Rattle.spa_dict.specs.Pairs.{Pair, pairs_of}
 use Rattle.spa_dict.specs.declared.dict.DictRef.{DictRef}
@@ -15,7 +15,7 @@ IsAnswerFor name reads text answer =
     MatchResult answer (λ v. reads text (Some v))
     (λ e. reads text None × (e.text.now ≡ text) × (e.type_name.now ≡ name))
 
--- the same of a value that may be missing: an answer is there exactly where the value is
+-- the answer for the text of a value that may be missing: there is one exactly where there is a value
 abbrev pub IsReadingOf : {T : Type 0} → List ℕ → (List ℕ → Option T → Type 0) → Option (List ℕ) → Option (Result T ParseValueError) → Type 0
 IsReadingOf name reads value found =
     MatchOption value (found ≡ None) (λ text. MatchOption found ⊥ (IsAnswerFor name reads text))

@@ -1,11 +1,11 @@
-//! Dictionaries over a borrowed list of pairs.
+//! Dictionaries: views of a borrowed list of pairs.
 ghost use Rattle.std.specs.Prelude.{⊤, ◌≡◌, ◌∷◌, [], codes, IsTrue, ◌↔◌, length};
 
 use crate::iter::{CIter, Iter, Keys, Values};
 use crate::parse::{ParsableValue, ParseValueError};
 use bitflags::{Flag, bitflag_items};
 
-/// A dictionary's flags. All bits are kept, and none changes a look-up.
+/// A dictionary's flags. All bits are kept, and no bit changes a look-up.
 #[derive(Clone, Copy, Debug, PartialEq, Eq)]
 pub struct Flags(u32);
 
@@ -51,7 +51,7 @@ impl<'a> DictRef<'a> {
     ghost use Rattle.spa_dict.specs.Left.{pairs_left, text_keys_left, text_pairs_left, text_values_left};
     ghost use Rattle.spa_dict.specs.Reading.{IsReadingOf, pairs};
 
-    /// The dictionary of those pairs.
+    /// The dictionary of these pairs, with these flags.
     pub fn new(items: &'a [(&'a [u8], &'a [u8])], flags: Flags) -> DictRef<'a>
         ensures pairs { pairs result ≡ pairs_of items.now }
         ensures flags { result.flags ≡ flags }
@@ -66,7 +66,7 @@ impl<'a> DictRef<'a> {
         CIter { items: self.items }
     }
 
-    /// The pairs in order whose key and value both are UTF-8.
+    /// The pairs whose key and value both are UTF-8, in order.
     pub fn iter(&self) -> Iter<'a>
         ensures { text_pairs_left result ≡ text_pairs (pairs self.now) }
     {
@@ -75,7 +75,7 @@ impl<'a> DictRef<'a> {
         }
     }
 
-    /// The keys in order that are UTF-8.
+    /// The keys that are UTF-8, in order.
     pub fn keys(&self) -> Keys<'a>
         ensures { text_keys_left result ≡ text_keys (pairs self.now) }
     {
@@ -84,7 +84,7 @@ impl<'a> DictRef<'a> {
         }
     }
 
-    /// The values in order that are UTF-8.
+    /// The values that are UTF-8, in order.
     pub fn values(&self) -> Values<'a>
         ensures { text_values_left result ≡ text_values (pairs self.now) }
     {
@@ -114,7 +114,7 @@ impl<'a> DictRef<'a> {
         self.flags
     }
 
-    /// The value of the first pair with that key, among the pairs that are UTF-8 on both sides.
+    /// The value of the first pair with this key, among the pairs whose key and value are UTF-8. None: no such pair has it.
     pub fn get(&self, key: &str) -> Option<&'a str>
         ensures { option_map (λ value. value.now) result ≡ first_value key.now (text_pairs (pairs self.now)) }
     {
@@ -127,8 +127,8 @@ impl<'a> DictRef<'a> {
         None
     }
 
-    /// What `get` answers, read as a `T`. It is refused where the text is no text of a `T`, with the
-    /// text and the name of `T`.
+    /// The text that `get` answers, read as a `T`; None where `get` answers none. Refused where the text is no text of a `T`, with
+    /// the text and the name of `T`.
     pub fn parse<T: ParsableValue>(&self, key: &str) -> Option<Result<T, ParseValueError<'a>>>
         ensures { IsReadingOf T.its_name T.reads (first_value key.now (text_pairs (pairs self.now))) result }
     {

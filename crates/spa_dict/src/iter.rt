@@ -1,4 +1,4 @@
-//! The pairs of a dictionary one after another, as bytes or as text.
+//! Iterators over the pairs of a dictionary, as bytes or as text.
 ghost use Rattle.std.specs.Prelude.{◌≡◌, length, IfSome, Some};
 ghost use Rattle.std.specs.Iterator.{UpTo, YieldsFirstBy, item_count};
 ghost use Rattle.std.specs.Iterator.SizeHint.{IsWithinCount};
@@ -6,7 +6,7 @@ ghost use Rattle.spa_dict.specs.Pairs.{pair_of, text_keys, text_pairs, text_valu
 
 use std::str;
 
-/// All pairs in order, as bytes.
+/// An iterator over all pairs in order, as bytes.
 #[derive(Clone, Debug, Drop)]
 pub struct CIter<'a> {
     pub(crate) items: &'a [(&'a [u8], &'a [u8])],
@@ -39,7 +39,7 @@ impl<'a> Iterator for CIter<'a> {
     }
 }
 
-/// The pairs in order whose key and value both are UTF-8.
+/// An iterator over the pairs whose key and value both are UTF-8, in order.
 #[derive(Debug, Drop)]
 pub struct Iter<'a> {
     pub(crate) inner: CIter<'a>,
@@ -66,7 +66,7 @@ impl<'a> Iterator for Iter<'a> {
         None
     }
 
-    /// No lower bound, and as an upper one the number of pairs that are left: any of them may not be text.
+    /// The lower bound is 0, and the upper one the number of pairs that are left, since any of them may not be text.
     #[tactic(auto, using(crate::proofs::Filtering::fewer_pairs, crate::proofs::Filtering::pairs_counted))]
     fn size_hint(&self) -> (usize, Option<usize>)
         ensures lower { IsWithinCount result.0 (item_count text_pairs_left self.now) }
@@ -77,7 +77,7 @@ impl<'a> Iterator for Iter<'a> {
     }
 }
 
-/// The keys in order that are UTF-8, whatever their values are.
+/// An iterator over the keys that are UTF-8, in order, whatever their values are.
 #[derive(Debug, Drop)]
 pub struct Keys<'a> {
     pub(crate) inner: CIter<'a>,
@@ -101,7 +101,7 @@ impl<'a> Iterator for Keys<'a> {
         None
     }
 
-    /// No lower bound, and as an upper one the number of pairs that are left: any of them may not be text.
+    /// The lower bound is 0, and the upper one the number of pairs that are left, since any of them may not be text.
     #[tactic(auto, using(crate::proofs::Filtering::fewer_keys, crate::proofs::Filtering::pairs_counted))]
     fn size_hint(&self) -> (usize, Option<usize>)
         ensures lower { IsWithinCount result.0 (item_count text_keys_left self.now) }
@@ -112,7 +112,7 @@ impl<'a> Iterator for Keys<'a> {
     }
 }
 
-/// The values in order that are UTF-8, whatever their keys are.
+/// An iterator over the values that are UTF-8, in order, whatever their keys are.
 #[derive(Debug, Drop)]
 pub struct Values<'a> {
     pub(crate) inner: CIter<'a>,
@@ -136,7 +136,7 @@ impl<'a> Iterator for Values<'a> {
         None
     }
 
-    /// No lower bound, and as an upper one the number of pairs that are left: any of them may not be text.
+    /// The lower bound is 0, and the upper one the number of pairs that are left, since any of them may not be text.
     #[tactic(auto, using(crate::proofs::Filtering::fewer_values, crate::proofs::Filtering::pairs_counted))]
     fn size_hint(&self) -> (usize, Option<usize>)
         ensures lower { IsWithinCount result.0 (item_count text_values_left self.now) }

@@ -1,4 +1,4 @@
-//! Values of a dictionary read as truth values and integers.
+//! Reads values of a dictionary as truth values and integers.
 ghost use Rattle.std.specs.Prelude.{◌≡◌, ℕ, List, Option, codes};
 ghost use Rattle.std.specs.Int.{w8, w16, w32, w64, w128};
 ghost use Rattle.spa_dict.specs.Parsing.{ReadsBool, ReadsSigned, ReadsUnsigned};
@@ -14,14 +14,14 @@ pub trait ParsableValue: Copy {
     /// The bytes of the type's name.
     ghost its_name: { List ℕ };
 
-    // Holds of a text's bytes and of what `parse_value` may answer for them.
+    // The relation of a text's bytes and the answers of `parse_value` for them.
     ghost reads: { List ℕ → Option Self → Type 0 };
 
     /// The type's name, which is `TYPE_NAME`: a call, so that contracts can speak of it.
     fn name() -> &'static str
         ensures { result.now ≡ its_name };
 
-    /// What the text reads as, or `None` where it is no text of this type.
+    /// The value as which the text reads. None: it is no text of this type.
     fn parse_value(value: &str) -> Option<Self>
         ensures { reads value.now result };
 }
@@ -235,7 +235,7 @@ impl ParsableValue for usize {
     }
 }
 
-/// A value that couldn't be read as the type that was asked for.
+/// The refusal of a text that can't be read as the type that was asked for.
 #[derive(Debug, PartialEq, Eq, Drop)]
 pub struct ParseValueError<'a> {
     pub(crate) text: &'a str,

@@ -125,7 +125,7 @@ stands_next input old events count l e s h lt =
           ∙ ap (λ z. z ++ rest_events input (count + 1) (level_inside count e ∷ level_behind l e ∷ s.around)) (sym (take_more_set events count e lt));
     }
 
--- the same where nothing is inside it
+-- the step past a pod with no pods in it: the level behind it comes next
 stands_behind : (input : List ℕ) (old events : List Event) (count : ℕ) (l : Level) (e : Event) → Stands input old events count l → HasNext input l e →
     count < length events → holds_pods e.type_ e.size ≡ false → Stands input old (slice_set events count e) (count + 1) (level_behind l e)
 stands_behind input old events count l e s h lt none =

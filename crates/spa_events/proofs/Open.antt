@@ -6,7 +6,7 @@ use Rattle.spa_events.specs.Levels.{behind, bytes_left, event_at, level_from, le
 use Rattle.spa_events.specs.declared.event.Event.{Event}
 use Rattle.spa_events.specs.declared.level.Level.{Level}
 
--- what is still to be told of a level, the first of it at this place of the list
+-- the events that are left of a level, the first of which has this index in the list
 abbrev pub level_events : List ℕ → ℕ → Level → List Event
 level_events input index l =
     events_along l.before (events_within (length input - l.depth) l.depth l.parent) index l.at (walk_behind l.before (bytes_left input l))
@@ -17,14 +17,14 @@ rest_events input index [] = []
 rest_events input index (l ∷ ls) =
     level_events input index l ++ rest_events input (index + length (level_events input index l)) ls
 
--- a level lies within the input, and each level around it took a byte before it
+-- a level is within the input, and each level around it took a byte before it
 pub record Fits (input : List ℕ) (l : Level) : Type 0 where
   pub order : l.at ≤ l.end
   pub within : l.end ≤ length input
   pub before : l.before ≤ 8
   pub deep : l.depth ≤ l.at
 
--- the level is inside the pod that is told of at its parent, and the other one is what follows that pod
+-- the level is inside the pod whose event is its parent's, and the other level is what follows that pod
 pub record IsOpen (input : List ℕ) (events : List Event) (count : ℕ) (l outer : Level) : Type 0 where
   pub there : l.parent < count
   pub inside : l ≡ level_from l.at l.parent (event_at events l.parent)
@@ -39,7 +39,7 @@ abbrev pub AreAround : List ℕ → List Event → ℕ → Level → List Level 
 AreAround input events count l [] = Fits input l × (l ≡ level_of_input (length input) l.at)
 AreAround input events count l (m ∷ ms) = Fits input l × IsOpen input events count l m × AreAround input events count m ms
 
--- so many events are written, and of what is told of the input there is left what is told of the levels that are open
+-- this many events are written, and of the events of the input those of the open levels are left
 pub record Stands (input : List ℕ) (old events : List Event) (count : ℕ) (l : Level) : Type 0 where
   pub room : count ≤ length events
   pub kept : drop count events ≡ drop count old

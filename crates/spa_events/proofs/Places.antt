@@ -1,4 +1,4 @@
--- Where the pods inside a pod lie.
+-- The offsets of the pods in a pod.
 use Rattle.std.proofs.Common.{◌≡◌, ℕ, ◌+◌, ◌-◌, ◌≤◌, inl, inr, List, [], length, take, drop, refl, sym, ap, ◌∙◌, arith, length-take}
 use Rattle.std.specs.Prelude.{Bool, true, false, if◌then◌else◌, cond, nat_eq, nat_le}
 use Rattle.std.proofs.lemmas.Bool.Decides.{leb_tells}

@@ -1,4 +1,4 @@
--- What is still to be told, before and behind a step.
+-- The events that are left, before and after a step.
 use Rattle.std.proofs.Common.{◌≡◌, ℕ, suc, ◌+◌, ◌-◌, ◌<◌, ◌≤◌, List, [], ◌∷◌, ◌++◌, length, take, drop, refl, sym, ap, subst, ◌∙◌, arith, length-append, length-take, append_assoc, append-nil}
 use Rattle.std.specs.Prelude.{Bool, true, false, cond, if◌then◌else◌}
 use Rattle.std.proofs.Math.Seq.{take-length}
@@ -17,7 +17,7 @@ pub events_within-none : (depth parent index at : ℕ) (pod : List ℕ) → even
 unfolding events_within
 events_within-none depth parent index at pod = refl
 
--- what is told of a pod is its event, and what is inside it
+-- the events of a pod are its own, and those of the pods in it
 pub events_within-there : (n depth parent index at : ℕ) (pod : List ℕ) →
     events_within (suc n) depth parent index at pod
     ≡ told depth parent at pod
@@ -62,7 +62,7 @@ next_whole input l e f h =
     let o = f.order in
     omega arith
 
--- the event of the first pod, and what is told of what is inside it
+-- the event of the first pod, and the events of the pods in it
 first_told : (input : List ℕ) (index : ℕ) (l : Level) (e : Event) → Fits input l → HasNext input l e →
     events_within (length input - l.depth) l.depth l.parent index (l.at + l.before)
     (drop l.before (take (extent_behind l.before (bytes_left input l)) (bytes_left input l)))
@@ -117,12 +117,12 @@ level_step input index l e f h =
     ∙ ap (λ z. (e ∷ level_events input (index + 1) (level_inside index e)) ++ events_along k tell (index + length (e ∷ level_events input (index + 1) (level_inside index e))) (behind e) (walk_behind k z))
     (drop_part n l.at l.end input (omega arith) ∙ ap (λ y. take (l.end - y) (drop y input)) er)
 
--- nothing is told of a level that none is left of
+-- a level without pods left has no events
 pub level_end : (input : List ℕ) (index : ℕ) (l : Level) → HasNoNext input l → level_events input index l ≡ []
 level_end input index l h =
     ap (events_along l.before (events_within (length input - l.depth) l.depth l.parent) index l.at) (walk_behind-end l.before (bytes_left input l) h)
 
--- what was to be told of the levels is the event, and then what is told of the levels with the one inside it
+-- the events that were left of the levels are this event, and then those of the levels with the one inside its pod
 pub rest_step : (input : List ℕ) (index : ℕ) (l : Level) (ls : List Level) (e : Event) → Fits input l → HasNext input l e →
     rest_events input index (l ∷ ls) ≡ e ∷ rest_events input (index + 1) (level_inside index e ∷ level_behind l e ∷ ls)
 rest_step input index l ls e f h =
@@ -155,7 +155,7 @@ inside_none false false s a input h =
 pub none_inside : (input : List ℕ) (index : ℕ) (e : Event) → holds_pods e.type_ e.size ≡ false → HasNoNext input (level_inside index e)
 none_inside input index e h = inside_none (is_struct e.type_) (is_object e.type_ e.size) e.size (e.at + 8) input h
 
--- all that is told of an input is to be told of its own level
+-- the events of an input are those of its own level
 pub rest_first : (input : List ℕ) → events_of input ≡ rest_events input 0 (level_of_input (length input) 0 ∷ [])
 unfolding events_of
 rest_first input =

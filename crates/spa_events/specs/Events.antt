@@ -1,15 +1,15 @@
--- What lies inside an input, told pod by pod: docs/FORMAT.md, "What lies inside".
+-- The nested pods of an input, one event a pod: docs/FORMAT.md, "What lies inside".
 use Rattle.std.specs.Prelude.{◌≡◌, ℕ, zero, suc, ◌+◌, ◌<◌, Bool, List, [], ◌∷◌, ◌++◌, length, take, drop, if◌then◌else◌, cond, false, nat_eq, nat_le}
 use Rattle.spa_format.specs.Words.{word_at, body_of, header_size}
 use Rattle.spa_format.specs.Tree.{struct_type, object_type}
 use Rattle.spa_format.specs.Walk.{properties_of, property_walk, walk}
 use Rattle.spa_events.specs.declared.event.Event.{Event}
 
--- the parent of a pod that stands in no other
+-- the parent of a pod that is in no other
 abbrev pub no_parent : ℕ
 no_parent = 18446744073709551615
 
--- what is told of a pod that begins at this byte and stands in so many structs and objects, the innermost of which is told of at `parent`
+-- the event of a pod that begins at this byte and is nested in this many containers, where `parent` is the index of the innermost one's event
 abbrev pub told : ℕ → ℕ → ℕ → List ℕ → Event
 told depth parent at pod = record {
   type_ = word_at pod 4;
@@ -26,26 +26,26 @@ is_struct type = nat_eq type struct_type
 abbrev pub is_object : ℕ → ℕ → Bool
 is_object type size = cond (nat_eq type object_type) (nat_le header_size size) false
 
--- how many bytes stand before each pod inside one of this type and size: key and flags, or none
+-- how many bytes are before each pod in a pod of this type and size: 8 of key and flags, or none
 abbrev pub bytes_before : ℕ → ℕ → ℕ
 bytes_before type size = if is_object type size then header_size else 0
 
--- the pods inside a pod, each with these bytes: the members of a struct, the properties of an object, of any other none
+-- the pods in a pod, each with the bytes before it: the members of a struct, the properties of an object, of any other pod none
 abbrev pub pods_inside : List ℕ → List (List ℕ)
 pods_inside pod =
     if is_struct (word_at pod 4)
     then walk (body_of pod)
     else (if is_object (word_at pod 4) (word_at pod 0) then property_walk (properties_of pod) else [])
 
--- What a teller tells of pods one after another, with so many bytes before each. It is told where in the list the pod's own event
--- stands, at which byte the pod begins, and the pod.
+-- The events of pods one after another, each with `before` bytes before it. The function `tell` gives the events of one pod, by the index that
+-- its own event will have in the list, the byte at which it begins, and the pod.
 abbrev pub events_along : ℕ → (ℕ → ℕ → List ℕ → List Event) → ℕ → ℕ → List (List ℕ) → List Event
 events_along before tell index at [] = []
 events_along before tell index at (p ∷ ps) =
     tell index (at + before) (drop before p)
     ++ events_along before tell (index + length (tell index (at + before) (drop before p))) (at + length p) ps
 
--- what is told of a pod and of all inside it, so many levels deep at most: the pod, and then those inside it in order
+-- the events of a pod and of all pods in it, down to this nesting depth: its own, and then those of the pods in it, in order
 unfoldable pub events_within : ℕ → ℕ → ℕ → ℕ → ℕ → List ℕ → List Event
 events_within zero depth parent index at pod = []
 events_within (suc n) depth parent index at pod =
@@ -53,11 +53,11 @@ events_within (suc n) depth parent index at pod =
     ∷ events_along (bytes_before (word_at pod 4) (word_at pod 0)) (events_within n (depth + 1) index) (index + 1)
     (at + header_size + bytes_before (word_at pod 4) (word_at pod 0)) (pods_inside pod)
 
--- What is told of an input: of the pods that stand one after another in it, and of all inside them. There are no more levels than bytes.
+-- The events of an input: of the pods one after another in it, and of all pods in them. There are no more levels than bytes.
 unfoldable pub events_of : List ℕ → List Event
 events_of input = events_along 0 (events_within (length input) 0 no_parent) 0 0 (walk input)
 
--- all of it is at the front of the output, so many events, and behind them it is as it was
+-- all `count` events of the input are at the front of the output, which is unchanged behind them
 pub record IsListed (input : List ℕ) (count : ℕ) (old new : List Event) : Type 0 where
   pub counted : count ≡ length (events_of input)
   pub front : new ≡ events_of input ++ drop count old

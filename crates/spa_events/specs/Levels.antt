@@ -1,4 +1,4 @@
--- Pods one after another that are still to come, and those inside and around them.
+-- A level: pods one after another that are still to be listed; and the levels inside it and around it.
 use Rattle.std.specs.Prelude.{Bool, true, ◌≡◌, ◌≢◌, ℕ, ◌+◌, ◌-◌, ◌<◌, ◌≤◌, List, length, take, drop, if◌then◌else◌, cond, nat_eq, slice_index_or}
 use Rattle.spa_format.specs.Words.{extent, header_size}
 use Rattle.spa_format.specs.Walk.{extent_behind}
@@ -6,24 +6,24 @@ use Rattle.spa_events.specs.Events.{bytes_before, is_object, is_struct, no_paren
 use Rattle.spa_events.specs.declared.event.Event.{Event}
 use Rattle.spa_events.specs.declared.level.Level.{Level}
 
--- the bytes that they stand in
+-- the bytes of the pods of a level that are left
 abbrev pub bytes_left : List ℕ → Level → List ℕ
 bytes_left input level = take (level.end - level.at) (drop level.at input)
 
--- the first of them is there, and this is told of it
+-- the first pod of the level is there, and this is its event
 pub record HasNext (input : List ℕ) (level : Level) (event : Event) : Type 0 where
   pub whole : extent_behind level.before (bytes_left input level) ≤ length (bytes_left input level)
   pub told_of : event ≡ told level.depth level.parent (level.at + level.before) (drop level.before (bytes_left input level))
 
--- none of them is there
+-- the level has no pod any more
 abbrev pub HasNoNext : List ℕ → Level → Type 0
 HasNoNext input level = length (bytes_left input level) < extent_behind level.before (bytes_left input level)
 
--- how many bytes of a body of this type and size hold pods
+-- how many bytes of a body of this type and size are those of nested pods
 abbrev pub bytes_held : ℕ → ℕ → ℕ
 bytes_held type size = if is_struct type then size else (if is_object type size then size else 0)
 
--- the pods inside one that is told of at this place of the list
+-- the level inside the pod whose event has this index
 abbrev pub level_inside : ℕ → Event → Level
 level_inside index event = record {
   at = event.at + header_size + bytes_before event.type_ event.size;
@@ -33,7 +33,7 @@ level_inside index event = record {
   parent = index;
 }
 
--- whether pods lie inside a pod of this type and size
+-- whether a pod of this type and size has pods in it
 abbrev pub holds_pods : ℕ → ℕ → Bool
 holds_pods type size = cond (is_struct type) true (is_object type size)
 
@@ -44,11 +44,11 @@ no_event = record { type_ = 0; size = 0; depth = 0; at = 0; parent = 0 }
 abbrev pub event_at : List Event → ℕ → Event
 event_at events index = slice_index_or events index no_event
 
--- the pods of an input of so many bytes, from this byte on
+-- the level of the pods of an input of this many bytes, from this byte on
 abbrev pub level_of_input : ℕ → ℕ → Level
 level_of_input len at = record { at = at; end = len; before = 0; depth = 0; parent = no_parent }
 
--- the pods inside the one at this place of the list, from this byte on
+-- the level inside the pod whose event has this index, from this byte on
 abbrev pub level_from : ℕ → ℕ → Event → Level
 level_from at index event = record {
   at = at;
@@ -62,7 +62,7 @@ level_from at index event = record {
 abbrev pub behind : Event → ℕ
 behind event = event.at + extent event.size
 
--- the pods behind the first one of a level
+-- the level behind its first pod
 abbrev pub level_behind : Level → Event → Level
 level_behind level event = record {
   at = behind event;
@@ -72,12 +72,12 @@ level_behind level event = record {
   parent = level.parent;
 }
 
--- the pods to go on with once the first one of a level is told of at this place: those inside it, or where it holds none those behind it
+-- the level that comes next once the first pod's event is listed at this index: the one inside that pod, or, where it has none, the one behind it
 abbrev pub level_following : ℕ → Level → Event → Level
 level_following index level event =
     if holds_pods event.type_ event.size then level_inside index event else level_behind level event
 
--- the pods that follow the one that is told of at this place of the list, in what that one stands in
+-- the level behind the pod whose event has this index, in the container around it
 abbrev pub level_around : ℕ → List Event → ℕ → Level
 level_around len events parent =
     let event = event_at events parent in

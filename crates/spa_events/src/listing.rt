@@ -1,14 +1,14 @@
-//! The list of all that lies inside an input.
+//! Lists the events of an input.
 ghost use Rattle.std.specs.Prelude.{IfNone, IfSome};
 ghost use Rattle.spa_events.specs.Events.{IsFilled, IsListed};
 
 use crate::event::{Event, NO_PARENT};
 use crate::level::{Level, following, next_event, outside};
 
-/// Writes what is told of each pod that the input consists of, and of each inside it, to the front of `out`, and says how many
-/// they are: a pod comes before those inside it, and these before what follows it.
+/// Writes one event for each pod that the input consists of, and for each nested pod, to the front of `out`, and answers how many there
+/// are: a pod's event comes before those of the pods in it, and these before those of the pods that follow it.
 ///
-/// None: there are more than `out` has room for, and it is full of the first of them.
+/// None: there are more events than `out` has room for, and it is full of the first of them.
 pub fn list_events(input: &[u8], out: &mut [Event]) -> Option<usize>
     ensures listed { IfSome result (λ count. IsListed input.now count out.old out.new) }
     ensures filled { IfNone result (IsFilled input.now out.new) }

@@ -1,4 +1,4 @@
--- Two values of which none is admitted by both, as their pods tell.
+-- Two values that admit no value both, by their pods.
 use Rattle.std.proofs.Common.{◌≡◌, ◌≢◌, ◌&&◌, Bool, true, false, ℕ, ◌<◌, ◌≤◌, List, [], ◌∷◌, length, take, drop, refl, sym, ap, ◌∙◌, subst, arith, length-drop}
 use Rattle.std.specs.List.{All}
 use Rattle.std.proofs.lemmas.List.Elements.{All-cons, All-nil, All-contains}
@@ -148,7 +148,7 @@ and_swapped true false h = refl
 and_swapped false true h = refl
 and_swapped false false h = refl
 
--- the same in the other order
+-- two values are apart in either order
 pub apart_swapped : (v w : Tree) → AreApart w v → AreApart v w
 apart_swapped v w a s h =
     a (s.1, s.0, (and_swapped (is_bounded v) (is_flags w) s.2.1, and_swapped (is_flags v) (is_bounded w) s.2.0)) (h.0, (h.1.1, h.1.0))

@@ -51,7 +51,7 @@ module _ (v w : Tree) (P Q : Fixed → Type 0) (d e : Fixed) (i : IsOffer v P d)
   ValuesMeet-offers None n = λ h. none_at n h.0 h.1
   ValuesMeet-offers (Some y) m = IsMeeting-offers (view y) m
 
-  -- the same of an answer
+  -- the value in which two meet, by a search for it that may be refused
   pub ValuesMeet-answer : {E : Type 0} (r : Result (Option Value) E) → IfOk r (Outcome P Q d e) →
       IfOk r (ValuesMeet v w)
   ValuesMeet-answer (Ok o) h = ValuesMeet-offers o h

@@ -1,4 +1,4 @@
--- What two values filter to, from pod to pod.
+-- The value to which two filter, from their pods to its pod.
 use Rattle.std.specs.Prelude.{⊤, ◌≡◌, ◌≢◌, ℕ, List, ◌∷◌, ◌++◌, map}
 use Rattle.spa_format.specs.Words.{word_at}
 use Rattle.spa_format.specs.Kind.{Kind, Fixed, content}
@@ -13,47 +13,47 @@ use Rattle.spa_filter.specs.declared.error.FilterError.TheVariants as error
 use Rattle.spa_filter.specs.declared.refused.Refused.{Refused}
 use Rattle.spa_filter.specs.declared.refused.Refused.TheVariants.{Apart, TooLarge, OutOfMemory}
 
--- a pod of this value, as it is written
+-- the canonical pod of this value
 pub record IsWritten (v : Tree) (pod : List ℕ) : Type 0 where
   pub its_pod : IsPod pod v
   pub same : pod ≡ encoding_of v
 
--- a value of this type has this body
+-- the value is of this type, and these bytes are a body of it
 pub record HasBody (v : Tree) (type : ℕ) (body : List ℕ) : Type 0 where
   pub its_type : type_of v ≡ type
   pub content : IsBody v body
 
--- the pod of a value was appended, as it is written
+-- the canonical pod of the value was appended
 pub record IsAppended (y : Tree) (old new : List ℕ) : Type 0 where
   pub pod : List ℕ
   pub written : IsWritten y pod
   pub parts : new ≡ old ++ pod
 
--- the pod of a value to which the two filter was appended, as it is written
+-- the two values are supported, and the canonical pod of a value to which they filter was appended
 pub record IsCommonAppended (v w : Tree) (old new : List ℕ) : Type 0 where
   pub value : Tree
   pub supported : AreSupported v w
   pub meeting : IsMeeting v w value
   pub appended : IsAppended value old new
 
--- the plain value v is one that the choice w admits
+-- the value v is plain, and the choice w is supported and admits it
 pub record IsOffered (v w : Tree) : Type 0 where
   pub plain : IsPlain v
   pub supported : IsSupported w
   pub admitted : Admits w v
 
--- these are the bodies of the values of an Enum with this body, its default first
+-- the Enum with this body has this default, and these are the bodies of its values, the default's first
 pub record AreEnumValues (k : Kind) (default : Fixed) (values : List (List ℕ)) (body : List ℕ) : Type 0 where
   pub flags : ℕ
   pub others : List Fixed
   pub contents : map (content k) values ≡ default ∷ others
   pub its_body : IsBody (choice enum_choice flags k default others) body
 
--- where a common value is sought for the two, none is there
+-- the two aren't supported, or no value is admitted by both
 abbrev pub AreApart : Tree → Tree → Type 0
 AreApart v w = AreSupported v w → ¬ (HasCommon v w)
 
--- the two filter to a value in whose encoding a size word is past 32 bits
+-- the two are supported and filter to a value in whose encoding a size doesn't fit a word of 32 bits
 pub record IsCommonTooLarge (v w : Tree) : Type 0 where
   pub value : Tree
   pub supported : AreSupported v w
@@ -72,7 +72,7 @@ IsOfferRefused v w Apart = AreApart v w
 IsOfferRefused v w TooLarge = ⊥
 IsOfferRefused v w OutOfMemory = ⊤
 
--- why it wasn't, as the two stand under a key
+-- the refusal of two values under a key, for which no pod was appended
 abbrev pub IsPodRefusal : ℕ → Tree → Tree → FilterError → Type 0
 IsPodRefusal key v w error.TooLarge = IsCommonTooLarge v w
 IsPodRefusal key v w e = IsValueRefusal key v w e

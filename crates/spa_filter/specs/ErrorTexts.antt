@@ -5,7 +5,7 @@ use Rattle.spa_keyed_objects.specs.Sides.{side_text}
 use Rattle.spa_filter.specs.declared.error.FilterError.{FilterError}
 use Rattle.spa_filter.specs.declared.error.FilterError.TheVariants as error
 
--- a refusal in words
+-- the text as which a refusal is displayed
 abbrev pub error_text : FilterError → List ℕ
 error_text error.TypeMismatch = codes "the objects are of two types"
 error_text (error.Missing key) = codes "key " ++ (decimal key ++ codes " is mandatory in one object, and the other lacks it")

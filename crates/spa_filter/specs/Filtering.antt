@@ -6,22 +6,22 @@ use Rattle.spa_keyed_objects.specs.Keys.{Offered, key_list, keys_of, offered_at}
 use Rattle.spa_offers.specs.Admits.{AreSupported, HasCommon, IsMeeting}
 use Rattle.spa_filter.specs.Keys.{IsMandatory}
 
--- The flags and the value x are what two sides filter to under one key: where both have it, the flags of
--- both, and a value that admits exactly what both values admit; where one has it, what that one has.
+-- The flags and the value x are those to which the two sides filter under one key: where both have it, the flags that
+-- both have, and a value that admits exactly what both values admit; where one has it, the flags and the value of that one.
 abbrev pub Filters : Option Offered → Option Offered → ℕ → Tree → Type 0
 Filters (Some a) (Some b) flags x = (flags ≡ bit_and a.flags b.flags) × IsMeeting a.value b.value x
 Filters (Some a) None flags x = (flags ≡ a.flags) × (x ≡ a.value)
 Filters None (Some b) flags x = (flags ≡ b.flags) × (x ≡ b.value)
 Filters None None flags x = ⊥
 
--- each property is what the two sides filter to under its key
+-- each property has the flags and the value to which the two sides filter under its key
 abbrev pub FiltersEach : (ours theirs : Properties) → Properties → Type 0
 FiltersEach ours theirs no_properties = ⊤
 FiltersEach ours theirs (property key flags x rest) =
     Filters (offered_at key ours) (offered_at key theirs) flags x × FiltersEach ours theirs rest
 
--- met has each key of these properties once, in the order of their first places, and what the two sides filter to
--- under it
+-- met has each key of these properties once, in the order in which they first occur, with the flags and the value to which
+-- the two sides filter under it
 pub record FiltersKeys (ours theirs these met : Properties) : Type 0 where
   pub keys : key_list met ≡ keys_of these
   pub values : FiltersEach ours theirs met
@@ -34,7 +34,7 @@ Agree (Some a) None = ¬ (IsMandatory a.flags)
 Agree None (Some b) = ¬ (IsMandatory b.flags)
 Agree None None = ⊤
 
--- the same of the properties of the two sides
+-- the two sides, with these properties, agree under this key
 abbrev pub AgreeAt : Properties → Properties → ℕ → Type 0
 AgreeAt ours theirs key = Agree (offered_at key ours) (offered_at key theirs)
 
@@ -44,8 +44,8 @@ CanFilter (object type our_id ours) (object its_type its_id theirs) =
     (its_type ≡ type) × All (AgreeAt ours theirs) (keys_of (join_properties ours theirs))
 CanFilter _ _ = ⊥
 
--- The two objects, of one type, filter to the third, which has that type and the first's id. It has the keys
--- of the first and then those that the second alone has, each once, with what the two filter to under it.
+-- The two objects, of one type, filter to the third, which has that type and the first's id. It has the keys of the first and then
+-- those that only the second has, each once, with the flags and the value to which the two filter under it.
 abbrev pub IsFilter : Tree → Tree → Tree → Type 0
 IsFilter (object type our_id ours) (object its_type its_id theirs) (object met_type met_id met) =
     (its_type ≡ type) × (met_type ≡ type) × (met_id ≡ our_id)

@@ -1,4 +1,4 @@
--- What is said of filtered keys, over lists of properties as the code has them.
+-- Filtered keys, over the lists of properties that the code has.
 use Rattle.std.specs.Prelude.{◌≡◌, List}
 use Rattle.std.specs.List.{All}
 use Rattle.spa_format.specs.Tree.{Properties, join_properties}
@@ -9,15 +9,15 @@ use Rattle.spa_keyed_objects.specs.PropertyLists.{HasKeys}
 use Rattle.spa_filter.specs.Filtering.{FiltersKeys, AgreeAt}
 use Rattle.spa_filter.specs.declared.filtering.Filtered.{Filtered}
 
--- the properties that were filtered so far are what the two sides filter to under these keys, and agree
--- under each; and the set has the keys
+-- the outcome so far has the properties to which the two sides filter under these keys, the sides agree under each,
+-- and the set has the keys
 pub record IsFiltered (ours theirs : List Property) (these : Properties) (f : Filtered) : Type 0 where
   pub filters : FiltersKeys (property_views ours) (property_views theirs) these (property_views f.met.properties.items)
   pub agree : All (AgreeAt (property_views ours) (property_views theirs))
       (key_list (property_views f.met.properties.items))
   pub keys : HasKeys f.keys these
 
--- a side's properties stand behind others in those of both sides
+-- the properties of `side` come next behind those of `before` in the joined properties of both sides
 pub record IsPart (ours theirs before side : List Property) : Type 0 where
   pub rest : Properties
   pub whole : join_properties (property_views ours) (property_views theirs)

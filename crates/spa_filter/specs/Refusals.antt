@@ -25,7 +25,7 @@ abbrev pub AreDisjoint : Option Offered → Option Offered → Type 0
 AreDisjoint (Some a) (Some b) = AreSupported a.value b.value × ¬ (HasCommon a.value b.value)
 AreDisjoint _ _ = ⊥
 
--- this is the first of the keys of either side, our keys first, under which the two don't agree, and this stands there
+-- of the keys of both sides, ours first, this is the first under which the two don't agree, and the refusal `Stands` holds there
 pub record IsRefusedAt (Stands : Option Offered → Option Offered → Type 0)
     (ours theirs : Properties) (key : ℕ) : Type 0 where
   pub before : List ℕ
@@ -34,14 +34,14 @@ pub record IsRefusedAt (Stands : Option Offered → Option Offered → Type 0)
   pub agreed : All (AgreeAt ours theirs) before
   pub stands : Stands (offered_at key ours) (offered_at key theirs)
 
--- what two values under this key are refused for
+-- the refusal is one of two values under this key
 abbrev pub IsValueRefusal : ℕ → Tree → Tree → FilterError → Type 0
 IsValueRefusal key v w (Unsupported k) = (k ≡ key) × ¬ (AreSupported v w)
 IsValueRefusal key v w (Disjoint k) = (k ≡ key) × AreSupported v w × ¬ (HasCommon v w)
 IsValueRefusal key v w OutOfMemory = ⊤
 IsValueRefusal key v w _ = ⊥
 
--- what the two sides are refused for by what they have under this key
+-- the refusal is one of the two sides' flags and values under this key
 abbrev pub IsKeyRefusal : ℕ → Option Offered → Option Offered → FilterError → Type 0
 IsKeyRefusal key ours theirs (Missing k) = (k ≡ key) × IsMissing ours theirs
 IsKeyRefusal key ours theirs (Unsupported k) = (k ≡ key) × AreUnsupported ours theirs
@@ -49,7 +49,7 @@ IsKeyRefusal key ours theirs (Disjoint k) = (k ≡ key) × AreDisjoint ours thei
 IsKeyRefusal key ours theirs OutOfMemory = ⊤
 IsKeyRefusal key ours theirs _ = ⊥
 
--- what the properties of two objects of one type are refused for
+-- the refusal is one of two objects of one type with these properties
 abbrev pub IsRefusal : Properties → Properties → FilterError → Type 0
 IsRefusal ours theirs (Missing key) = IsRefusedAt IsMissing ours theirs key
 IsRefusal ours theirs (Unsupported key) = IsRefusedAt AreUnsupported ours theirs key
@@ -57,7 +57,7 @@ IsRefusal ours theirs (Disjoint key) = IsRefusedAt AreDisjoint ours theirs key
 IsRefusal ours theirs OutOfMemory = ⊤
 IsRefusal ours theirs _ = ⊥
 
--- what two objects are refused for
+-- the refusal is one of the two objects
 abbrev pub AreRefused : Tree → Tree → FilterError → Type 0
 AreRefused (object type our_id ours) (object its_type its_id theirs) TypeMismatch =
     ¬ (its_type ≡ type)
@@ -65,7 +65,7 @@ AreRefused (object type our_id ours) (object its_type its_id theirs) e =
     (its_type ≡ type) × IsRefusal ours theirs e
 AreRefused _ _ _ = ⊥
 
--- this holds where the refusal is for another cause than memory
+-- the fact holds unless the refusal is for want of memory
 abbrev pub OnDisagreement : Type 0 → FilterError → Type 0
 OnDisagreement fact OutOfMemory = ⊤
 OnDisagreement fact _ = fact

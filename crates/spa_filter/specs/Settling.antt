@@ -1,21 +1,21 @@
--- An object with each choice at its default, and what that makes of a filter: docs/NEGOTIATION.md, "To filter".
+-- An object with each choice at its default, and how that settles a filter: docs/NEGOTIATION.md, "To filter".
 use Rattle.std.specs.Prelude.{⊤, ◌≡◌, Option, Some, None}
 use Rattle.spa_format.specs.Tree.{Tree, object, Properties, no_properties, property, join_properties}
 use Rattle.spa_offers.specs.Admits.{plain_of, IsCommon, IsPlain}
 use Rattle.spa_keyed_objects.specs.Keys.{Offered, key_list, keys_of, offered_at}
 use Rattle.spa_filter.specs.Filtering.{IsFilter}
 
--- each property with its plain value, or the default of its choice
+-- the properties, each with its plain value, or with the default of its choice
 abbrev pub settled_properties : Properties → Properties
 settled_properties no_properties = no_properties
 settled_properties (property key flags value rest) = property key flags (plain_of value) (settled_properties rest)
 
--- the same of an object
+-- the object with each property's choice at its default
 abbrev pub settled_of : Tree → Tree
 settled_of (object type id ps) = object type id (settled_properties ps)
 settled_of v = v
 
--- x settles what two sides have under one key: both admit it, or it is what one has, at its default
+-- x settles one key of the two sides: both values admit it, or, of a key of one side, it is that side's plain value or its choice's default
 abbrev pub Settles : Option Offered → Option Offered → Tree → Type 0
 Settles (Some a) (Some b) x = IsCommon a.value b.value x
 Settles (Some a) None x = x ≡ plain_of a.value
@@ -36,6 +36,6 @@ IsFixedFor (object type our_id ours) (object its_type its_id theirs) (object met
     × (key_list met ≡ keys_of (join_properties ours theirs)) × SettlesEach ours theirs met
 IsFixedFor _ _ _ = ⊥
 
--- what two objects filter to, settled, is a fixed object that both admit
+-- an object to which two filter, settled, is a fixed object that both admit
 abbrev pub FiltersSettle : Type 0
 FiltersSettle = (v w met : Tree) → IsFilter v w met → IsFixedFor v w (settled_of met)

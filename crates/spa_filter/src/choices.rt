@@ -1,4 +1,4 @@
-//! Two choices over one type, read where their pods lie.
+//! Reads two choices over one type from the borrowed bodies of their pods, and writes what they filter to.
 ghost use Rattle.std.specs.Prelude.{◌≡◌, IfErr, IfOk, OnOk};
 ghost use Rattle.spa_fixed.specs.Choices.{choice_tree};
 ghost use Rattle.spa_format.specs.Kind.{Fixed, kind_of};
@@ -19,10 +19,10 @@ use spa_utils::Choice;
 use spa_value::Value;
 use std::alloc::Global;
 
-/// Where the values of a choice begin in its body: behind its shape and flags, and their size and type.
+/// The offset in a choice's body at which its values begin: behind the shape, the flags, and the values' size and type.
 pub(crate) const VALUES_AT: usize = 16;
 
-/// The choice over a type of which this is the body. The body of such a choice is refused for lack of memory alone.
+/// Reads the choice over the type `T` of which this is the body. Refused as `Apart` where it is the body of no such choice, and as `OutOfMemory`.
 #[inline(never)]
 pub(crate) fn choice_over<T: Element>(alloc: Global, body: &[u8]) -> Result<Choice<T>, Refused>
     ensures choice { IfOk result (λ choice. IsBody (choice_tree T.kind T.fixed choice) body.now) }
@@ -40,7 +40,7 @@ pub(crate) fn choice_over<T: Element>(alloc: Global, body: &[u8]) -> Result<Choi
     }
 }
 
-/// Appends the pod of a value to which the choices of two bodies filter, the first of which is over this type.
+/// Appends the canonical pod of the value to which the choices of two bodies filter, the first of which is over the type `T`.
 pub(crate) fn put_read<T: Element>(
     alloc: Global,
     out: &mut Vec<u8>,
@@ -65,7 +65,7 @@ pub(crate) fn put_read<T: Element>(
     }
 }
 
-/// Appends the pod of a value that admits contents of this type, and has no flags of its own.
+/// Appends the canonical pod of a value that admits contents of the type `T`, and has no flags of its own.
 fn put_value<T: Element>(out: &mut Vec<u8>, value: &Value) -> Result<(), Refused>
     ensures appended { OnOk result (choice_flags_of (view value.now) ≡ 0 → IsAppended (view value.now) out.old.items out.new.items) }
     ensures cause { IfErr result (λ e. (x : Fixed) → kind_of x ≡ T.kind → Admits (view value.now) (fixed x) → IsUnwritten (view value.now) e) }
@@ -82,7 +82,7 @@ fn put_value<T: Element>(out: &mut Vec<u8>, value: &Value) -> Result<(), Refused
     }
 }
 
-/// Appends the pod of a choice.
+/// Appends the canonical pod of a choice without flags. Refused as `TooLarge` and as `OutOfMemory`.
 pub(crate) fn put_choice_of<T: Element>(
     out: &mut Vec<u8>,
     choice: &Choice<T>,
@@ -97,7 +97,7 @@ pub(crate) fn put_choice_of<T: Element>(
     }
 }
 
-/// Appends the pod of an element.
+/// Appends the canonical pod of an element. Refused only as `OutOfMemory`.
 fn put_element<T: Element>(out: &mut Vec<u8>, x: &T) -> Result<(), Refused>
     ensures appended { OnOk result (IsAppended (fixed (T.fixed x.now)) out.old.items out.new.items) }
     ensures cause { IfErr result (IsUnwritten (fixed (T.fixed x.now))) }

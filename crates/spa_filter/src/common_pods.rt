@@ -1,4 +1,4 @@
-//! What two values filter to, from pod to pod.
+//! Filters two values, from their pods to the pod of the outcome.
 ghost use Rattle.std.specs.Prelude.{◌≡◌, ◌≢◌, ◌++◌, IfErr, OnOk};
 ghost use Rattle.spa_format.specs.Tree.{Tree, choice_type};
 ghost use Rattle.spa_format.specs.Words.{word_at};
@@ -23,11 +23,11 @@ const ONE_WORD: usize = 4;
 /// The length in bytes of a body of two words.
 const TWO_WORDS: usize = 8;
 
-/// Appends the pod of a value that admits exactly what the values of two pods admit, which are written as their values are, and stand
-/// under this key.
+/// Appends the canonical pod of a value that admits exactly what the values of two canonical pods admit, which two objects have under this key.
 ///
-/// The refusals: `Unsupported` where no common value is sought for one of the two or for both side by side, before `Disjoint` where
-/// no value is admitted by both; `TooLarge` where that value can't be written. Bytes may have been appended, then.
+/// Refused as `Unsupported` of the key where no common value is sought for one of the two values or for such a pair; else as `Disjoint` of the
+/// key where no value is admitted by both; as `TooLarge` where a size word of the outcome would be 4294967296 or more; and as `OutOfMemory`.
+/// After a refusal bytes may have been appended.
 pub fn put_common(
     alloc: Global,
     key: u32,
@@ -46,7 +46,7 @@ pub fn put_common(
     }
 }
 
-/// Why two values don't meet that stand apart.
+/// The refusal of the values of two pods, for which no common value was found: `Unsupported` or `Disjoint`.
 #[inline(never)]
 fn refusal(key: u32, a: &[u8], b: &[u8]) -> FilterError
     ensures { (v w : Tree) → IsWritten v a.now → IsWritten w b.now → AreApart v w → IsPodRefusal key v w result }
@@ -58,7 +58,7 @@ fn refusal(key: u32, a: &[u8], b: &[u8]) -> FilterError
     }
 }
 
-/// Appends the pod of a value that admits exactly what the values of two pods admit.
+/// Appends the canonical pod of a value that admits exactly what the values of two canonical pods admit.
 fn put_met(alloc: Global, out: &mut Vec<u8>, a: &[u8], b: &[u8]) -> Result<(), Refused>
     ensures appended { OnOk result ((v w : Tree) → IsWritten v a.now → IsWritten w b.now → IsCommonAppended v w out.old.items out.new.items) }
     ensures cause { IfErr result (λ e. (v w : Tree) → IsWritten v a.now → IsWritten w b.now → IsCommonRefused v w e) }
@@ -86,7 +86,7 @@ fn put_met(alloc: Global, out: &mut Vec<u8>, a: &[u8], b: &[u8]) -> Result<(), R
     put_choices(alloc, out, ours.body, theirs.body)
 }
 
-/// Appends a pod.
+/// Appends the bytes of a pod. Refused only as `OutOfMemory`.
 fn put_pod(out: &mut Vec<u8>, pod: &[u8]) -> Result<(), Refused>
     ensures appended { OnOk result (out.new.items ≡ out.old.items ++ pod.now) }
     ensures cause { IfErr result (λ e. e ≡ OutOfMemory) }
@@ -98,7 +98,8 @@ fn put_pod(out: &mut Vec<u8>, pod: &[u8]) -> Result<(), Refused>
     }
 }
 
-/// Whether the value of a body of this type, which is plain, is one that the choice of the other body admits.
+/// Checks that the plain value of a body of this type is one that the choice of the other body admits. Refused as `Apart` where it isn't, or
+/// where the choice is over another type or unsupported.
 fn is_offered(alloc: Global, type_: u32, body: &[u8], choice: &[u8]) -> Result<(), Refused>
     requires { type_ ≢ choice_type }
     ensures offered { OnOk result ((v w : Tree) → HasBody v type_ body.now → HasBody w choice_type choice.now → IsOffered v w) }
@@ -118,7 +119,7 @@ fn is_offered(alloc: Global, type_: u32, body: &[u8], choice: &[u8]) -> Result<(
     }
 }
 
-/// The same of a body of one type.
+/// Checks that the element of the type `T` with this body is one that the choice of the other body admits, with the refusals of `is_offered`.
 fn is_offered_over<T: Element>(alloc: Global, body: &[u8], choice: &[u8]) -> Result<(), Refused>
     ensures offered { OnOk result ((v w : Tree) → HasBody v T.TYPE body.now → HasBody w choice_type choice.now → IsOffered v w) }
     ensures cause { IfErr result (λ e. (v w : Tree) → HasBody v T.TYPE body.now → HasBody w choice_type choice.now → IsOfferRefused v w e) }
@@ -136,7 +137,7 @@ fn is_offered_over<T: Element>(alloc: Global, body: &[u8], choice: &[u8]) -> Res
     Ok(())
 }
 
-/// Appends the pod of a value to which the choices of two bodies filter.
+/// Appends the canonical pod of the value to which the choices of two bodies filter.
 fn put_choices(alloc: Global, out: &mut Vec<u8>, a: &[u8], b: &[u8]) -> Result<(), Refused>
     ensures appended { OnOk result ((v w : Tree) → HasBody v choice_type a.now → HasBody w choice_type b.now → IsCommonAppended v w out.old.items out.new.items) }
     ensures cause { IfErr result (λ e. (v w : Tree) → HasBody v choice_type a.now → HasBody w choice_type b.now → IsCommonRefused v w e) }
@@ -158,7 +159,8 @@ fn put_choices(alloc: Global, out: &mut Vec<u8>, a: &[u8], b: &[u8]) -> Result<(
     }
 }
 
-/// The same of choices the first of which is over one type, whose values have so many bytes each.
+/// Appends the canonical pod of the value to which the choices of two bodies filter, the first of which is over the type `T`, whose bodies have
+/// `N` bytes.
 fn put_over<T: Element, const N: usize>(
     alloc: Global,
     out: &mut Vec<u8>,

@@ -7,8 +7,8 @@ use std::alloc::AllocError;
 use std::error::Error;
 use std::fmt;
 
-/// Why two objects, or the objects of two pods, aren't filtered. The key in a refusal is the first of all keys, those of the first
-/// object before those that the second alone has, under which one of these stands.
+/// Why two objects, or the objects of two pods, aren't filtered. The key in a refusal is the first at which `Missing`, `Unsupported` or `Disjoint`
+/// is so, where the keys of the first object come before those that only the second has.
 #[derive(Clone, Copy, PartialEq, Eq, Debug)]
 pub enum FilterError {
     /// The types of the objects differ. No key is looked at then.
@@ -28,7 +28,7 @@ pub enum FilterError {
     NotObject(Side),
     /// Of pods: the object to which the two are filtered can't be written: a size word of its encoding is 4294967296 or more.
     TooLarge,
-    /// A growth was refused.
+    /// Memory ran out.
     OutOfMemory,
 }
 

@@ -1,4 +1,4 @@
-//! Two objects are filtered.
+//! Filters two objects.
 ghost use Rattle.std.specs.Prelude.{◌≡◌, IfErr, IfOk, None, OnOk, Some};
 ghost use Rattle.std.specs.List.{All};
 ghost use Rattle.spa_format.specs.Tree.{join_properties};
@@ -20,18 +20,17 @@ use spa_value::{Object, Property, PropertyFlags};
 use std::alloc::Global;
 use std::collections::BTreeSet;
 
-/// The object to which two objects are filtered.
+/// Filters two objects: answers the object that admits, under each key of both, exactly what both admit.
 ///
-/// It has their type, the id of `a`, and each key of either once: first the keys of `a` in the order of their first places, then
-/// those that `b` alone has, in the same way. On each side the first property with a key counts.
+/// It has their type, the id of `a`, and each key of either once: first the keys of `a` in the order in which they first occur, then
+/// those that only `b` has, in the same order. On each side the first property with a key counts.
 ///
-/// Under a key of both stands a value that admits exactly what both values admit, with the flags that both have: a plain value
-/// where one of them is plain, else an Enum where one of them is one, else a Range. Its default is the first of these that both
-/// admit: a's default, b's default, the first alternative of an Enum or the minimum of a Range. A key of one side stands as that
-/// side has it.
+/// A key of both has a value that admits exactly what both values admit, with the flags that both have: a plain value where one of them
+/// is plain, else an Enum where one of them is one, else a Range. Its default is the first of these that both admit: a's default, b's
+/// default, the first alternative of an Enum or the minimum of a Range. A key of one side has the flags and the value of that side.
 ///
-/// The refusals: `TypeMismatch`, before any other; then, at the first key under which the two don't agree, `Missing` where only
-/// one side has it, and else `Unsupported`, before `Disjoint`.
+/// The refusals: `TypeMismatch` before any other; then, at the first key under which the two don't agree, `Missing` where only one side
+/// has it, and else `Unsupported` before `Disjoint`; and `OutOfMemory`.
 ///
 /// Keys and alternatives are looked for in trees, so the time grows with n log n for n properties and alternatives, other
 /// values aside.
@@ -56,14 +55,14 @@ pub fn filter(alloc: Global, a: &Object, b: &Object) -> Result<Object, FilterErr
     })
 }
 
-/// Filtered properties, and the keys that were filtered.
+/// The properties of the outcome so far, and the set of their keys.
 #[derive(Drop)]
 struct Filtered {
     met: Met,
     keys: BTreeSet<u32>,
 }
 
-/// The properties to which those of two objects are filtered.
+/// The properties of the object to which two objects with these properties are filtered.
 fn filter_lists(alloc: Global, a: &[Property], b: &[Property]) -> Result<Vec<Property>, FilterError>
     ensures filters { IfOk result (λ met. FiltersKeys (property_views a.now) (property_views b.now) (join_properties (property_views a.now) (property_views b.now)) (property_views met.items)) }
     ensures agreed { OnOk result (All (AgreeAt (property_views a.now) (property_views b.now)) (keys_of (join_properties (property_views a.now) (property_views b.now)))) }
@@ -80,8 +79,8 @@ fn filter_lists(alloc: Global, a: &[Property], b: &[Property]) -> Result<Vec<Pro
     Ok(both.met.into_properties())
 }
 
-/// The filtered properties so far, and behind them those for the keys of one side that aren't among them. `before` are the
-/// properties so far; it stands in the contract alone.
+/// Appends to the properties of the outcome those for the keys of one side that aren't among them yet. `before` are the properties whose keys
+/// are filtered already; only the contract uses it.
 fn filter_side(
     alloc: Global,
     filtered: Filtered,
@@ -107,7 +106,7 @@ fn filter_side(
     Ok(Filtered { met, keys })
 }
 
-/// What the two sides filter to under a key that one of them has.
+/// The property of the outcome under a key that at least one side has.
 fn filter_key(
     alloc: Global,
     key: u32,
@@ -133,7 +132,7 @@ fn filter_key(
     }
 }
 
-/// What two properties filter to.
+/// The property to which two properties with this key filter.
 fn both(alloc: Global, key: u32, a: &Property, b: &Property) -> Result<Property, FilterError>
     ensures key { IfOk result (λ p. p.key ≡ key) }
     ensures filters { IfOk result (λ p. Filters (Some (offered_by a.now)) (Some (offered_by b.now)) p.flags.0 (view p.value)) }
@@ -148,7 +147,7 @@ fn both(alloc: Global, key: u32, a: &Property, b: &Property) -> Result<Property,
     })
 }
 
-/// A property that one side alone has.
+/// A copy of a property that only one side has. Refused as `Missing` where it is MANDATORY.
 fn alone(key: u32, property: &Property) -> Result<Property, FilterError>
     ensures key { IfOk result (λ p. p.key ≡ key) }
     ensures first { IfOk result (λ p. Filters (Some (offered_by property.now)) None p.flags.0 (view p.value)) }

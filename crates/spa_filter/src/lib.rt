@@ -1,4 +1,4 @@
-//! Two offers are filtered: to an object under each of whose keys stands a value that admits exactly what both sides admit.
+//! Filters two offers to an object that admits, under each key of both, exactly what both sides admit.
 #![tactic(auto)]
 
 mod choices;

@@ -1,4 +1,4 @@
-//! An object with each choice at its default.
+//! Settles an object: each choice at its default.
 ghost use Rattle.std.specs.Prelude.{◌≡◌, IfOk, OnOk};
 ghost use Rattle.spa_fixed.specs.Choices.{choice_tree};
 ghost use Rattle.spa_value.specs.View.{choice_view, object_view, view};
@@ -13,8 +13,8 @@ use spa_value::laws::{objects_are_their_fields, property_lists_are_in_order};
 use spa_value::{ChoiceValue, Object, Property, Value};
 use std::alloc::{AllocError, Global};
 
-/// An object with each choice at its default, under all its keys and flags. What two objects are filtered to is by that a fixed
-/// object which both admit.
+/// The object with each property's choice at its default, and its type, id, keys and flags as they are. Of an object to which two were filtered
+/// this is a fixed object that both admit. Refused only for want of memory.
 pub fn settle(alloc: Global, object: &Object) -> Result<Object, AllocError>
     ensures { IfOk result (λ settled. object_view settled ≡ settled_of (object_view object.now)) }
 {
@@ -27,7 +27,7 @@ pub fn settle(alloc: Global, object: &Object) -> Result<Object, AllocError>
     })
 }
 
-/// Properties with each choice at its default.
+/// The properties with each choice at its default. Refused only for want of memory.
 fn settled_list(alloc: Global, properties: &[Property]) -> Result<Vec<Property>, AllocError>
     ensures { IfOk result (λ settled. property_views settled.items ≡ settled_properties (property_views properties.now)) }
 {
@@ -47,7 +47,7 @@ fn settled_list(alloc: Global, properties: &[Property]) -> Result<Vec<Property>,
     Ok(met.into_properties())
 }
 
-/// The value itself where it is plain, and the default where it is a choice.
+/// A copy of the value where it is plain, and the default where it is a choice. Refused only for want of memory.
 fn settled(value: &Value) -> Result<Value, AllocError>
     ensures { IfOk result (λ settled. view settled ≡ plain_of (view value.now)) }
 {
@@ -74,7 +74,7 @@ fn settled_choice(choice: &ChoiceValue) -> Value
     }
 }
 
-/// The same over one type.
+/// The default of a choice over the type `T`, as a value.
 fn default_value<T: Element>(choice: &Choice<T>) -> Value
     ensures { view result ≡ plain_of (choice_tree T.kind T.fixed choice.now) }
 {

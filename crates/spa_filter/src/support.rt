@@ -1,4 +1,4 @@
-//! Whether a common value is sought for two values, where their pods lie.
+//! Whether a common value is sought for two values, by their borrowed pods.
 ghost use Rattle.std.specs.Prelude.{◌≡◌, ◌↔◌, IsTrue, List, ℕ};
 ghost use Rattle.spa_format.specs.Kind.{Fixed, Kind, type_number};
 ghost use Rattle.spa_format.specs.Pod.{IsPod};
@@ -14,14 +14,14 @@ use spa_bytes::{HEADER_LEN, SECOND_WORD, open, u32_at};
 use spa_fixed::{FLAGS_SHAPE, RANGE_SHAPE, STEP_SHAPE};
 use spa_utils::SpaTypes;
 
-/// What is asked of a value before it is met.
+/// What decides whether a common value is sought for a value and another.
 #[derive(Clone, Copy)]
 struct Support {
-    /// Whether a common value is sought for it.
+    /// Whether a common value is sought for it at all.
     is_supported: bool,
-    /// Whether it is Flags.
+    /// Whether it is a Flags choice.
     is_flags: bool,
-    /// Whether it is a Range or a Step.
+    /// Whether it is a Range or a Step choice.
     is_bounded: bool,
 }
 
@@ -43,7 +43,7 @@ pub(crate) fn are_supported(a: &[u8], b: &[u8]) -> bool
     true
 }
 
-/// What is asked of the value of a pod.
+/// The `Support` of the value of a pod.
 fn support_of(pod: &[u8]) -> Support
     ensures supported { (v : Tree) → IsPod pod.now v → IsTrue result.is_supported ↔ IsSupported v }
     ensures flags { (v : Tree) → IsPod pod.now v → result.is_flags ≡ is_flags v }
@@ -64,7 +64,7 @@ fn support_of(pod: &[u8]) -> Support
     support_over(u32_at(front.body, 0), type_)
 }
 
-/// What is asked of a choice of this shape over values of this type.
+/// The `Support` of a choice of this shape over values of this type.
 fn support_over(shape: u32, type_: u32) -> Support
     ensures supported { (s : Shape) (f : ℕ) (k : Kind) (d : Fixed) (vs : List Fixed) → shape ≡ shape_number s → type_ ≡ type_number k → IsTrue result.is_supported ↔ IsSupported (choice s f k d vs) }
     ensures flags { (s : Shape) (f : ℕ) (k : Kind) (d : Fixed) (vs : List Fixed) → shape ≡ shape_number s → result.is_flags ≡ is_flags (choice s f k d vs) }

@@ -1,4 +1,4 @@
--- Two objects are filtered where they lie: what is put while their properties are passed, and what they filter to.
+-- Two borrowed objects are filtered: what is appended while their properties are passed, and what they filter to.
 use Rattle.std.proofs.Common.{◌≡◌, ◌⊎◌, inl, inr, ℕ, ◌-◌, ◌<◌, ◌≤◌, ◌^◌, List, ◌++◌, length, drop, refl, sym, ap, ◌∙◌, subst, Bool, true, false, true≢false, Some, None}
 use Rattle.std.specs.Prelude.{MatchBool}
 use Rattle.std.specs.List.{All}

@@ -59,7 +59,7 @@ pub offered_at-joined : (k f : ℕ) (v : Tree) (ss ts ps : Properties) →
 offered_at-joined k f v ss ts ps at gone =
     ap (offered_at k) at ∙ offered_at-behind k ss (property k f v ts) gone ∙ offered_at-first k f v ts
 
--- the same by the words of the crate below
+-- the flags and the value that a look-up found, by the record of the crate above
 abbrev to_offered : Option Found → Option Offered
 to_offered None = None
 to_offered (Some f) = Some (offered f.flags f.value)

@@ -43,7 +43,7 @@ put_of_both v w f g h key old new mid e l m z c =
       put = put_as key h c.value c.appended.pod old new l written parts z;
     }
 
--- the same, where it can't be written
+-- a property that is put, where its value can't be written
 pub left_of_both : (v w : Tree) (f g key : ℕ) (old new : Answer) → new.is_large ≡ true → (c : common.IsCommonTooLarge v w) →
     IsPutBy (Some (offered f v)) (Some (offered g w)) key old new
 left_of_both v w f g key old new z c =

@@ -14,20 +14,20 @@ use Rattle.spa_keyed_objects.specs.declared.side.Side.TheVariants.{First, Second
 use Rattle.spa_filter.specs.declared.error.FilterError.{FilterError}
 use Rattle.spa_filter.specs.declared.error.FilterError.TheVariants.{Unread, NotObject, TooLarge, OutOfMemory}
 
--- the two values filter to one whose encoding these bytes are, which are a pod of it
+-- the two values filter to a third, whose encoding these bytes are
 pub record FilterIn (bytes : List ℕ) (ours theirs : Tree) : Type 0 where
   pub met : Tree
   pub filter : IsFilter ours theirs met
   pub encoding : bytes ≡ encoding_of met
   pub pod : IsPod bytes met
 
--- the two values filter to one in whose encoding a size word is past 32 bits
+-- the two values filter to a third, in whose encoding a size doesn't fit a word of 32 bits
 pub record FilterTooLarge (ours theirs : Tree) : Type 0 where
   pub met : Tree
   pub filter : IsFilter ours theirs met
   pub large : IsTooLarge met
 
--- what two inputs are refused for: the first is settled before the second, and both before the rest
+-- the refusal is one of the two inputs: one of the first comes before one of the second, and both before any other
 abbrev pub AreFrontsRefused : (a b : List ℕ) → FilterError → Type 0
 AreFrontsRefused a b (Unread First) = IsRefused a
 AreFrontsRefused a b (Unread Second) = BeginsObject a × IsRefused b
@@ -39,13 +39,13 @@ AreFrontsRefused a b OutOfMemory =
     ⊎ BeginBoth a b (λ v w. AreRefused v w OutOfMemory)
 AreFrontsRefused a b e = BeginBoth a b (λ v w. AreRefused v w e)
 
--- this holds where the refusal is for another cause than memory or the size of the answer
+-- the fact holds unless the refusal is for want of memory or for the size of the answer
 abbrev pub OnNoFilter : Type 0 → FilterError → Type 0
 OnNoFilter fact OutOfMemory = ⊤
 OnNoFilter fact TooLarge = ⊤
 OnNoFilter fact _ = fact
 
--- what one side is refused for
+-- the refusal is one of this side's front
 abbrev pub IsFrontRefused : Side → List ℕ → FilterError → Type 0
 IsFrontRefused side input (Unread s) = (s ≡ side) × IsRefused input
 IsFrontRefused side input (NotObject s) = (s ≡ side) × BeginsOther input

@@ -1,4 +1,4 @@
-//! What two objects filter to, as it is written property by property.
+//! Writes the object to which two objects filter, property by property.
 ghost use Rattle.std.specs.Prelude.{◌≡◌, IfErr, IfOk, None, OnOk, Some, false};
 ghost use Rattle.spa_format.specs.Tree.{Tree};
 ghost use Rattle.spa_filter.specs.Refusals.{IsKeyRefusal};
@@ -11,22 +11,22 @@ use spa_filter::FilterError;
 use spa_fronts::{ObjectView, PropertyView, finish, put_header, put_key, put_pod};
 use std::alloc::Global;
 
-/// Where the properties of an object begin in its pod: behind its header, its type and its id.
+/// The offset in an object's pod at which its properties begin: behind its header, its type and its id.
 const PROPERTIES_AT: usize = 16;
 
 /// The flag of a property that the other side must have, too.
 const MANDATORY: u32 = 8;
 
-/// An answer, as far as it is written.
+/// The outcome, as far as it is written.
 #[derive(Drop)]
 pub(crate) struct Answer {
-    /// The header, whose size isn't there yet, and properties.
+    /// The header, with a size word of 0 for now, and the properties so far.
     pub(crate) bytes: Vec<u8>,
-    /// Whether a value was left out that can't be written.
+    /// Whether a value was left out since it can't be written.
     pub(crate) is_large: bool,
 }
 
-/// An answer without properties, with the type and the id of this object, and room for properties of the same length.
+/// An outcome without properties, with the type and the id of this object, and room for properties of the same length.
 pub(crate) fn begun(alloc: Global, object: &ObjectView<'_>) -> Result<Answer, FilterError>
     ensures begun { IfOk result (λ out. out.bytes.items ≡ open_header object.now.type_ object.now.id) }
     ensures small { IfOk result (λ out. out.is_large ≡ false) }
@@ -44,7 +44,7 @@ pub(crate) fn begun(alloc: Global, object: &ObjectView<'_>) -> Result<Answer, Fi
     })
 }
 
-/// Puts a property that one side alone has.
+/// Appends a property that only one side has. Refused as `Missing` where it is MANDATORY.
 pub(crate) fn put_alone(out: &mut Answer, first: &PropertyView<'_>) -> Result<(), FilterError>
     ensures first { OnOk result ((v : Tree) → IsWritten v first.now.pod.now → IsPutBy (Some (offered first.now.flags v)) None first.now.key out.old out.new) }
     ensures second { OnOk result ((v : Tree) → IsWritten v first.now.pod.now → IsPutBy None (Some (offered first.now.flags v)) first.now.key out.old out.new) }
@@ -63,7 +63,7 @@ pub(crate) fn put_alone(out: &mut Answer, first: &PropertyView<'_>) -> Result<()
     Ok(())
 }
 
-/// Puts what two properties filter to, under the key of the first.
+/// Appends the property to which two properties filter, with the key of the first.
 pub(crate) fn put_both(
     alloc: Global,
     out: &mut Answer,
@@ -89,7 +89,7 @@ pub(crate) fn put_both(
     }
 }
 
-/// The bytes of an answer that has all its properties.
+/// The bytes of an outcome that has all its properties.
 pub(crate) fn ended(out: Answer) -> Result<Vec<u8>, FilterError>
     ensures ended { IfOk result (λ bytes. IsEnded out bytes.items) }
     ensures cause { IfErr result (IsUnended out) }

@@ -1,4 +1,4 @@
-//! What two values filter to, from pod to pod.
+//! Filters two values, from their pods to the pod of the outcome.
 ghost use Rattle.std.specs.Prelude.{IfErr, OnOk};
 ghost use Rattle.spa_format.specs.Tree.{Tree};
 ghost use Rattle.spa_filter.specs.CommonPods.{IsCommonAppended, IsPodRefusal, IsWritten};
@@ -7,8 +7,7 @@ use spa_filter::{FilterError, put_common};
 use spa_fronts::{are_same, is_plain, put_pod};
 use std::alloc::Global;
 
-/// Appends the pod of a value that admits exactly what the values of two pods admit, which are written as their values are, and stand
-/// under this key.
+/// Appends the canonical pod of a value that admits exactly what the values of two canonical pods admit, which two objects have under this key.
 pub(crate) fn put_met(
     alloc: Global,
     key: u32,

@@ -1,4 +1,4 @@
-//! The objects of two pods are filtered.
+//! Filters the objects of two pods.
 ghost use Rattle.std.specs.Prelude.{IfErr, IfOk, OnOk};
 ghost use Rattle.spa_filter.specs.Filtering.{CanFilter};
 ghost use Rattle.spa_filter_pods.specs.Fronts.{AreFrontsRefused, FilterIn, IsFrontRefused, OnNoFilter};
@@ -10,10 +10,10 @@ use spa_format::laws::pods_have_one_value;
 use spa_fronts::{NoObject, ObjectPod, object_in, object_pod};
 use std::alloc::Global;
 
-/// The encoding of the object to which the objects at the fronts of two inputs are filtered, by the rules of `filter`. What
-/// follows the two fronts doesn't count.
+/// Filters the objects at the fronts of two inputs by the rules of `filter`, and answers the encoding of the outcome. The bytes
+/// behind the two fronts don't count.
 ///
-/// The answer is one whole pod, which may still hold choices.
+/// The answer is one whole pod, which may still have choices.
 ///
 /// The refusals: `Unread` and `NotObject`, of the first side before the second; then those of `filter`; then `TooLarge`.
 pub fn filter_pods(alloc: Global, a: &[u8], b: &[u8]) -> Result<Vec<u8>, FilterError>
@@ -23,7 +23,7 @@ pub fn filter_pods(alloc: Global, a: &[u8], b: &[u8]) -> Result<Vec<u8>, FilterE
     ensures refused { IfErr result (OnNoFilter (¬ (BeginBoth a.now b.now CanFilter))) }
     // with the encoding of an object to which they filter, a pod of that object;
     ensures value { IfOk result (λ bytes. BeginBoth a.now b.now (FilterIn bytes.items)) }
-    // and a refusal is one that stands.
+    // and a refusal is a right one.
     ensures cause { IfErr result (AreFrontsRefused a.now b.now) }
 {
     pods_have_one_value();
@@ -38,7 +38,7 @@ pub fn filter_pods(alloc: Global, a: &[u8], b: &[u8]) -> Result<Vec<u8>, FilterE
     filter_objects(alloc, &ours, &theirs)
 }
 
-/// The pod of the object at the front of a side's bytes.
+/// The canonical pod of the object at the front of a side's bytes. Refused as `Unread` or `NotObject` of the side, and as `OutOfMemory`.
 fn object_at(alloc: Global, bytes: &[u8], side: Side) -> Result<ObjectPod<'_>, FilterError>
     ensures object { IfOk result (λ pod. BeginsObjectIn bytes.now (bytes_of pod)) }
     ensures cause { IfErr result (IsFrontRefused side bytes.now) }

@@ -1,4 +1,4 @@
-//! Two objects are filtered where they lie.
+//! Filters two objects by their zero-copy views.
 ghost use Rattle.std.specs.Prelude.{◌≡◌, ◌<◌, IfErr, IfOk, List, None, OnOk, Some, false, ℕ};
 ghost use Rattle.spa_format.specs.Tree.{Properties, Tree, join_properties};
 ghost use Rattle.spa_format.specs.Words.{size_limit};
@@ -16,7 +16,7 @@ use spa_filter::FilterError;
 use spa_fronts::{Keyed, ObjectView, PropertyView, first_property, raised};
 use std::alloc::Global;
 
-/// The bytes of the object to which two objects are filtered.
+/// The encoding of the object to which two objects are filtered.
 pub(crate) fn filter_objects(
     alloc: Global,
     ours: &ObjectView<'_>,
@@ -38,7 +38,7 @@ pub(crate) fn filter_objects(
     ended(out)
 }
 
-/// Filters the keys of the first side.
+/// Appends the properties for the keys of the first side.
 fn filter_first(
     alloc: Global,
     out: &mut Answer,
@@ -63,7 +63,7 @@ fn filter_first(
     Ok(())
 }
 
-/// Filters the keys that the second side alone has.
+/// Appends the properties for the keys that only the second side has.
 fn filter_others(out: &mut Answer, ours: &Keyed<'_>, theirs: &Keyed<'_>) -> Result<(), FilterError>
     requires first { IsKeyed ours.now }
     requires second { IsKeyed theirs.now }
@@ -82,7 +82,7 @@ fn filter_others(out: &mut Answer, ours: &Keyed<'_>, theirs: &Keyed<'_>) -> Resu
     Ok(())
 }
 
-/// Filters the key of a property of the first side.
+/// Appends the property for the key of a property of the first side.
 fn put_filtered(
     alloc: Global,
     out: &mut Answer,

@@ -88,7 +88,7 @@ choice_encoding k xs ys pod choice child bodies start n shape flags s t m e b p 
     ∙ ap (λ i. word_bytes i ++
     (word_bytes choice_type ++ (choice_body shape flags k (xs ++ ys) ++ padding i))) en
 
--- the same, where the first bodies are those of values of the size that the code read
+-- the bytes that are put for a choice, where the first bodies are those of values of the size that the code read
 pub choice_put : {A : Type 0} {B : Type 0} (k : Kind) (e : A → Fixed) (f : B → Fixed)
     (xs : List A) (ys : List B) (pod choice child bodies start : List ℕ)
     (n shape flags s t own read : ℕ) → start ≡ ((pod ++ choice) ++ child) ++ bodies →

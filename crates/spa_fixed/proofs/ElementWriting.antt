@@ -49,7 +49,7 @@ pub within_block : {at i s n long : ℕ} (most : ℕ) → at ≡ i * s → i < n
     long ≡ most * 8 → at ≤ long
 within_block most e l m h b = grind arith
 
--- the same of a block that has room for more
+-- the place of a value is in a block that has room for more
 pub within_slice : {at i s n was long : ℕ} → at ≡ i * s → i < n → s ≤ 8 → n * 8 ≤ was → long ≡ was → at ≤ long
 within_slice e l h m b = grind arith
 

@@ -1,4 +1,4 @@
--- What a choice over one of the types of fixed size says, which is its tree: docs/FORMAT.md, "Choices".
+-- The tree of a choice over one of the types of fixed size: docs/FORMAT.md, "Choices".
 use Rattle.std.specs.Prelude.{ℕ, List, [], ◌∷◌, ◌++◌, map}
 use Rattle.spa_format.specs.Words.{word_bytes}
 use Rattle.spa_format.specs.Kind.{Kind, Fixed}
@@ -8,7 +8,7 @@ use Rattle.spa_utils.specs.declared.choice.ChoiceEnum.{ChoiceEnum}
 use Rattle.spa_utils.specs.declared.choice.ChoiceEnum.TheVariants as E
 use Rattle.spa_utils.specs.declared.choice.Choice.{Choice}
 
--- the tree of the values with these flags
+-- the tree of a choice with these values and this flags word
 abbrev pub choice_enum_tree : {T : Type 0} → Kind → (T → Fixed) → ℕ → ChoiceEnum T → Tree
 choice_enum_tree k f n (E.None x) = choice none_choice n k (f x) []
 choice_enum_tree k f n (E.Range x a b) = choice range_choice n k (f x) (f a ∷ f b ∷ [])
@@ -16,7 +16,7 @@ choice_enum_tree k f n (E.Step x a b s) = choice step_choice n k (f x) (f a ∷ 
 choice_enum_tree k f n (E.Enum x xs) = choice enum_choice n k (f x) (map f xs.items)
 choice_enum_tree k f n (E.Flags x xs) = choice flags_choice n k (f x) (map f xs.items)
 
--- the tree of a choice, where each element of the type says a value of this kind
+-- the tree of a choice, where `f` gives the kind's value of each element of the type
 abbrev pub choice_tree : {T : Type 0} → Kind → (T → Fixed) → Choice T → Tree
 choice_tree k f c = choice_enum_tree k f c.0.0 c.1
 

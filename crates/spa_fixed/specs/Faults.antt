@@ -1,4 +1,4 @@
--- The names of refusals, and their words: docs/FORMAT.md, "Faults".
+-- The names of refusals, and their texts: docs/FORMAT.md, "Faults".
 use Rattle.std.specs.Prelude.{⊤, ◌≡◌, ◌++◌, ℕ, List, codes}
 use Rattle.std.specs.Fmt.{decimal}
 use Rattle.std.specs.Borrow.{Bor}
@@ -12,7 +12,7 @@ fault_kind_text fault_kind.Short = codes "Short"
 fault_kind_text fault_kind.Tag = codes "Tag"
 fault_kind_text fault_kind.Text = codes "Text"
 
--- the name of a refusal, or of what is wrong with the bytes
+-- the name of a refusal; of a `Nom` that of its fault
 abbrev pub kind_text : {I : Type 0} → DeserializeError I → List ℕ
 kind_text (error.Nom f) = fault_kind_text f.kind
 kind_text error.UnsupportedType = codes "UnsupportedType"
@@ -27,13 +27,13 @@ kind_text error.NoElementLeft = codes "NoElementLeft"
 kind_text error.FailedReader = codes "FailedReader"
 kind_text error.OutOfMemory = codes "OutOfMemory"
 
--- what is wrong with the bytes, in words
+-- the text of a fault of the bytes
 abbrev pub fault_text : FaultKind → List ℕ
 fault_text fault_kind.Short = codes "the bytes are cut short"
 fault_text fault_kind.Tag = codes "the pod is of another type than the one asked for"
 fault_text fault_kind.Text = codes "a string isn't UTF-8 with one NUL, at its end"
 
--- a refusal in words
+-- the text as which a refusal is displayed
 abbrev pub error_text : {I : Type 0} → DeserializeError I → List ℕ
 error_text (error.Nom f) = fault_text f.kind
 error_text error.UnsupportedType = codes "the visitor takes no such value"
@@ -48,8 +48,7 @@ error_text error.NoElementLeft = codes "the array has no further element"
 error_text error.FailedReader = codes "the reader was refused before"
 error_text error.OutOfMemory = codes "out of memory"
 
--- the same refusal: of one name, and where that is a fault's, of the same kind and with the same bytes left; a wrong key
--- is the same key
+-- two refusals are equal: of one name, and of a `Nom` with one fault and one place, of a wrong key with one key
 abbrev pub IsSameError : DeserializeError (Bor (List ℕ)) → DeserializeError (Bor (List ℕ)) → Type 0
 IsSameError (error.Nom f) (error.Nom g) = (f.input.now ≡ g.input.now) × (f.kind ≡ g.kind)
 IsSameError error.UnsupportedType error.UnsupportedType = ⊤

@@ -1,4 +1,4 @@
--- What the readers of the bodies of arrays and choices answer: docs/FORMAT.md, "Faults".
+-- The answers and refusals of the readers of the bodies of arrays and choices: docs/FORMAT.md, "Faults".
 use Rattle.std.specs.Prelude.{◌≡◌, ◌<◌, ◌≤◌, ◌*◌, ℕ, List, length, drop, ⊤}
 use Rattle.spa_format.specs.Words.{word_at, header_size}
 use Rattle.spa_format.specs.Kind.{Kind, type_number, body_size, Fixed}
@@ -11,12 +11,12 @@ use Rattle.spa_fixed.specs.Choices.{choice_enum_tree}
 use Rattle.spa_fixed.specs.declared.fault.Refusal.{Refusal}
 use Rattle.spa_fixed.specs.declared.fault.Refusal.TheVariants.{Short, Text, InvalidType, InvalidChoiceType, MissingChoiceValues, WrongSize, OutOfMemory}
 
--- bodies of this size and no remainder
+-- the bytes are whole bodies of this size, without remainder
 pub record AreWhole (size : ℕ) (bodies : List ℕ) : Type 0 where
   pub many : ℕ
   pub count : length bodies ≡ many * size
 
--- an array is refused for its sizes, where this fact holds, or for lack of memory
+-- the refusal of an array: `WrongSize`, where the fact holds, or for want of memory
 abbrev pub RefusesArray : Type 0 → Refusal → Type 0
 RefusesArray wrong Short = ⊥
 RefusesArray wrong Text = ⊥
@@ -33,11 +33,11 @@ pub record IsOpened (k : Kind) (elements b : List ℕ) : Type 0 where
   pub child_type : word_at b 12 ≡ type_number k
   pub behind : elements ≡ drop choice_header_size b
 
--- What these elements say as values of a choice of this shape: in each body of such a choice, these values.
+-- The bytes of the elements are those of the values of a choice of this shape: each body of such a choice with these elements has these values.
 pub record ReadsAs {T : Type 0} (h : Shape) (k : Kind) (f : T → Fixed) (elements : List ℕ) (values : ChoiceEnum T) : Type 0 where
   pub says : (b : List ℕ) (flags : ℕ) → IsOpened k elements b → word_at b 0 ≡ shape_number h → flags ≡ kept_flags h (word_at b 4) → IsBody (choice_enum_tree k f flags values) b
 
--- elements of this size are refused where fewer are there than such a choice needs, or for lack of memory
+-- the refusal of the values of a choice: `MissingChoiceValues`, where there are fewer than the shape needs, or for want of memory
 abbrev pub RefusesValues : Shape → ℕ → List ℕ → Refusal → Type 0
 RefusesValues h size elements Short = ⊥
 RefusesValues h size elements Text = ⊥
@@ -47,12 +47,11 @@ RefusesValues h size elements MissingChoiceValues = length elements < least_coun
 RefusesValues h size elements WrongSize = ⊥
 RefusesValues h size elements OutOfMemory = ⊤
 
--- the number of the first shape word that no shape has
+-- the least shape word that no shape has
 abbrev pub shape_limit : ℕ
 shape_limit = 5
 
--- The body of a choice over this kind is refused for its shape word, for too few values, for its sizes, or for lack of
--- memory.
+-- The refusal of the body of a choice over this kind: for its shape word, for too few values, for its sizes, or for want of memory.
 abbrev pub RefusesChoice : Kind → List ℕ → Refusal → Type 0
 RefusesChoice k b Short = ⊥
 RefusesChoice k b Text = ⊥

@@ -1,4 +1,4 @@
-//! Arrays: their bodies read, and their pods written.
+//! Reads the bodies of arrays, and writes their pods.
 ghost use Rattle.std.specs.Prelude.{◌≡◌, ◌+◌, ◌*◌, ◌<◌, ◌≤◌, IfErr, IfNone, IfOk, IfSome, OnErr, OnOk, OnSome, drop, length, map, take};
 ghost use Rattle.spa_fixed.specs.Reading.{AreWhole, RefusesArray};
 ghost use Rattle.spa_format.specs.Faults.{IsWrongArray};
@@ -18,8 +18,8 @@ use spa_sink::{GenError, PodSink};
 use spa_utils::SpaTypes;
 use std::alloc::{AllocError, Global};
 
-/// The bodies of the elements in the body of an array of this type, where its sizes are right: the child size is the
-/// type's, and whole elements follow. It asks for no memory.
+/// The borrowed bytes of the elements in the body of an array over the type `T`, where its sizes are right: the child size is the
+/// type's, and whole elements follow. None: they aren't. It asks for no memory.
 pub fn open_array<T: CanonicalFixedSizedPod>(body: &[u8]) -> Option<&[u8]>
     requires header { header_size ≤ length body.now }
     requires child_type { word_at body.now 4 ≡ T.TYPE }
@@ -44,7 +44,7 @@ pub fn open_array<T: CanonicalFixedSizedPod>(body: &[u8]) -> Option<&[u8]>
     Some(elements)
 }
 
-/// The first element, and what follows it.
+/// The bytes that follow the first element, and that element.
 pub fn next_element<T: CanonicalFixedSizedPod>(elements: &[u8]) -> (&[u8], T)
     requires { T.SIZE ≤ length elements.now }
     ensures says { IsFixedBody T.kind (take T.SIZE elements.now) (T.fixed result.1) }
@@ -54,7 +54,7 @@ pub fn next_element<T: CanonicalFixedSizedPod>(elements: &[u8]) -> (&[u8], T)
     (rest, T::of_body(first))
 }
 
-/// Reads whole elements of this size to the end. It is refused only for lack of memory.
+/// Reads whole elements of `N` bytes each to the end. Refused only for want of memory.
 fn read_chunks<T: CanonicalFixedSizedPod, const N: usize>(
     alloc: Global,
     elements: &[u8],
@@ -76,7 +76,7 @@ fn read_chunks<T: CanonicalFixedSizedPod, const N: usize>(
         .collect(alloc)
 }
 
-/// Reads whole elements to the end. It is refused only for lack of memory.
+/// Reads whole elements to the end. Refused only for want of memory.
 pub(crate) fn read_elements<T: CanonicalFixedSizedPod>(
     alloc: Global,
     elements: &[u8],
@@ -91,8 +91,8 @@ pub(crate) fn read_elements<T: CanonicalFixedSizedPod>(
     }
 }
 
-/// Reads the body of an array of this type. It is refused with `WrongSize` where the child size isn't the type's or the
-/// elements aren't whole, before any memory is asked for, and else only for lack of memory.
+/// Reads the body of an array over the type `T`. Refused as `WrongSize` where the child size isn't the type's or the elements
+/// aren't whole, before any memory is asked for, and else only as `OutOfMemory`.
 #[inline(always)]
 pub fn read_array<T: CanonicalFixedSizedPod>(alloc: Global, body: &[u8]) -> Result<Vec<T>, Refusal>
     requires header { header_size ≤ length body.now }
@@ -106,9 +106,9 @@ pub fn read_array<T: CanonicalFixedSizedPod>(alloc: Global, body: &[u8]) -> Resu
     Ok(read_elements::<T>(alloc, elements)?)
 }
 
-/// Appends the pod of an array. It is refused with `TooLarge` where a size word would be 4294967296 or more, before a
-/// byte is appended, and else only where the sink refuses; the sink has then taken a beginning of the pod. Of units only
-/// the child header is written.
+/// Appends the encoding of an array. Refused as `TooLarge` where a size word would be 4294967296 or more, before a byte is
+/// appended, and else only with the sink's error; the sink may then have taken a beginning of the encoding. Of an array of units
+/// only the child header is written.
 pub fn put_array<T: CanonicalFixedSizedPod, S: PodSink>(
     sink: &mut S,
     values: &[T],

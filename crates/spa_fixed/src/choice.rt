@@ -1,4 +1,4 @@
-//! Choices: their bodies read, and their pods written.
+//! Reads the bodies of choices, and writes their pods.
 ghost use Rattle.std.specs.Prelude.{◌≡◌, ◌*◌, ◌<◌, ◌≤◌, ◌∷◌, ◌++◌, IfErr, IfOk, OnErr, OnOk, drop, length, map, take};
 ghost use Rattle.spa_fixed.specs.Choices.{choice_body, choice_tree};
 ghost use Rattle.spa_fixed.specs.Reading.{AreWhole, ReadsAs, RefusesChoice, RefusesValues};
@@ -36,16 +36,16 @@ pub const ENUM_SHAPE: u32 = 3;
 /// The shape word of a choice with flags.
 pub const FLAGS_SHAPE: u32 = 4;
 
-/// How many values a choice has beside a list of any length, at most: default, minimum, maximum and step.
+/// The greatest number of values that a choice has without a list of any length: default, minimum, maximum and step.
 const MOST_FIRST: usize = 4;
 
 /// The length in bytes of a choice's pod before its values: its header, its shape and flags, and the child header.
 const HEADERS_LEN: usize = 24;
 
-/// The length in bytes of so many bodies, at most.
+/// The greatest length in bytes of the bodies of `MOST_FIRST` values.
 const FIRST_LEN: usize = 32;
 
-/// The length in bytes of these together.
+/// The length in bytes of `HEADERS_LEN` and `FIRST_LEN` together.
 const START_LEN: usize = 56;
 
 /// How many elements there are.
@@ -56,7 +56,7 @@ fn count<T: ChoiceElement>(elements: &[u8]) -> usize
     elements.len() / T::SIZE
 }
 
-/// Default, minimum and maximum. What follows them is surplus.
+/// Reads default, minimum and maximum of a Range. The values that follow them are surplus.
 #[inline(always)]
 fn read_range<T: ChoiceElement>(elements: &[u8]) -> Result<ChoiceEnum<T>, Refusal>
     requires { AreWhole T.SIZE elements.now }
@@ -72,7 +72,7 @@ fn read_range<T: ChoiceElement>(elements: &[u8]) -> Result<ChoiceEnum<T>, Refusa
     Ok(ChoiceEnum::Range { default, min, max })
 }
 
-/// Default, minimum, maximum and step. What follows them is surplus.
+/// Reads default, minimum, maximum and step of a Step. The values that follow them are surplus.
 #[inline(always)]
 fn read_step<T: ChoiceElement>(elements: &[u8]) -> Result<ChoiceEnum<T>, Refusal>
     requires { AreWhole T.SIZE elements.now }
@@ -94,7 +94,7 @@ fn read_step<T: ChoiceElement>(elements: &[u8]) -> Result<ChoiceEnum<T>, Refusal
     })
 }
 
-/// The default, and what follows it.
+/// Reads the default, and answers it with the bytes that follow it. Refused as `MissingChoiceValues` where there are no values.
 #[inline(always)]
 fn read_default<T: ChoiceElement>(elements: &[u8]) -> Result<(&[u8], T), Refusal>
     requires { AreWhole T.SIZE elements.now }
@@ -109,7 +109,7 @@ fn read_default<T: ChoiceElement>(elements: &[u8]) -> Result<(&[u8], T), Refusal
     Ok(next_element(elements))
 }
 
-/// The default, and all that follow it.
+/// Reads the default, and all values that follow it.
 #[inline(always)]
 fn read_list<T: ChoiceElement>(alloc: Global, elements: &[u8]) -> Result<(T, Vec<T>), Refusal>
     requires { AreWhole T.SIZE elements.now }
@@ -120,9 +120,9 @@ fn read_list<T: ChoiceElement>(alloc: Global, elements: &[u8]) -> Result<(T, Vec
     Ok((default, read_elements(alloc, rest)?))
 }
 
-/// Reads the body of a choice over this type. It is refused with `WrongSize` where the child size isn't the type's or the
-/// values aren't whole, with `InvalidChoiceType` where the shape word is above 4, with `MissingChoiceValues` where fewer
-/// values are there than the shape needs, and else only for lack of memory. Only Enum and Flags take memory.
+/// Reads the body of a choice over the type `T`. Refused as `WrongSize` where the child size isn't the type's or the values
+/// aren't whole, as `InvalidChoiceType` where the shape word is above 4, as `MissingChoiceValues` where there are fewer values
+/// than the shape needs, and else only as `OutOfMemory`. Only Enum and Flags take memory.
 #[inline(always)]
 pub fn read_choice<T: ChoiceElement>(alloc: Global, body: &[u8]) -> Result<Choice<T>, Refusal>
     requires header { choice_header_size ≤ length body.now }
@@ -162,7 +162,7 @@ pub fn read_choice<T: ChoiceElement>(alloc: Global, body: &[u8]) -> Result<Choic
     }
 }
 
-/// The bodies of up to four values one after another, and zeros behind them.
+/// The bodies of at most four values one after another, and zeros behind them.
 fn first_bodies<T: CanonicalFixedSizedPod>(values: &[&T]) -> [u8; FIRST_LEN]
     requires { length values.now ≤ MOST_FIRST }
     ensures bodies { take (length values.now * T.SIZE) result ≡ fixed_bodies (map (λ x. T.fixed x.now) values.now) }
@@ -177,8 +177,7 @@ fn first_bodies<T: CanonicalFixedSizedPod>(values: &[&T]) -> [u8; FIRST_LEN]
     bodies
 }
 
-/// The first words of a choice's pod, which are its header, its shape and flags, and the child header, and its first
-/// values.
+/// The first bytes of a choice's pod: its header, its shape and flags, the child header, and the first values.
 fn start_of(
     pod: [u8; 8],
     choice: [u8; 8],
@@ -196,7 +195,7 @@ fn start_of(
     start
 }
 
-/// Appends the pod of a choice with this shape word, these flags and these values: the first ones, and some more.
+/// Appends the pod of a choice with this shape word, these flags and these values: the first ones, and the others of a list.
 fn put_values<T: CanonicalFixedSizedPod, S: PodSink>(
     sink: &mut S,
     shape: u32,
@@ -224,9 +223,9 @@ fn put_values<T: CanonicalFixedSizedPod, S: PodSink>(
     put_parts(sink, &start[..HEADERS_LEN + first_len], more, size)
 }
 
-/// Appends the pod of a choice, with its flags as it holds them. It is refused with `TooLarge` where a size word would be
-/// 4294967296 or more, before a byte is appended, and else only where the sink refuses; the sink has then taken a beginning
-/// of the pod.
+/// Appends the encoding of a choice, with the flags that it holds. Refused as `TooLarge` where a size word would be 4294967296
+/// or more, before a byte is appended, and else only with the sink's error; the sink may then have taken a beginning of the
+/// encoding.
 pub fn put_choice<T: ChoiceElement, S: PodSink>(
     sink: &mut S,
     choice: &Choice<T>,

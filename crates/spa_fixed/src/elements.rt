@@ -1,4 +1,4 @@
-//! Elements on their way to a sink.
+//! Writes the elements of arrays and choices.
 ghost use Rattle.std.specs.Prelude.{◌≡◌, ◌+◌, ◌*◌, ◌<◌, ◌≤◌, ◌++◌, IfErr, IfNone, IfSome, OnErr, OnOk, length, map, take};
 ghost use Rattle.spa_sink.specs.Writing.{Begun, Sent};
 ghost use Rattle.spa_format.specs.Encoding.{fixed_bodies};
@@ -8,19 +8,19 @@ ghost use Rattle.spa_format.specs.Words.{padding, size_limit};
 use crate::fixed::CanonicalFixedSizedPod;
 use spa_sink::{GenError, PodSink, put_padding};
 
-/// How many elements are handed to a sink at once, at most.
+/// The greatest number of elements that are handed to a sink at once.
 const BLOCK_COUNT: usize = 32;
 
-/// The length in bytes of so many elements, at most.
+/// The greatest length in bytes of `BLOCK_COUNT` elements.
 const BLOCK_LEN: usize = 256;
 
-/// How many elements a short list has, at most.
+/// The greatest number of elements of a short list.
 const SHORT_COUNT: usize = 4;
 
-/// The length in bytes of so many elements, at most.
+/// The greatest length in bytes of `SHORT_COUNT` elements.
 const SHORT_LEN: usize = 32;
 
-/// Puts the bodies of some values one after another at the front of a block.
+/// Writes the bodies of these values one after another to the front of a block.
 #[inline(always)]
 fn fill<T: CanonicalFixedSizedPod>(block: &mut [u8], values: &[T])
     requires { length values.now * 8 ≤ length block.old }
@@ -35,7 +35,7 @@ fn fill<T: CanonicalFixedSizedPod>(block: &mut [u8], values: &[T])
     }
 }
 
-/// Appends the bodies of a short list one after another.
+/// Appends the bodies of the elements of a short list one after another.
 fn put_few<T: CanonicalFixedSizedPod, S: PodSink>(
     sink: &mut S,
     values: &[T],
@@ -54,7 +54,7 @@ fn put_few<T: CanonicalFixedSizedPod, S: PodSink>(
     sink.append(&block[..values.len() * T::SIZE])
 }
 
-/// Appends the bodies one after another, in blocks.
+/// Appends the bodies of the elements one after another, in blocks.
 pub(crate) fn put_elements<T: CanonicalFixedSizedPod, S: PodSink>(
     sink: &mut S,
     values: &[T],
@@ -81,7 +81,7 @@ pub(crate) fn put_elements<T: CanonicalFixedSizedPod, S: PodSink>(
     Ok(())
 }
 
-/// The length of a body that has so many elements behind this many bytes, where it fits a size word.
+/// The length of a body with `before` bytes and `count` elements behind them. None: it doesn't fit a size word.
 pub(crate) fn body_len<T: CanonicalFixedSizedPod>(before: usize, count: usize) -> Option<u32>
     ensures some { IfSome result (λ size. size ≡ before + count * T.SIZE) }
     ensures fits { IfSome result (λ size. size < size_limit) }
@@ -92,7 +92,7 @@ pub(crate) fn body_len<T: CanonicalFixedSizedPod>(before: usize, count: usize) -
     u32::try_from(size).ok()
 }
 
-/// Appends a header, the bodies of the values, and then zeros up to a multiple of 8 behind a body of this size.
+/// Appends a header, the bodies of the values, and the padding behind a body of this size.
 pub(crate) fn put_parts<T: CanonicalFixedSizedPod, S: PodSink>(
     sink: &mut S,
     header: &[u8],

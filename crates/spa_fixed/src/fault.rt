@@ -12,7 +12,7 @@ use std::fmt::Debug;
 /// What is wrong with the bytes at a place.
 #[derive(Clone, Copy, PartialEq, Eq, Debug)]
 pub enum FaultKind {
-    /// Fewer bytes are left than a header takes, than its size word says, or than a property's key and flags take.
+    /// Fewer bytes are left than a header has, than its size word says, or than a property's key and flags have.
     Short,
     /// A typed read finds another type number.
     Tag,
@@ -20,8 +20,8 @@ pub enum FaultKind {
     Text,
 }
 
-/// A fault of the bytes, and what was left of the input where it stands: from the refused pod on, or from the property's
-/// key that is short.
+/// A fault of the bytes, with its place, given by the bytes that were left there: from the refused pod on, or from the
+/// property's key that is short.
 #[derive(PartialEq, Debug, Drop)]
 pub struct Fault<I> {
     pub input: I,
@@ -34,9 +34,9 @@ pub enum DeserializeError<I> {
     /// At a place there are too few bytes, a pod of another type than the one asked for, or a string's body that is no text
     /// with one NUL behind it.
     Nom(Fault<I>),
-    /// A visitor doesn't take what it is handed.
+    /// A visitor doesn't take a value of this type.
     UnsupportedType,
-    /// The type number of a pod, of an array's elements or of a choice's values is none that is read.
+    /// The type number of a pod, of an array's elements or of a choice's values isn't one that is read there.
     InvalidType,
     /// An object has no further property.
     PropertyMissing,
@@ -46,7 +46,7 @@ pub enum DeserializeError<I> {
     InvalidChoiceType,
     /// A choice has fewer values than its shape needs.
     MissingChoiceValues,
-    /// A body, or a child size, isn't as long as the bodies of its type, or bytes are left behind whole elements.
+    /// The length of a body or a child size isn't that of the type's bodies, or bytes are left behind whole elements.
     WrongSize,
     /// A struct, object or array reader ended before its last member was read.
     UnreadMembers,
@@ -54,7 +54,7 @@ pub enum DeserializeError<I> {
     NoElementLeft,
     /// The reader was refused before.
     FailedReader,
-    /// A growth was refused.
+    /// Memory ran out.
     OutOfMemory,
 }
 
@@ -99,7 +99,7 @@ impl fmt::Display for FaultKind {
     }
 }
 
-/// It prints what is wrong, and not where.
+/// It prints the fault in words, without its place.
 impl<I> fmt::Display for Fault<I> {
     ghost use Rattle.spa_fixed.specs.Faults.{fault_text};
     ghost use Rattle.std.specs.Prelude.{Some};
@@ -113,7 +113,7 @@ impl<I> fmt::Display for Fault<I> {
 
 impl<I: Debug + Drop> Error for Fault<I> {}
 
-/// It prints the cause in words, and not where it stands; `kind` is its name.
+/// It prints the cause in words, without its place; `kind` is its name.
 impl<I> fmt::Display for DeserializeError<I> {
     ghost use Rattle.spa_fixed.specs.Faults.{error_text};
     ghost use Rattle.std.specs.Prelude.{Some};
@@ -173,22 +173,22 @@ impl<I> From<AllocError> for DeserializeError<I> {
     }
 }
 
-/// Why an untyped read refuses, without a place: what the readers of bodies answer to the readers of pods.
+/// Why an untyped read refuses, without a place: the error type of the readers of bodies.
 #[derive(Clone, Copy, PartialEq, Eq, Debug)]
 pub enum Refusal {
-    /// Fewer bytes are left than a header takes, than its size word says, or than a property's key and flags take.
+    /// Fewer bytes are left than a header has, than its size word says, or than a property's key and flags have.
     Short,
     /// A string's body is no text with one NUL behind it.
     Text,
-    /// The type number is none that is read there.
+    /// The type number isn't one that is read there.
     InvalidType,
     /// A choice's shape word is above 4.
     InvalidChoiceType,
     /// A choice has fewer values than its shape needs.
     MissingChoiceValues,
-    /// A body, or a child size, isn't as long as the bodies of its type, or bytes are left behind whole elements.
+    /// The length of a body or a child size isn't that of the type's bodies, or bytes are left behind whole elements.
     WrongSize,
-    /// A growth was refused.
+    /// Memory ran out.
     OutOfMemory,
 }
 

@@ -1,4 +1,4 @@
-//! The ten types whose bodies have one size each.
+//! The ten types of fixed size: all bodies of one type have one length.
 ghost use Rattle.std.specs.Prelude.{◌≡◌, ◌<◌, ◌≤◌, ◌++◌, ℕ, IfErr, IfOk, OnErr, OnOk, ◌-◌, drop, length, refl, replicate, take};
 ghost use Rattle.spa_fixed.specs.declared.fault.FaultKind.TheVariants as fault_kind;
 ghost use Rattle.spa_format.specs.Kind as k;
@@ -12,7 +12,7 @@ use spa_sink::{GenError, PodSink};
 use spa_utils::{Fd, Float32, Float64, Fraction, Id, Rectangle, SpaTypes};
 
 mod sealed {
-    /// The types of fixed size are these ten, and no type of another crate.
+    /// It seals the trait: no type of another crate is of fixed size.
     pub trait Sealed {}
 }
 
@@ -24,8 +24,7 @@ pub(crate) const WORD_LEN: usize = 4;
 /// The length in bytes of a body that is two words or a number of 64 bits.
 pub(crate) const WIDE_LEN: usize = 8;
 
-/// One of the ten types whose bodies have one size: `()`, `bool`, `Id`, `i32`, `i64`, `Float32`, `Float64`, `Rectangle`,
-/// `Fraction` and `Fd`.
+/// One of the ten types of fixed size: `()`, `bool`, `Id`, `i32`, `i64`, `Float32`, `Float64`, `Rectangle`, `Fraction` and `Fd`.
 pub trait CanonicalFixedSizedPod: Sealed + Copy {
     /// The type number.
     const TYPE: u32;
@@ -40,7 +39,7 @@ pub trait CanonicalFixedSizedPod: Sealed + Copy {
     /// The kind of the type's values.
     ghost kind: { Kind };
 
-    /// What a value says.
+    /// The tree's form of a value.
     ghost fixed: { Self → Fixed };
 
     /// The body, and zeros behind it up to eight bytes.
@@ -51,13 +50,13 @@ pub trait CanonicalFixedSizedPod: Sealed + Copy {
         ensures zeros { drop SIZE result ≡ replicate (WIDE_LEN - SIZE) 0 }
         ensures typed { IsTypedFixed (fixed self.now) };
 
-    /// The value of a body.
+    /// The value with this body.
     #[doc(hidden)]
     fn of_body(body: &[u8]) -> Self
         requires { length body.now ≡ SIZE }
         ensures { fixed result ≡ content kind body.now };
 
-    /// Appends the body, without padding. It is refused only where the sink refuses it.
+    /// Appends the body, without padding. Refused only with the sink's error.
     final fn serialize_body<O: PodSink>(&self, out: &mut O) -> Result<(), GenError>
         ensures ok { OnOk result (O.appends out.old (fixed_body (fixed self.now)) out.new) }
         ensures typed { IsTypedFixed (fixed self.now) }
@@ -67,8 +66,8 @@ pub trait CanonicalFixedSizedPod: Sealed + Copy {
         out.append(&self.padded_body()[..Self::SIZE])
     }
 
-    /// Reads the body at the front of the bytes, and answers what follows it and the value. It is refused, as short,
-    /// exactly where fewer than `SIZE` bytes are there.
+    /// Reads the body at the front of the bytes, and answers the bytes that follow it and the value. Refused as `Short` exactly
+    /// where there are fewer than `SIZE` bytes.
     final fn deserialize_body(bytes: &[u8]) -> Result<(&[u8], Self), Fault<&[u8]>>
         ensures enough { OnOk result (SIZE ≤ length bytes.now) }
         ensures says { IfOk result (λ read. fixed read.1 ≡ content kind (take SIZE bytes.now)) }

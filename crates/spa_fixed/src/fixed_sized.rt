@@ -4,22 +4,22 @@ ghost use Rattle.std.specs.Prelude.{◌≡◌};
 use crate::fixed::CanonicalFixedSizedPod;
 use spa_utils::{Fd, Float32, Float64, Fraction, Id, Rectangle};
 
-/// A type that is read and written as one of the ten types of fixed size. Each of these is read and written as itself.
+/// A type that is read and written as one of the ten types of fixed size, its canonical type. Each of the ten is its own.
 pub trait FixedSizedPod: Sized {
-    /// The type that stands for it in a pod.
+    /// The canonical type, as which it is read and written.
     type CanonicalType: CanonicalFixedSizedPod;
 
-    /// The canonical value that a value is written as.
+    /// The canonical value as which a value is written.
     ghost to_canonical: { Self → Self.CanonicalType };
 
-    /// The value that a canonical one is read as.
+    /// The value as which a canonical one is read.
     ghost of_canonical: { Self.CanonicalType → Self };
 
-    /// The value that stands for this one in a pod.
+    /// The canonical value as which this one is written.
     fn as_canonical_type(&self) -> Self::CanonicalType
         ensures { result ≡ to_canonical self.now };
 
-    /// The value for which this one stands in a pod.
+    /// The value as which this canonical one is read.
     fn from_canonical_type(canonical: &Self::CanonicalType) -> Self
         ensures { result ≡ of_canonical canonical.now };
 }

@@ -1,4 +1,4 @@
-//! Whole pods of the types of fixed size.
+//! Writes whole pods of the types of fixed size.
 ghost use Rattle.std.specs.Prelude.{◌≡◌, ◌++◌, ℕ, IfErr, OnErr, OnOk, length, take};
 ghost use Rattle.spa_format.specs.Kind.{fixed_body};
 ghost use Rattle.spa_format.specs.Encoding.{framed};
@@ -9,11 +9,10 @@ use crate::fixed::CanonicalFixedSizedPod;
 use spa_bytes::{HEADER_LEN, extent_of, two_words};
 use spa_sink::{GenError, PodSink};
 
-/// The length in bytes of the longest pod of fixed size: a header, and a body with its padding.
+/// The length in bytes of the longest pod of a type of fixed size: a header, and a body with its padding.
 pub const LONGEST_POD_LEN: usize = 16;
 
-/// Appends the pod of a value of fixed size: header, body and padding at once. It is refused only where the sink
-/// refuses it.
+/// Appends the encoding of a value of fixed size, in one call of the sink. Refused only with the sink's error.
 pub fn put_fixed<T: CanonicalFixedSizedPod, S: PodSink>(
     sink: &mut S,
     value: &T,
@@ -26,7 +25,7 @@ pub fn put_fixed<T: CanonicalFixedSizedPod, S: PodSink>(
     sink.append(&pod_bytes(value)[..extent_of(T::SIZE as u32)])
 }
 
-/// The pod of a value of fixed size, and zeros behind it up to sixteen bytes.
+/// The encoding of a value of fixed size, and zeros behind it up to sixteen bytes.
 #[inline(always)]
 pub fn pod_bytes<T: CanonicalFixedSizedPod>(value: &T) -> [u8; LONGEST_POD_LEN]
     ensures encoding { take (extent T.SIZE) result ≡ framed T.TYPE (fixed_body (T.fixed value.now)) }

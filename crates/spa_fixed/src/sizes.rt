@@ -1,4 +1,4 @@
-//! How long pods are, before a byte of them is written.
+//! Computes how long pods are, before a byte of them is written.
 ghost use Rattle.std.specs.Prelude.{◌≡◌, ◌+◌, ◌*◌, ◌<◌, ◌≤◌, IfNone, IfSome, length, map};
 ghost use Rattle.spa_fixed.specs.Choices.{choice_tree};
 ghost use Rattle.spa_format.specs.Encoding.{array_body, encoded_body, framed};
@@ -11,14 +11,14 @@ use crate::fixed::{CanonicalFixedSizedPod, ChoiceElement};
 use spa_bytes::{HEADER_LEN, extent_of};
 use spa_utils::{Choice, ChoiceEnum};
 
-/// How many bytes the pod of a value of fixed size takes.
+/// The length in bytes of the encoding of a value of fixed size.
 pub fn pod_len<T: CanonicalFixedSizedPod>(_value: &T) -> usize
     ensures { result ≡ length (framed T.TYPE (fixed_body (T.fixed _value.now))) }
 {
     extent_of(T::SIZE as u32)
 }
 
-/// How many bytes the body of an array's pod takes, or `None` where they are 4294967296 or more.
+/// The length in bytes of the body of an array's encoding. None: it is 4294967296 or more.
 pub fn array_size<T: CanonicalFixedSizedPod>(values: &[T]) -> Option<u32>
     ensures some { IfSome result (λ size. size ≡ length (array_body T.kind (map T.fixed values.now))) }
     ensures none { IfNone result (size_limit ≤ length (array_body T.kind (map T.fixed values.now))) }
@@ -26,7 +26,7 @@ pub fn array_size<T: CanonicalFixedSizedPod>(values: &[T]) -> Option<u32>
     body_len::<T>(HEADER_LEN, values.len())
 }
 
-/// How many bytes the body of a choice's pod takes, or `None` where they are 4294967296 or more.
+/// The length in bytes of the body of a choice's encoding. None: it is 4294967296 or more.
 pub fn choice_size<T: ChoiceElement>(choice: &Choice<T>) -> Option<u32>
     ensures some { IfSome result (λ size. size ≡ length (encoded_body (choice_tree T.kind T.fixed choice.now))) }
     ensures none { IfNone result (size_limit ≤ length (encoded_body (choice_tree T.kind T.fixed choice.now))) }

@@ -51,7 +51,7 @@ fn put_whole<S: PodSink>(sink: &mut S) -> Result<(), GenError> {
     put_fixed(sink, &3)
 }
 
-/// Appends the bytes to a sink over a device that takes so many at a time, and is interrupted at this write.
+/// Appends the bytes to a sink over a device that takes this many at a time, and is interrupted at this write.
 fn found_in_device(most: usize, interrupted_at: u32) -> Found {
     let mut sink = IoSink::new(Device {
         taken: ArrayVec::new(),

@@ -164,7 +164,7 @@ others = walk_induction OthersStay
           ∙ ap (slice_index b) ei
     ])
 
--- the same in an object at the front of an input
+-- fixation of the object at the front of an input sets the shape words
 pub shape_words_set : (b : List ℕ) (i : ℕ) → HasObject b → IsFixatedPlace b i → word_at (fixated_bytes b) i ≡ 0
 shape_words_set b i o h =
     let k = object_parts b o.front o.parts in

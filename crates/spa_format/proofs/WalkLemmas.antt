@@ -81,7 +81,7 @@ pub length-walk_behind : (k : ℕ) (b : List ℕ) → length (walk_behind k b) *
 unfolding walk_behind
 length-walk_behind k b = length-walk_at_most (length b) k b
 
--- the same step, where the extent has another name
+-- the first step of a walk, where the extent of the first pod has another name
 pub walk_behind-next : (k n : ℕ) (b : List ℕ) → n ≡ extent_behind k b → n ≤ length b →
     walk_behind k b ≡ take n b ∷ walk_behind k (drop n b)
 walk_behind-next k n b e h = rw e (walk_behind-there k b (omega arith))
@@ -99,7 +99,7 @@ walk-end b h =
       | inr l ↦ absurd (h (record { header = omega arith; whole = omega arith }))
     ]
 
--- the same, where the first one has a name
+-- the first step of a walk over pods, where the first pod has a name
 pub walk-named : (b p : List ℕ) → HasFront b → p ≡ front_of b → walk b ≡ p ∷ walk (drop (length p) b)
 walk-named b p h e =
     let x = h.whole in

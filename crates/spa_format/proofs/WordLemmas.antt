@@ -52,11 +52,11 @@ word_inside a b n i e h =
     ∙ word_at-append (word_bytes n) b 0 (let l = length-word_bytes n in omega arith)
     ∙ word_at-word_bytes n h
 
--- the same at the end
+-- a word written at the end of bytes reads back as its number
 pub word_last : (a : List ℕ) (n i : ℕ) → length a ≡ i → n < 2 ^ 32 → word_at (a ++ word_bytes n) i ≡ n
 word_last a n i e h = ap (λ l. word_at (a ++ l) i) (sym (append-nil (word_bytes n))) ∙ word_inside a [] n i e h
 
--- the same laws of eight bytes
+-- laws of numbers of eight bytes
 same_wide : (a b : List ℕ) (i j : ℕ) → ((k : ℕ) → k < 8 → get_or a (i + k) 0 ≡ get_or b (j + k) 0) → wide_at a i ≡ wide_at b j
 unfolding wide_at
 same_wide a b i j h =

@@ -6,7 +6,7 @@ use Rattle.spa_format.specs.Tree.{Tree, fixed, string, bytes, bitmap, array, cho
 use Rattle.spa_format.specs.Pod.{IsText, IsArray, IsChoice, IsPointer, IsWhole}
 
 abbrev mutual
-  -- this body said this value; there was no type of bitmaps
+  -- this was a body of this value before bitmaps: the same as `IsBody` today, but that no body is a bitmap's
   pub WasBody : Tree → List ℕ → Type 0
   WasBody (fixed x) b = IsFixedBody (kind_of x) b x
   WasBody (string s) b = IsText s × (b ≡ s ++ 0 ∷ [])
@@ -18,23 +18,23 @@ abbrev mutual
   WasBody (struct vs) b = WereMembers vs b
   WasBody (object t i ps) b = (header_size ≤ length b) × (t ≡ word_at b 0) × (i ≡ word_at b 4) × WereProperties ps (drop header_size b)
 
-  -- whole pods of these values one after another, and nothing else
+  -- a struct's body before bitmaps: the pods of these members one after another, and nothing else
   pub WereMembers : Trees → List ℕ → Type 0
   WereMembers no_trees b = b ≡ []
   WereMembers (member v vs) b = (first : List ℕ) × (others : List ℕ) × (b ≡ first ++ others) × IsWhole first (type_of v) (WasBody v) × WereMembers vs others
 
-  -- the same, with the key word and the flags word before each pod
+  -- an object's properties before bitmaps: each is a key word, a flags word and the pod of its value, and nothing else follows
   pub WereProperties : Properties → List ℕ → Type 0
   WereProperties no_properties b = b ≡ []
   WereProperties (property key flags v ps) b =
       (header_size ≤ length b) × (key ≡ word_at b 0) × (flags ≡ word_at b 4)
       × (first : List ℕ) × (others : List ℕ) × (drop header_size b ≡ first ++ others) × IsWhole first (type_of v) (WasBody v) × WereProperties ps others
 
--- these bytes were a pod of this value
+-- these bytes were a pod of this value before there were bitmaps
 abbrev pub WasPod : List ℕ → Tree → Type 0
 WasPod b v = IsWhole b (type_of v) (WasBody v)
 
--- a bitmap stands in the value
+-- the value is a bitmap, or holds one at any nesting depth
 abbrev mutual
   pub HasBitmap : Tree → Type 0
   HasBitmap (fixed x) = ⊥

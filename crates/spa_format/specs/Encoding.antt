@@ -4,16 +4,16 @@ use Rattle.spa_format.specs.Words.{word_bytes, wide_bytes, padding}
 use Rattle.spa_format.specs.Kind.{Kind, type_number, body_size, Fixed, fixed_body}
 use Rattle.spa_format.specs.Tree.{shape_number, Tree, fixed, string, bytes, bitmap, array, choice, pointer, struct, object, Trees, no_trees, member, Properties, no_properties, property, type_of}
 
--- bodies one after another; those of units are empty
+-- the bodies of values of fixed size, one after another; a None has an empty body
 abbrev pub fixed_bodies : List Fixed → List ℕ
 fixed_bodies [] = []
 fixed_bodies (x ∷ xs) = fixed_body x ++ fixed_bodies xs
 
--- the size and the type of the elements, then these
+-- the body of an array: the size word and the type word of one element, then the elements' bodies without padding
 abbrev pub array_body : Kind → List Fixed → List ℕ
 array_body k xs = word_bytes (body_size k) ++ (word_bytes (type_number k) ++ fixed_bodies xs)
 
--- size word, type word, body, and zeros up to a multiple of 8
+-- a pod from its body: size word, type word, body, and zeros up to a multiple of 8 bytes
 abbrev pub framed : ℕ → List ℕ → List ℕ
 framed type b = word_bytes (length b) ++ (word_bytes type ++ (b ++ padding (length b)))
 
@@ -38,6 +38,6 @@ abbrev mutual
   property_encodings no_properties = []
   property_encodings (property key flags v ps) = word_bytes key ++ (word_bytes flags ++ (framed (type_of v) (encoded_body v) ++ property_encodings ps))
 
--- the encoding of a value
+-- the encoding of a value: the one pod as which it is written
 abbrev pub encoding_of : Tree → List ℕ
 encoding_of v = framed (type_of v) (encoded_body v)

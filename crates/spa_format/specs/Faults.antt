@@ -6,7 +6,7 @@ use Rattle.spa_format.specs.Tree.{Shape, shape_number, string_type, array_type, 
 use Rattle.spa_format.specs.Pod.{IsText, least_count, AreMembers, AreProperties}
 use Rattle.spa_format.specs.Front.{HasFront}
 
--- the faults that an untyped read names
+-- the faults that a read of any value, without a type asked for, may report
 pub data Fault : Type 0 where
   Short : Fault
   Text : Fault
@@ -15,7 +15,7 @@ pub data Fault : Type 0 where
   MissingChoiceValues : Fault
   WrongSize : Fault
 
--- the bytes of a choice's body before its values
+-- how many bytes of a choice's body come before its values: shape, flags, child size and child type
 abbrev pub choice_header_size : ℕ
 choice_header_size = 16
 
@@ -29,13 +29,14 @@ pub data IsInvalidType (t : ℕ) (b : List ℕ) : Type 0 where
   of_elements : t ≡ array_type → header_size ≤ length b → ((k : Kind) → word_at b 4 ≢ type_number k) → IsInvalidType t b
   of_values : t ≡ choice_type → choice_header_size ≤ length b → ((k : Kind) → 0 < body_size k → word_at b 12 ≢ type_number k) → IsInvalidType t b
 
--- a body as an array's whose child size isn't the child type's, or that doesn't hold whole elements
+-- a body that begins like an array's with elements of this kind, but whose child size isn't that of the kind, or whose length isn't that of
+-- a whole number of elements
 pub record IsWrongArray (k : Kind) (b : List ℕ) : Type 0 where
   pub header : header_size ≤ length b
   pub child_type : word_at b 4 ≡ type_number k
   pub wrong : (word_at b 0 ≢ body_size k) ⊎ ((n : ℕ) → length b ≢ header_size + n * body_size k)
 
--- a body that isn't as long as the type's bodies are
+-- a body of the wrong length for this type number, or with the wrong child size for an array or a choice
 pub data IsWrongSize (t : ℕ) (b : List ℕ) : Type 0 where
   of_fixed : (k : Kind) → t ≡ type_number k → length b ≢ body_size k → IsWrongSize t b
   of_array : (k : Kind) → t ≡ array_type → IsWrongArray k b → IsWrongSize t b
@@ -45,7 +46,7 @@ pub data IsWrongSize (t : ℕ) (b : List ℕ) : Type 0 where
   short_choice : t ≡ choice_type → length b < choice_header_size → IsWrongSize t b
   short_object : t ≡ object_type → length b < header_size → IsWrongSize t b
 
--- a choice with fewer whole values than its shape has to have
+-- the body of a choice that holds fewer whole values than its shape needs
 pub record LacksValues (b : List ℕ) : Type 0 where
   pub header : choice_header_size ≤ length b
   pub shape : Shape
@@ -64,8 +65,9 @@ StandsAtFront InvalidChoiceType b = HasFront b × (word_at b 4 ≡ choice_type) 
 StandsAtFront MissingChoiceValues b = HasFront b × (word_at b 4 ≡ choice_type) × LacksValues (body_of b)
 StandsAtFront WrongSize b = HasFront b × IsWrongSize (word_at b 4) (body_of b)
 
--- The fault stands at a place in the input: at its front, or in a struct or object at its front, behind some first
--- members that are pods. The place is what is left of the input, or of the member, from there on.
+-- The fault stands at a place in the input: at its front, or in the struct or object at its front, behind zero or more first members or
+-- properties that are pods, at any nesting depth. The place is given by the bytes that are left from there to the end of the body around it,
+-- and at the front by the input itself.
 pub data Stands (k : Fault) (place : List ℕ) : List ℕ → Type 0 where
   at_front : (b : List ℕ) → place ≡ b → StandsAtFront k b → Stands k place b
   in_member : (b : List ℕ) (vs : Trees) (first left : List ℕ) → HasFront b → word_at b 4 ≡ struct_type → body_of b ≡ first ++ left → AreMembers vs first → left ≢ [] → Stands k place left → Stands k place b

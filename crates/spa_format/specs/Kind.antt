@@ -66,7 +66,7 @@ kind_of (rectangle w h) = rectangle_kind
 kind_of (fraction n d) = fraction_kind
 kind_of (fd x) = fd_kind
 
--- what a body of the kind says
+-- the value that a body of the kind says; of a Bool, that any word but 0 is true
 abbrev pub content : Kind → List ℕ → Fixed
 content none_kind b = none
 content bool_kind b = bool (nat_lt 0 (word_at b 0))
@@ -84,7 +84,7 @@ pub record IsFixedBody (k : Kind) (b : List ℕ) (x : Fixed) : Type 0 where
   pub whole : length b ≡ body_size k
   pub says : x ≡ content k b
 
--- the body as it is written
+-- the body as which a value of fixed size is written: true is the word 1
 abbrev pub fixed_body : Fixed → List ℕ
 fixed_body none = []
 fixed_body (bool x) = word_bytes (if x then 1 else 0)

@@ -3,12 +3,12 @@ use Rattle.std.specs.Prelude.{ℕ, List, []}
 use Rattle.spa_format.specs.Kind.{Kind, none_kind, Fixed}
 use Rattle.spa_format.specs.Tree.{Shape, none_choice, range_choice, step_choice, enum_choice, flags_choice, Tree, fixed, string, bytes, bitmap, array, choice, pointer, struct, object, Trees, no_trees, member, Properties, no_properties, property}
 
--- the elements of an array that its encoding keeps: units have no bytes
+-- the elements of an array that its encoding keeps: none of an array of None, since a None has no bytes
 abbrev pub kept_elements : Kind → List Fixed → List Fixed
 kept_elements none_kind xs = []
 kept_elements _ xs = xs
 
--- the flags of a choice that are read: none of a choice without alternatives
+-- the flags of a choice that a reader keeps: 0 for a None choice
 abbrev pub kept_flags : Shape → ℕ → ℕ
 kept_flags none_choice f = 0
 kept_flags range_choice f = f
@@ -16,7 +16,7 @@ kept_flags step_choice f = f
 kept_flags enum_choice f = f
 kept_flags flags_choice f = f
 
--- empty flags in each none choice and no units in each none array, at every depth
+-- the value with flags 0 in each None choice and no elements in each array of None, at every nesting depth
 abbrev mutual
   pub normal_of : Tree → Tree
   normal_of (fixed x) = fixed x

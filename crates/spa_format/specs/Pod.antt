@@ -5,17 +5,18 @@ use Rattle.spa_format.specs.Kind.{Kind, type_number, body_size, Fixed, kind_of, 
 use Rattle.spa_format.specs.Tree.{Shape, none_choice, range_choice, step_choice, enum_choice, flags_choice, shape_number, Tree, fixed, string, bytes, bitmap, array, choice, pointer, struct, object, Trees, no_trees, member, Properties, no_properties, property, type_of}
 use Rattle.spa_format.specs.Normal.{kept_flags}
 
--- a text without NUL
+-- a text: UTF-8 without NUL
 pub record IsText (s : List ℕ) : Type 0 where
   pub utf8 : IsUtf8 s
   pub no_nul : ¬ (Contains s 0)
 
--- The bodies of these values one after another, and nothing else. A kind whose bodies have no bytes has no elements.
+-- The elements of an array or choice: bodies of these values one after another, without padding, and nothing else. Of None, whose bodies are
+-- empty, there are no elements.
 abbrev pub AreElements : Kind → List Fixed → List ℕ → Type 0
 AreElements k [] b = b ≡ []
 AreElements k (x ∷ xs) b = (0 < body_size k) × IsFixedBody k (take (body_size k) b) x × AreElements k xs (drop (body_size k) b)
 
--- the body of an array: the size and the type of its elements, then these
+-- the body of an array of these values: the size word and the type word of one element, then the elements
 pub record IsArray (k : Kind) (xs : List Fixed) (b : List ℕ) : Type 0 where
   pub header : header_size ≤ length b
   pub child_size : word_at b 0 ≡ body_size k
@@ -30,7 +31,7 @@ least_count step_choice = 4
 least_count enum_choice = 1
 least_count flags_choice = 1
 
--- the values behind the default that a choice takes
+-- the values behind the default that a choice of this shape takes; it ignores what follows them
 abbrev pub values_taken : Shape → List Fixed → List Fixed
 values_taken none_choice xs = []
 values_taken range_choice xs = take 2 xs
@@ -38,8 +39,8 @@ values_taken step_choice xs = take 3 xs
 values_taken enum_choice xs = xs
 values_taken flags_choice xs = xs
 
--- The body of a choice: a word for its shape, flags, and then as an array's body its default and the other values.
--- Since the default is there, the values have bytes.
+-- The body of a choice: its shape word, its flags word, and then, laid out as an array's body, the default and the values behind it. Since the
+-- default is one of the elements, their kind isn't None.
 pub record IsChoice (s : Shape) (f : ℕ) (k : Kind) (x : Fixed) (xs : List Fixed) (b : List ℕ) : Type 0 where
   pub header : header_size ≤ length b
   pub shape : word_at b 0 ≡ shape_number s
@@ -53,15 +54,14 @@ pub record IsChoice (s : Shape) (f : ℕ) (k : Kind) (x : Fixed) (xs : List Fixe
 abbrev pub IsPointer : ℕ → ℕ → List ℕ → Type 0
 IsPointer t a b = (t ≡ word_at b 0) × (((length b ≡ 12) × (a ≡ word_at b 8)) ⊎ ((length b ≡ 16) × (a ≡ wide_at b 8)))
 
--- Whole bytes: as many as the size word says, with this type number and a body for which the fact holds.
--- The bytes behind the body are free.
+-- Whole bytes: as many as the size word says, with this type number and a body of which the fact holds. The padding behind the body is free.
 pub record IsWhole (b : List ℕ) (type : ℕ) (IsBodyOf : List ℕ → Type 0) : Type 0 where
   pub whole : length b ≡ extent (word_at b 0)
   pub its_type : word_at b 4 ≡ type
   pub content : IsBodyOf (body_of b)
 
 abbrev mutual
-  -- this body says this value
+  -- these bytes are a body of this value, in a pod of the value's type
   pub IsBody : Tree → List ℕ → Type 0
   IsBody (fixed x) b = IsFixedBody (kind_of x) b x
   IsBody (string s) b = IsText s × (b ≡ s ++ 0 ∷ [])
@@ -73,12 +73,12 @@ abbrev mutual
   IsBody (struct vs) b = AreMembers vs b
   IsBody (object t i ps) b = (header_size ≤ length b) × (t ≡ word_at b 0) × (i ≡ word_at b 4) × AreProperties ps (drop header_size b)
 
-  -- whole pods of these values one after another, and nothing else
+  -- a struct's body: the pods of these members one after another, and nothing else
   pub AreMembers : Trees → List ℕ → Type 0
   AreMembers no_trees b = b ≡ []
   AreMembers (member v vs) b = (first : List ℕ) × (others : List ℕ) × (b ≡ first ++ others) × IsWhole first (type_of v) (IsBody v) × AreMembers vs others
 
-  -- the same, with the key word and the flags word before each pod
+  -- an object's properties: each is a key word, a flags word and the pod of its value, one after another, and nothing else follows
   pub AreProperties : Properties → List ℕ → Type 0
   AreProperties no_properties b = b ≡ []
   AreProperties (property key flags v ps) b =

@@ -2,7 +2,7 @@
 use Rattle.std.specs.Prelude.{ℕ, ◌+◌, List}
 use Rattle.spa_format.specs.Kind.{Kind, Fixed, kind_of, type_number}
 
--- which values a choice admits
+-- the shapes of choices: which values a choice admits
 pub data Shape : Type 0 where
   none_choice : Shape
   range_choice : Shape
@@ -10,7 +10,7 @@ pub data Shape : Type 0 where
   enum_choice : Shape
   flags_choice : Shape
 
--- the shape word of such a choice
+-- the shape word of a choice of this shape
 abbrev pub shape_number : Shape → ℕ
 shape_number none_choice = 0
 shape_number range_choice = 1
@@ -24,9 +24,9 @@ mutual
     string : List ℕ → Tree
     bytes : List ℕ → Tree
     bitmap : List ℕ → Tree
-    -- values of one kind
+    -- the elements of an array, which are of one kind
     array : Kind → List Fixed → Tree
-    -- a default and further values of one kind: minimum and maximum, then the step, or alternatives, or flags
+    -- a default and the values behind it, of one kind: minimum and maximum, then the step; or alternatives; or flags
     choice : (shape : Shape) (flags : ℕ) (kind : Kind) (default : Fixed) (values : List Fixed) → Tree
     pointer : (type address : ℕ) → Tree
     struct : Trees → Tree
@@ -88,7 +88,7 @@ abbrev pub join_properties : Properties → Properties → Properties
 join_properties no_properties qs = qs
 join_properties (property k f v ps) qs = property k f v (join_properties ps qs)
 
--- how many pods a value is written as: itself, and those of its members or of its properties' values
+-- how many pods a value's encoding has: its own, and those of its members or of its properties' values, at every nesting depth
 abbrev mutual
   pub node_count : Tree → ℕ
   node_count (fixed x) = 1

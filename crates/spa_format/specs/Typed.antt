@@ -5,11 +5,11 @@ use Rattle.std.specs.Int.{w32, w64}
 use Rattle.spa_format.specs.Kind.{Kind, body_size, Fixed, none, bool, id, int, long, float, double, rectangle, fraction, fd, kind_of}
 use Rattle.spa_format.specs.Tree.{Shape, none_choice, range_choice, step_choice, enum_choice, flags_choice, Tree, fixed, string, bytes, bitmap, array, choice, pointer, struct, object, Trees, no_trees, member, Properties, no_properties, property}
 
--- each number in the list is a byte
+-- every number in the list is a byte
 abbrev pub IsBytes : List ℕ → Type 0
 IsBytes b = (i : ℕ) → slice_index b i < 256
 
--- a number within its type
+-- a value of fixed size whose numbers are within their types
 abbrev pub IsTypedFixed : Fixed → Type 0
 IsTypedFixed none = ⊤
 IsTypedFixed (bool x) = ⊤
@@ -22,12 +22,12 @@ IsTypedFixed (rectangle w h) = (w < 2 ^ 32) × (h < 2 ^ 32)
 IsTypedFixed (fraction n d) = (n < 2 ^ 32) × (d < 2 ^ 32)
 IsTypedFixed (fd x) = FitsSigned w64 x
 
--- each is of this kind, and typed
+-- each of the elements is of this kind, with its numbers within their types
 abbrev pub AreOf : Kind → List Fixed → Type 0
 AreOf k [] = ⊤
 AreOf k (x ∷ xs) = (kind_of x ≡ k) × IsTypedFixed x × AreOf k xs
 
--- so many values stand behind the default
+-- a choice of this shape may have this many values behind its default
 abbrev pub IsCount : Shape → ℕ → Type 0
 IsCount none_choice n = n ≡ 0
 IsCount range_choice n = n ≡ 2

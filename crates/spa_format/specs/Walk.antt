@@ -5,11 +5,11 @@ use Rattle.spa_format.specs.Tree.{object_type, Trees, no_trees, member, Properti
 use Rattle.spa_format.specs.Pod.{IsPod}
 use Rattle.spa_format.specs.Front.{HasFront}
 
--- how many bytes the first pod takes that stands behind k bytes, these among them
+-- how many bytes the pod at the offset k takes, together with the k bytes before it
 abbrev pub extent_behind : ℕ → List ℕ → ℕ
 extent_behind k b = k + extent (word_at b k)
 
--- the first pod and those after it, each with the k bytes before it; at most so many
+-- whole pods one after another, each with k bytes before it, up to the first that isn't whole; at most as many as the first number
 abbrev pub walk_at_most : ℕ → ℕ → List ℕ → List (List ℕ)
 walk_at_most zero k b = []
 walk_at_most (suc n) k b =
@@ -17,15 +17,15 @@ walk_at_most (suc n) k b =
     then take (extent_behind k b) b ∷ walk_at_most n k (drop (extent_behind k b) b)
     else []
 
--- all of them, since there are no more than bytes; the laws say it without the bound
+-- all whole pods one after another, each with k bytes before it: there are no more of them than bytes; the laws say it without the bound
 unfoldable pub walk_behind : ℕ → List ℕ → List (List ℕ)
 walk_behind k b = walk_at_most (length b) k b
 
--- the pods that stand in a struct's body, up to the first that isn't whole
+-- the pods one after another in a struct's body, up to the first that isn't whole
 abbrev pub walk : List ℕ → List (List ℕ)
 walk = walk_behind 0
 
--- the properties that stand behind an object's type and id, up to the first that isn't whole
+-- the properties one after another, with key and flags, behind an object's type and id, up to the first that isn't whole
 abbrev pub property_walk : List ℕ → List (List ℕ)
 property_walk = walk_behind header_size
 
@@ -34,11 +34,11 @@ pub record HasProperty (b : List ℕ) : Type 0 where
   pub header : header_size ≤ length b
   pub value : HasFront (drop header_size b)
 
--- that property, with its padding
+-- the property at the front of the bytes: key, flags, and the pod with its padding
 abbrev pub property_of : List ℕ → List ℕ
 property_of b = take (extent_behind header_size b) b
 
--- what follows it
+-- the bytes behind the property at the front
 abbrev pub behind_property : List ℕ → List ℕ
 behind_property b = drop (extent_behind header_size b) b
 
@@ -57,13 +57,13 @@ abbrev pub first_with_key : ℕ → List (List ℕ) → Option (List ℕ)
 first_with_key key [] = None
 first_with_key key (p ∷ ps) = if nat_eq (word_at p 0) key then Some p else first_with_key key ps
 
--- pods of these values in order
+-- the byte strings are pods of these values, in order, and as many
 abbrev pub ArePodsOf : Trees → List (List ℕ) → Type 0
 ArePodsOf no_trees bs = bs ≡ []
 ArePodsOf (member v vs) [] = ⊥
 ArePodsOf (member v vs) (b ∷ bs) = IsPod b v × ArePodsOf vs bs
 
--- the same with key and flags before each
+-- the byte strings are these properties, in order, and as many: key, flags and the pod of the value
 abbrev pub ArePropertiesOf : Properties → List (List ℕ) → Type 0
 ArePropertiesOf no_properties ps = ps ≡ []
 ArePropertiesOf (property key flags v qs) [] = ⊥

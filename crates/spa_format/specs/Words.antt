@@ -2,15 +2,15 @@
 use Rattle.std.specs.Prelude.{ℕ, ◌+◌, ◌*◌, ◌/◌, ◌-◌, ◌^◌, List, take, drop, replicate}
 use Rattle.std.specs.Int.{w32, w64, from_le_bytes, to_le_bytes}
 
--- the number that the four bytes from this place on spell
+-- the number that the four bytes at this offset spell, least byte first
 unfoldable pub word_at : List ℕ → ℕ → ℕ
 word_at b i = from_le_bytes w32 (drop i b)
 
--- the four bytes that spell a number
+-- the four bytes that spell a number, least byte first
 unfoldable pub word_bytes : ℕ → List ℕ
 word_bytes n = to_le_bytes w32 n
 
--- the same with eight bytes
+-- the number that the eight bytes at this offset spell, and the eight bytes that spell a number, least byte first
 unfoldable pub wide_at : List ℕ → ℕ → ℕ
 wide_at b i = from_le_bytes w64 (drop i b)
 
@@ -22,7 +22,7 @@ wide_bytes n = to_le_bytes w64 n
 abbrev pub header_size : ℕ
 header_size = 8
 
--- the numbers that a word can spell are below this one
+-- the least number that a word can't spell: each size is below it
 abbrev pub size_limit : ℕ
 size_limit = 2 ^ 32
 
@@ -30,7 +30,7 @@ size_limit = 2 ^ 32
 abbrev pub padded_size : ℕ → ℕ
 padded_size size = (size + 7) / 8 * 8
 
--- how many bytes a whole pod takes whose body has this size
+-- how many bytes a pod takes, with its header and its padding, whose body has this size
 abbrev pub extent : ℕ → ℕ
 extent size = header_size + padded_size size
 

@@ -4,7 +4,7 @@ use Rattle.spa_format.specs.Words.{size_limit}
 use Rattle.spa_format.specs.Tree.{Tree, fixed, string, bytes, bitmap, array, choice, pointer, struct, object, Trees, no_trees, member, Properties, no_properties, property}
 use Rattle.spa_format.specs.Encoding.{encoded_body}
 
--- a text in the value holds NUL
+-- the value is a text that holds NUL, or holds such a text at any nesting depth
 abbrev mutual
   pub HasNul : Tree → Type 0
   HasNul (fixed x) = ⊥
@@ -25,7 +25,7 @@ abbrev mutual
   SomeValueHasNul no_properties = ⊥
   SomeValueHasNul (property key flags v ps) = HasNul v ⊎ SomeValueHasNul ps
 
--- a size word of the value's encoding is past 32 bits
+-- the size of a body in the value's encoding, its own or one at any nesting depth, doesn't fit a word of 32 bits
 abbrev mutual
   pub IsTooLarge : Tree → Type 0
   IsTooLarge (fixed x) = ⊥
@@ -46,7 +46,7 @@ abbrev mutual
   SomeValueTooLarge no_properties = ⊥
   SomeValueTooLarge (property key flags v ps) = IsTooLarge v ⊎ SomeValueTooLarge ps
 
--- no text in it holds NUL, and no size word is past 32 bits
+-- the value can be written: no text in it holds NUL, and every size fits a word of 32 bits
 pub record IsWritable (v : Tree) : Type 0 where
   pub no_nul : ¬ (HasNul v)
   pub fits : ¬ (IsTooLarge v)

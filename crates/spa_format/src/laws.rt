@@ -11,12 +11,12 @@ ghost use Rattle.spa_format.specs.Typed.{IsBytes, IsTyped};
 ghost use Rattle.spa_format.specs.Words.{extent, word_at};
 ghost use Rattle.spa_format.specs.Writable.{IsWritable};
 
-/// Bytes are a pod of one value at most.
+/// Bytes are a pod of at most one value.
 pub fn pods_have_one_value()
     ensures { (b : List ℕ) (v w : Tree) → IsPod b v → IsPod b w → v ≡ w }
 {}
 
-/// The size word of a pod says how many bytes it takes.
+/// A pod takes as many bytes as its size word says: a header and the body, padded to a multiple of 8.
 pub fn sizes_fix_extents()
     ensures { (b : List ℕ) (v : Tree) → IsPod b v → length b ≡ extent (word_at b 0) }
 {}
@@ -44,7 +44,7 @@ pub fn readings_are_normal()
     ensures writable { (b : List ℕ) (v : Tree) → IsBytes b → IsPod b v → IsWritable v }
 {}
 
-/// A rewriting is a pod of the same value, and so its own rewriting.
+/// The encoding of a pod's value is a pod of the same value. So it is canonical: the encoding of what it says.
 pub fn rewritings_are_pods()
     ensures { (b : List ℕ) (v : Tree) → IsBytes b → IsPod b v → IsPod (encoding_of v) v }
 {}
@@ -54,23 +54,23 @@ pub fn encodings_are_shortest()
     ensures { (b : List ℕ) (v : Tree) → IsPod b v → length (encoding_of v) ≤ length b }
 {}
 
-/// Two pods have one rewriting exactly where they are of one value.
+/// Two pods are rewritten to the same bytes exactly where they are pods of one value.
 pub fn same_rewriting_same_value()
     ensures { (b c : List ℕ) (v w : Tree) → IsBytes b → IsBytes c → IsPod b v → IsPod c w → (encoding_of v ≡ encoding_of w) ↔ (v ≡ w) }
 {}
 
-/// Where a fault stands, the front isn't there or is a pod of no value.
+/// Where a fault stands in an input, it is refused: its front isn't there, or is a pod of no value.
 pub fn faults_refuse()
     ensures { (k : Fault) (place b : List ℕ) → Stands k place b → IsRefused b }
 {}
 
-/// Where what is left behind some first pods is refused, the whole isn't pods one after another.
+/// Bytes aren't pods one after another where what is left of them behind their first members is refused.
 pub fn refused_members_refuse()
     ensures { (vs ws : Trees) (first left : List ℕ) → AreMembers vs first → left ≢ [] → IsRefused left → ¬ (AreMembers ws (first ++ left)) }
 {}
 
-/// What was a pod before there were bitmaps is a pod of the same value and of no other, so its rewriting is the same.
-/// Those pods are the pods of values in which no bitmap stands.
+/// A pod of the version before, which had no bitmaps, is a pod of the same value and of no other, so it is rewritten to the same bytes.
+/// The pods of that version are exactly the pods of values in which there is no bitmap.
 pub fn pods_of_before_stay()
     ensures same { (b : List ℕ) (v : Tree) → WasPod b v → IsPod b v }
     ensures one { (b : List ℕ) (v w : Tree) → WasPod b v → IsPod b w → w ≡ v }

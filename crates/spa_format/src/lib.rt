@@ -1,4 +1,4 @@
-//! The pod format: its definitions, which stand in `specs/`, and their laws.
+//! The pod format: its definitions, which are in `specs/`, and their laws.
 #![tactic(auto)]
 
 pub mod laws;

@@ -10,20 +10,20 @@ ghost use Rattle.spa_format.specs.Walk.{ArePodsOf, ArePropertiesOf, HasObject, H
 ghost use Rattle.spa_format.specs.Walk.{property_of, property_walk, walk};
 ghost use Rattle.spa_format.specs.Words.{body_of, header_size, word_at};
 
-/// A walk over pods is the front, where it is there, and then the walk of the rest.
+/// A walk over pods is the front, where it is there, and then the walk over the rest; where the front isn't there it is empty.
 pub fn walks_follow_fronts()
     ensures there { (b : List ℕ) → HasFront b → walk b ≡ front_of b ∷ walk (rest_of b) }
     ensures end { (b : List ℕ) → ¬ (HasFront b) → walk b ≡ [] }
 {}
 
-/// A walk over properties is the first one, where it is there, and then the walk of what follows it.
+/// A walk over properties is the first property, where it is there, and then the walk over what follows it; where it isn't there it is empty.
 pub fn walks_follow_properties()
     ensures there { (b : List ℕ) → HasProperty b →
         property_walk b ≡ property_of b ∷ property_walk (behind_property b) }
     ensures end { (b : List ℕ) → ¬ (HasProperty b) → property_walk b ≡ [] }
 {}
 
-/// Both walks end on any bytes: each pod takes a header at least.
+/// Both walks end on any bytes, since each pod takes at least the 8 bytes of a header.
 pub fn walks_are_short()
     ensures pods { (b : List ℕ) → length (walk b) * header_size ≤ length b }
     ensures properties { (b : List ℕ) → length (property_walk b) * header_size ≤ length b }
@@ -39,7 +39,7 @@ pub fn walks_find_members()
         ArePropertiesOf ps (property_walk (properties_of b)) }
 {}
 
-/// Fixating the bytes of an accepted object leaves a pod of the fixated value.
+/// Fixating the bytes of an accepted object gives a pod of the fixated value.
 pub fn fixation_is_of_the_value()
     ensures properties { (ps : Properties) (b : List ℕ) → AreProperties ps b →
         AreProperties (default_properties ps) (fixated_properties b) }
@@ -47,8 +47,8 @@ pub fn fixation_is_of_the_value()
         Begins (fixated_bytes b) (object t i (default_properties ps)) }
 {}
 
-/// Fixating the object at the front of any bytes sets to 0 the shape word of each choice that is the value of a
-/// property without DONT_FIXATE, and changes no other byte.
+/// Fixating the object at the front of any bytes sets to 0, the number of None, the shape word of each choice that is the value of a property
+/// without DONT_FIXATE. It changes no other byte and no length.
 pub fn fixation_changes_shape_words()
     ensures length { (b : List ℕ) → HasObject b → length (fixated_bytes b) ≡ length b }
     ensures shape_words { (b : List ℕ) (i : ℕ) → HasObject b → IsFixatedPlace b i →
@@ -58,8 +58,7 @@ pub fn fixation_changes_shape_words()
     ensures rest { (b : List ℕ) → HasObject b → rest_of (fixated_bytes b) ≡ rest_of b }
 {}
 
-/// The properties of an accepted object need no fixation exactly where none of their values is a choice of another
-/// shape than None.
+/// The properties of an accepted object need no fixation exactly where none of their values is a choice of a shape other than None.
 pub fn settled_properties_are_settled()
     ensures { (ps : Properties) (bs : List (List ℕ)) → ArePropertiesOf ps bs → all_settled bs ≡ are_settled ps }
 {}

@@ -1,4 +1,4 @@
--- A key that is looked for by halves, and properties that were passed.
+-- A key that is found by binary search, and properties that were passed.
 use Rattle.std.proofs.Common.{◌≡◌, ◌⊎◌, inl, inr, ℕ, zero, suc, ◌+◌, ◌-◌, ◌*◌, ◌<◌, ◌≤◌, ◌==◌, List, [], ◌∷◌, ◌++◌, length, drop, get_or, refl, sym, ap, ◌∙◌, subst, arith, append_assoc, length-drop, Bool, true, false, true≢false, if◌then◌else◌, Option, Some, None, Err}
 use Rattle.std.specs.Prelude.{Contains, IfNone, IfSome, MatchOption}
 use Rattle.std.specs.List.Sorted.{IsBinarySearchResult, IsNonDecreasingBy}
@@ -150,7 +150,7 @@ first_by_words n key place (property k f v ps) all b l s d m h =
     first_by_key n key place k f v ps all b l s d m.0 m.1 h (λ i. first_by_words n key place ps all r l within at m.1 i)
     (k == key) refl (contains_cases (place_word k (n - length b)) (place_word key place) (place_words n ps r) h.among)
 
--- the same by an order of the numbers
+-- no property has the key, by the index
 pub none_by_order : (key : ℕ) (ps : Properties) (b order : List ℕ) → IsOrder ps b order → HasNoWord key order → found_at key ps ≡ None
 none_by_order key ps b order o h =
     none_by_words (length b) key ps b o.short (λ w c g. h w (Contains-permutation _ _ w o.same c) g)
@@ -202,7 +202,7 @@ placed_all ps b left words n p = of_rest p.rest p.list p.parts
     of_rest no_properties m e = sym (append-nil words) ∙ e
     of_rest (property j g v rs) m e = absurd (n m.0.header m.0.there)
 
--- what a search by halves found
+-- what a binary search found
 pub first_after : (xs : List ℕ) (x at : ℕ) → IsBinarySearchResult (λ y. nat_cmp y x) xs (Err at) → IsNonDecreasingBy (λ y. y) xs → IsFirstFrom xs x at
 first_after xs x at h a =
     let s = searched xs x (Err at) h (λ i j. a i j 0) in

@@ -1,4 +1,4 @@
--- Properties where they lie, one after another.
+-- Borrowed properties, one after another.
 use Rattle.std.proofs.Common.{◌≡◌, ◌≢◌, ℕ, ◌≤◌, List, [], ◌++◌, ◌==◌, length, drop, refl, sym, ap, ◌∙◌, subst, arith, append_assoc, length-append, Bool, true, false, if◌then◌else◌, Some, None}
 use Rattle.std.proofs.lemmas.List.{drop_at}
 use Rattle.spa_format.specs.Words.{word_at, word_bytes, extent, header_size}

@@ -43,7 +43,7 @@ no_object _ n h = h
 pub begins_object : (input pod : List ℕ) → BeginsObjectIn input pod → BeginsObject input
 begins_object input pod b = record { value = object b.type b.id b.values; begins = b.begins; is_object = tt }
 
--- a front that is its own rewriting
+-- a canonical front
 pub lying_object : (input rest pod : List ℕ) → (c : BeginsCanonical input rest) → word_at input 4 ≡ object_type → pod ≡ front_of input → BeginsObjectIn input pod
 lying_object input rest pod c t e =
     let i = object_only c.value (begun_type input c.value c.begins.begins ∙ t) in

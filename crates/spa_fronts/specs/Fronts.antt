@@ -1,4 +1,4 @@
--- Objects at the fronts of inputs, as they are written: docs/NEGOTIATION.md, "From bytes to bytes".
+-- Objects at the fronts of inputs, and their canonical pods: docs/NEGOTIATION.md, "From bytes to bytes".
 use Rattle.std.specs.Prelude.{⊤, ℕ, List}
 use Rattle.spa_format.specs.Tree.{Tree, object, Properties}
 use Rattle.spa_format.specs.Front.{Begins, IsRefused}
@@ -10,7 +10,7 @@ use Rattle.spa_fronts.specs.declared.front.ObjectPod.TheVariants.{Lying, Rewritt
 use Rattle.spa_fronts.specs.declared.front.NoObject.{NoObject}
 use Rattle.spa_fronts.specs.declared.front.NoObject.TheVariants.{Unread, Other, OutOfMemory}
 
--- the front of the input is a pod of an object, and this is that object's pod as it is written
+-- the front of the input is a pod of an object, and this is that object's canonical pod
 pub record BeginsObjectIn (input pod : List ℕ) : Type 0 where
   pub type : ℕ
   pub id : ℕ
@@ -18,7 +18,7 @@ pub record BeginsObjectIn (input pod : List ℕ) : Type 0 where
   pub begins : Begins input (object type id values)
   pub written : IsWritten (object type id values) pod
 
--- the front of the input is a pod of the object that is looked at
+-- the front of the input is a pod of the object of this view
 abbrev pub BeginsView : List ℕ → ObjectView → Type 0
 BeginsView input view = BeginsWritten input view.type_ view.id view.properties.now
 
@@ -38,7 +38,7 @@ pub record BeginsObject (input : List ℕ) : Type 0 where
   pub begins : Begins input value
   pub is_object : IsObject value
 
--- the front of the input is a pod of another value
+-- the front of the input is a pod of a value other than an object
 pub record BeginsOther (input : List ℕ) : Type 0 where
   pub value : Tree
   pub begins : Begins input value
@@ -58,7 +58,7 @@ IsNoObject input Unread = IsRefused input
 IsNoObject input Other = BeginsOther input
 IsNoObject input OutOfMemory = MayLackMemory input
 
--- why the front isn't there as it is written
+-- why there is no canonical pod of the front
 abbrev pub IsUnread : List ℕ → NoObject → Type 0
 IsUnread input Unread = IsRefused input
 IsUnread input Other = ⊥

@@ -1,4 +1,4 @@
--- Objects and their properties where they lie, in bytes that are their own rewritings.
+-- Objects and their properties in canonical bytes.
 use Rattle.std.specs.Prelude.{◌≡◌, ℕ, ◌≤◌, List, ◌++◌, drop, length, Bool, true, false, ◌==◌, if◌then◌else◌, Option, Some, None}
 use Rattle.spa_format.specs.Words.{word_at, word_bytes, header_size}
 use Rattle.spa_format.specs.Tree.{Tree, object, Properties, no_properties, property}
@@ -6,23 +6,23 @@ use Rattle.spa_format.specs.Pod.{AreProperties, IsPod}
 use Rattle.spa_format.specs.Encoding.{encoding_of, property_encodings}
 use Rattle.spa_format.specs.Front.{Begins, HasFront, front_of, rest_of}
 
--- the bytes are these properties, each as it is written
+-- the bytes are these properties, and canonical
 pub record AreWritten (ps : Properties) (b : List ℕ) : Type 0 where
   pub properties : AreProperties ps b
   pub same : b ≡ property_encodings ps
 
--- the pod is of this value, as it is written
+-- the canonical pod of this value
 pub record IsWritten (v : Tree) (pod : List ℕ) : Type 0 where
   pub its_pod : IsPod pod v
   pub same : pod ≡ encoding_of v
 
--- the front of the input is a pod of an object of this type and id, with these properties as they are written
+-- the front of the input is a pod of an object of this type and id, whose properties have these canonical bytes
 pub record BeginsWritten (input : List ℕ) (type id : ℕ) (properties : List ℕ) : Type 0 where
   pub values : Properties
   pub begins : Begins input (object type id values)
   pub written : AreWritten values properties
 
--- a property is at the front of the bytes, with this key, these flags and this pod, and these are left behind it
+-- a property with this key, these flags and this pod is at the front of the bytes, and `rest` is left behind it
 pub record HasFirst (b : List ℕ) (key flags : ℕ) (pod rest : List ℕ) : Type 0 where
   pub header : header_size ≤ length b
   pub its_key : key ≡ word_at b 0
@@ -36,28 +36,28 @@ pub record Found : Type 0 where
   pub flags : ℕ
   pub value : Tree
 
--- those of the first property with this key
+-- the flags and the value of the first property with this key; None where no property has it
 abbrev pub found_at : ℕ → Properties → Option Found
 found_at key no_properties = None
 found_at key (property k flags value rest) =
     if k == key then Some (record { flags = flags; value = value }) else found_at key rest
 
--- whether there is one
+-- whether a property has this key
 abbrev pub has_key : ℕ → Properties → Bool
 has_key key no_properties = false
 has_key key (property k flags value rest) = if k == key then true else has_key key rest
 
--- what was found has these flags, and a value which this pod is of as it is written
+-- the property that was found has these flags, and this is the canonical pod of its value
 pub record IsFound (found : Option Found) (flags : ℕ) (pod : List ℕ) : Type 0 where
   pub value : Tree
   pub is_found : found ≡ Some (record { flags = flags; value = value })
   pub written : IsWritten value pod
 
--- an object behind its header, whose size isn't there yet
+-- the first bytes of an open object: its header with a size word of 0, its type and its id
 abbrev pub open_header : ℕ → ℕ → List ℕ
 open_header type id = (word_bytes 0 ++ word_bytes 15) ++ (word_bytes type ++ word_bytes id)
 
--- behind these bytes stand properties, as they are written
+-- the canonical bytes of these properties are behind `head` in the output
 pub record AreBehind (met : Properties) (head out : List ℕ) : Type 0 where
   pub bytes : List ℕ
   pub parts : out ≡ head ++ bytes

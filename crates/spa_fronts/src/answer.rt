@@ -1,4 +1,4 @@
-//! An object that is written property by property.
+//! Writes an object property by property. Each call answers whether there was memory for it, but `finish`.
 ghost use Rattle.std.specs.Prelude.{◌≡◌, ◌-◌, ◌<◌, ◌≤◌, ◌++◌, drop, false, length, true};
 ghost use Rattle.spa_format.specs.Words.{size_limit, word_bytes};
 ghost use Rattle.spa_fronts.specs.Written.{open_header};
@@ -7,10 +7,10 @@ use spa_bytes::{HEADER_LEN, joined, two_words};
 use spa_sink::PodOutput;
 use spa_utils::SpaTypes;
 
-/// Where the properties of an object begin in its pod: behind its header, its type and its id.
+/// The offset in an object's pod at which its properties begin: behind its header, its type and its id.
 const PROPERTIES_AT: usize = 16;
 
-/// Appends the header of an object, whose size is put there at last, its type and its id.
+/// Appends the header of an object with a size word of 0, which `finish` sets, and its type and its id.
 pub fn put_header(out: &mut Vec<u8>, type_: u32, id: u32) -> bool
     ensures { result ≡ true → out.new.items ≡ out.old.items ++ open_header type_ id }
 {
@@ -26,14 +26,14 @@ pub fn put_key(out: &mut Vec<u8>, key: u32, flags: u32) -> bool
     out.extend_from_slice(&two_words(key, flags)).is_ok()
 }
 
-/// Appends a pod.
+/// Appends the bytes of a pod.
 pub fn put_pod(out: &mut Vec<u8>, pod: &[u8]) -> bool
     ensures { result ≡ true → out.new.items ≡ out.old.items ++ pod.now }
 {
     out.extend_from_slice(pod).is_ok()
 }
 
-/// Puts the size into the header, where it is below 4294967296.
+/// Sets the size word of the header to the length of all that follows, and answers true. False: that is 4294967296 or more.
 pub fn finish(out: &mut Vec<u8>) -> bool
     ensures size { result ≡ true → length out.old.items - 8 < size_limit }
     ensures large { result ≡ false → 16 ≤ length out.old.items → size_limit ≤ length out.old.items - 8 }

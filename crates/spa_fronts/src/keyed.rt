@@ -1,4 +1,4 @@
-//! Properties that are found by their keys.
+//! Finds properties by their keys, in a zero-copy view.
 ghost use Rattle.std.specs.Prelude.{◌≡◌, ◌≤◌, ◌<◌, IfOk, IfSome, List, MatchOption, None, length, not, true, ℕ};
 ghost use Rattle.std.specs.List.Sorted.{IsNonDecreasingBy};
 ghost use Rattle.spa_format.specs.Tree.{Properties};
@@ -9,26 +9,26 @@ ghost use Rattle.spa_fronts.specs.Written.{AreWritten, HasFirst, IsFound, found_
 use crate::object_view::{PropertyView, find, first_property};
 use std::alloc::{AllocError, Global};
 
-/// How long properties are at most, in bytes, that are few without being counted.
+/// The length in bytes up to which properties are few, without being counted.
 const SHORT_LEN: usize = 512;
 
-/// Among how many properties, at most, a key is looked for one by one.
+/// The greatest number of properties that are searched one by one.
 const FEW: usize = 16;
 
-/// The places of properties are below this number.
+/// The offsets of properties are below this number.
 const PLACES: u64 = 4294967296;
 
-/// Properties where they lie, and, where they are many, an order in which a key is looked for by halves.
+/// Borrowed properties, and, where there are many, a sorted index of their keys for binary search.
 #[derive(Drop)]
 pub struct Keyed<'a> {
     /// The bytes of the properties.
     pub properties: &'a [u8],
-    /// The keys and places of all of them, each as one number, in ascending order.
+    /// The index: key and offset of each property as one number, in ascending order.
     order: Option<Vec<u64>>,
 }
 
 impl<'a> Keyed<'a> {
-    /// These properties.
+    /// These properties, with an index where there are many. Refused only for want of memory.
     #[inline(always)]
     pub fn new(alloc: Global, properties: &'a [u8]) -> Result<Keyed<'a>, AllocError>
         ensures properties { IfOk result (λ keyed. keyed.properties.now ≡ properties.now) }
@@ -47,7 +47,7 @@ impl<'a> Keyed<'a> {
         })
     }
 
-    /// The first property with this key.
+    /// The first property with this key. None: no property has it.
     #[inline(always)]
     pub fn find(&self, key: u32) -> Option<PropertyView<'a>>
         requires { IsKeyed self.now }
@@ -73,8 +73,7 @@ impl<'a> Keyed<'a> {
         }
     }
 
-    /// Whether a property's key is that of none of the other's properties, and of none before it. The keys of those before it are
-    /// below the bound.
+    /// Whether no property of `other` and none before `first` here has the key of `first`. All keys before it are below `bound`.
     #[inline(always)]
     pub fn is_new_beside(&self, other: &Keyed<'_>, first: &PropertyView<'_>, bound: u64) -> bool
         requires itself { IsKeyed self.now }
@@ -84,7 +83,7 @@ impl<'a> Keyed<'a> {
         other.lacks(first.key) && self.is_new(first, bound)
     }
 
-    /// Whether a property's key is that of none before it. The keys of those before it are below the bound.
+    /// Whether no property before `first` has its key. All keys before it are below `bound`.
     #[inline(always)]
     pub fn is_new(&self, first: &PropertyView<'_>, bound: u64) -> bool
         requires { IsKeyed self.now }
@@ -96,7 +95,7 @@ impl<'a> Keyed<'a> {
         self.is_first(first)
     }
 
-    /// Whether a property is the first one with its key.
+    /// Whether a property is the first with its key.
     #[inline(never)]
     fn is_first(&self, first: &PropertyView<'_>) -> bool
         requires { IsKeyed self.now }
@@ -109,7 +108,7 @@ impl<'a> Keyed<'a> {
     }
 }
 
-/// A bound above this key and what this bound is above.
+/// The bound raised so that this key is below it, too.
 #[inline(always)]
 pub fn raised(bound: u64, key: u32) -> u64
     ensures { (bound ≤ result) × (key < result) }
@@ -118,7 +117,7 @@ pub fn raised(bound: u64, key: u32) -> u64
     if key < bound { bound } else { key + 1 }
 }
 
-/// Whether few properties are there.
+/// Whether there are at most `FEW` properties, or at most `SHORT_LEN` bytes.
 fn are_few(properties: &[u8]) -> bool {
     if properties.len() <= SHORT_LEN {
         return true;
@@ -133,7 +132,7 @@ fn are_few(properties: &[u8]) -> bool {
     left.is_empty()
 }
 
-/// The keys and places of properties, in their order.
+/// Key and offset of each property as one number, in the order of the properties. Refused only for want of memory.
 fn places_of(alloc: Global, properties: &[u8]) -> Result<Vec<u64>, AllocError>
     requires { length properties.now < size_limit }
     ensures { IfOk result (λ places. (ps : Properties) → AreWritten ps properties.now → places.items ≡ place_words (length properties.now) ps properties.now) }
@@ -148,7 +147,7 @@ fn places_of(alloc: Global, properties: &[u8]) -> Result<Vec<u64>, AllocError>
     Ok(places)
 }
 
-/// The same in ascending order.
+/// Key and offset of each property as one number, in ascending order. Refused only for want of memory.
 #[inline(never)]
 fn order_of(alloc: Global, properties: &[u8]) -> Result<Vec<u64>, AllocError>
     requires { length properties.now < size_limit }
@@ -160,7 +159,7 @@ fn order_of(alloc: Global, properties: &[u8]) -> Result<Vec<u64>, AllocError>
     Ok(order)
 }
 
-/// The first property with this key, by an order of all.
+/// The first property with this key, by binary search in the index. None: no property has it.
 #[inline(never)]
 fn find_by<'a>(order: &[u64], properties: &'a [u8], key: u32) -> Option<PropertyView<'a>>
     requires order { (ps : Properties) → AreWritten ps properties.now → IsOrder ps properties.now order.now }
@@ -179,7 +178,7 @@ fn find_by<'a>(order: &[u64], properties: &'a [u8], key: u32) -> Option<Property
     first_property(left)
 }
 
-/// Where the first property with this key begins, by an order of all.
+/// The offset of the first property with this key, by binary search in the index. None: no property has it.
 fn place_by(order: &[u64], key: u32) -> Option<usize>
     requires { IsNonDecreasingBy (λ x. x) order.now }
     ensures { MatchOption result (HasNoWord key order.now) (λ place. IsLeastWord key order.now place) }
@@ -196,7 +195,7 @@ fn place_by(order: &[u64], key: u32) -> Option<usize>
     Some(place as usize)
 }
 
-/// The index of the first of ascending numbers that is no less than this one, or of one that is the same.
+/// The index of the first of ascending numbers that isn't below `least`, or of one that is equal to it.
 fn first_from(order: &[u64], least: u64) -> usize
     requires { IsNonDecreasingBy (λ x. x) order.now }
     ensures { IsFirstFrom order.now least result }

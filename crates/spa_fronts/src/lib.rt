@@ -1,4 +1,4 @@
-//! Objects at the fronts of inputs, looked at where they lie, and objects that are written property by property.
+//! Zero-copy views of objects at the fronts of inputs, and objects that are written property by property.
 #![tactic(auto)]
 
 mod answer;

@@ -1,4 +1,4 @@
-//! Objects and their properties where they lie.
+//! Zero-copy views of objects and their properties.
 ghost use Rattle.std.specs.Prelude.{◌≡◌, ◌+◌, ◌<◌, ◌≤◌, IfNone, IfSome, MatchOption, None, drop, length};
 ghost use Rattle.spa_format.specs.Front.{HasFront};
 ghost use Rattle.spa_format.specs.Tree.{Properties};
@@ -8,31 +8,31 @@ ghost use Rattle.spa_fronts.specs.Written.{AreWritten, HasFirst, IsFound, found_
 
 use spa_bytes::{HEADER_LEN, SECOND_WORD, extent_of, u32_at};
 
-/// An object where it lies.
+/// A zero-copy view of an object.
 #[derive(Clone, Copy)]
 pub struct ObjectView<'a> {
-    /// Its type.
+    /// The object's type.
     pub type_: u32,
-    /// Its id.
+    /// The object's id.
     pub id: u32,
-    /// The bytes of its properties.
+    /// The bytes of the object's properties.
     pub properties: &'a [u8],
 }
 
-/// The first of some properties, where it lies.
+/// A zero-copy view of a property, and the properties behind it.
 #[derive(Clone, Copy)]
 pub struct PropertyView<'a> {
-    /// Its key.
+    /// The property's key.
     pub key: u32,
-    /// Its flags.
+    /// The property's flags.
     pub flags: u32,
-    /// The pod of its value.
+    /// The pod of the property's value.
     pub pod: &'a [u8],
     /// The bytes of the properties behind it.
     pub rest: &'a [u8],
 }
 
-/// The property at the front of the bytes.
+/// The property at the front of the bytes. None: there is no whole one.
 #[inline(always)]
 pub fn first_property(properties: &[u8]) -> Option<PropertyView<'_>>
     ensures first { IfSome result (λ first. HasFirst properties.now first.key first.flags first.pod.now first.rest.now) }
@@ -60,7 +60,7 @@ pub fn first_property(properties: &[u8]) -> Option<PropertyView<'_>>
     })
 }
 
-/// The first property with this key.
+/// The first property with this key, by a linear search. None: no property has it.
 #[inline(always)]
 pub fn find(properties: &[u8], key: u32) -> Option<PropertyView<'_>>
     ensures found { (ps : Properties) → AreWritten ps properties.now → MatchOption result (found_at key ps ≡ None) (λ first. IsFound (found_at key ps) first.flags first.pod.now) }

@@ -1,4 +1,4 @@
-//! Whole pods where they lie.
+//! Comparisons of borrowed pods.
 ghost use Rattle.std.specs.Prelude.{◌≡◌, ◌≢◌, ◌↔◌, IsTrue, true};
 ghost use Rattle.spa_format.specs.Pod.{IsPod};
 ghost use Rattle.spa_format.specs.Tree.{Tree, choice_type, type_of};
@@ -6,10 +6,10 @@ ghost use Rattle.spa_format.specs.Tree.{Tree, choice_type, type_of};
 use spa_bytes::{HEADER_LEN, SECOND_WORD, u32_at, u64_at};
 use spa_utils::SpaTypes;
 
-/// The length of a pod whose body is one word or two.
+/// The length in bytes of a pod whose body has one word or two.
 const SMALL_LEN: usize = 16;
 
-/// Whether the value of a pod isn't a choice.
+/// Whether a pod has another type than that of choices.
 pub fn is_plain(pod: &[u8]) -> bool
     ensures { result ≡ true → (v : Tree) → IsPod pod.now v → type_of v ≢ choice_type }
 {
@@ -19,7 +19,7 @@ pub fn is_plain(pod: &[u8]) -> bool
     u32_at(pod, SECOND_WORD) != SpaTypes::Choice.0
 }
 
-/// Whether two pods are the same: small ones by two numbers each.
+/// Whether two pods are the same bytes: those of 16 bytes are compared by two numbers each.
 pub fn are_same(pod: &[u8], other: &[u8]) -> bool
     ensures { IsTrue result ↔ (pod.now ≡ other.now) }
 {

@@ -82,7 +82,7 @@ pub all_put : (n m : ℕ) (all left old new : List Item) → ArePutOf n all left
 all_put n m all left old new a e =
     subst (λ z. ArePut n z old m new) (sym (a.split ∙ ap (λ z. a.first ++ z) e ∙ append-nil a.first)) a.put
 
--- the same items
+-- equal items put are the same output
 pub renamed : (n m : ℕ) (xs ys old new : List Item) → xs ≡ ys → ArePut n xs old m new → ArePut n ys old m new
 renamed n m xs ys old new e a = subst (λ zs. ArePut n zs old m new) e a
 

@@ -1,4 +1,4 @@
--- What is read of one pod: docs/FORMAT.md, "Items".
+-- The item of one pod: docs/FORMAT.md, "Items".
 use Rattle.std.specs.Prelude.{ℕ, ◌+◌, ◌-◌, ◌/◌, List, [], length, drop, map, min, if◌then◌else◌, nat_eq, nat_le}
 use Rattle.std.specs.Simd.{first_chunks}
 use Rattle.spa_format.specs.Kind.{bool_kind, id_kind, int_kind, long_kind, float_kind, double_kind, rectangle_kind, fraction_kind, fd_kind, type_number}
@@ -7,18 +7,18 @@ use Rattle.spa_format.specs.Words.{header_size, word_at, wide_at}
 use Rattle.spa_items.specs.declared.item.Content.{Content}
 use Rattle.spa_items.specs.declared.item.Item.{Item}
 
--- the word at this place, or 0 where the bytes end before
+-- the word at this offset, or 0 where the bytes end before
 abbrev pub word_or : List ℕ → ℕ → ℕ
 word_or b i = if nat_le (i + 4) (length b) then word_at b i else 0
 
--- the same with eight bytes
+-- the number of eight bytes at this offset, or 0 where the bytes end before
 abbrev pub wide_or : List ℕ → ℕ → ℕ
 wide_or b i = if nat_le (i + 8) (length b) then wide_at b i else 0
 
 abbrev pub both : ℕ → ℕ → Content
 both x y = record { first = x; second = y }
 
--- what a body of a kind of fixed size has; any other type has nothing
+-- the content of a body of a type of fixed size; of any other type zeros
 abbrev pub fixed_content : ℕ → List ℕ → Content
 fixed_content type b =
     if nat_eq type (type_number bool_kind) then both (if nat_eq (word_or b 0) 0 then 0 else 1) 0
@@ -32,14 +32,14 @@ fixed_content type b =
     else (if nat_eq type (type_number fraction_kind) then both (word_or b 0) (word_or b 4)
     else both 0 0))))))))
 
--- the child header of an array's body or a choice's, and what follows it; a body of another type has none
+-- the bytes of an array's or a choice's body from its child header on; of any other type none
 abbrev pub values_of : ℕ → List ℕ → List ℕ
 values_of type b =
     if nat_eq type array_type then b
     else (if nat_eq type choice_type then drop header_size b
     else [])
 
--- how many of so many values a choice of this shape takes
+-- how many of `n` values a choice of this shape takes
 abbrev pub values_taken : ℕ → ℕ → ℕ
 values_taken shape n =
     if nat_eq shape (shape_number none_choice) then min n 1

@@ -37,7 +37,7 @@ items_inside read type depth at b =
     else (if is_object type (length b) then items_along (read true) (at + header_size) (walk_behind header_size (drop header_size b))
     else elements type depth b)
 
--- the items of a pod, with key and flags where it is a property's, and of all inside it, so many levels deep at most
+-- the items of a pod, with key and flags where it is a property's, and of all pods and elements in it, down to this nesting depth
 unfoldable pub items_within : (levels depth : ℕ) → Bool → ℕ → List ℕ → List Item
 items_within zero depth keyed at p = []
 items_within (suc n) depth keyed at p =

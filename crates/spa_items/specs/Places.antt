@@ -3,12 +3,12 @@ use Rattle.std.specs.Prelude.{ℕ, zero, suc, ◌+◌, List, [], ◌∷◌, leng
 use Rattle.std.specs.Option.{option_map}
 use Rattle.spa_format.specs.Words.{word_at}
 
--- before the first of these properties with the key, if one has it
+-- how many bytes are before the first of these properties with the key; None where no property has it
 abbrev pub place_of_key : ℕ → List (List ℕ) → Option ℕ
 place_of_key key [] = None
 place_of_key key (p ∷ ps) = if nat_eq (word_at p 0) key then Some 0 else option_map (λ n. length p + n) (place_of_key key ps)
 
--- before the pod of this number, if so many stand there; the first has the number 0
+-- how many bytes are before the pod of this number, counted from 0; None where there are fewer pods
 abbrev pub place_of_number : ℕ → List (List ℕ) → Option ℕ
 place_of_number n [] = None
 place_of_number zero (p ∷ ps) = Some 0

@@ -1,4 +1,4 @@
-//! The numbers in a pod's body.
+//! Reads the two numbers of an item from a pod's body.
 ghost use Rattle.std.specs.Prelude.{◌≡◌, ◌+◌, ◌<◌, ◌^◌, length};
 ghost use Rattle.spa_format.specs.Tree.{pointer_type};
 ghost use Rattle.spa_format.specs.Words.{header_size};
@@ -9,10 +9,10 @@ use crate::item::Content;
 use spa_bytes::{HEADER_LEN, SECOND_WORD, SHORT_POINTER_LEN, u32_at, u64_at};
 use spa_utils::SpaTypes;
 
-/// Where a pointer's body has the address.
+/// The offset of the address in a pointer's body.
 const ADDRESS_AT: usize = 8;
 
-/// The word at a place, or 0 where the bytes end before.
+/// The word at the offset `at`, or 0 where the bytes end before.
 pub(crate) fn word_or(bytes: &[u8], at: usize) -> u32
     requires { at + 4 < 2 ^ 64 }
     ensures { result ≡ c.word_or bytes.now at }
@@ -23,7 +23,7 @@ pub(crate) fn word_or(bytes: &[u8], at: usize) -> u32
     0
 }
 
-/// The number in eight bytes, or 0 where the bytes end before.
+/// The number of eight bytes at the offset `at`, or 0 where the bytes end before.
 fn wide_or(bytes: &[u8], at: usize) -> u64
     requires { at + 8 < 2 ^ 64 }
     ensures { result ≡ c.wide_or bytes.now at }
@@ -34,7 +34,7 @@ fn wide_or(bytes: &[u8], at: usize) -> u64
     0
 }
 
-/// One word of a body.
+/// The content of a body of one word.
 fn word(body: &[u8]) -> Content
     ensures { result ≡ c.both (c.word_or body.now 0) 0 }
 {
@@ -44,7 +44,7 @@ fn word(body: &[u8]) -> Content
     }
 }
 
-/// Eight bytes of a body.
+/// The content of a body of one number in eight bytes.
 fn wide(body: &[u8]) -> Content
     ensures { result ≡ c.both (c.wide_or body.now 0) 0 }
 {
@@ -54,7 +54,7 @@ fn wide(body: &[u8]) -> Content
     }
 }
 
-/// Two words of a body.
+/// The content of a body of two words.
 fn words(body: &[u8]) -> Content
     ensures { result ≡ c.both (c.word_or body.now 0) (c.word_or body.now 4) }
 {
@@ -64,7 +64,7 @@ fn words(body: &[u8]) -> Content
     }
 }
 
-/// What a body of a type of fixed size has; of any other type nothing.
+/// The content of a body of a type of fixed size; of any other type zeros.
 pub(crate) fn fixed_content(type_: u32, body: &[u8]) -> Content
     ensures { result ≡ c.fixed_content type_ body.now }
 {
@@ -88,7 +88,7 @@ pub(crate) fn fixed_content(type_: u32, body: &[u8]) -> Content
     }
 }
 
-/// The type and the address of a pointer.
+/// The content of a pointer: its type and its address.
 fn pointer(body: &[u8]) -> Content
     ensures { result ≡ c.content pointer_type 0 body.now }
 {
@@ -103,7 +103,7 @@ fn pointer(body: &[u8]) -> Content
     }
 }
 
-/// The two numbers of a pod, whose body begins at the byte `at`.
+/// The content of a pod whose body begins at the byte `at`.
 pub(crate) fn content(type_: u32, at: usize, body: &[u8]) -> Content
     requires { at + header_size < 2 ^ 64 }
     ensures { result ≡ c.content type_ at body.now }

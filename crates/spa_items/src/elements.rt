@@ -1,4 +1,4 @@
-//! The elements of arrays, and the values of choices.
+//! Lists the elements of arrays, and the values of choices.
 ghost use Rattle.std.specs.Prelude.{◌≡◌, ◌+◌, ◌*◌, ◌≤◌, ◌<◌, ◌^◌, ◌∷◌, [], drop, length};
 ghost use Rattle.spa_format.specs.Words.{header_size};
 ghost use Rattle.spa_items.specs.Contents as c;
@@ -19,7 +19,7 @@ pub(crate) struct Elements<'a> {
     pub(crate) bytes: &'a [u8],
 }
 
-/// The child header of an array or a choice, and what follows it; of any other pod nothing.
+/// The bytes of an array's or a choice's body from its child header on; of any other pod none.
 pub(crate) fn values_of(type_: u32, body: &[u8]) -> &[u8]
     ensures { result.now ≡ c.values_of type_ body.now }
 {
@@ -30,7 +30,7 @@ pub(crate) fn values_of(type_: u32, body: &[u8]) -> &[u8]
     }
 }
 
-/// What follows a header, nothing where it isn't whole.
+/// The bytes behind the first 8; none where there are fewer.
 fn behind(bytes: &[u8]) -> &[u8]
     ensures { result.now ≡ drop header_size bytes.now }
 {
@@ -40,7 +40,7 @@ fn behind(bytes: &[u8]) -> &[u8]
     &bytes[HEADER_LEN..]
 }
 
-/// How many of so many values a choice of a shape takes.
+/// How many of `count` values a choice of this shape takes.
 fn values_taken(shape: u32, count: usize) -> usize
     ensures taken { result ≡ c.values_taken shape count }
     ensures few { result ≤ count }
@@ -95,7 +95,7 @@ fn elements_of(type_: u32, body: &[u8]) -> Elements<'_>
     }
 }
 
-/// The item of an element.
+/// The item of an element or value.
 fn element(type_: u32, depth: usize, bytes: &[u8]) -> Item
     ensures { result ≡ c.element type_ depth bytes.now }
 {
@@ -111,7 +111,7 @@ fn element(type_: u32, depth: usize, bytes: &[u8]) -> Item
     }
 }
 
-/// Puts an item at a place of the output, where it is that long.
+/// Writes an item at an index of the output, where the output is that long.
 pub(crate) fn put(out: &mut [Item], place: usize, item: Item)
     ensures { ArePut place (item ∷ []) out.old (place + 1) out.new }
 {
@@ -120,7 +120,7 @@ pub(crate) fn put(out: &mut [Item], place: usize, item: Item)
     }
 }
 
-/// Puts the items of the elements of an array, or of the values that a choice takes, and gives the place behind them.
+/// Writes the items of the elements of an array, or of the values that a choice takes, from an index on, and answers the index behind them.
 pub(crate) fn put_elements(
     out: &mut [Item],
     place: usize,

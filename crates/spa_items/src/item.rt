@@ -1,10 +1,10 @@
-//! What is read of a pod.
+//! An item: the flat form of a pod, of an element or of a value.
 
-/// What is read of a pod, of an element of an array, or of a value of a choice.
+/// The item of a pod, of an element of an array, or of a value of a choice.
 #[repr(C)]
 #[derive(Clone, Copy, Debug, PartialEq, Eq)]
 pub struct Item {
-    /// The number of its type.
+    /// Its type number.
     pub type_: u32,
     /// The key of the property whose value it is, or 0.
     pub key: u32,
@@ -12,7 +12,7 @@ pub struct Item {
     pub flags: u32,
     /// The type of an array's elements, or of a choice's values; of any other pod 0.
     pub child: u32,
-    /// How many structs, objects, arrays and choices it stands in.
+    /// How many structs, objects, arrays and choices it is nested in.
     pub depth: usize,
     /// A number, its bits, an Id, a width, a numerator; 1 for true; the type of a pointer or an object; a choice's shape; the byte at which a
     /// text, bytes, a bitmap or the elements of an array begin.

@@ -1,4 +1,4 @@
-//! What pods hold, read into memory of the caller's: an item for each pod, and for each element of an array and value of a choice.
+//! Reads pods as items, into memory of the caller's: one for each pod, and for each element of an array and value of a choice.
 #![tactic(auto)]
 
 mod contents;

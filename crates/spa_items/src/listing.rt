@@ -1,4 +1,4 @@
-//! The items of pods, and of all inside them.
+//! Lists the items of pods, and of all pods, elements and values in them.
 ghost use Rattle.std.specs.Prelude.{◌≡◌, ◌+◌, ◌≤◌, ◌<◌, ◌^◌, Decides, IfNone, IfSome, List, drop, false, if◌then◌else◌, length, ℕ};
 ghost use Rattle.spa_events.specs.Events.{is_object};
 ghost use Rattle.spa_format.specs.Front.{HasFront, front_of};
@@ -17,17 +17,17 @@ use spa_bytes::{HEADER_LEN, SECOND_WORD, open, u32_at};
 use spa_scan::{LEVELS, nests_within};
 use spa_utils::SpaTypes;
 
-/// How many levels of items there are at most: the innermost structs and objects may hold pods.
+/// The greatest number of levels of items: the innermost containers may have pods in them.
 const ITEM_LEVELS: usize = 1 + LEVELS as usize;
 
-/// Where pods one after another stand.
+/// The level of pods one after another.
 #[derive(Clone, Copy)]
 struct Level {
     /// How many more levels are listed.
     levels: usize,
-    /// How many structs and objects they stand in.
+    /// How many containers they are nested in.
     depth: usize,
-    /// Whether a key and flags stand before each.
+    /// Whether a key and flags are before each.
     keyed: bool,
     /// The byte of the input at which the first of them begins.
     at: usize,
@@ -43,9 +43,9 @@ pub(crate) struct First<'a> {
     pub(crate) rest: &'a [u8],
 }
 
-/// Puts an item for each pod of the input, for each inside one, and for each element and value, over the first items of `out`, as far as it goes,
-/// and says how many they are: an item comes before those inside it, and these before what follows it. `None`: structs and objects stand more than
-/// 1000 deep in one another in one of the pods, and `out` is as it was.
+/// Writes an item for each pod of the input, for each nested pod, and for each element and value, to the front of `out`, as far as there is room, and
+/// answers how many items there are: an item comes before those of the pods in it, and these before those of the pods that follow it. None: the
+/// nesting depth of one of the pods is above 1000, and `out` is unchanged.
 ///
 /// It takes no memory, and calls itself for each level, at most 1001 deep.
 pub fn list_items(input: &[u8], out: &mut [Item]) -> Option<usize>
@@ -67,7 +67,7 @@ pub fn list_items(input: &[u8], out: &mut [Item]) -> Option<usize>
     Some(list_pods(out, 0, level, input))
 }
 
-/// Whether structs and objects stand at most 1000 deep in one another in each of the pods.
+/// Whether the nesting depth of each of the pods is at most 1000.
 fn nest_within_levels(pods: &[u8]) -> bool
     ensures exactly { (values : Trees) → AreMembers values pods.now → Decides result (member_depth values ≤ levels_looked_into) }
     ensures deeper { result ≡ false → SomeOf (NestsDeeper levels_looked_into) (walk pods.now) }
@@ -83,7 +83,7 @@ fn nest_within_levels(pods: &[u8]) -> bool
     true
 }
 
-/// The item of the pod at the front, which begins at the byte `at` of what it is read from, without those inside it.
+/// The item of the pod at the front alone, which begins at the byte `at` of a larger input. None: the front isn't there.
 pub fn front_item(input: &[u8], at: usize) -> Option<Item>
     requires within { at + header_size + header_size < 2 ^ 64 }
     ensures item { IfSome result (λ item. item ≡ head false 0 at (front_of input.now)) }
@@ -96,7 +96,7 @@ pub fn front_item(input: &[u8], at: usize) -> Option<Item>
     Some(head(0, at + HEADER_LEN, first))
 }
 
-/// Lists pods one after another from a place of the output on, and gives the place behind them.
+/// Lists pods one after another from an index of the output on, and answers the index behind their items.
 #[cycle(listing)]
 fn list_pods(out: &mut [Item], start: usize, level: Level, pods: &[u8]) -> usize
     requires room { start + length pods.now < 2 ^ 64 }
@@ -116,7 +116,7 @@ fn list_pods(out: &mut [Item], start: usize, level: Level, pods: &[u8]) -> usize
     place
 }
 
-/// Lists one pod and all inside it.
+/// Lists one pod and all pods, elements and values in it, and answers the index behind their items.
 #[cycle(listing)]
 fn list_pod(out: &mut [Item], place: usize, level: Level, first: First<'_>) -> usize
     requires room { place + length first.body.now + 1 < 2 ^ 64 }
@@ -152,7 +152,7 @@ fn list_pod(out: &mut [Item], place: usize, level: Level, first: First<'_>) -> u
     list_pods(out, place + 1, keyed, properties)
 }
 
-/// Whether it is the body of an object, with its type and id.
+/// Whether a body of this type is an object's, long enough for its type and id.
 fn holds_properties(type_: u32, body: &[u8]) -> bool
     ensures { result ≡ is_object type_ (length body.now) }
 {
@@ -162,14 +162,14 @@ fn holds_properties(type_: u32, body: &[u8]) -> bool
     }
 }
 
-/// How many bytes stand before a pod: a property's key and flags, or none.
+/// How many bytes are before a pod: 8 of a property's key and flags, or none.
 fn len_before(keyed: bool) -> usize
     ensures { result ≡ before keyed }
 {
     if keyed { HEADER_LEN } else { 0 }
 }
 
-/// The item of a pod whose body begins at this byte.
+/// The item of a pod whose body begins at the byte `body_at`.
 fn head(depth: usize, body_at: usize, first: First<'_>) -> Item
     requires { body_at + header_size < 2 ^ 64 }
     ensures { result ≡ item_of depth body_at first.entry }
@@ -186,7 +186,7 @@ fn head(depth: usize, body_at: usize, first: First<'_>) -> Item
     }
 }
 
-/// The first of the pods, where it is there.
+/// The first of the pods. None: there is no whole one.
 pub(crate) fn first_pod(keyed: bool, pods: &[u8]) -> Option<First<'_>>
     ensures first { IfSome result (IsFirst keyed pods.now) }
     ensures none { IfNone result (length pods.now < extent_behind (before keyed) pods.now) }
@@ -206,7 +206,7 @@ pub(crate) fn first_pod(keyed: bool, pods: &[u8]) -> Option<First<'_>>
     })
 }
 
-/// The bytes behind a key and flags, where these stand before a pod.
+/// The bytes behind a key and flags, where these are before a pod, and else all. None: key and flags are cut short.
 fn behind_key(keyed: bool, pods: &[u8]) -> Option<&[u8]>
     ensures there { IfSome result (λ pod. before keyed ≤ length pods.now) }
     ensures behind { IfSome result (λ pod. pod.now ≡ drop (before keyed) pods.now) }
@@ -221,7 +221,7 @@ fn behind_key(keyed: bool, pods: &[u8]) -> Option<&[u8]>
     Some(&pods[HEADER_LEN..])
 }
 
-/// A word of the key and flags, or 0 where none stand before a pod.
+/// A word of the key and flags, or 0 where there are none before a pod.
 fn word_before(keyed: bool, pods: &[u8], at: usize) -> u32
     requires order { at ≤ 4 }
     requires there { before keyed ≤ length pods.now }

@@ -1,4 +1,4 @@
-//! Where the value of a property, or a member of a struct, begins.
+//! Finds the offset of a property, or of a member of a struct.
 ghost use Rattle.std.specs.Prelude.{◌≡◌, ◌≤◌, IfNone, IfSome, None, Some, length, true, false};
 ghost use Rattle.spa_format.specs.Walk.{walk_behind};
 ghost use Rattle.spa_format.specs.Words.{header_size};
@@ -6,7 +6,7 @@ ghost use Rattle.spa_items.specs.Places.{place_of_key, place_of_number};
 
 use crate::listing::first_pod;
 
-/// How many bytes stand before the first property with a key, among properties one after another.
+/// How many bytes of other properties are before the first property with a key. None: no property has it.
 pub fn place_of_key(properties: &[u8], key: u32) -> Option<usize>
     ensures place { result ≡ place_of_key key (walk_behind header_size properties.now) }
     ensures within { IfSome result (λ place. place ≤ length properties.now) }
@@ -21,7 +21,7 @@ pub fn place_of_key(properties: &[u8], key: u32) -> Option<usize>
     None
 }
 
-/// How many bytes stand before the member of this number, the first of which is 0, among pods one after another.
+/// How many bytes of other members are before the member of this number, counted from 0. None: there are no more.
 pub fn place_of_number(members: &[u8], number: usize) -> Option<usize>
     ensures place { result ≡ place_of_number number (walk_behind 0 members.now) }
     ensures within { IfSome result (λ place. place ≤ length members.now) }

@@ -1,4 +1,4 @@
--- Properties found by their keys, and sets of keys, over lists of properties as the code has them.
+-- Properties found by their keys, and sets of keys, over the lists of properties that the code has.
 use Rattle.std.specs.Prelude.{◌≡◌, ℕ, ◌<◌, List, length, Bool, not, ◌==◌, if◌then◌else◌, true, Option, Some, None, get_or}
 use Rattle.std.specs.BTreeMap.{BTreeMap, get}
 use Rattle.std.specs.BTreeSet.{BTreeSet}
@@ -11,27 +11,27 @@ use Rattle.spa_value.specs.Views.{property_views}
 use Rattle.spa_keyed_objects.specs.Keys.{Offered, offered_at, key_list, contains}
 use Rattle.spa_keyed_objects.specs.declared.keyed.Keyed.{Keyed}
 
--- what the first of these properties with the key offers
+-- the flags and the value of the first of these properties with the key; None where none has it
 abbrev pub found_at : ℕ → List Property → Option Offered
 found_at key properties = offered_at key (property_views properties)
 
--- what a property offers
+-- the flags and the value of a property
 abbrev pub offered_by : Property → Offered
 offered_by p = record { flags = p.flags.0; value = view p.value }
 
--- what was found is offered at this place of the properties, or nothing
+-- the flags and the value that were found are those of the property at this index, or nothing was found
 abbrev pub IsFoundAt : List Property → Option Offered → Option ℕ → Type 0
 IsFoundAt properties found None = found ≡ None
 IsFoundAt properties found (Some place) =
     (place < length properties)
     × ((p : Property) → p ≡ get_or properties place p → found ≡ Some (offered_by p))
 
--- the map has the place of the first property with each key, and no other key
+-- the map has the index of the first property with each key, and no other key
 abbrev pub HasPlaces : BTreeMap ℕ ℕ → List Property → Type 0
 HasPlaces places properties =
     (key : ℕ) → IsFoundAt properties (found_at key properties) (get nat_cmp places key)
 
--- it has the place of the first of its properties with each key
+-- the map of `keyed` has the index of the first of its properties with each key
 pub record IsKeyed (keyed : Keyed) : Type 0 where
   pub places : HasPlaces keyed.places keyed.properties.now
 

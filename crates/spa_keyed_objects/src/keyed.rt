@@ -1,4 +1,4 @@
-//! Properties that are found by their keys, and sets of keys.
+//! Finds properties by their keys, and keeps sets of keys.
 ghost use Rattle.std.specs.Prelude.{◌≡◌, IfOk, MatchOption, None, Some};
 ghost use Rattle.spa_keyed_objects.specs.PropertyLists.{HasPlaces, IsAdded, IsKeyed, found_at, offered_by};
 
@@ -53,7 +53,7 @@ fn places_of(alloc: Global, properties: &[Property]) -> Result<BTreeMap<u32, usi
     Ok(places)
 }
 
-/// Adds a key to the set, and answers whether it is new there. An error says that memory was refused.
+/// Adds a key to the set, and answers whether it is new there. Refused only for want of memory.
 pub fn add_key(keys: &mut BTreeSet<u32>, key: u32) -> Result<bool, AllocError>
     ensures { IfOk result (λ is_new. IsAdded keys.old key is_new keys.new) }
 {

@@ -1,4 +1,4 @@
-//! The properties of an answer, as it is made.
+//! The properties of an outcome, as they are made one by one.
 ghost use Rattle.std.specs.Prelude.{◌≡◌, [], OnOk};
 ghost use Rattle.spa_keyed_objects.specs.PropertyLists.{IsPushed};
 
@@ -6,7 +6,7 @@ use spa_value::laws::property_lists_are_in_order;
 use spa_value::{Object, Property, Value, discard};
 use std::alloc::{AllocError, Global};
 
-/// The properties of an answer. Their values may nest deep, so they are dropped by a loop and not by calls in one another.
+/// The properties of an outcome. They are dropped by a loop, at any nesting depth.
 pub struct Met {
     /// The properties so far.
     pub properties: Vec<Property>,
@@ -22,7 +22,7 @@ impl Met {
         }
     }
 
-    /// Gives the properties away.
+    /// The properties, which the caller owns then.
     pub fn into_properties(self) -> Vec<Property>
         ensures { result ≡ self.properties }
     {
@@ -42,7 +42,7 @@ impl Drop for Met {
     }
 }
 
-/// Appends a property. An error says that memory was refused; the property is dropped then, and the others stay.
+/// Appends a property. Refused only for want of memory: the property is dropped then, and the others stay.
 pub fn push(met: &mut Met, property: Property) -> Result<(), AllocError>
     ensures { OnOk result (IsPushed met.old.properties.items property met.new.properties.items) }
 {

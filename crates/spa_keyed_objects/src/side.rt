@@ -6,7 +6,7 @@ use std::fmt;
 pub enum Side {
     /// The first input.
     First,
-    /// The second one.
+    /// The second input.
     Second,
 }
 

@@ -1,4 +1,4 @@
--- What the reader's own refusals say: docs/FORMAT.md, "Faults".
+-- The refusals inside the readers: docs/FORMAT.md, "Faults".
 use Rattle.std.specs.Prelude.{◌≡◌, ◌≢◌, ℕ, ◌≤◌, ◌<◌, ◌⊎◌, List, [], ◌∷◌, ◌++◌, length, drop}
 use Rattle.spa_format.specs.Words.{word_at, header_size}
 use Rattle.spa_format.specs.Tree.{string_type, choice_type, Trees, Properties}
@@ -12,7 +12,7 @@ use Rattle.spa_fixed.specs.declared.fault.DeserializeError.{DeserializeError}
 use Rattle.spa_fixed.specs.declared.fault.DeserializeError.TheVariants as error
 use Rattle.spa_leaf.specs.Reading.{TakesMemory, MayLackMemory}
 
--- The refusal names a fault that stands. A refusal for lack of memory names none, and this fact holds.
+-- The refusal is a fault that stands, or is for want of memory, where the fact `memory` holds.
 abbrev pub Says : (Fault → Type 0) → Type 0 → Refusal → Type 0
 Says stands memory refusal.Short = stands Short
 Says stands memory refusal.Text = stands Text
@@ -31,28 +31,28 @@ StandsInBody t b InvalidChoiceType = (t ≡ choice_type) × (choice_header_size 
 StandsInBody t b MissingChoiceValues = (t ≡ choice_type) × LacksValues b
 StandsInBody t b WrongSize = IsWrongSize t b
 
--- what a refusal of a body of this type says
+-- the refusal of a body of this type is right
 abbrev pub RefusesBody : ℕ → List ℕ → Refusal → Type 0
 RefusesBody t b = Says (StandsInBody t b) (TakesMemory t)
 
--- the fault stands in a member, behind some first ones that are pods
+-- the fault stands in a member, behind zero or more first members that are pods
 abbrev pub StandsInMembers : List ℕ → List ℕ → Fault → Type 0
 StandsInMembers b place k =
     (vs : Trees) × (first : List ℕ) × (left : List ℕ) × (b ≡ first ++ left) × AreMembers vs first
     × (left ≢ []) × Stands k place left
 
--- the same in a property: its key is short, or the fault stands in its value
+-- the fault stands in a property, behind zero or more first properties that are accepted: its key is short, or the fault stands in its value
 abbrev pub StandsInProperties : List ℕ → List ℕ → Fault → Type 0
 StandsInProperties b place k =
     (ps : Properties) × (first : List ℕ) × (left : List ℕ) × (b ≡ first ++ left) × AreProperties ps first
     × (((k ≡ Short) × (place ≡ left) × (left ≢ []) × (length left < header_size))
     ⊎ ((header_size ≤ length left) × Stands k place (drop header_size left)))
 
--- what a refusal of the pod at the front of the input says, with the place where its fault stands
+-- the refusal of the pod at the front of the input is right, and its fault stands at this place
 abbrev pub RefusesPod : List ℕ → List ℕ → Refusal → Type 0
 RefusesPod input place = Says (λ k. Stands k place input) (MayLackMemory input)
 
--- the public refusal that is made of one at this place
+-- the public refusal for an inner one at this place
 abbrev pub error_of : Bor (List ℕ) → Refusal → DeserializeError (Bor (List ℕ))
 error_of place refusal.Short = error.Nom (record { input = place; kind = fault_kind.Short })
 error_of place refusal.Text = error.Nom (record { input = place; kind = fault_kind.Text })

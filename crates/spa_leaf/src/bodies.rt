@@ -1,4 +1,4 @@
-//! Bodies of one piece: those of fixed size, texts and pointers.
+//! Reads the bodies of values of fixed size, of texts and of pointers.
 ghost use Rattle.std.specs.Prelude.{◌≡◌, ◌≢◌, ◌++◌, ◌∷◌, [], List, ℕ, IfErr, IfNone, IfOk, IfSome};
 ghost use Rattle.spa_fixed.specs.declared.fault.Refusal.TheVariants as refusal;
 ghost use Rattle.spa_format.specs.Kind.{IsFixedBody, type_number};
@@ -10,7 +10,7 @@ use spa_bytes::{POINTER_LEN, SHORT_POINTER_LEN, u32_at, u64_at};
 use spa_fixed::{CanonicalFixedSizedPod, Refusal};
 use std::str;
 
-/// The value of a body that is one of this type's, and nothing else. A body of another length is refused as `WrongSize`.
+/// Reads the value of type `T` with this body. Refused as `WrongSize` where the body has another length than those of the type.
 pub fn read_fixed<T: CanonicalFixedSizedPod>(body: &[u8]) -> Result<T, Refusal>
     ensures read { IfOk result (λ x. IsFixedBody T.kind body.now (T.fixed x)) }
     ensures refused { IfErr result (RefusesBody (type_number T.kind) body.now) }
@@ -22,8 +22,8 @@ pub fn read_fixed<T: CanonicalFixedSizedPod>(body: &[u8]) -> Result<T, Refusal>
     Ok(T::of_body(body))
 }
 
-/// The text that a body holds before its one NUL, which is its last byte. There is none where the body is empty, where its
-/// last byte isn't NUL or another one is, and where the bytes before it aren't UTF-8.
+/// The borrowed text of a string's body, before its one NUL, which is its last byte. None: the body is empty, its last byte isn't
+/// NUL, another byte is, or the bytes before it aren't UTF-8.
 pub fn text_of(body: &[u8]) -> Option<&str>
     ensures some { IfSome result (λ s. IsText s.now × (body.now ≡ s.now ++ 0 ∷ [])) }
     ensures none { IfNone result ((s : List ℕ) → IsText s → body.now ≢ s ++ 0 ∷ []) }
@@ -40,10 +40,10 @@ pub fn text_of(body: &[u8]) -> Option<&str>
     }
 }
 
-/// Where a pointer's address stands in its body, behind the type and a free word.
+/// The offset of a pointer's address in its body, behind the type and a free word.
 const ADDRESS_AT: usize = 8;
 
-/// A pointer's type and address.
+/// Reads the type and the address of a pointer with this body. Refused as `WrongSize` where the body has neither 12 nor 16 bytes.
 pub fn read_pointer(body: &[u8]) -> Result<(u32, u64), Refusal>
     ensures read { IfOk result (λ p. IsPointer p.0 p.1 body.now) }
     ensures refused { IfErr result (RefusesBody pointer_type body.now) }

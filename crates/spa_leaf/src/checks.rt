@@ -1,4 +1,4 @@
-//! Whether a body is that of an array or of a choice, over any of the types of fixed size, and why it isn't.
+//! Checks whether a body is that of an array or of a choice, over any of the types of fixed size.
 ghost use Rattle.std.specs.Prelude.{◌≡◌, ◌<◌, ◌≤◌, IfErr, List, OnOk, length};
 ghost use Rattle.spa_fixed.specs.Reading.{RefusesChoice};
 ghost use Rattle.spa_format.specs.Faults.{IsWrongArray, choice_header_size};
@@ -13,13 +13,14 @@ use spa_fixed::{CanonicalFixedSizedPod, ChoiceElement, Refusal, open_array, read
 use spa_utils::{Fd, Float32, Float64, Fraction, Id, Rectangle, SpaTypes};
 use std::alloc::Global;
 
-/// How many bytes stand before a choice's values: its shape, its flags, and the size and the type of its values.
+/// How many bytes of a choice's body are before its values: its shape, its flags, and the size and the type of its values.
 pub const CHOICE_HEADER_LEN: usize = 16;
 
-/// Where the type of a choice's values stands.
+/// The offset in a choice's body of the type of its values.
 pub const VALUE_TYPE_AT: usize = 12;
 
-/// Whether the body is that of an array over any of the ten types. It asks for no memory.
+/// Checks that the body is that of an array over any of the ten types. Refused as `InvalidType` or `WrongSize`, where that fault stands. It asks for
+/// no memory.
 pub fn check_array(body: &[u8]) -> Result<(), Refusal>
     ensures ok { OnOk result ((k : Kind) × (xs : List Fixed) × IsArray k xs body.now) }
     ensures refused { IfErr result (RefusesBody array_type body.now) }
@@ -42,7 +43,7 @@ pub fn check_array(body: &[u8]) -> Result<(), Refusal>
     }
 }
 
-/// The same over one type.
+/// Checks that the body is that of an array over the type `T`, which its child type is.
 fn check_array_of<T: CanonicalFixedSizedPod>(body: &[u8]) -> Result<(), Refusal>
     requires header { header_size ≤ length body.now }
     requires child_type { word_at body.now 4 ≡ T.TYPE }
@@ -55,7 +56,8 @@ fn check_array_of<T: CanonicalFixedSizedPod>(body: &[u8]) -> Result<(), Refusal>
     }
 }
 
-/// Whether the body is that of a choice over any of the nine types.
+/// Checks that the body is that of a choice over any of the nine types. Refused as `InvalidType`, `InvalidChoiceType`, `MissingChoiceValues` or
+/// `WrongSize`, where that fault stands, and as `OutOfMemory`.
 pub fn check_choice(alloc: Global, body: &[u8]) -> Result<(), Refusal>
     ensures ok { OnOk result ((v : Tree) × (type_of v ≡ choice_type) × IsBody v body.now) }
     ensures refused { IfErr result (RefusesBody choice_type body.now) }
@@ -77,7 +79,7 @@ pub fn check_choice(alloc: Global, body: &[u8]) -> Result<(), Refusal>
     }
 }
 
-/// The same over one type.
+/// Checks that the body is that of a choice over the type `T`, which its child type is.
 #[tactic(auto, using(crate::proofs::Refusals::choice_refused, crate::proofs::Steps::type_of_choice))]
 fn check_choice_of<T: ChoiceElement>(alloc: Global, body: &[u8]) -> Result<(), Refusal>
     requires header { choice_header_size ≤ length body.now }

@@ -1,10 +1,10 @@
-//! The public refusal, which is made of the small one once, at the boundary.
+//! The public refusal, which is made of the inner one once, at the boundary.
 ghost use Rattle.std.specs.Prelude.{◌≡◌};
 ghost use Rattle.spa_leaf.specs.Refusing.{error_of};
 
 use spa_fixed::{DeserializeError, Fault, FaultKind, Refusal};
 
-/// The public refusal that is made of one at this place. Only `Short` and `Text` keep the place.
+/// The public refusal for an inner one at this place. Only `Short` and `Text` keep the place.
 pub fn error_at(place: &[u8], why: Refusal) -> DeserializeError<&[u8]>
     ensures { result ≡ error_of place.entry why }
 {

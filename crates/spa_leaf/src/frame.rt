@@ -1,4 +1,4 @@
-//! Pods whose size is written after their body.
+//! Opens and closes pods whose size is written after their body.
 ghost use Rattle.std.specs.Prelude.{◌≡◌, ◌+◌, ◌≤◌, ◌++◌, IfErr, IfOk, OnErr, OnOk, length};
 ghost use Rattle.spa_sink.specs.declared.gen_error.GenError.TheVariants.{TooLarge};
 ghost use Rattle.spa_format.specs.Words.{header_size, size_limit, word_bytes};
@@ -7,7 +7,7 @@ ghost use Rattle.spa_leaf.specs.Written.{ClosesPod, IsClosed, IsPastLimit, begun
 use spa_bytes::HEADER_LEN;
 use spa_sink::{GenError, PodOutput, put_two};
 
-/// Begins a pod of this type at the end of the output, with a size word of 0, and answers where it begins.
+/// Opens a pod of this type at the end of the output, with a size word of 0, and answers the offset at which it begins.
 #[inline(always)]
 pub fn begin<O: PodOutput>(out: &mut O, type_: u32) -> Result<usize, GenError>
     ensures start { IfOk result (λ start. start ≡ length (O.content out.old)) }
@@ -19,16 +19,16 @@ pub fn begin<O: PodOutput>(out: &mut O, type_: u32) -> Result<usize, GenError>
     Ok(start)
 }
 
-/// Writes the size word of the pod that begins there and ends with the output. It is refused exactly where the size is
+/// Closes the pod that begins at the offset `start` and ends with the output: writes its size word. Refused only as `TooLarge`, where the size is
 /// 4294967296 or more.
 #[inline(always)]
 pub fn close<O: PodOutput>(out: &mut O, start: usize) -> Result<(), GenError>
     requires { start + header_size ≤ length (O.content out.old) }
     ensures closed { OnOk result (IsClosed O.content O.refuses out.old start out.new) }
-    // So whatever pod was begun there is whole now, behind what was there before it,
+    // So the pod that was opened there is whole now, behind the bytes before it,
     ensures pod { OnOk result (ClosesPod O.content O.refuses out.old start out.new) }
     ensures large { IfErr result (λ e. (e ≡ TooLarge) × (size_limit ≤ begun_length (O.content out.old) start)) }
-    // or its body is past 32 bits.
+    // or the length of its body doesn't fit 32 bits.
     ensures past { OnErr result (IsPastLimit O.content O.refuses out.old start) }
 {
     let Ok(size) = u32::try_from(out.len() - (start + HEADER_LEN)) else {

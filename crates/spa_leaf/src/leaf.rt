@@ -1,4 +1,4 @@
-//! Values of the types of fixed size, arrays and choices of them, written.
+//! Writes values of the types of fixed size, and arrays and choices of them.
 ghost use Rattle.std.specs.Prelude.{IfErr, OnErr, OnOk, map};
 ghost use Rattle.spa_fixed.specs.Choices.{choice_tree};
 ghost use Rattle.spa_sink.specs.Writing.{Begun, RefusesWrite};
@@ -10,7 +10,7 @@ use spa_fixed::{CanonicalFixedSizedPod, ChoiceElement, put_array, put_choice, pu
 use spa_sink::{GenError, PodSink};
 use spa_utils::Choice;
 
-/// Appends the pod of a value of fixed size.
+/// Appends the encoding of a value of fixed size.
 #[inline(always)]
 pub fn put_number<T: CanonicalFixedSizedPod, S: PodSink>(
     sink: &mut S,
@@ -23,7 +23,7 @@ pub fn put_number<T: CanonicalFixedSizedPod, S: PodSink>(
     put_fixed(sink, value)
 }
 
-/// Appends the pod of elements of one type of fixed size.
+/// Appends the encoding of an array of these elements.
 pub fn put_elements<T: CanonicalFixedSizedPod, S: PodSink>(
     sink: &mut S,
     values: &[T],
@@ -35,7 +35,7 @@ pub fn put_elements<T: CanonicalFixedSizedPod, S: PodSink>(
     put_array(sink, values)
 }
 
-/// Appends the pod of a choice over one type of fixed size.
+/// Appends the encoding of a choice over one type of fixed size.
 pub fn put_alternatives<T: ChoiceElement, S: PodSink>(
     sink: &mut S,
     choice: &Choice<T>,

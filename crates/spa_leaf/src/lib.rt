@@ -1,4 +1,4 @@
-//! Bodies without members, read and written as pods; and the header of a pod whose size is written after its body.
+//! Reads and writes pods without members; opens and closes pods whose size is written after their body.
 #![tactic(auto)]
 
 mod bodies;

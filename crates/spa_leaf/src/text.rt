@@ -1,4 +1,4 @@
-//! Texts, bytes, bitmaps and pointers.
+//! Writes texts, bytes, bitmaps and pointers.
 ghost use Rattle.std.specs.Prelude.{◌≡◌, ◌+◌, ◌<◌, ◌≤◌, [], ◌∷◌, ◌++◌, Contains, ℕ, IfErr, OnErr, OnOk, length, replicate, take};
 ghost use Rattle.spa_sink.specs.Writing.{Begun, RefusesPiece};
 ghost use Rattle.spa_format.specs.Encoding.{encoding_of, framed};
@@ -11,8 +11,8 @@ use spa_bytes::{HEADER_LEN, POINTER_LEN};
 use spa_sink::{GenError, PodSink, put_padding, put_two, put_wide};
 use spa_utils::SpaTypes;
 
-/// Appends the pod of a text, in UTF-8 and with a NUL at its end. It is refused as `NulInText` where the text holds a NUL
-/// of its own, and as `TooLarge` where text and NUL are 4294967296 bytes or more; nothing is appended then.
+/// Appends the encoding of a text, which ends in a NUL. Refused as `NulInText` where the text holds NUL itself, and as
+/// `TooLarge` where text and NUL have 4294967296 bytes or more; nothing is appended then.
 pub fn put_text<S: PodSink>(sink: &mut S, text: &str) -> Result<(), GenError>
     ensures put { OnOk result (IsPut S.appends sink.old (tree.string text.now) sink.new) }
     ensures begun { OnErr result (Begun S.appends sink.old (encoding_of (tree.string text.now)) sink.new) }
@@ -28,7 +28,7 @@ pub fn put_text<S: PodSink>(sink: &mut S, text: &str) -> Result<(), GenError>
     put_clean_text(sink, text)
 }
 
-/// Appends the pod of a text that can be written.
+/// Appends the encoding of a text that can be written.
 #[inline(always)]
 pub fn put_clean_text<S: PodSink>(sink: &mut S, text: &str) -> Result<(), GenError>
     requires { IsWritable (tree.string text.now) }
@@ -52,7 +52,7 @@ fn put_end<S: PodSink>(sink: &mut S, len: usize) -> Result<(), GenError>
     sink.append(&zeros[..HEADER_LEN - len % HEADER_LEN])
 }
 
-/// Appends the pod of bytes. It is refused as `TooLarge` where they are 4294967296 or more; nothing is appended then.
+/// Appends the encoding of bytes. Refused as `TooLarge` where there are 4294967296 or more; nothing is appended then.
 pub fn put_bytes<S: PodSink>(sink: &mut S, bytes: &[u8]) -> Result<(), GenError>
     ensures put { OnOk result (IsPut S.appends sink.old (tree.bytes bytes.now) sink.new) }
     ensures begun { OnErr result (Begun S.appends sink.old (encoding_of (tree.bytes bytes.now)) sink.new) }
@@ -61,7 +61,7 @@ pub fn put_bytes<S: PodSink>(sink: &mut S, bytes: &[u8]) -> Result<(), GenError>
     put_body(sink, SpaTypes::Bytes.0, bytes)
 }
 
-/// Appends the pod of a bitmap. It is refused as `TooLarge` where its bytes are 4294967296 or more; nothing is appended then.
+/// Appends the encoding of a bitmap. Refused as `TooLarge` where it has 4294967296 bytes or more; nothing is appended then.
 pub fn put_bitmap<S: PodSink>(sink: &mut S, bytes: &[u8]) -> Result<(), GenError>
     ensures put { OnOk result (IsPut S.appends sink.old (tree.bitmap bytes.now) sink.new) }
     ensures begun { OnErr result (Begun S.appends sink.old (encoding_of (tree.bitmap bytes.now)) sink.new) }
@@ -70,7 +70,7 @@ pub fn put_bitmap<S: PodSink>(sink: &mut S, bytes: &[u8]) -> Result<(), GenError
     put_body(sink, SpaTypes::Bitmap.0, bytes)
 }
 
-/// Appends a pod of this type whose body is these bytes, as they are.
+/// Appends a pod of this type whose body is these bytes.
 #[tactic(auto, using(spa_format::proofs::Encodings::header_within))]
 fn put_body<S: PodSink>(sink: &mut S, type_: u32, bytes: &[u8]) -> Result<(), GenError>
     ensures put { OnOk result (S.appends sink.old (framed type_ bytes.now) sink.new) }
@@ -86,7 +86,7 @@ fn put_body<S: PodSink>(sink: &mut S, type_: u32, bytes: &[u8]) -> Result<(), Ge
     put_padding(sink, bytes.len())
 }
 
-/// Appends the pod of a pointer: a type number and an address.
+/// Appends the encoding of a pointer: a type number and an address.
 #[tactic(auto, using(spa_format::proofs::Encodings::pointer_encoding, spa_format::proofs::Encodings::pointer_encoding_length, spa_format::proofs::Encodings::two_words_length))]
 pub fn put_pointer<S: PodSink>(sink: &mut S, type_: u32, address: u64) -> Result<(), GenError>
     ensures put { OnOk result (IsPut S.appends sink.old (tree.pointer type_ address) sink.new) }

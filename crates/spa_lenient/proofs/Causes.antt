@@ -1,4 +1,4 @@
--- Causes of refusals, told apart by their names.
+-- Causes of refusals, and their names.
 use Rattle.std.proofs.Common.{◌≡◌, ◌≢◌, ℕ, List, refl, ap, arith}
 use Rattle.std.specs.Prelude.{codes, slice_index}
 use Rattle.spa_fixed.specs.declared.fault.DeserializeError.{DeserializeError}

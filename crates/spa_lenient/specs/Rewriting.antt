@@ -1,4 +1,4 @@
--- What a lenient rewriting is: docs/FORMAT.md, "The lenient reading".
+-- The lenient rewriting: docs/FORMAT.md, "The lenient reading".
 use Rattle.std.specs.Prelude.{⊤, ◌≡◌, ◌≢◌, ◌++◌, List, [], ℕ, drop, length}
 use Rattle.std.specs.Borrow.{Bor}
 use Rattle.spa_fixed.specs.declared.fault.DeserializeError.{DeserializeError}
@@ -11,11 +11,11 @@ use Rattle.spa_leaf.specs.Reading.{IsShortAt, Names, OnFault, OnMemory}
 use Rattle.spa_rewrite.specs.Rewriting.{AreRewritten}
 use Rattle.spa_read.specs.Reading.{ConveysAtFront, ConveysNothing, ConveysWith, StandsLeniently}
 
--- the encoding of the value that the front of the input conveys
+-- the front of the input conveys a value, and `out` is its encoding
 abbrev pub IsLenientRewriting : List ℕ → List ℕ → Type 0
 IsLenientRewriting input out = (v : Tree) × ConveysAtFront input v × (out ≡ encoding_of v)
 
--- the same was appended, and this follows the front
+-- the front of the input conveys a value, its encoding was appended, and `rest` follows the front
 abbrev pub AppendsFront : List ℕ → List ℕ → List ℕ → List ℕ → Type 0
 AppendsFront input rest old new = (v : Tree) × ConveysWith input v rest × (new ≡ old ++ encoding_of v)
 
@@ -23,40 +23,40 @@ AppendsFront input rest old new = (v : Tree) × ConveysWith input v rest × (new
 abbrev pub AppendsStruct : List ℕ → List ℕ → List ℕ → Type 0
 AppendsStruct body old new = (vs : Trees) × ConveyMembers vs body × (new ≡ old ++ encoding_of (struct vs))
 
--- some first bytes are pods, this is left behind them, and their rewritings were appended
+-- zero or more first bytes are pods, `rest` is left behind them, and their encodings were appended
 abbrev pub AppendsFirst : List ℕ → List ℕ → List ℕ → List ℕ → Type 0
 AppendsFirst input rest old new = (first : List ℕ) × (input ≡ first ++ rest) × AreRewritten first old new
 
--- nothing was changed but that something was appended
+-- zero or more bytes were appended, and nothing else was changed
 abbrev pub Grows : List ℕ → List ℕ → Type 0
 Grows old new = (added : List ℕ) × (new ≡ old ++ added)
 
--- the input conveys some values, one after another without remainder, and their encodings were appended
+-- the input conveys zero or more values, one after another without remainder, and their encodings were appended
 abbrev pub AreRewrittenLeniently : List ℕ → List ℕ → List ℕ → Type 0
 AreRewrittenLeniently input old new = (vs : Trees) × ConveyMembers vs input × (new ≡ old ++ member_encodings vs)
 
--- such encodings take so many bytes
+-- the input conveys zero or more values, one after another without remainder, and their encodings have `len` bytes
 abbrev pub AreRewrittenLenientlyAs : List ℕ → ℕ → Type 0
 AreRewrittenLenientlyAs input len = (vs : Trees) × ConveyMembers vs input × (len ≡ length (member_encodings vs))
 
--- some first bytes convey values one after another, or there are none, and this is left behind them
+-- zero or more first bytes convey values one after another, and `left` is left behind them
 abbrev pub IsLeftLeniently : List ℕ → List ℕ → Type 0
 IsLeftLeniently input left = (vs : Trees) × (first : List ℕ) × (input ≡ first ++ left) × ConveyMembers vs first × (left ≢ [])
 
--- Why the front isn't rewritten: as a lenient read is refused, but that memory may also run out for the encoding.
+-- The refusal of the front's lenient rewriting: as a lenient read is refused, but that memory may also run out for the encoding.
 pub record RefusesFront (input : List ℕ) (e : DeserializeError (Bor (List ℕ))) : Type 0 where
   pub refused : OnFault (ConveysNothing input) e
   pub named : Names (λ fault place. StandsLeniently fault place input) e
   pub short_first : ¬ (HasFront input) → IsShortAt input e
   pub memory : OnMemory (HasFront input) e
 
--- Why an input isn't rewritten: what is left behind some first values is refused so.
+-- The refusal of an input's lenient rewriting: the front of what is left behind zero or more first values is refused.
 pub record RefusesList (input left : List ℕ) (e : DeserializeError (Bor (List ℕ))) : Type 0 where
   pub behind : IsLeftLeniently input left
   pub refused : OnFault ((vs : Trees) → ¬ (ConveyMembers vs input)) e
   pub front : RefusesFront left e
 
--- The same of what is left behind so many bytes, without the place where the fault stands.
+-- The refusal of an input's lenient rewriting at the offset `at`, without the place at which the fault stands.
 pub record RefusesListAt (input : List ℕ) (at : ℕ) (e : DeserializeError ⊤) : Type 0 where
   pub placed : DeserializeError (Bor (List ℕ))
   pub list : RefusesList input (drop at input) placed

@@ -1,4 +1,4 @@
-//! The lenient rewritings of all pods of a buffer, in place or in a buffer of the caller's.
+//! Rewrites all pods of a buffer leniently, in place or into a buffer of the caller's.
 ghost use Rattle.std.specs.Prelude.{◌≡◌, ◌<◌, ◌≤◌, ◌++◌, [], List, ℕ, IfErr, IfOk, OnErr, drop, length, take};
 ghost use Rattle.std.specs.Borrow.{Bor};
 ghost use Rattle.spa_in_place.specs.InPlace.{IsFaultOf};
@@ -12,14 +12,14 @@ use spa_fixed::{DeserializeError, Fault, FaultKind, Refusal};
 use spa_in_place::{rewrite_in_place, rewrite_into};
 use std::alloc::Global;
 
-/// Puts the lenient rewritings of all pods that the bytes consist of at their front, and answers how many bytes these take: never more than
-/// there were. The bytes behind them stay as they were.
+/// Rewrites all pods that the bytes consist of leniently in place, and answers the length of the outcome in bytes: never more than there were. The
+/// bytes behind it are unchanged.
 ///
-/// The call is refused exactly as `rewrite_all_leniently`, and then no byte is changed. A refusal gives how many bytes stand before the
-/// refused pod, and what is wrong with that one, without the place inside it: a lenient read of the bytes from there on gives that too.
+/// The call is refused exactly as `rewrite_all_leniently`, and then no byte is changed. A refusal gives the offset of the refused pod, and its
+/// cause without the place inside the pod: a lenient read of the bytes from that offset on gives the place, too.
 ///
-/// Pods that are accepted exactly are rewritten as `rewrite_in_place` does, which takes no memory where structs and objects stand at most `LEVELS`
-/// deep in one another. Where one isn't, memory is asked for the rewritings of all and for the value of that one.
+/// Pods that the exact reading accepts are rewritten as by `rewrite_in_place`, which takes no memory where their nesting depth is at most `LEVELS`.
+/// Where a pod is accepted only leniently, memory is asked for the rewritings of all pods and for the value of that one.
 pub fn rewrite_in_place_leniently(
     alloc: Global,
     bytes: &mut [u8],
@@ -29,7 +29,7 @@ pub fn rewrite_in_place_leniently(
     ensures behind { IfOk result (λ len. drop len bytes.new ≡ drop len bytes.old) }
     ensures unchanged { OnErr result (bytes.new ≡ bytes.old) }
     ensures refused { IfErr result (λ refusal. RefusesListAt bytes.old refusal.0 refusal.1) }
-    // Pods that nest in 1000 levels at most are never refused: for these no memory is asked for.
+    // Pods with a nesting depth of at most 1000 are never refused: no memory is asked for them.
     ensures missed { IfErr result (λ _. ¬ (ArePodsWithin levels_looked_into bytes.old)) }
 {
     match rewrite_in_place(alloc, bytes) {
@@ -48,12 +48,12 @@ pub fn rewrite_in_place_leniently(
     Ok(rewritten.len())
 }
 
-/// Puts the lenient rewritings of all pods that the input consists of at the front of an output that is at least as long as the input, and answers
-/// how many bytes they take: never more than the input has. What is behind them stays as it was. To a shorter output it writes nothing, and
-/// only answers that.
+/// Rewrites all pods that the input consists of leniently, to the front of an output that is at least as long as the input, and answers the length
+/// of the outcome in bytes: never more than the input has. The output behind it is unchanged. For a shorter output only the length is answered, and
+/// nothing is written.
 ///
-/// The call is refused exactly as `rewrite_all_leniently`, and then nothing is written. Pods that are accepted exactly are rewritten as `rewrite_into`
-/// does, without memory, where structs and objects stand at most `LEVELS` deep in one another; else memory is asked for the rewritings of all.
+/// The call is refused exactly as `rewrite_all_leniently`, and then nothing is written. Pods that the exact reading accepts are rewritten as by
+/// `rewrite_into`, without memory, where their nesting depth is at most `LEVELS`; else memory is asked for the rewritings of all pods.
 pub fn rewrite_into_leniently<'a>(
     alloc: Global,
     input: &'a [u8],
@@ -66,7 +66,7 @@ pub fn rewrite_into_leniently<'a>(
     ensures short { length out.old < length input.now → out.new ≡ out.old }
     ensures unchanged { OnErr result (out.new ≡ out.old) }
     ensures refused { IfErr result (λ refusal. RefusesList input.now refusal.0.now refusal.1) }
-    // Pods that nest in 1000 levels at most are never refused: for these no memory is asked for.
+    // Pods with a nesting depth of at most 1000 are never refused: no memory is asked for them.
     ensures missed { IfErr result (λ _. ¬ (ArePodsWithin levels_looked_into input.now)) }
 {
     if let Some(len) = rewrite_into(input, out) {
@@ -80,7 +80,7 @@ pub fn rewrite_into_leniently<'a>(
     Ok(rewritten.len())
 }
 
-/// Puts bytes at the front of an output that is at least as long.
+/// Copies bytes to the front of an output that is at least as long.
 fn put_first(bytes: &[u8], out: &mut [u8])
     requires { length bytes.now ≤ length out.old }
     ensures { out.new ≡ bytes.now ++ drop (length bytes.now) out.old }
@@ -88,7 +88,7 @@ fn put_first(bytes: &[u8], out: &mut [u8])
     out[..bytes.len()].copy_from_slice(bytes);
 }
 
-/// The cause of a refusal, without the place.
+/// The public refusal without a place.
 fn cause_of(why: Refusal) -> DeserializeError<()>
     ensures { (place : Bor (List ℕ)) → IsFaultOf result (error_of place why) }
 {

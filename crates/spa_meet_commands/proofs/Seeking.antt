@@ -148,7 +148,7 @@ seeks_found work p all left next behind r so e gives =
 pub seeks_none : (work : Work) (p all left : List ℕ) → Sought work p all left → walk left ≡ [] → AgreesWithNone p (walk all)
 seeks_none work p all left so e = so.none (subst (AgreesWithNone p) (sym e) tt)
 
--- the same of the first list
+-- a search for a pair that agrees has come to `left` in the first list `all`, and found none so far
 pub record Paired (work : Work) (qs : List (List ℕ)) (all left : List ℕ) : Type 0 where
   pub gives : (r : Result (List ℕ) FilterError) → FirstPairGives work (walk left) qs r → FirstPairGives work (walk all) qs r
   pub none : NoneAgree (walk left) qs → NoneAgree (walk all) qs

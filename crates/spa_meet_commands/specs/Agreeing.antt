@@ -1,4 +1,4 @@
--- When the work on two objects succeeds, and what it is refused for: docs/NEGOTIATION.md.
+-- When the work on two objects succeeds, and its refusals: docs/NEGOTIATION.md.
 use Rattle.std.specs.Prelude.{◌≡◌, ⊤, ℕ, List}
 use Rattle.spa_format.specs.Encoding.{encoding_of}
 use Rattle.spa_format.specs.Tree.{Tree}
@@ -45,7 +45,7 @@ pub data Stands (a b : List ℕ) (e : FilterError) : Work → Type 0 where
   unsettled : BeginBoth a b SettleTooLarge → e ≡ TooLarge → Stands a b e Negotiate
   no_memory : AreFiltered a b → e ≡ OutOfMemory → Stands a b e Negotiate
 
--- the same, and unless memory runs out or the answer is too large, the two don't agree
+-- the refusal is one of the two inputs, and unless it is for want of memory or for the size of the answer, the two don't agree
 pub record ArentAgreed (work : Work) (a b : List ℕ) (e : FilterError) : Type 0 where
   pub stands : Stands a b e work
   pub apart : OnNoFilter (¬ (Agree a b)) e

@@ -1,4 +1,4 @@
--- On what two objects of one input agree, and what is said where they don't: docs/PROVED.md, "The programs".
+-- The object on which two objects of one input agree, and the texts of refusals: docs/PROVED.md, "The programs".
 use Rattle.std.specs.Prelude.{◌≡◌, ◌+◌, ◌≤◌, ℕ, codes, List, [], ◌++◌, Option, Some, None, length}
 use Rattle.std.specs.Fmt.{decimal}
 use Rattle.spa_format.specs.Front.{rest_of}
@@ -13,7 +13,7 @@ use Rattle.spa_meet_commands.specs.declared.pair.Work.{Work}
 use Rattle.spa_meet_commands.specs.declared.answer.Failure.{Failure}
 use Rattle.spa_meet_commands.specs.declared.answer.Failure.TheVariants.{Apart, More, NoPair, NoPod, NoObject, OutOfMemory}
 
--- what is said of a key: its name, where it has one, and its number
+-- the text of a key: its name, where it has one, and its number
 abbrev pub named_key : Option (List ℕ) → ℕ → List ℕ
 named_key None key = decimal key
 named_key (Some name) key = name ++ (codes " (" ++ (decimal key ++ codes ")"))
@@ -22,11 +22,11 @@ named_key (Some name) key = name ++ (codes " (" ++ (decimal key ++ codes ")"))
 unfoldable pub key_name : (type key : ℕ) → Option (List ℕ)
 key_name type key = name_of (keys_of (record { 0 = type })) key
 
--- what is said of such a key
+-- the text of a key of objects of this type
 abbrev pub key_text : (type key : ℕ) → List ℕ
 key_text type key = named_key (key_name type key) key
 
--- what is said of that which keeps two objects apart, the first of which is of this type
+-- the text of a refusal of two objects, the first of which is of this type
 abbrev pub cause_text : ℕ → FilterError → List ℕ
 cause_text type cause.TypeMismatch = error_text cause.TypeMismatch
 cause_text type (cause.Missing key) = codes "key " ++ (key_text type key ++ codes " is mandatory in one object, and the other lacks it")
@@ -37,7 +37,7 @@ cause_text type (cause.NotObject side) = error_text (cause.NotObject side)
 cause_text type cause.TooLarge = error_text cause.TooLarge
 cause_text type cause.OutOfMemory = error_text cause.OutOfMemory
 
--- what is said of a refusal
+-- the text of a refusal
 abbrev pub failure_text : Failure → List ℕ
 failure_text (Apart type e) = cause_text type e
 failure_text More = codes "more follows the second object"
@@ -58,7 +58,7 @@ IsPair input = rest_of (rest_of input) ≡ []
 abbrev pub PairIn : Work → List ℕ → List ℕ → Type 0
 PairIn work out input = IsPair input × AgreeIn work input (rest_of input) out
 
--- what an input is refused for
+-- the refusal is one of the input
 abbrev pub IsPairRefused : Work → Failure → List ℕ → Type 0
 IsPairRefused work (Apart type e) input = IsPair input × HasType input type × ArentAgreed work input (rest_of input) e
 IsPairRefused work More input = ¬ (IsPair input)

@@ -22,7 +22,7 @@ pub record IsOfObject (p : List ℕ) : Type 0 where
   pub pod : IsPod p value
   pub object : IsObject value
 
--- each of these is one
+-- each of these is a pod of an object
 abbrev pub AreOfObjects : List (List ℕ) → Type 0
 AreOfObjects [] = ⊤
 AreOfObjects (p ∷ ps) = IsOfObject p × AreOfObjects ps
@@ -32,7 +32,7 @@ pub record IsList (input : List ℕ) : Type 0 where
   pub whole : walk_size (walk input) ≡ length input
   pub objects : AreOfObjects (walk input)
 
--- in the input some first pods, all of objects, end at this place, and the walk goes on there
+-- in the input zero or more first pods, all of objects, end at this offset, and the walk goes on there
 pub record IsBehindObjects (input : List ℕ) (place : ℕ) : Type 0 where
   pub before : List (List ℕ)
   pub objects : AreOfObjects before
@@ -40,21 +40,21 @@ pub record IsBehindObjects (input : List ℕ) (place : ℕ) : Type 0 where
   pub its_place : place ≡ walk_size before
   pub some : place < length input
 
--- what a list of this side stops for at this place, where this is left of it
+-- the refusal of a list of this side at this offset, where `left` is left of it
 abbrev pub StopsAt : Side → ℕ → Failure → List ℕ → Type 0
 StopsAt side place (NoPod s k) left = (s ≡ side) × (k ≡ place) × IsRefused left
 StopsAt side place (NoObject s k) left = (s ≡ side) × (k ≡ place) × BeginsOther left
 StopsAt side place OutOfMemory left = ⊤
 StopsAt side place _ left = ⊥
 
--- what the input of this side isn't a list for
+-- why the input of this side isn't a list
 abbrev pub IsNoList : Side → Failure → List ℕ → Type 0
 IsNoList side (NoPod s place) input = IsBehindObjects input place × StopsAt side place (NoPod s place) (drop place input)
 IsNoList side (NoObject s place) input = IsBehindObjects input place × StopsAt side place (NoObject s place) (drop place input)
 IsNoList side OutOfMemory input = ⊤
 IsNoList side _ input = ⊥
 
--- this refusal says that two objects don't agree
+-- the refusal says that two objects don't agree
 abbrev pub IsOfDisagreement : FilterError → Type 0
 IsOfDisagreement TypeMismatch = ⊤
 IsOfDisagreement (Missing key) = ⊤
@@ -62,7 +62,7 @@ IsOfDisagreement (Unsupported key) = ⊤
 IsOfDisagreement (Disjoint key) = ⊤
 IsOfDisagreement _ = ⊥
 
--- what comes of two pods: this encoding of an object on which they agree, or this refusal, which doesn't say that they don't
+-- the outcome of two pods: the encoding of an object on which they agree, or a refusal that doesn't say that they don't
 abbrev pub Gives : Work → (p q : List ℕ) → Result (List ℕ) FilterError → Type 0
 Gives work p q (Ok out) = AgreeIn work p q out
 Gives work p q (Err e) = ArentAgreed work p q e × ¬ (IsOfDisagreement e)
@@ -72,7 +72,7 @@ abbrev pub AgreesWithNone : List ℕ → List (List ℕ) → Type 0
 AgreesWithNone p [] = ⊤
 AgreesWithNone p (q ∷ qs) = (¬ (Agree p q)) × AgreesWithNone p qs
 
--- this comes of the pod and the first of these that it doesn't disagree with
+-- the outcome of the pod and the first of these that it doesn't disagree with
 abbrev pub FirstGives : Work → List ℕ → List (List ℕ) → Result (List ℕ) FilterError → Type 0
 FirstGives work p [] r = ⊥
 FirstGives work p (q ∷ qs) r = Gives work p q r ⊎ ((¬ (Agree p q)) × FirstGives work p qs r)
@@ -82,12 +82,12 @@ abbrev pub NoneAgree : (ps qs : List (List ℕ)) → Type 0
 NoneAgree [] qs = ⊤
 NoneAgree (p ∷ ps) qs = AgreesWithNone p qs × NoneAgree ps qs
 
--- this comes of the first of these that agrees with one of those, and of the first of those with which it does
+-- the outcome of the first of these that agrees with one of those, and of the first of those with which it does
 abbrev pub FirstPairGives : Work → (ps qs : List (List ℕ)) → Result (List ℕ) FilterError → Type 0
 FirstPairGives work [] qs r = ⊥
 FirstPairGives work (p ∷ ps) qs r = FirstGives work p qs r ⊎ (AgreesWithNone p qs × FirstPairGives work ps qs r)
 
--- the inputs are two lists, of whose first pair comes this
+-- the inputs are two lists, and this is the outcome of the first pair that agrees
 pub record ListsGive (work : Work) (r : Result (List ℕ) FilterError) (a b : List ℕ) : Type 0 where
   pub ours : IsList a
   pub theirs : IsList b
@@ -99,7 +99,7 @@ pub record AreApart (a b : List ℕ) : Type 0 where
   pub theirs : IsList b
   pub none : NoneAgree (walk a) (walk b)
 
--- each has one object, and this keeps the two apart
+-- each input has one object, and this is the refusal of the two
 pub record IsOnePairApart (work : Work) (a b : List ℕ) (e : FilterError) : Type 0 where
   pub apart : AreApart a b
   pub ours : length a ≢ 0

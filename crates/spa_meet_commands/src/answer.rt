@@ -1,4 +1,4 @@
-//! Why two objects don't agree, and what is said of it.
+//! Why two objects don't agree, and the text of it.
 ghost use Rattle.std.specs.Prelude.{◌≡◌, option_map};
 ghost use Rattle.spa_meet_commands.specs.Answers.{key_name};
 
@@ -18,9 +18,9 @@ pub enum Failure {
     NoPair,
     /// At this byte of a side's file the front isn't there or is no pod.
     NoPod { side: Side, place: usize },
-    /// At this byte of a side's file stands a pod, but not an object's.
+    /// At this byte of a side's file there is a pod, but not an object's.
     NoObject { side: Side, place: usize },
-    /// A growth was refused.
+    /// Memory ran out.
     OutOfMemory,
 }
 
@@ -53,7 +53,7 @@ impl fmt::Display for Key {
     }
 }
 
-/// What keeps two objects apart, the first of which is of this type, as text.
+/// The text of a refusal of two objects, the first of which is of this type.
 #[derive(Drop)]
 struct Cause {
     type_: u32,

@@ -31,7 +31,7 @@ pub fn of_lists(alloc: Global, work: Work, a: &[u8], b: &[u8]) -> Result<Vec<u8>
     }
 }
 
-/// Why no two objects of two lists agree: what keeps the two apart, where each list has one.
+/// Why no two objects of two lists agree: the refusal of the two, where each list has one object.
 fn no_pair(alloc: Global, work: Work, a: &[u8], b: &[u8]) -> Failure
     requires { AreApart a.now b.now }
     ensures { AreListsRefused work result a.now b.now }
@@ -48,7 +48,7 @@ fn no_pair(alloc: Global, work: Work, a: &[u8], b: &[u8]) -> Failure
     }
 }
 
-/// What comes of the first pair that agrees; nothing where none does.
+/// The outcome of the first pair that agrees. None: no pair does.
 fn first_pair(alloc: Global, work: Work, a: &[u8], b: &[u8]) -> Result<Option<Vec<u8>>, FilterError>
     ensures found { IfOk result (λ found. IfSome found (λ met. FirstPairGives work (walk a.now) (walk b.now) (Ok met.items))) }
     ensures none { IfOk result (λ found. IfNone found (NoneAgree (walk a.now) (walk b.now))) }
@@ -64,7 +64,7 @@ fn first_pair(alloc: Global, work: Work, a: &[u8], b: &[u8]) -> Result<Option<Ve
     Ok(None)
 }
 
-/// What comes of one pod and the first of a list that agrees with it; nothing where none does.
+/// The outcome of one pod and the first of a list that agrees with it. None: no pod of the list does.
 fn first_with(
     alloc: Global,
     work: Work,
@@ -102,7 +102,7 @@ fn is_of_disagreement(cause: FilterError) -> bool
     }
 }
 
-/// The whole pod at the front, and what follows it.
+/// The whole pod at the front, and the bytes that follow it. None: there is none.
 fn split_front(bytes: &[u8]) -> Option<(&[u8], &[u8])>
     ensures next { IfSome result (λ split. walk bytes.now ≡ split.0.now ∷ walk split.1.now) }
     ensures shorter { IfSome result (λ split. length split.1.now < length bytes.now) }
@@ -112,7 +112,7 @@ fn split_front(bytes: &[u8]) -> Option<(&[u8], &[u8])>
     Some(bytes.split_at(pod.extent()))
 }
 
-/// Passes where the bytes of this side are pods of objects one after another.
+/// Checks that the bytes of this side are pods of objects one after another.
 fn check_list(alloc: Global, side: Side, bytes: &[u8]) -> Result<(), Failure>
     ensures list { OnOk result (IsList bytes.now) }
     ensures cause { IfErr result (λ why. IsNoList side why bytes.now) }
@@ -124,7 +124,7 @@ fn check_list(alloc: Global, side: Side, bytes: &[u8]) -> Result<(), Failure>
     Ok(())
 }
 
-/// What follows the object at the front of the bytes, which begin at this place of this side's list.
+/// The bytes that follow the object at the front of the bytes, which begin at this offset of this side's list.
 fn behind_object<'a>(
     alloc: Global,
     side: Side,

@@ -24,7 +24,7 @@ use spa_view::Pod;
 use spa_write::write_value;
 use std::alloc::Global;
 
-/// What is done with two objects.
+/// The work on two objects.
 #[derive(Clone, Copy, PartialEq, Eq, Debug)]
 pub enum Work {
     /// The object is sought in which they meet: the one to which they are filtered, with each choice at its default.
@@ -75,7 +75,7 @@ fn settled(alloc: Global, pod: &[u8]) -> Result<Vec<u8>, FilterError>
     trees_have_their_types();
     let value = match PodDeserializer::deserialize_any_from(alloc, pod) {
         Ok((_, value)) => Held::from(value),
-        // What is a pod is refused for lack of memory alone.
+        // A pod is refused only for want of memory.
         Err(_) => return Err(FilterError::OutOfMemory),
     };
     match &*value {
@@ -97,7 +97,7 @@ fn settled_object(alloc: Global, object: &Object) -> Result<Vec<u8>, FilterError
     match write_value(alloc, &mut out, &*value) {
         Ok(_) => Ok(out),
         Err(GenError::TooLarge) => Err(FilterError::TooLarge),
-        // What a pod says has no NUL in a text.
+        // The value of a pod has no text with NUL.
         Err(_) => Err(FilterError::OutOfMemory),
     }
 }
@@ -112,12 +112,12 @@ pub(crate) fn type_at(input: &[u8]) -> u32
     u32_at(input, TYPE_AT)
 }
 
-/// Where the type of an object begins in its pod, and where it ends.
+/// The offsets in an object's pod at which its type begins and ends.
 const TYPE_AT: usize = 8;
 
 const TYPE_END: usize = 12;
 
-/// What follows the whole pod at the front; nothing where none is there.
+/// The bytes that follow the whole pod at the front; none where it isn't there.
 #[tactic(auto, using(crate::proofs::Agreeing::nothing_behind))]
 pub(crate) fn behind_front(bytes: &[u8]) -> &[u8]
     ensures { result.now ≡ rest_of bytes.now }

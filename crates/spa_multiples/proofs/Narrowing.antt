@@ -87,7 +87,7 @@ module _ (low high step other least greatest : ℤ) where
           );
         }
 
--- the same of numbers that are equal
+-- a common step of equal numbers
 pub common_by : (x y l g x' y' l' g' : ℤ) (o : Option ℤ) → x ≡ x' → y ≡ y' → l ≡ l' → g ≡ g' →
     IsCommonStep x y l g o → IsCommonStep x' y' l' g' o
 common_by x y l g x' y' l' g' o a b c d h =

@@ -1,8 +1,8 @@
-//! The first multiple of a step from a number on.
+//! The first multiple of a step between two bounds.
 ghost use Rattle.std.specs.Prelude.{◌<◌, ◌≤◌, ◌≡◌, ◌<ℤ◌, ◌≤ℤ◌, ◌%◌, ◌-◌, MatchOption, pos, unsigned_abs};
 ghost use Rattle.spa_multiples.specs.Multiples.{IsFirstMultiple, IsFirstSigned};
 
-/// The least multiple of a step from a number to another. None where there is none, as of 0.
+/// The least multiple of a step from `low` to `high`. None: there is none; of the step 0 there never is.
 pub fn first_multiple(low: u64, high: u64, step: u64) -> Option<u64>
     ensures { IsFirstMultiple low high step result }
 {
@@ -19,7 +19,7 @@ pub fn first_multiple(low: u64, high: u64, step: u64) -> Option<u64>
     }
 }
 
-/// The same from a number to another that may be below 0: multiples are told by their magnitudes.
+/// The least multiple of a step from `low` to `high`, which may be below 0: a number is a multiple where its magnitude is. None: there is none.
 pub fn first_signed(low: i64, high: i64, step: u64) -> Option<i64>
     ensures { IsFirstSigned low high step result }
 {
@@ -38,14 +38,14 @@ pub fn first_signed(low: i64, high: i64, step: u64) -> Option<i64>
     }
 }
 
-/// A number that isn't above another.
+/// The number `found` where it isn't above `high`, else None.
 fn within(found: u64, high: u64) -> Option<u64>
     ensures { MatchOption result (high < found) (λ n. (n ≡ found) × (n ≤ high)) }
 {
     if found <= high { Some(found) } else { None }
 }
 
-/// The multiple of a step that is next to a number below 0, towards 0.
+/// The multiple of a step that is next to `low`, which is below 0, towards 0.
 fn towards_zero(low: i64, step: u64) -> i64
     requires step { 0 < step }
     requires below { low <ℤ pos 0 }
@@ -60,7 +60,7 @@ fn towards_zero(low: i64, step: u64) -> i64
     low + rest as i64
 }
 
-/// The same of a number that may be below 0.
+/// The number `found`, which may be below 0, where it isn't above `high`, else None.
 fn up_to(found: i64, high: i64) -> Option<i64>
     ensures { MatchOption result (high <ℤ found) (λ n. (n ≡ found) × (n ≤ℤ high)) }
 {

@@ -73,7 +73,7 @@ module _ {X K : Type 0} {R : K → K → Ordering} (o : IsTotalOrder R) (key : X
           | inr above ↦ rw (parts.1 i d above lt) refl
         ])
 
--- the same of a list that is made of another one by a function
+-- a search in a list that is made of another one by a function
 module _ {X Y K : Type 0} (f : X → Y) where
   pub rises-map : (R : K → K → Ordering) (key : Y → K) (xs : List X) → rises R key (map f xs) ≡ rises R (λ x. key (f x)) xs
   rises-map R key [] = refl

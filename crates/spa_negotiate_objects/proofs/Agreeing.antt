@@ -39,7 +39,7 @@ Admits-rule (choice range_choice f k d vs) x h = absurd h
 Admits-rule (choice _ f k d vs) x h = absurd h
 Admits-rule v x h = h
 
--- the same of equal parts
+-- equal rules, defaults and further values admit the same
 AdmitsBy-same : (r s : Rule) (d e : Tree) (vs ws : List Tree) (x : Tree) → r ≡ s → d ≡ e → vs ≡ ws →
     AdmitsBy r d vs x → AdmitsBy s e ws x
 AdmitsBy-same r s d e vs ws x p q t h =

@@ -1,4 +1,4 @@
--- Contents of fixed size are told apart by their numbers, and sets of these by what they have.
+-- Values of fixed size have search keys of their own, and sets of keys are compared by what they have.
 use Rattle.std.proofs.Common.{◌≡◌, ◌⊎◌, inl, inr, ◌↔◌, ℕ, ◌+◌, ◌<◌, List, [], ◌∷◌, ◌++◌, length, map, take, get_or, Bool, true, false, cond, if◌then◌else◌, ◌==◌, IsTrue, true≢false, refl, sym, ap, ◌∙◌, subst, Some, arith}
 use Rattle.std.specs.BTreeMap.{is_at}
 use Rattle.std.specs.BTreeSet.{BTreeSet, contains, IsEmpty}
@@ -165,7 +165,7 @@ pub HasAll-added : (old new : BTreeSet Numbers) (v : Tree) (vs : List Tree) → 
     IsAdded old v new → HasAll new (vs ++ v ∷ [])
 HasAll-added old new v vs h added = record { each = λ x. added_behind old new v vs h added x }
 
--- the same, where the values are those of some first elements behind one more value
+-- a set of a value and the first elements of a list, to which the next element was added
 pub HasAll-next : {T : Type 0} (f : T → Fixed) (d : Tree) (xs : List T) (i : ℕ) (x : T) →
     i < length xs → x ≡ get_or xs i x → (old new : BTreeSet Numbers) →
     HasAll old (d ∷ map (λ y. fixed y) (map f (take i xs))) → IsAdded old (fixed (f x)) new →

@@ -24,7 +24,7 @@ IsRefusal-first ps qs ss rs ts k f v (Disjoint j) at h n r =
 IsRefusal-first ps qs ss rs ts k f v OutOfMemory at h n r = tt
 IsRefusal-first ps qs ss rs ts k f v _ at h n r = r
 
--- the same of two objects of one type
+-- a refusal of the properties of two objects of one type is one of the objects
 pub AreRefused-properties : (t i u j : ℕ) (ps qs : Properties) (e : NegotiateError) → u ≡ t →
     IsRefusal ps qs e → AreRefused (object t i ps) (object u j qs) e
 AreRefused-properties t i u j ps qs TypeMismatch same h = absurd h

@@ -13,7 +13,7 @@ abbrev pub plain_of : Tree → Tree
 plain_of (choice shape flags kind default values) = fixed default
 plain_of value = value
 
--- the kinds whose ranges are supported
+-- the kinds over which a Range is supported
 abbrev pub IsOrderedKind : Kind → Type 0
 IsOrderedKind id_kind = ⊤
 IsOrderedKind int_kind = ⊤
@@ -27,7 +27,7 @@ IsAtMostFixed (int x) (int y) = x ≤ℤ y
 IsAtMostFixed (long x) (long y) = x ≤ℤ y
 IsAtMostFixed _ _ = ⊥
 
--- the same of two trees
+-- two trees of fixed size, of one ordered kind, the first no greater than the second
 abbrev pub IsAtMost : Tree → Tree → Type 0
 IsAtMost (fixed x) (fixed y) = IsAtMostFixed x y
 IsAtMost _ _ = ⊥
@@ -56,6 +56,6 @@ Admits value x = x ≡ value
 abbrev pub IsCommon : Tree → Tree → Tree → Type 0
 IsCommon v w x = Admits v x × Admits w x
 
--- some value is admitted by both
+-- there is a value that both admit
 abbrev pub HasCommon : Tree → Tree → Type 0
 HasCommon v w = (x : Tree) × IsCommon v w x

@@ -5,7 +5,7 @@ use Rattle.spa_keyed_objects.specs.Sides.{side_text}
 use Rattle.spa_negotiate_objects.specs.declared.error.NegotiateError.{NegotiateError}
 use Rattle.spa_negotiate_objects.specs.declared.error.NegotiateError.TheVariants as error
 
--- a refusal in words
+-- the text as which a refusal is displayed
 abbrev pub error_text : NegotiateError → List ℕ
 error_text error.TypeMismatch = codes "the objects are of two types"
 error_text (error.Unsupported key) = codes "no value is looked for in the choices for key " ++ decimal key

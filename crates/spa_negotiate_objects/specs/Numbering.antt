@@ -1,4 +1,4 @@
--- Contents of fixed size as numbers in an order, and sets of these.
+-- Search keys of values of fixed size, their order, and sets of them.
 use Rattle.std.specs.Prelude.{ℕ, ℤ, pos, ◌≡◌, ◌⊎◌, ◌↔◌, if◌then◌else◌, IsTrue, List, Contains, Option, Some, None}
 use Rattle.std.specs.BTreeSet.{BTreeSet, contains}
 use Rattle.std.specs.declared.cmp.Ordering.{Ordering}
@@ -7,15 +7,15 @@ use Rattle.spa_format.specs.Kind.{Kind, none_kind, bool_kind, id_kind, int_kind,
 use Rattle.spa_format.specs.Tree.{Tree, fixed}
 use Rattle.spa_negotiate_objects.specs.declared.numbers.Numbers.{Numbers}
 
--- the numbers of a content that may be below 0
+-- the search key of a value whose kind has negative numbers
 abbrev pub signed : Kind → ℤ → Numbers
 signed kind x = record { type_ = type_number kind; signed = x; first = 0; second = 0 }
 
--- the numbers of a content of one number or two, never below 0
+-- the search key of a value of one or two numbers, whose kind has no negative ones
 abbrev pub unsigned : Kind → ℕ → ℕ → Numbers
 unsigned kind x y = record { type_ = type_number kind; signed = pos 0; first = x; second = y }
 
--- the numbers of a content: no other content has them
+-- the search key of a value of fixed size, which no other value has
 abbrev pub numbers_of : Fixed → Numbers
 numbers_of none = unsigned none_kind 0 0
 numbers_of (bool x) = unsigned bool_kind (if x then 1 else 0) 0
@@ -28,27 +28,27 @@ numbers_of (rectangle w h) = unsigned rectangle_kind w h
 numbers_of (fraction n d) = unsigned fraction_kind n d
 numbers_of (fd x) = signed fd_kind x
 
--- the numbers of a value of fixed size
+-- the search key of a tree; None where it isn't of fixed size
 abbrev pub tree_numbers : Tree → Option Numbers
 tree_numbers (fixed x) = Some (numbers_of x)
 tree_numbers _ = None
 
--- the order of numbers: by the type, then by each of the others in turn
+-- the order of search keys: by the type number, then by each of the other numbers in turn
 abbrev pub numbers_cmp : Numbers → Numbers → Ordering
 numbers_cmp a b =
     ordering_then (nat_cmp a.type_ b.type_)
     (ordering_then (int_cmp a.signed b.signed)
     (ordering_then (nat_cmp a.first b.first) (nat_cmp a.second b.second)))
 
--- the set has the value
+-- the set has the search key of the value
 abbrev pub Has : BTreeSet Numbers → Tree → Type 0
 Has set (fixed x) = IsTrue (contains numbers_cmp set (numbers_of x))
 Has set _ = ⊥
 
--- the set has these values, and no other
+-- the set has the search keys of these values, and no other
 pub record HasAll (set : BTreeSet Numbers) (values : List Tree) : Type 0 where
   pub each : (x : Tree) → Has set x ↔ Contains values x
 
--- the value was added to the set
+-- the search key of the value was added to the set
 pub record IsAdded (old : BTreeSet Numbers) (value : Tree) (new : BTreeSet Numbers) : Type 0 where
   pub each : (x : Tree) → Has new x ↔ ((x ≡ value) ⊎ Has old x)

@@ -1,5 +1,5 @@
--- What a value offers, as the search for a common value sees it: a rule, a default, and further values.
--- A plain value offers itself, as a None choice does.
+-- A value as an offer, which the search for a common value uses: a rule, a default, and further values.
+-- A plain value is the offer of itself alone, as a None choice is.
 use Rattle.std.specs.Prelude.{⊤, ◌≡◌, ℕ, List, [], ◌∷◌, map, Contains}
 use Rattle.std.specs.BTreeSet.{BTreeSet}
 use Rattle.spa_format.specs.Kind.{Kind, id_kind, int_kind, long_kind}
@@ -14,7 +14,7 @@ use Rattle.spa_negotiate_objects.specs.declared.offer.Offer.{Offer}
 use Rattle.spa_negotiate_objects.specs.declared.numbers.Numbers.{Numbers}
 use Rattle.spa_negotiate_objects.specs.Numbering.{HasAll}
 
--- the rule of a range over this kind
+-- the rule of a Range over this kind
 abbrev pub range_rule : Kind → Rule
 range_rule id_kind = Between
 range_rule int_kind = Between
@@ -29,18 +29,18 @@ rule_of (choice range_choice flags kind default values) = range_rule kind
 rule_of (choice _ flags kind default values) = Unsupported
 rule_of _ = Only
 
--- the rule is that of supported values
+-- the rule is one of supported values
 abbrev pub IsSupportedRule : Rule → Type 0
 IsSupportedRule Unsupported = ⊥
 IsSupportedRule _ = ⊤
 
--- the alternatives of an Enum, the minimum and the maximum of a Range
+-- the alternatives of an Enum, the minimum and the maximum of a Range, and else an empty list
 abbrev pub further_values_of : Tree → List Tree
 further_values_of (choice enum_choice flags kind default values) = map (λ v. fixed v) values
 further_values_of (choice range_choice flags kind default values) = map (λ v. fixed v) values
 further_values_of _ = []
 
--- the default and the alternatives of an Enum
+-- the default and the alternatives of an Enum, and else an empty list
 abbrev pub indexed_of : Tree → List Tree
 indexed_of (choice enum_choice flags kind default values) = fixed default ∷ map (λ v. fixed v) values
 indexed_of _ = []
@@ -63,12 +63,12 @@ AdmitsBy Unsupported default values x = ⊥
 abbrev pub OfferAdmits : Offer → Tree → Type 0
 OfferAdmits offer x = AdmitsBy offer.rule (view offer.default) (map view offer.values.items) x
 
--- the index has what the rule looks up in it: the default and the alternatives of an Enum
+-- the index fits the rule: for an Enum it has the search keys of these values
 abbrev pub IsIndexedBy : Rule → List Tree → BTreeSet Numbers → Type 0
 IsIndexedBy Among values index = HasAll index values
 IsIndexedBy _ values index = ⊤
 
--- the same of an offer
+-- the index of the offer has the search keys of its default and of its alternatives, where it is an Enum
 abbrev pub IsIndexed : Offer → Type 0
 IsIndexed offer = IsIndexedBy offer.rule (view offer.default ∷ map view offer.values.items) offer.index
 
@@ -76,25 +76,25 @@ IsIndexed offer = IsIndexedBy offer.rule (view offer.default ∷ map view offer.
 abbrev pub BothAdmit : Offer → Offer → Tree → Type 0
 BothAdmit a b x = OfferAdmits a x × OfferAdmits b x
 
--- the alternatives of an Enum, and nothing of other values
+-- the alternatives of an Enum among an offer's further values; by any other rule an empty list
 abbrev pub alternatives_by : Rule → List Tree → List Tree
 alternatives_by Among values = values
 alternatives_by _ values = []
 
--- the same of an offer
+-- the alternatives of an offer that is an Enum, and else an empty list
 abbrev pub alternatives_of : Offer → List Tree
 alternatives_of offer = alternatives_by offer.rule (map view offer.values.items)
 
--- the minimum of a Range, and the default of any other value
+-- the minimum of a Range, and by any other rule the default
 abbrev pub floor_by : Rule → Tree → List Tree → Tree
 floor_by Between default (low ∷ values) = low
 floor_by _ default values = default
 
--- the same of an offer
+-- the minimum of an offer that is a Range, and else its default
 abbrev pub floor_of : Offer → Tree
 floor_of offer = floor_by offer.rule (view offer.default) (map view offer.values.items)
 
--- what two offers under this key are refused for
+-- the refusal is one of two offers under this key
 abbrev pub IsOfferRefusal : ℕ → Offer → Offer → NegotiateError → Type 0
 IsOfferRefusal key a b (error.Unsupported k) =
     (k ≡ key) × ¬ (IsSupportedRule a.rule × IsSupportedRule b.rule)

@@ -1,4 +1,4 @@
--- What is said of settled keys, over lists of properties as the code has them.
+-- Settled keys, over the lists of properties that the code has.
 use Rattle.std.specs.Prelude.{ℕ, List, Option}
 use Rattle.spa_format.specs.Tree.{Tree, Properties}
 use Rattle.spa_value.specs.declared.object.Property.{Property}
@@ -12,12 +12,12 @@ use Rattle.spa_negotiate_objects.specs.declared.negotiation.Settled.{Settled}
 abbrev pub found_at : ℕ → List Property → Option Tree
 found_at key properties = value_at key (property_views properties)
 
--- met has each key of these properties once, in the order of their first places, and settles it
+-- met has each key of these properties once, in the order in which they first occur, and settles it
 abbrev pub SettlesListed : (ours theirs : List Property) → Properties → List Property → Type 0
 SettlesListed ours theirs these met =
     SettlesKeys (property_views ours) (property_views theirs) these (property_views met)
 
--- the same, and the set has these keys
+-- the outcome so far has each key of these properties once and settles it, and the set has these keys
 pub record IsSettled (ours theirs : List Property) (these : Properties) (s : Settled) : Type 0 where
   pub settles : SettlesListed ours theirs these s.met.properties.items
   pub keys : HasKeys s.keys these

@@ -19,7 +19,7 @@ abbrev pub AreDisjoint : Option Tree → Option Tree → Type 0
 AreDisjoint (Some v) (Some w) = IsSupported v × IsSupported w × ¬ (HasCommon v w)
 AreDisjoint _ _ = ⊥
 
--- this is the first of our keys under which the two sides don't agree, and this stands there
+-- this is the first of our keys under which the two sides don't agree, and the refusal `Stands` holds there
 pub record IsRefusedAt (Stands : Option Tree → Option Tree → Type 0) (ours theirs : Properties)
     (key : ℕ) : Type 0 where
   pub before : List ℕ
@@ -28,21 +28,21 @@ pub record IsRefusedAt (Stands : Option Tree → Option Tree → Type 0) (ours t
   pub agreed : All (AgreeAt ours theirs) before
   pub stands : Stands (value_at key ours) (value_at key theirs)
 
--- what the two sides are refused for by what they have under this key
+-- the refusal is one of the two sides' values under this key
 abbrev pub IsKeyRefusal : ℕ → Option Tree → Option Tree → NegotiateError → Type 0
 IsKeyRefusal key ours theirs (Unsupported k) = (k ≡ key) × AreUnsupported ours theirs
 IsKeyRefusal key ours theirs (Disjoint k) = (k ≡ key) × AreDisjoint ours theirs
 IsKeyRefusal key ours theirs OutOfMemory = ⊤
 IsKeyRefusal key ours theirs _ = ⊥
 
--- what the properties of two objects of one type are refused for
+-- the refusal is one of two objects of one type with these properties
 abbrev pub IsRefusal : Properties → Properties → NegotiateError → Type 0
 IsRefusal ours theirs (Unsupported key) = IsRefusedAt AreUnsupported ours theirs key
 IsRefusal ours theirs (Disjoint key) = IsRefusedAt AreDisjoint ours theirs key
 IsRefusal ours theirs OutOfMemory = ⊤
 IsRefusal ours theirs _ = ⊥
 
--- what two objects are refused for
+-- the refusal is one of the two objects
 abbrev pub AreRefused : Tree → Tree → NegotiateError → Type 0
 AreRefused (object type our_id ours) (object its_type its_id theirs) TypeMismatch =
     ¬ (its_type ≡ type)
@@ -50,7 +50,7 @@ AreRefused (object type our_id ours) (object its_type its_id theirs) e =
     (its_type ≡ type) × IsRefusal ours theirs e
 AreRefused _ _ _ = ⊥
 
--- this holds where the refusal is for another cause than memory
+-- the fact holds unless the refusal is for want of memory
 abbrev pub OnDisagreement : Type 0 → NegotiateError → Type 0
 OnDisagreement fact OutOfMemory = ⊤
 OnDisagreement fact _ = fact

@@ -1,4 +1,4 @@
-//! The search for a value that two offers both admit.
+//! Searches for a value that two offers both admit.
 ghost use Rattle.std.specs.Prelude.{◌≡◌, ◌↔◌, IfOk, IsTrue, MatchOption, All, map};
 ghost use Rattle.spa_format.specs.Tree.{Tree};
 ghost use Rattle.spa_value.specs.View.{view};
@@ -11,7 +11,7 @@ use spa_value::laws::{equal_trees_are_the_same, trees_have_their_types};
 use spa_value::{Value, same};
 use std::alloc::{AllocError, Global};
 
-/// Whether the first is no greater than the second, where both are ids, both ints or both longs.
+/// Whether the two are both ids, both ints or both longs, and the first is no greater than the second.
 fn is_at_most(value: &Value, other: &Value) -> bool
     ensures { IsTrue result ↔ IsAtMost (view value.now) (view other.now) }
 {
@@ -33,7 +33,7 @@ fn is_at_most(value: &Value, other: &Value) -> bool
     }
 }
 
-/// Whether the two are the same value.
+/// Whether the two values are equal. Refused only for want of memory, as all that takes an allocator here.
 fn is_same(alloc: Global, value: &Value, other: &Value) -> Result<bool, AllocError>
     ensures { IfOk result (λ is_same. IsTrue is_same ↔ (view value.now ≡ view other.now)) }
 {
@@ -68,7 +68,7 @@ fn both_admit(alloc: Global, a: &Offer, b: &Offer, value: &Value) -> Result<bool
     Ok(first && second)
 }
 
-/// The first of these values that both offers admit, where there is one.
+/// The first of these values that both offers admit. None: there is none among them.
 fn first_of<'v>(
     alloc: Global,
     values: &'v [Value],
@@ -86,7 +86,7 @@ fn first_of<'v>(
     Ok(None)
 }
 
-/// The alternatives of an Enum, and nothing of other values.
+/// The alternatives of an Enum; of any other offer an empty list.
 fn alternatives(offer: &Offer) -> &[Value]
     ensures { map view result.now ≡ alternatives_of offer.now }
 {
@@ -96,7 +96,7 @@ fn alternatives(offer: &Offer) -> &[Value]
     }
 }
 
-/// The minimum of a Range, and the default of any other value.
+/// The minimum of a Range; of any other offer its default.
 fn floor(offer: &Offer) -> &Value
     ensures { view result.now ≡ floor_of offer.now }
 {
@@ -109,8 +109,8 @@ fn floor(offer: &Offer) -> &Value
     }
 }
 
-/// The first of these that both offers admit: a's default, b's default, a's alternatives, b's alternatives, a's
-/// minimum, b's minimum. Where both admit none of these, they admit no value.
+/// The first of these that both offers admit: a's default, b's default, a's alternatives, b's alternatives, a's minimum, b's minimum. None: there
+/// is no value that both admit.
 pub(crate) fn first_common<'v>(
     alloc: Global,
     a: &'v Offer,

@@ -1,4 +1,4 @@
-//! The nine types over which there are choices: their elements as values and as numbers.
+//! The nine types over which there are choices: their elements as values and as search keys.
 ghost use Rattle.std.specs.Prelude.{◌≡◌};
 ghost use Rattle.spa_format.specs.Tree.{fixed};
 ghost use Rattle.spa_value.specs.View.{view};
@@ -13,7 +13,7 @@ use spa_value::Value;
 
 /// One of the nine types over which there are choices.
 pub(crate) trait Element: CanonicalFixedSizedPod {
-    /// The rule of a range over this type.
+    /// The rule of a Range over this type.
     fn range_rule() -> Rule
         ensures { result ≡ range_rule Self.kind };
 
@@ -21,7 +21,7 @@ pub(crate) trait Element: CanonicalFixedSizedPod {
     fn value(&self) -> Value
         ensures { view result ≡ fixed (Self.fixed self.now) };
 
-    /// The numbers by which this element is told from all others.
+    /// The search key of this element, which no other element has.
     fn numbers(&self) -> Numbers
         ensures { result ≡ numbers_of (Self.fixed self.now) };
 }

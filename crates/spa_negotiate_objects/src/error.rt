@@ -7,8 +7,8 @@ use std::alloc::AllocError;
 use std::error::Error;
 use std::fmt;
 
-/// Why two objects, or the objects of two pods, don't meet. The key in a refusal is the first of the first object's keys under
-/// which one of these stands.
+/// Why two objects, or the objects of two pods, don't meet. The key in a refusal is the first of the first object's keys at which
+/// `Unsupported` or `Disjoint` is so.
 #[derive(Clone, Copy, PartialEq, Eq, Debug)]
 pub enum NegotiateError {
     /// The types of the objects differ. No key is looked at then.
@@ -24,7 +24,7 @@ pub enum NegotiateError {
     NotObject(Side),
     /// The object in which the two meet can't be written: a size word of its encoding is 4294967296 or more.
     TooLarge,
-    /// A growth was refused.
+    /// Memory ran out.
     OutOfMemory,
 }
 

@@ -6,8 +6,7 @@ ghost use Rattle.spa_format.specs.Tree.{Properties, Tree, object};
 ghost use Rattle.spa_format.specs.Writable.{HasNul};
 ghost use Rattle.spa_negotiate_objects.specs.Meeting.{Meet};
 
-/// The object in which two meet holds a NUL in a text only where one of the two does, is a normal form where both are, and needs no
-/// fixation.
+/// The object in which two meet has a text with NUL only where one of the two has, is a normal form where both are, and needs no fixation.
 pub fn meetings_are_plain()
     ensures no_nul { (v w x : Tree) → ¬ (HasNul v) → ¬ (HasNul w) → Meet v w x → ¬ (HasNul x) }
     ensures normal { (v w x : Tree) → normal_of v ≡ v → normal_of w ≡ w → Meet v w x → normal_of x ≡ x }

@@ -1,4 +1,4 @@
-//! Negotiation: two objects meet in a third one, under each of whose keys stands a value that both admit.
+//! Negotiation: two objects meet in a third, which has under each key of both a value that both admit.
 #![tactic(auto)]
 
 mod admission;

@@ -1,4 +1,4 @@
-//! Two objects meet.
+//! Negotiates two objects.
 ghost use Rattle.std.specs.Prelude.{◌≡◌, IfErr, IfOk, List, MatchOption, None, OnOk, Some};
 ghost use Rattle.spa_format.specs.Tree.{join_properties};
 ghost use Rattle.spa_value.specs.declared.object.Property.{Property};
@@ -20,18 +20,18 @@ use spa_value::{Object, Property, Value};
 use std::alloc::{AllocError, Global};
 use std::collections::BTreeSet;
 
-/// The object in which two objects meet.
+/// Negotiates two objects: answers the object in which they meet.
 ///
-/// It has their type, the id of `a`, and each key of either once, with empty flags and a plain value: first the keys of
-/// `a` in the order of their first places, then those that `b` alone has, in the same way. On each side the first
-/// property with a key counts, and flags of properties don't.
+/// It has their type, the id of `a`, and each key of either once, with flags 0 and a plain value: first the keys of `a` in the order in
+/// which they first occur, then those that only `b` has, in the same order. On each side the first property with a key counts; flags of
+/// properties don't.
 ///
 /// A key of one side keeps its plain value, or gets the default of its choice, of whatever shape. A key of both gets
 /// the first of these that both values admit: a's default, b's default, a's alternatives, b's alternatives, a's minimum,
 /// b's minimum. A plain value is its own default.
 ///
-/// The refusals: `TypeMismatch`, before any other; then, at the first of a's keys under which the two don't agree,
-/// `Unsupported`, before `Disjoint`. `OutOfMemory` is answered only for two objects of one type.
+/// The refusals: `TypeMismatch` before any other; then, at the first of a's keys under which the two don't agree, `Unsupported` before
+/// `Disjoint`. `OutOfMemory` is answered only for two objects of one type.
 ///
 /// Keys and alternatives are looked for in trees, so the time grows with n log n for n properties and alternatives, other
 /// values aside.
@@ -60,14 +60,14 @@ pub fn negotiate(alloc: Global, a: &Object, b: &Object) -> Result<Object, Negoti
     })
 }
 
-/// Settled properties, and the keys that were settled.
+/// The properties of the outcome so far, and the set of their keys.
 #[derive(Drop)]
 struct Settled {
     met: Met,
     keys: BTreeSet<u32>,
 }
 
-/// The settled properties of the first side.
+/// The properties of the outcome for the keys of the first side.
 fn settle_first(alloc: Global, a: &[Property], b: &Keyed<'_>) -> Result<Settled, NegotiateError>
     requires { IsKeyed b.now }
     ensures settled { IfOk result (IsSettled a.now b.now.properties.now (property_views a.now)) }
@@ -86,7 +86,7 @@ fn settle_first(alloc: Global, a: &[Property], b: &Keyed<'_>) -> Result<Settled,
     Ok(Settled { met, keys })
 }
 
-/// The settled properties of the first side, and behind them those that the second side alone has.
+/// The properties of the outcome for the keys of the first side, and behind them those for the keys that only the second side has.
 fn settle_rest(first: Settled, b: &[Property]) -> Result<Vec<Property>, AllocError>
     ensures { IfOk result (λ met. (a : List Property) → IsSettled a b.now (property_views a) first → SettlesListed a b.now (join_properties (property_views a) (property_views b.now)) met.items) }
 {
@@ -102,7 +102,7 @@ fn settle_rest(first: Settled, b: &[Property]) -> Result<Vec<Property>, AllocErr
     Ok(met.into_properties())
 }
 
-/// A plain value that settles the key of a property of the first side, where the second side has these.
+/// The plain value that the outcome has under the key of a property of the first side, where `others` are the properties of the second.
 fn settle(alloc: Global, property: &Property, others: &Keyed<'_>) -> Result<Value, NegotiateError>
     requires { IsKeyed others.now }
     ensures plain { IfOk result (λ x. IsPlain (view x)) }
@@ -115,7 +115,7 @@ fn settle(alloc: Global, property: &Property, others: &Keyed<'_>) -> Result<Valu
     }
 }
 
-/// The value of the first property with this key.
+/// The value of the first property with this key. None: no property has it.
 fn value_of<'a>(properties: &Keyed<'a>, key: u32) -> Option<&'a Value>
     requires { IsKeyed properties.now }
     ensures { MatchOption result (found_at key properties.now.properties.now ≡ None) (λ value. found_at key properties.now.properties.now ≡ Some (view value.now)) }
@@ -126,9 +126,10 @@ fn value_of<'a>(properties: &Keyed<'a>, key: u32) -> Option<&'a Value>
     }
 }
 
-/// A plain value that both admit: of a key that two objects have, the value of that in which they meet.
+/// Negotiates two values: answers a plain value that both admit, which under a key of two objects is the value of the object in which they meet.
 ///
-/// The refusals: `Unsupported` of this key, before `Disjoint` of it.
+/// Refused as `Unsupported` of the key where no common value is sought for one of the two, else as `Disjoint` of the key where no value is
+/// admitted by both, and as `OutOfMemory`.
 pub fn common(alloc: Global, key: u32, a: &Value, b: &Value) -> Result<Value, NegotiateError>
     ensures plain { IfOk result (λ x. IsPlain (view x)) }
     ensures common { IfOk result (λ x. IsCommon (view a.now) (view b.now) (view x)) }
@@ -139,7 +140,7 @@ pub fn common(alloc: Global, key: u32, a: &Value, b: &Value) -> Result<Value, Ne
     common_of(alloc, key, &first, &second)
 }
 
-/// A value that both offers admit.
+/// A plain value that both offers admit, with the refusals of `common`.
 fn common_of(
     alloc: Global,
     key: u32,

@@ -1,4 +1,4 @@
-//! What a value offers: a default, further values, and a rule by which they admit a value.
+//! A value as an offer: a default, further values, and the rule by which these admit a value.
 ghost use Rattle.std.specs.Prelude.{◌≡◌, ◌↔◌, IfOk, IsTrue, [], ◌∷◌, map};
 ghost use Rattle.spa_format.specs.Tree.{fixed};
 ghost use Rattle.spa_value.specs.View.{choice_view, view};
@@ -22,9 +22,9 @@ pub(crate) enum Rule {
     Only,
     /// The default and the further values.
     Among,
-    /// From the first of the further values to the second.
+    /// Each value from the first of the further values to the second.
     Between,
-    /// None: no common value is sought.
+    /// No value: no common value is sought.
     Unsupported,
 }
 
@@ -39,19 +39,19 @@ impl Rule {
     }
 }
 
-/// What a value offers.
+/// A value as an offer.
 pub(crate) struct Offer {
-    /// Which values are admitted.
+    /// Which values the offer admits.
     pub(crate) rule: Rule,
-    /// The value itself where it is plain, and the default of a choice.
+    /// The value itself where it is plain, and its default where it is a choice.
     pub(crate) default: Value,
-    /// The alternatives of an Enum, the minimum and the maximum of a Range, and nothing elsewhere.
+    /// The alternatives of an Enum, the minimum and the maximum of a Range, and else an empty list.
     pub(crate) values: Vec<Value>,
-    /// The default and the alternatives of an Enum, to look values up in, and nothing elsewhere.
+    /// The search keys of an Enum's default and alternatives, and else an empty set.
     pub(crate) index: BTreeSet<Numbers>,
 }
 
-// By hand, so that a default that is nested deep is taken apart by a loop.
+// By hand, so that the default is dropped by a loop, at any nesting depth.
 impl Drop for Offer {
     fn drop(self) {
         let Offer {
@@ -90,7 +90,7 @@ fn plain_of<T: Element>(choice: &ChoiceEnum<T>) -> Value
     }
 }
 
-/// The alternatives of an Enum, the minimum and the maximum of a Range, and nothing elsewhere.
+/// The alternatives of an Enum, the minimum and the maximum of a Range; of any other choice an empty list.
 fn further_values_of<T: Element>(
     alloc: Global,
     choice: &ChoiceEnum<T>,
@@ -104,7 +104,7 @@ fn further_values_of<T: Element>(
     }
 }
 
-/// Two elements as values.
+/// A list of two elements as values.
 fn pair_of<T: Element>(alloc: Global, first: &T, second: &T) -> Result<Vec<Value>, AllocError>
     ensures { IfOk result (λ values. map view values.items ≡ fixed (T.fixed first.now) ∷ fixed (T.fixed second.now) ∷ []) }
 {
@@ -114,7 +114,7 @@ fn pair_of<T: Element>(alloc: Global, first: &T, second: &T) -> Result<Vec<Value
     Ok(values)
 }
 
-/// Elements as values.
+/// A list of elements as values.
 fn list_of<T: Element>(alloc: Global, elements: &[T]) -> Result<Vec<Value>, AllocError>
     ensures { IfOk result (λ values. map view values.items ≡ map (λ x. fixed x) (map T.fixed elements.now)) }
 {
@@ -125,7 +125,7 @@ fn list_of<T: Element>(alloc: Global, elements: &[T]) -> Result<Vec<Value>, Allo
     Ok(values)
 }
 
-/// The default and the alternatives of an Enum, and nothing of other choices.
+/// The search keys of the default and of the alternatives of an Enum; of any other choice an empty set.
 #[tactic(auto, using(crate::proofs::NumberLemmas::empty_has_none))]
 fn index_of<T: Element>(
     alloc: Global,
@@ -145,7 +145,7 @@ fn index_of<T: Element>(
     }
 }
 
-/// An element and others.
+/// The search keys of an element and of others.
 fn index_of_all<T: Element>(
     alloc: Global,
     first: &T,
@@ -161,7 +161,7 @@ fn index_of_all<T: Element>(
     Ok(index)
 }
 
-/// What a choice offers, whatever its flags are.
+/// A choice as an offer. Its flags don't count.
 fn offer_of_choice<T: Element>(alloc: Global, choice: &ChoiceEnum<T>) -> Result<Offer, AllocError>
     ensures offer { IfOk result (λ offer. IsOfferOf (choice_enum_tree T.kind T.fixed 0 choice.now) offer) }
     ensures indexed { IfOk result (λ offer. IsIndexed offer) }
@@ -176,7 +176,7 @@ fn offer_of_choice<T: Element>(alloc: Global, choice: &ChoiceEnum<T>) -> Result<
     })
 }
 
-/// What a value offers.
+/// The offer of a value. Refused only for want of memory.
 pub(crate) fn offer_of(alloc: Global, value: &Value) -> Result<Offer, AllocError>
     ensures offer { IfOk result (λ offer. IsOfferOf (view value.now) offer) }
     ensures indexed { IfOk result (λ offer. IsIndexed offer) }
@@ -220,7 +220,7 @@ fn settled_choice(choice: &ChoiceValue) -> Value
     }
 }
 
-/// The value itself where it is plain, and the default where it is a choice.
+/// A copy of the value where it is plain, and the default where it is a choice.
 pub(crate) fn settled(value: &Value) -> Result<Value, AllocError>
     ensures plain { IfOk result (λ settled. IsPlain (view settled)) }
     ensures settled { IfOk result (λ settled. view settled ≡ plain_of (view value.now)) }
@@ -249,7 +249,7 @@ fn rule_of_choice(choice: &ChoiceValue) -> Rule
     }
 }
 
-/// Whether a common value is sought for this one and others.
+/// Whether a common value is sought for this value and another: it is plain, a None choice, an Enum, or a Range over `Id`, `i32` or `i64`.
 pub fn is_supported(value: &Value) -> bool
     ensures { IsTrue result ↔ IsSupported (view value.now) }
 {

@@ -1,4 +1,4 @@
--- Values without members, read where their pods lie, and beside values with members.
+-- Values without members, read from borrowed pods, and beside values with members.
 use Rattle.std.proofs.Common.{◌≡◌, ◌≢◌, ℕ, List, refl, sym, ◌∙◌, subst, Some}
 use Rattle.spa_format.specs.Pod.{IsBody, IsPod}
 use Rattle.spa_format.specs.Tree.{Tree, struct, object, struct_type, object_type, type_of}

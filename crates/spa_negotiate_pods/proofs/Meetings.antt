@@ -1,4 +1,4 @@
--- Two objects meet where they lie: what is put while their properties are passed, and what they meet in.
+-- Two borrowed objects meet: what is appended while their properties are passed, and what they meet in.
 use Rattle.std.proofs.Common.{◌≡◌, ℕ, ◌-◌, ◌<◌, ◌≤◌, ◌^◌, List, ◌++◌, ◌==◌, length, drop, refl, sym, ap, ◌∙◌, subst, arith, true, false, if◌then◌else◌, Some}
 use Rattle.std.specs.List.{All}
 use Rattle.spa_format.specs.Words.{size_limit, word_bytes}

@@ -14,20 +14,20 @@ use Rattle.spa_keyed_objects.specs.declared.side.Side.TheVariants.{First, Second
 use Rattle.spa_negotiate_objects.specs.declared.error.NegotiateError.{NegotiateError}
 use Rattle.spa_negotiate_objects.specs.declared.error.NegotiateError.TheVariants.{Unread, NotObject, TooLarge, OutOfMemory}
 
--- the two values meet in one whose encoding these bytes are, which are a pod of it
+-- the two values meet in a third, whose encoding these bytes are
 pub record MeetIn (bytes : List ℕ) (ours theirs : Tree) : Type 0 where
   pub met : Tree
   pub meet : Meet ours theirs met
   pub encoding : bytes ≡ encoding_of met
   pub pod : IsPod bytes met
 
--- the two values meet in one in whose encoding a size word is past 32 bits
+-- the two values meet in a third, in whose encoding a size doesn't fit a word of 32 bits
 pub record MeetTooLarge (ours theirs : Tree) : Type 0 where
   pub met : Tree
   pub meet : Meet ours theirs met
   pub large : IsTooLarge met
 
--- what two inputs are refused for: the first is settled before the second, and both before the rest
+-- the refusal is one of the two inputs: one of the first comes before one of the second, and both before any other
 abbrev pub AreFrontsRefused : (a b : List ℕ) → NegotiateError → Type 0
 AreFrontsRefused a b (Unread First) = IsRefused a
 AreFrontsRefused a b (Unread Second) = BeginsObject a × IsRefused b
@@ -39,18 +39,18 @@ AreFrontsRefused a b OutOfMemory =
     ⊎ BeginBoth a b (λ v w. AreRefused v w OutOfMemory)
 AreFrontsRefused a b e = BeginBoth a b (λ v w. AreRefused v w e)
 
--- this holds where the refusal is for another cause than memory or the size of the answer
+-- the fact holds unless the refusal is for want of memory or for the size of the answer
 abbrev pub OnNoMeeting : Type 0 → NegotiateError → Type 0
 OnNoMeeting fact OutOfMemory = ⊤
 OnNoMeeting fact TooLarge = ⊤
 OnNoMeeting fact _ = fact
 
--- what two inputs are refused for that begin with objects
+-- the refusal is one of two inputs that begin with objects
 abbrev pub AreViewsRefused : (a b : List ℕ) → NegotiateError → Type 0
 AreViewsRefused a b TooLarge = BeginBoth a b MeetTooLarge
 AreViewsRefused a b e = BeginBoth a b (λ v w. AreRefused v w e)
 
--- what one side is refused for
+-- the refusal is one of this side's front
 abbrev pub IsFrontRefused : Side → List ℕ → NegotiateError → Type 0
 IsFrontRefused side input (Unread s) = (s ≡ side) × IsRefused input
 IsFrontRefused side input (NotObject s) = (s ≡ side) × BeginsOther input

@@ -1,4 +1,4 @@
--- What a value offers where its pod lies.
+-- Offers of values, by their borrowed pods.
 use Rattle.std.specs.Prelude.{◌≡◌, ℕ, ◌<◌, ◌≤◌, List, ◌∷◌, map, length, take, Contains}
 use Rattle.spa_format.specs.Kind.{Kind, type_number, body_size, content, Fixed}
 use Rattle.spa_format.specs.Tree.{Tree, fixed}
@@ -8,7 +8,7 @@ use Rattle.spa_negotiate_pods.specs.declared.offer_view.OfferView.{OfferView}
 use Rattle.spa_negotiate_pods.specs.declared.offer_view.Rule.{Rule}
 use Rattle.spa_negotiate_pods.specs.declared.offer_view.Rule.TheVariants.{Only, Among, Between, Unsupported}
 
--- the first bytes of these, as a value of the kind
+-- the value of the kind at the front of these bytes
 abbrev pub value_of : Kind → List ℕ → Fixed
 value_of k b = content k (take (body_size k) b)
 
@@ -18,7 +18,7 @@ pub record IsElementType (type : ℕ) : Type 0 where
   pub its_type : type ≡ type_number kind
   pub long : 0 < body_size kind
 
--- x is admitted by this rule, default and further values
+-- x is admitted by this rule, this default and these further values
 abbrev pub AdmitsBy : Rule → Tree → List Tree → Tree → Type 0
 AdmitsBy Only default values x = x ≡ default
 AdmitsBy Among default values x = Contains (default ∷ values) x
@@ -26,7 +26,7 @@ AdmitsBy Between default (low ∷ high ∷ values) x = IsAtMost low x × IsAtMos
 AdmitsBy Between default _ x = ⊥
 AdmitsBy Unsupported default values x = ⊥
 
--- the offer is that of the value: what it admits, the value does
+-- the offer is one of the value: a value that the offer admits, the value admits
 pub record IsOffer (v : Tree) (offer : OfferView) : Type 0 where
   pub kind : Kind
   pub default : Fixed
@@ -41,14 +41,14 @@ pub record IsOffer (v : Tree) (offer : OfferView) : Type 0 where
 abbrev pub HasValues : OfferView → Type 0
 HasValues offer = (0 < offer.size) × (offer.size ≤ length offer.values.now)
 
--- both values admit that which the bytes begin with, of the kind with this type number
+-- both values admit the value at the front of these bytes, of the kind with this type number
 pub record IsShared (v w : Tree) (type : ℕ) (b : List ℕ) : Type 0 where
   pub kind : Kind
   pub its_type : type ≡ type_number kind
   pub long : body_size kind ≤ length b
   pub common : IsCommon v w (fixed (value_of kind b))
 
--- the values of two offers admit what the bytes begin with, each as a value of its kind
+-- the values of two offers admit the value at the front of these bytes, each as a value of its kind
 abbrev pub AreAdmitting : OfferView → OfferView → List ℕ → Type 0
 AreAdmitting a b bytes =
     (v w : Tree) (o : IsOffer v a) (p : IsOffer w b)

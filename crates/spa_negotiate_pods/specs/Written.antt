@@ -1,4 +1,4 @@
--- What two objects meet in, property by property.
+-- The object in which two objects meet, property by property.
 use Rattle.std.specs.Prelude.{◌≡◌, ℕ, List, ◌++◌, Option}
 use Rattle.spa_format.specs.Encoding.{encoding_of}
 use Rattle.spa_format.specs.Typed.{IsTyped}
@@ -9,7 +9,7 @@ use Rattle.spa_fronts.specs.Written.{AreBehind, IsWritten}
 use Rattle.spa_negotiate_objects.specs.Admits.{IsCommon, IsPlain}
 use Rattle.spa_negotiate_objects.specs.Meeting.{Settles, SettlesKeys}
 
--- a property with this key, no flags and this plain value was appended, as it is written
+-- a property with this key, no flags and this plain value was appended, canonical
 pub record IsPut (key : ℕ) (value : Tree) (old new : List ℕ) : Type 0 where
   pub plain : IsPlain value
   pub pod : List ℕ
@@ -25,13 +25,13 @@ pub record IsCommonPut (ours theirs : Tree) (key : ℕ) (old new : List ℕ) : T
   pub writable : IsWritable value
   pub parts : new ≡ old ++ ((word_bytes key ++ word_bytes 0) ++ encoding_of value)
 
--- one with a value that settles what the two sides have under the key
+-- a property with a plain value that settles the key of the two sides was appended
 pub record IsSettledBy (ours theirs : Option Tree) (key : ℕ) (old new : List ℕ) : Type 0 where
   pub value : Tree
   pub settles : Settles ours theirs value
   pub put : IsPut key value old new
 
--- behind these bytes stand properties, as they are written, which settle the keys of these
+-- behind `head` are canonical properties that settle the keys of these
 pub record IsMetBehind (ours theirs these : Properties) (head out : List ℕ) : Type 0 where
   pub met : Properties
   pub held : AreBehind met head out

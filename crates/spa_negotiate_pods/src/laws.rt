@@ -18,7 +18,7 @@ pub fn refused_fronts_cannot_meet()
     pods_have_one_value();
 }
 
-/// The bytes in which the objects at two fronts meet need no fixation.
+/// The encoding of the object in which the objects at two fronts meet needs no fixation.
 pub fn meetings_need_no_fixation()
     ensures { (a b bytes : List ℕ) → BeginBoth a b (MeetIn bytes) → IsTrue (all_settled (property_walk (properties_of bytes))) }
 {

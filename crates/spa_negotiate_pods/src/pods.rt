@@ -1,4 +1,4 @@
-//! The objects of two pods meet.
+//! Negotiates the objects of two pods.
 ghost use Rattle.std.specs.Prelude.{IfErr, IfOk, IsTrue, OnOk};
 ghost use Rattle.spa_format.specs.Fixation.{all_settled};
 ghost use Rattle.spa_format.specs.Walk.{properties_of, property_walk};
@@ -28,7 +28,7 @@ pub fn negotiate_pods(alloc: Global, a: &[u8], b: &[u8]) -> Result<Vec<u8>, Nego
     ensures value { IfOk result (λ bytes. BeginBoth a.now b.now (MeetIn bytes.items)) }
     // and which needs no fixation;
     ensures fixated { IfOk result (λ bytes. IsTrue (all_settled (property_walk (properties_of bytes.items)))) }
-    // and a refusal is one that stands.
+    // and a refusal is a right one.
     ensures cause { IfErr result (AreFrontsRefused a.now b.now) }
 {
     refused_fronts_cannot_meet();
@@ -44,7 +44,7 @@ pub fn negotiate_pods(alloc: Global, a: &[u8], b: &[u8]) -> Result<Vec<u8>, Nego
     meet_objects(alloc, &ours, &theirs)
 }
 
-/// The pod of the object at the front of a side's bytes.
+/// The canonical pod of the object at the front of a side's bytes. Refused as `Unread` or `NotObject` of the side, and as `OutOfMemory`.
 fn object_at(alloc: Global, bytes: &[u8], side: Side) -> Result<ObjectPod<'_>, NegotiateError>
     ensures object { IfOk result (λ pod. BeginsObjectIn bytes.now (bytes_of pod)) }
     ensures cause { IfErr result (IsFrontRefused side bytes.now) }

@@ -1,4 +1,4 @@
-//! What the two sides have under a key, settled from pod to pod.
+//! Settles a key of the two sides, from their pods to the pod of the outcome.
 ghost use Rattle.std.specs.Prelude.{◌≡◌, ◌<◌, ◌≤◌, ◌++◌, IfErr, IfNone, IfOk, IfSome, OnOk, Some, true};
 ghost use Rattle.spa_format.specs.Kind.{Kind, body_size, type_number};
 ghost use Rattle.spa_format.specs.Pod.{IsPod};
@@ -30,7 +30,7 @@ const ONE_WORD: usize = 4;
 /// The length in bytes of a body of two words.
 const TWO_WORDS: usize = 8;
 
-/// Puts a plain value, or the default of a choice.
+/// Appends a property with a plain value, or with the default of a choice.
 pub(crate) fn put_default(out: &mut Vec<u8>, key: u32, pod: &[u8]) -> bool
     ensures { result ≡ true → (v : Tree) → IsWritten v pod.now → IsPut key (plain_of v) out.old.items out.new.items }
 {
@@ -43,8 +43,8 @@ pub(crate) fn put_default(out: &mut Vec<u8>, key: u32, pod: &[u8]) -> bool
     }
 }
 
-/// Puts a value that the values of two pods admit. Choices are looked at where they lie, and read only where no value is seen there that
-/// both admit.
+/// Appends a property with a value that the values of two pods admit. Choices are compared as borrowed bytes, and read only where no common value is
+/// found so.
 pub(crate) fn put_common(
     alloc: Global,
     out: &mut Vec<u8>,
@@ -73,7 +73,7 @@ pub(crate) fn put_common(
     Ok(())
 }
 
-/// Puts the value of two pods that are the same. Both values are plain.
+/// Appends a property with the value of two plain pods that are equal.
 fn put_same(out: &mut Vec<u8>, key: u32, pod: &[u8], other: &[u8]) -> Result<(), NegotiateError>
     requires { (v w : Tree) → IsPod pod.now v → IsPod other.now w → IsPlain v × IsPlain w }
     ensures settled { OnOk result ((v w : Tree) → IsWritten v pod.now → IsWritten w other.now → IsSettledBy (Some v) (Some w) key out.old.items out.new.items) }
@@ -88,7 +88,7 @@ fn put_same(out: &mut Vec<u8>, key: u32, pod: &[u8], other: &[u8]) -> Result<(),
     Ok(())
 }
 
-/// Puts a value that the values of two pods admit, which are read as far as they have no members.
+/// Appends a property with a value that the values of two pods admit; values without members are read.
 #[inline(never)]
 fn put_read(
     alloc: Global,
@@ -114,7 +114,7 @@ fn put_read(
     }
 }
 
-/// The value of a pod, unless it has members.
+/// Reads the value of a pod. None: it is a struct or an object.
 fn leaf_at(alloc: Global, pod: &[u8]) -> Result<Option<Held>, NegotiateError>
     ensures value { IfOk result (λ read. IfSome read (λ value. (v : Tree) → IsPod pod.now v → view value ≡ v)) }
     ensures leaf { IfOk result (λ read. IfSome read (λ value. IsLeaf (view value))) }
@@ -137,7 +137,7 @@ fn leaf_at(alloc: Global, pod: &[u8]) -> Result<Option<Held>, NegotiateError>
     }
 }
 
-/// Puts a value that two values admit.
+/// Appends a property with a value that two values admit.
 fn put_met(
     alloc: Global,
     out: &mut Vec<u8>,
@@ -158,7 +158,7 @@ fn put_met(
     }
 }
 
-/// Why a value without members doesn't meet one that has them.
+/// The refusal where a value without members is to meet one with members.
 fn apart(key: u32, leaf: &Value) -> NegotiateError
     requires { IsLeaf (view leaf.now) }
     ensures first { (v : Tree) → ¬ (IsLeaf v) → IsKeyRefusal key (Some v) (Some (view leaf.now)) result }
@@ -171,7 +171,7 @@ fn apart(key: u32, leaf: &Value) -> NegotiateError
     }
 }
 
-/// Puts a value of fixed size, of this type and this length of its body, with which the bytes begin.
+/// Appends a property with the value of fixed size, of this type and this body length, at the front of the bytes.
 fn put_value(out: &mut Vec<u8>, key: u32, type_: u32, size: usize, value: &[u8]) -> bool
     ensures { result ≡ true → (k : Kind) → type_ ≡ type_number k → size ≡ body_size k → IsPut key (fixed (value_of k value.now)) out.old.items out.new.items }
 {
@@ -196,7 +196,7 @@ fn put_value(out: &mut Vec<u8>, key: u32, type_: u32, size: usize, value: &[u8])
     }
 }
 
-/// The word that a value of this type is written as whose body is this word: of a truth value 0 or 1.
+/// The canonical word of a value of this type whose body is this word: of a truth value 0 or 1.
 fn written_word(type_: u32, word: u32) -> u32
     ensures itself { ¬ (type_ ≡ 2) → result ≡ word }
     ensures small { word < 2 → result ≡ word }
@@ -208,7 +208,7 @@ fn written_word(type_: u32, word: u32) -> u32
     word
 }
 
-/// Puts a property with this key, no flags and the value of this pod.
+/// Appends a property with this key, no flags and the value of this pod.
 fn put(out: &mut Vec<u8>, key: u32, pod: &[u8]) -> bool
     ensures { result ≡ true → out.new.items ≡ out.old.items ++ ((word_bytes key ++ word_bytes 0) ++ pod.now) }
 {

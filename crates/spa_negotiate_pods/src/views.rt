@@ -1,4 +1,4 @@
-//! Two objects meet where they lie.
+//! Negotiates two objects by their zero-copy views.
 ghost use Rattle.std.specs.Prelude.{◌≡◌, ◌<◌, IfErr, IfOk, List, OnOk, Some, true, ℕ};
 ghost use Rattle.spa_format.specs.Tree.{Properties, Tree, join_properties};
 ghost use Rattle.spa_format.specs.Words.{size_limit};
@@ -17,10 +17,10 @@ use spa_fronts::{Keyed, ObjectView, PropertyView, finish, first_property, put_he
 use spa_negotiate_objects::NegotiateError;
 use std::alloc::Global;
 
-/// Where the properties of an object begin in its pod: behind its header, its type and its id.
+/// The offset in an object's pod at which its properties begin: behind its header, its type and its id.
 const PROPERTIES_AT: usize = 16;
 
-/// The bytes of the object in which two objects meet.
+/// The encoding of the object in which two objects meet.
 pub(crate) fn meet_objects(
     alloc: Global,
     ours: &ObjectView<'_>,
@@ -61,7 +61,7 @@ fn begun(alloc: Global, object: &ObjectView<'_>) -> Result<Vec<u8>, NegotiateErr
     Ok(out)
 }
 
-/// Settles the keys of the first side.
+/// Appends the properties for the keys of the first side.
 fn settle_first(
     alloc: Global,
     out: &mut Vec<u8>,
@@ -85,7 +85,7 @@ fn settle_first(
     Ok(())
 }
 
-/// Settles the keys that the second side alone has.
+/// Appends the properties for the keys that only the second side has.
 fn settle_others(out: &mut Vec<u8>, ours: &Keyed<'_>, theirs: &Keyed<'_>) -> bool
     requires first { IsKeyed ours.now }
     requires second { IsKeyed theirs.now }
@@ -104,7 +104,7 @@ fn settle_others(out: &mut Vec<u8>, ours: &Keyed<'_>, theirs: &Keyed<'_>) -> boo
     left.is_empty()
 }
 
-/// Settles the key of a property of the first side.
+/// Appends the property for the key of a property of the first side.
 fn settle(
     alloc: Global,
     out: &mut Vec<u8>,

@@ -1,4 +1,4 @@
--- Contents of fixed size are told apart by their numbers, and sets of these by what they have.
+-- Values of fixed size have search keys of their own, and sets of keys are compared by what they have.
 use Rattle.std.proofs.Common.{◌≡◌, ◌⊎◌, inl, inr, ◌↔◌, List, [], ◌∷◌, ◌++◌, Bool, true, false, not, cond, if◌then◌else◌, ◌==◌, true≢false, refl, sym, ap, ◌∙◌, subst, arith}
 use Rattle.std.specs.BTreeMap.{is_at}
 use Rattle.std.specs.BTreeSet.{BTreeSet, contains, IsEmpty}

@@ -22,10 +22,10 @@ abbrev pub choice_flags_of : Tree → ℕ
 choice_flags_of (choice shape flags kind default values) = flags
 choice_flags_of _ = 0
 
--- The content x is admitted by a choice of this shape, default and further values: by a None choice the
--- default; by an Enum the default and its alternatives; by a Range what lies from its minimum to its maximum,
--- wherever the default lies; by a Step the multiples of its step that do; by Flags bits of the default, and not
--- none.
+-- The element x is admitted by a choice of this shape, default and further values: by a None choice where it is the
+-- default; by an Enum where it is the default or an alternative; by a Range where it is from the minimum to the maximum,
+-- whatever the default is; by a Step where it is also a multiple of the step; by Flags where it has at least one bit, and
+-- only bits of the default.
 abbrev pub AdmitsContent : Shape → Fixed → List Fixed → Fixed → Type 0
 AdmitsContent none_choice default values x = x ≡ default
 AdmitsContent enum_choice default values x = Contains (default ∷ values) x
@@ -34,7 +34,7 @@ AdmitsContent step_choice default (low ∷ high ∷ step ∷ values) x = IsInSte
 AdmitsContent flags_choice default values x = AreAmong x default
 AdmitsContent _ default values x = ⊥
 
--- the plain value x is admitted: by a plain value itself, by a choice a content that it admits
+-- the plain value x is admitted: by a plain value where it is the same, by a choice where it is an element that the choice admits
 abbrev pub Admits : Tree → Tree → Type 0
 Admits (choice shape flags kind default values) (fixed x) = AdmitsContent shape default values x
 Admits (choice shape flags kind default values) x = ⊥
@@ -50,22 +50,22 @@ IsSupported (choice step_choice flags kind default values) = IsStepKind kind
 IsSupported (choice flags_choice flags kind default values) = IsFlagKind kind
 IsSupported _ = ⊤
 
--- the value is Flags
+-- the value is a Flags choice
 abbrev pub is_flags : Tree → Bool
 is_flags (choice flags_choice flags kind default values) = true
 is_flags _ = false
 
--- the value is a Range or a Step
+-- the value is a Range or a Step choice
 abbrev pub is_bounded : Tree → Bool
 is_bounded (choice range_choice flags kind default values) = true
 is_bounded (choice step_choice flags kind default values) = true
 is_bounded _ = false
 
--- a choice can say what both admit: not of Flags and a Range or a Step
+-- there is a shape of choices for what both values admit: not so of Flags and a Range or a Step
 abbrev pub AreSayable : Tree → Tree → Type 0
 AreSayable v w = ((is_flags v && is_bounded w) ≡ false) × ((is_bounded v && is_flags w) ≡ false)
 
--- both values are supported, and side by side
+-- both values are supported, and the pair is
 abbrev pub AreSupported : Tree → Tree → Type 0
 AreSupported v w = IsSupported v × IsSupported w × AreSayable v w
 
@@ -73,12 +73,12 @@ AreSupported v w = IsSupported v × IsSupported w × AreSayable v w
 abbrev pub IsCommon : Tree → Tree → Tree → Type 0
 IsCommon v w x = Admits v x × Admits w x
 
--- some value is admitted by both
+-- there is a value that both admit
 abbrev pub HasCommon : Tree → Tree → Type 0
 HasCommon v w = (x : Tree) × IsCommon v w x
 
--- y admits exactly what both admit. Its default, or itself where it is plain, is the first of theirs that
--- both admit, and admitted by both in any case. A choice has no flags of its own.
+-- y admits exactly what both v and w admit. Its default, or itself where it is plain, is the first of their defaults that both
+-- admit, and admitted by both in any case. A choice has the flags 0.
 pub record IsMeeting (v w y : Tree) : Type 0 where
   pub each : (x : Tree) → Admits y x ↔ IsCommon v w x
   pub admitted : IsCommon v w (plain_of y)

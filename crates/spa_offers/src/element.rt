@@ -1,4 +1,4 @@
-//! What is asked of the nine types over which there are choices.
+//! The trait of the nine types over which there are choices.
 ghost use Rattle.std.specs.Prelude.{◌≡◌, MatchOption};
 ghost use Rattle.spa_format.specs.Kind.{Fixed, kind_of};
 ghost use Rattle.spa_format.specs.Tree.{fixed};
@@ -14,7 +14,7 @@ use spa_value::{ChoiceValue, Value};
 
 /// One of the nine types over which there are choices.
 pub trait Element: Stepped {
-    /// The numbers by which this element is told from all others.
+    /// The search key of this element, which no other element has.
     fn numbers(&self) -> Numbers
         ensures { result ≡ numbers_of (Self.fixed self.now) };
 
@@ -22,15 +22,15 @@ pub trait Element: Stepped {
     fn value(&self) -> Value
         ensures { view result ≡ fixed (Self.fixed self.now) };
 
-    /// A choice over this type, with empty flags, as a value.
+    /// A choice over this type, with flags 0, as a value.
     fn choice(choice: ChoiceEnum<Self>) -> Value
         ensures { view result ≡ choice_enum_tree Self.kind Self.fixed 0 choice };
 
-    /// The element that a value is.
+    /// The element of this type that the value is. None: it is of another type.
     fn in_value(value: &Value) -> Option<Self>
         ensures { MatchOption result ((x : Fixed) → view value.now ≡ fixed x → ¬ (kind_of x ≡ Self.kind)) (λ x. view value.now ≡ fixed (Self.fixed x)) };
 
-    /// The choice over this type that a choice is.
+    /// The choice as one over this type. None: it admits no element of this type.
     fn in_choice(choice: &ChoiceValue) -> Option<&Choice<Self>>
         ensures { MatchOption result ((x : Fixed) → Admits (choice_view choice.now) (fixed x) → ¬ (kind_of x ≡ Self.kind)) (λ c. choice_view choice.now ≡ choice_tree Self.kind Self.fixed c.now) };
 }

@@ -1,4 +1,4 @@
-//! Those elements of an Enum that another offer admits.
+//! The elements of an Enum that another offer admits.
 ghost use Rattle.std.specs.Prelude.{◌↔◌, ◌∷◌, IfOk, IsTrue, OnOk, map};
 ghost use Rattle.spa_offers.specs.Numbering.{HasAll};
 ghost use Rattle.spa_offers.specs.Offers.{IsIndexed, IsKept, IsOneMoreKept, OfferAdmits};
@@ -9,10 +9,10 @@ use crate::offer::{Offer, admits, is_among};
 use std::alloc::{AllocError, Global};
 use std::collections::BTreeSet;
 
-/// How many alternatives are looked through one by one, at most.
+/// The greatest number of alternatives that are searched one by one.
 const FEW: usize = 16;
 
-/// Those of an element and others that an offer admits, each once, in order.
+/// Of an element and others, those that an offer admits, each once, in order. Refused only for want of memory.
 #[inline(never)]
 pub(crate) fn kept<T: Element>(
     alloc: Global,
@@ -28,7 +28,7 @@ pub(crate) fn kept<T: Element>(
     kept_of_many(alloc, first, others, other)
 }
 
-/// Whether an offer isn't an Enum of many alternatives.
+/// Whether an offer isn't an Enum of more than `FEW` alternatives.
 fn is_short<T>(offer: &Offer<'_, T>) -> bool {
     match offer {
         Offer::Among(_, others) => others.len() <= FEW,
@@ -36,7 +36,7 @@ fn is_short<T>(offer: &Offer<'_, T>) -> bool {
     }
 }
 
-/// The same, where each is looked for among all.
+/// Of an element and others, those that an offer admits, by linear searches.
 fn kept_of_few<T: Element>(
     alloc: Global,
     first: &T,
@@ -53,7 +53,7 @@ fn kept_of_few<T: Element>(
     Ok(values)
 }
 
-/// Keeps an element that the offer admits, where it isn't among those that are kept.
+/// Appends an element that the offer admits to the list, where the list doesn't have it yet, by a linear search.
 fn keep_one<T: Element>(
     values: &mut Vec<T>,
     value: &T,
@@ -71,7 +71,7 @@ fn keep_one<T: Element>(
     Ok(())
 }
 
-/// The same, by sets of what is looked for.
+/// Of an element and others, those that an offer admits, by sets of search keys.
 fn kept_of_many<T: Element>(
     alloc: Global,
     first: &T,
@@ -90,7 +90,7 @@ fn kept_of_many<T: Element>(
     Ok(values)
 }
 
-/// Keeps an element that the offer admits, where it isn't kept yet.
+/// Appends an element that the offer admits to the list, where the set of the elements seen doesn't have it yet.
 fn keep<T: Element>(
     values: &mut Vec<T>,
     seen: &mut BTreeSet<Numbers>,
@@ -112,7 +112,7 @@ fn keep<T: Element>(
     Ok(())
 }
 
-/// The default and the alternatives of an Enum, and nothing of other offers.
+/// The search keys of the default and of the alternatives of an Enum; of any other offer an empty set.
 fn index_of<T: Element>(
     alloc: Global,
     offer: &Offer<'_, T>,
@@ -125,7 +125,7 @@ fn index_of<T: Element>(
     }
 }
 
-/// An element and others.
+/// The search keys of an element and of others.
 fn index_of_all<T: Element>(
     alloc: Global,
     first: &T,
@@ -141,7 +141,7 @@ fn index_of_all<T: Element>(
     Ok(index)
 }
 
-/// Whether an offer admits an element, by an index of what it offers where it is an Enum.
+/// Whether an offer admits an element, by `index_of` the offer where it is an Enum.
 fn admits_by<T: Element>(offer: &Offer<'_, T>, index: &BTreeSet<Numbers>, x: &T) -> bool
     requires { IsIndexed T.fixed offer.now index.now }
     ensures { IsTrue result ↔ OfferAdmits T.fixed offer.now (T.fixed x.now) }

@@ -1,4 +1,4 @@
-//! What a value offers of the elements of one type, and what two offers meet in.
+//! Offers of the elements of one type, and the value in which two offers meet.
 #![tactic(auto)]
 
 mod element;

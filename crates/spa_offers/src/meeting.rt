@@ -1,4 +1,4 @@
-//! Two offers of one type meet.
+//! Meets two offers of one type.
 ghost use Rattle.std.specs.Prelude.{◌↔◌, IfOk, map};
 ghost use Rattle.spa_format.specs.Kind.{Fixed};
 ghost use Rattle.spa_offers.specs.Offers.{AreBetween, AreKept, AreOffersSayable, AreStepped, IsOnly, IsSharedMask, IsWide, MaskedMeet, OffersMeet};
@@ -11,8 +11,8 @@ use spa_utils::ChoiceEnum;
 use spa_value::Value;
 use std::alloc::{AllocError, Global};
 
-/// What admits exactly the elements that both offers admit, where there is one: a plain value where one of them is one, else an
-/// Enum where one of them is one, else a Range, a Step or Flags.
+/// The value that admits exactly the elements that both offers admit: a plain value where one offer is one, else an Enum where one is one, else a
+/// Range, a Step or Flags. None: no element is admitted by both. Refused only for want of memory.
 #[inline(never)]
 pub fn meet<T: Element>(
     alloc: Global,
@@ -42,7 +42,7 @@ pub fn meet<T: Element>(
     }
 }
 
-/// The same of two offers other than an element and an Enum: a Range of two Ranges, Flags of two Flags, else a Step.
+/// The value in which two offers meet of which neither is a single element or an Enum: a Range of two Ranges, Flags of two Flags, else a Step.
 fn meet_wide<T: Element>(alloc: Global, a: &Offer<'_, T>, b: &Offer<'_, T>) -> Option<Value>
     requires sayable { AreOffersSayable a.now b.now }
     requires first { IsWide a.now }
@@ -72,7 +72,7 @@ fn meet_wide<T: Element>(alloc: Global, a: &Offer<'_, T>, b: &Offer<'_, T>) -> O
     }
 }
 
-/// An element as a value, where both offers admit it and none else.
+/// The element as a value, where both offers admit it; no other element may be admitted by both. None: no element is.
 pub fn meet_only<T: Element>(a: &Offer<'_, T>, b: &Offer<'_, T>, x: &T) -> Option<Value>
     requires { IsOnly T.fixed a.now b.now (T.fixed x.now) }
     ensures { OffersMeet T.fixed a.now b.now result }
@@ -83,7 +83,7 @@ pub fn meet_only<T: Element>(a: &Offer<'_, T>, b: &Offer<'_, T>, x: &T) -> Optio
     None
 }
 
-/// An Enum of those elements that both offers admit.
+/// An Enum of the elements that both offers admit. None: there are none.
 fn meet_among<T: Element>(a: &Offer<'_, T>, b: &Offer<'_, T>, values: Vec<T>) -> Option<Value>
     requires { AreKept T.fixed a.now b.now (map T.fixed values.items) }
     ensures { OffersMeet T.fixed a.now b.now result }
@@ -98,7 +98,7 @@ fn meet_among<T: Element>(a: &Offer<'_, T>, b: &Offer<'_, T>, values: Vec<T>) ->
     }))
 }
 
-/// A Range of the elements that both offers admit.
+/// A Range of the elements that both offers admit. None: there are none.
 fn meet_between<T: Element>(a: &Offer<'_, T>, b: &Offer<'_, T>, low: &T, high: &T) -> Option<Value>
     requires { AreBetween T.fixed a.now b.now (T.fixed low.now) (T.fixed high.now) }
     ensures { OffersMeet T.fixed a.now b.now result }
@@ -114,7 +114,7 @@ fn meet_between<T: Element>(a: &Offer<'_, T>, b: &Offer<'_, T>, low: &T, high: &
     }))
 }
 
-/// A Step of the elements that both offers admit.
+/// A Step of the elements that both offers admit. None: there are none.
 fn meet_stepped<T: Element>(a: &Offer<'_, T>, b: &Offer<'_, T>, steps: &Steps<T>) -> Option<Value>
     requires { AreStepped T.fixed a.now b.now steps.now }
     ensures { OffersMeet T.fixed a.now b.now result }
@@ -131,7 +131,7 @@ fn meet_stepped<T: Element>(a: &Offer<'_, T>, b: &Offer<'_, T>, steps: &Steps<T>
     }))
 }
 
-/// Flags of the bits that two Flags share.
+/// Flags of the bits that two Flags share. None: they share none.
 fn meet_masked<T: Element>(alloc: Global, mask: &T, other: &T) -> Option<Value>
     ensures { MaskedMeet T.fixed mask.now other.now result }
 {
@@ -145,7 +145,7 @@ fn meet_masked<T: Element>(alloc: Global, mask: &T, other: &T) -> Option<Value>
     }))
 }
 
-/// The bits that two elements share: one of them where it has no other bits.
+/// The bits that two elements share: one of the elements itself where it has no other bits.
 fn shared_mask<T: Element>(mask: &T, other: &T) -> T
     ensures { IsSharedMask (T.fixed mask.now) (T.fixed other.now) (T.fixed result) }
 {

@@ -1,25 +1,25 @@
-//! Contents of fixed size told apart by numbers, and sets of these.
+//! Search keys of values of fixed size, and sets of them.
 ghost use Rattle.std.specs.Prelude.{◌≡◌, IfOk, pos};
 ghost use Rattle.spa_offers.specs.Numbering.{IsInserted};
 
 use std::alloc::AllocError;
 use std::collections::BTreeSet;
 
-/// The numbers by which a content of fixed size is told from all others, in an order of their own.
+/// The search key of a value of fixed size, which no other value has. Keys are ordered by their type number and then by their numbers.
 #[derive(Clone, Copy, PartialEq, Eq, PartialOrd, Ord)]
 pub struct Numbers {
-    /// The type of a pod of the content.
+    /// The type number of the value's pod.
     pub type_: u32,
-    /// The content, where it may be below 0.
+    /// The value, where its type has negative numbers, and else 0.
     pub signed: i64,
-    /// The content, where it is never below 0: the first of its two numbers, or its only one.
+    /// The first or only number of the value, where its type has no negative numbers, and else 0.
     pub first: u64,
-    /// The second of its two numbers.
+    /// The second number of a rectangle or a fraction, and else 0.
     pub second: u64,
 }
 
 impl Numbers {
-    /// The numbers of a content that may be below 0.
+    /// The search key of a value whose type has negative numbers.
     pub(crate) fn signed(type_: u32, number: i64) -> Numbers
         ensures type_ { result.type_ ≡ type_ }
         ensures signed { result.signed ≡ number }
@@ -34,7 +34,7 @@ impl Numbers {
         }
     }
 
-    /// The numbers of a content of one number or two, never below 0.
+    /// The search key of a value of one or two numbers, whose type has no negative ones.
     pub(crate) fn unsigned(type_: u32, first: u64, second: u64) -> Numbers
         ensures type_ { result.type_ ≡ type_ }
         ensures signed { result.signed ≡ pos 0 }
@@ -50,7 +50,7 @@ impl Numbers {
     }
 }
 
-/// Adds the numbers of a content, and answers whether they are new.
+/// Adds a search key to the set, and answers whether it is new there. Refused only for want of memory.
 pub(crate) fn add(set: &mut BTreeSet<Numbers>, numbers: Numbers) -> Result<bool, AllocError>
     ensures { IfOk result (λ is_new. IsInserted set.old numbers is_new set.new) }
 {

@@ -1,4 +1,4 @@
-//! What a value offers of the elements of one type.
+//! The offer of a value: which elements of one type it admits.
 ghost use Rattle.std.specs.Prelude.{◌≡◌, ◌↔◌, ◌∷◌, ℕ, Contains, IsTrue, map};
 ghost use Rattle.spa_fixed.specs.Choices.{choice_enum_tree};
 ghost use Rattle.spa_offers.specs.Admits.{is_bounded, is_flags};
@@ -8,22 +8,22 @@ use crate::element::Element;
 use spa_steps::{Steps, is_in_steps};
 use spa_utils::ChoiceEnum;
 
-/// What a value offers of the elements of one type: its default first.
+/// The elements of one type that a value admits, with its default first.
 #[derive(Clone, Copy)]
 pub enum Offer<'a, T> {
-    /// The one element.
+    /// One element alone.
     Only(T),
-    /// An element and others.
+    /// An element and others: an Enum.
     Among(T, &'a [T]),
-    /// Each element from the second to the third.
+    /// Each element from the second to the third: a Range.
     Between(T, T, T),
-    /// Each of these multiples.
+    /// Each of these multiples: a Step.
     Stepped(T, Steps<T>),
-    /// Each element that has bits, and none but those of this one.
+    /// Each element that has at least one bit, and no bits but those of this one: Flags.
     Masked(T),
 }
 
-/// What a choice offers, whatever its flags are.
+/// The offer of a choice. The choice's own flags don't count.
 pub fn offer_of<T: Element>(choice: &ChoiceEnum<T>) -> Offer<'_, T>
     ensures offer { (flags : ℕ) → IsOfferOf T.fixed (choice_enum_tree T.kind T.fixed flags choice.now) result }
     ensures masked { (flags : ℕ) → is_masked result ≡ is_flags (choice_enum_tree T.kind T.fixed flags choice.now) }
@@ -73,7 +73,7 @@ pub fn is_same<T: Element>(x: &T, y: &T) -> bool
     x.numbers() == y.numbers()
 }
 
-/// Whether an element is one of these.
+/// Whether an element is one of these, by a linear search.
 pub fn is_among<T: Element>(x: &T, elements: &[T]) -> bool
     ensures { IsTrue result ↔ Contains (map T.fixed elements.now) (T.fixed x.now) }
 {
@@ -85,7 +85,7 @@ pub fn is_among<T: Element>(x: &T, elements: &[T]) -> bool
     false
 }
 
-/// Whether an element is the first one or one of the others.
+/// Whether an element is `first` or one of the others.
 fn is_one_of<T: Element>(x: &T, first: &T, others: &[T]) -> bool
     ensures { IsTrue result ↔ Contains (T.fixed first.now ∷ map T.fixed others.now) (T.fixed x.now) }
 {
@@ -95,7 +95,7 @@ fn is_one_of<T: Element>(x: &T, first: &T, others: &[T]) -> bool
     is_among(x, others)
 }
 
-/// Whether an offer admits an element. It looks through the alternatives of an Enum one by one.
+/// Whether an offer admits an element. The alternatives of an Enum are searched one by one.
 #[inline(never)]
 pub fn admits<T: Element>(offer: &Offer<'_, T>, x: &T) -> bool
     ensures { IsTrue result ↔ OfferAdmits T.fixed offer.now (T.fixed x.now) }
@@ -109,7 +109,7 @@ pub fn admits<T: Element>(offer: &Offer<'_, T>, x: &T) -> bool
     }
 }
 
-/// The first of these that both offers admit: the default of the one, that of the other, and an element that both admit.
+/// The first of three elements that both offers admit: the default of the one, the default of the other, and an element that both do admit.
 #[inline(never)]
 pub(crate) fn common_default<T: Element>(a: &Offer<'_, T>, b: &Offer<'_, T>, other: &T) -> T
     requires { OfferAdmits T.fixed a.now (T.fixed other.now) × OfferAdmits T.fixed b.now (T.fixed other.now) }

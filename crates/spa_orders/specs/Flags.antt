@@ -1,13 +1,13 @@
--- Flags, as the bits of contents: docs/NEGOTIATION.md, "What a value admits to filter".
+-- Flags, as the bits of elements: docs/NEGOTIATION.md, "What a value admits to filter".
 use Rattle.std.specs.Prelude.{⊤, ◌≡◌, ◌≢◌, ℕ, bit_and}
 use Rattle.std.specs.Int.{w32, w64, cast_unsigned}
 use Rattle.spa_format.specs.Kind.{Kind, id_kind, int_kind, long_kind, Fixed, id, int, long}
 
--- the bits x are some of the bits m, and not none
+-- x has at least one bit, and no bits but those of m
 abbrev pub AreSomeOf : (x m : ℕ) → Type 0
 AreSomeOf x m = (x ≢ 0) × (bit_and x m ≡ x)
 
--- two contents of one kind of flags, the first with bits that the second has, and not without any
+-- two elements of one kind of flags, of which the first has at least one bit, and no bits but those of the second
 abbrev pub AreAmong : Fixed → Fixed → Type 0
 AreAmong (id x) (id m) = AreSomeOf x m
 AreAmong (int x) (int m) = AreSomeOf (cast_unsigned w32 x) (cast_unsigned w32 m)

@@ -1,4 +1,4 @@
--- The order of the contents of fixed size: docs/NEGOTIATION.md, "What a value admits to filter".
+-- The order of the elements of fixed size: docs/NEGOTIATION.md, "What a value admits to filter".
 use Rattle.std.specs.Prelude.{⊤, ℕ, ◌+◌, ◌-◌, ◌*◌, ◌%◌, ◌<◌, ◌≤◌, ◌≤ℤ◌, nat_lt, if◌then◌else◌}
 use Rattle.spa_format.specs.Kind.{Kind, none_kind, bool_kind, fd_kind, Fixed, id, int, long, float, double, rectangle, fraction}
 
@@ -20,18 +20,18 @@ double_sign = 0x8000_0000_0000_0000
 abbrev pub IsNumber : (sign infinity bits : ℕ) → Type 0
 IsNumber sign infinity bits = bits % sign ≤ infinity
 
--- the place of a float on the line of all floats: both zeros lie at the number of the sign's bit, what is
--- above 0 by its other bits above there, and what is below 0 by its other bits below
+-- the position of a float in the order of all floats: both zeros are at the number of the sign's bit, a float above 0 is above that
+-- by its other bits, and a float below 0 below it by its other bits
 abbrev pub place : (sign bits : ℕ) → ℕ
 place sign bits = if nat_lt bits sign then sign + bits else sign - (bits - sign)
 
--- both floats are numbers, and the first is no greater than the second; -0 and 0 are two contents at one place
+-- both floats are numbers, and the first is no greater than the second; -0 and 0 are two elements at one position
 abbrev pub IsFloatAtMost : (sign infinity x y : ℕ) → Type 0
 IsFloatAtMost sign infinity x y =
     IsNumber sign infinity x × IsNumber sign infinity y × (place sign x ≤ place sign y)
 
--- Two contents of one ordered kind, the first no greater than the second: rectangles where neither side is
--- longer, fractions by their quotients, which have denominators above 0.
+-- Two elements of one ordered kind, the first no greater than the second: rectangles where neither side is
+-- longer, fractions by their quotients, where the denominators are above 0.
 abbrev pub IsAtMost : Fixed → Fixed → Type 0
 IsAtMost (id x) (id y) = x ≤ y
 IsAtMost (int x) (int y) = x ≤ℤ y
@@ -42,7 +42,7 @@ IsAtMost (rectangle w h) (rectangle v g) = (w ≤ v) × (h ≤ g)
 IsAtMost (fraction n d) (fraction m e) = (0 < d) × (0 < e) × (n * e ≤ m * d)
 IsAtMost _ _ = ⊥
 
--- x lies from low to high
+-- x is from low to high
 abbrev pub IsWithin : (low high x : Fixed) → Type 0
 IsWithin low high x = IsAtMost low x × IsAtMost x high
 

@@ -1,4 +1,4 @@
-//! The greater and the lesser of two elements, and the bits that two flags have.
+//! The greater and the lesser of two elements, and the bits that two flags share.
 ghost use Rattle.spa_orders.specs.Bounds.{IsJoin, IsMeet, IsShared};
 
 use crate::ordered::{Ordered, greater_of, lesser_of, shared_of_none};
@@ -11,11 +11,11 @@ pub trait Lattice: Ordered {
     fn greater(&self, other: &Self) -> Self
         ensures { IsJoin (Self.fixed self.now) (Self.fixed other.now) (Self.fixed result) };
 
-    /// The lesser of two elements, in the same way.
+    /// The lesser of two elements: of rectangles the one with the lesser sides of both. Where one of them is in no order, so is the answer.
     fn lesser(&self, other: &Self) -> Self
         ensures { IsMeet (Self.fixed self.now) (Self.fixed other.now) (Self.fixed result) };
 
-    /// The bits that both elements have.
+    /// The bits that both elements share.
     fn shared(&self, other: &Self) -> Self
         ensures { IsShared (Self.fixed self.now) (Self.fixed other.now) (Self.fixed result) };
 }

@@ -21,7 +21,7 @@ pub trait Ordered: ChoiceElement {
     fn is_flags() -> bool
         ensures { IsTrue result ↔ IsFlagKind Self.kind };
 
-    /// Whether this element has bits, and none but those of the other.
+    /// Whether this element has at least one bit, and no bits but those of the other.
     fn are_among(&self, other: &Self) -> bool
         ensures { IsTrue result ↔ AreAmong (Self.fixed self.now) (Self.fixed other.now) };
 }
@@ -54,7 +54,7 @@ pub(crate) fn lesser_of<T: Ordered>(x: &T, y: &T) -> T
     *x
 }
 
-/// The bits that two elements share of a type whose elements are no flags: any element does.
+/// The shared bits of two elements of a type whose elements are no flags: any element fits the contract.
 pub(crate) fn shared_of_none<T: Ordered>(x: &T, y: &T) -> T
     requires { ¬ (IsFlagKind T.kind) }
     ensures { IsShared (T.fixed x.now) (T.fixed y.now) (T.fixed result) }
@@ -83,7 +83,7 @@ fn is_number(bits: u64, sign: u64, infinity: u64) -> bool
     bits % sign <= infinity
 }
 
-/// The place of a float with these bits on the line of all: both zeros lie at the bit of the sign.
+/// The position of a float with these bits in the order of all floats, as a number: both zeros are at that of the sign's bit.
 fn place(bits: u64, sign: u64) -> u64
     requires room { sign ≤ DOUBLE_SIGN }
     requires within { bits < 2 * sign }

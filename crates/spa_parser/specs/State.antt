@@ -1,15 +1,15 @@
--- What a parser has left to take: docs/FORMAT.md, "Taking pods one by one".
+-- The state of a parser, which is what is left to read: docs/FORMAT.md, "Taking pods one by one".
 use Rattle.std.specs.Prelude.{ℕ, List, [], ◌∷◌, Bool, false, Option, None, length, slice_get, if◌then◌else◌}
 use Rattle.spa_format.specs.Words.{body_of}
 use Rattle.spa_format.specs.Front.{rest_of}
 use Rattle.spa_format.specs.Walk.{walk}
 
--- what is left of the input, or of a body that is open and may be an object's
+-- the remaining bytes of the input, or of an open body, which may be an object's
 pub record Remainder : Type 0 where
   pub bytes : List ℕ
   pub of_object : Bool
 
--- the innermost remainder, then those round it; the input's own is the last
+-- the innermost remainder, then those around it; the input's own is the last
 pub record ParserState : Type 0 where
   pub innermost : Remainder
   pub outer : List Remainder
@@ -22,15 +22,15 @@ start_of input = record { innermost = record { bytes = input; of_object = false 
 abbrev pub open_count : ParserState → ℕ
 open_count s = length s.outer
 
--- the first of the walk over what is left, and none inside an object
+-- the first pod of the walk over the remaining bytes; None inside an object
 abbrev pub next_of : Remainder → Option (List ℕ)
 next_of r = if r.of_object then None else slice_get (walk r.bytes) 0
 
--- what is left behind it
+-- the remainder behind the next pod
 abbrev pub behind_next : Remainder → Remainder
 behind_next r = record r { bytes = rest_of r.bytes }
 
--- the pod that a call takes
+-- the pod that the next call gets
 abbrev pub next_pod : ParserState → Option (List ℕ)
 next_pod s = next_of s.innermost
 
@@ -38,7 +38,7 @@ next_pod s = next_of s.innermost
 abbrev pub state_behind : ParserState → ParserState
 state_behind s = record s { innermost = behind_next s.innermost }
 
--- the state inside that pod: its body is innermost, and round it is left what follows the pod
+-- the state inside that pod: its body is innermost, and in the one around it the bytes behind the pod are left
 abbrev pub state_inside : List ℕ → (is_object : Bool) → ParserState → ParserState
 state_inside pod is_object s = record {
   innermost = record { bytes = body_of pod; of_object = is_object };

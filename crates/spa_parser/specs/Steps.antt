@@ -14,11 +14,11 @@ use Rattle.spa_parser.specs.State.{ParserState, next_pod, start_of}
 abbrev pub NextPasses : (List ℕ → Type 0) → ParserState → Type 0
 NextPasses Passes s = IsSomeAnd (next_pod s) Passes
 
--- the next pod is of this value, as a reader reads it
+-- the next pod is a pod of this value
 abbrev pub NextIs : Tree → ParserState → Type 0
 NextIs v = NextPasses (λ pod. IsPod pod v)
 
--- what is innermost are pods of these values and nothing else
+-- the innermost remaining bytes are pods of these values and nothing else, and not an object's
 abbrev pub HoldsMembers : Trees → ParserState → Type 0
 HoldsMembers vs s = (s.innermost.of_object ≡ false) × AreMembers vs s.innermost.bytes
 
@@ -26,15 +26,15 @@ HoldsMembers vs s = (s.innermost.of_object ≡ false) × AreMembers vs s.innermo
 abbrev pub SaysFixed : Fixed → List ℕ → Type 0
 SaysFixed x pod = IsOfKind (kind_of x) pod × (x ≡ content (kind_of x) (body_of pod))
 
--- a string's pod, which ends in NUL and has this before its first one
+-- a string's pod, which ends in NUL and has these bytes before its first NUL
 abbrev pub SaysString : List ℕ → List ℕ → Type 0
 SaysString s pod = IsNulEnded pod × (s ≡ before_nul (body_of pod))
 
--- a string's pod, which ends in NUL and has a text before its first one
+-- a string's pod, which ends in NUL and has UTF-8 before its first NUL
 abbrev pub IsTextPod : List ℕ → Type 0
 IsTextPod pod = IsNulEnded pod × IsUtf8 (before_nul (body_of pod))
 
--- a pod of bytes, these
+-- a pod of these bytes
 abbrev pub SaysBytes : List ℕ → List ℕ → Type 0
 SaysBytes s pod = IsBytesPod pod × (s ≡ body_of pod)
 
@@ -50,27 +50,27 @@ IsObjectOf type pod = IsObjectPod pod × (word_at (body_of pod) 0 ≡ type)
 abbrev pub RefusesGet : (List ℕ → Type 0) → ParserState → Errno → Type 0
 RefusesGet Passes s e = MatchOption (next_pod s) (e ≡ PIPE) (λ pod. (¬ (Passes pod)) × (e ≡ INVAL))
 
--- why a push of a struct is refused: the same, and else memory may be lacking
+-- why a push of a struct is refused: PIPE where no pod is next, INVAL where it is no struct, else NOMEM
 abbrev pub RefusesStruct : ParserState → Errno → Type 0
 RefusesStruct s e = MatchOption (next_pod s) (e ≡ PIPE) (λ pod.
     ((¬ (IsStructPod pod)) × (e ≡ INVAL)) ⊎ (IsStructPod pod × (e ≡ NOMEM)))
 
--- why a get of an object is refused: the same without memory, but PROTO for another type
+-- why a get of an object is refused: PIPE where no pod is next, INVAL where it is no object, else PROTO where it is of another type
 abbrev pub RefusesObjectGet : ℕ → ParserState → Errno → Type 0
 RefusesObjectGet type s e = MatchOption (next_pod s) (e ≡ PIPE) (λ pod.
     ((¬ (IsObjectPod pod)) × (e ≡ INVAL)) ⊎ (IsObjectPod pod × (word_at (body_of pod) 0 ≢ type) × (e ≡ PROTO)))
 
--- why a push of an object is refused: the same, but that PROTO goes before memory, for another type
+-- why a push of an object is refused: as a get of one, and else NOMEM
 abbrev pub RefusesObject : ℕ → ParserState → Errno → Type 0
 RefusesObject type s e = MatchOption (next_pod s) (e ≡ PIPE) (λ pod.
     ((¬ (IsObjectPod pod)) × (e ≡ INVAL))
     ⊎ (IsObjectPod pod × (word_at (body_of pod) 0 ≢ type) × (e ≡ PROTO))
     ⊎ (IsObjectOf type pod × (e ≡ NOMEM)))
 
--- the innermost frame is closed, and what is left of it is skipped
+-- the innermost frame is closed, and the bytes left of it are skipped
 abbrev pub ClosesFrame : ParserState → ParserState → Type 0
 ClosesFrame old new = old.outer ≡ new.innermost ∷ new.outer
 
--- at the front of the value of the first property with this key
+-- the parser is at the front of the value of the object's first property with this key
 abbrev pub IsValueOf : ℕ → List ℕ → ParserState → Type 0
 IsValueOf key object s = IsSomeAnd (property_at key object) (λ p. s ≡ start_of (drop header_size p))

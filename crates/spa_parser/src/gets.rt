@@ -1,4 +1,4 @@
-//! What a parser gets. Each call asks for the next pod by its type and its size, and moves past it.
+//! The gets of a parser. Each call asks for the next pod by its type and its size, and moves past it.
 ghost use Rattle.std.specs.Prelude.{◌≡◌, Bool, IfErr, IfOk, IsErr, IsOk, IsOkAnd, List, None, Ok, OnErr, OnOk, Some, ℕ, ℤ};
 ghost use Rattle.spa_format.specs.Kind as k;
 ghost use Rattle.spa_format.specs.Pod.{IsPod};
@@ -237,7 +237,7 @@ impl<'d> Parser<'d> {
         Ok(object)
     }
 
-    /// A parser at the front of the value of the object's first property with this key. PIPE where there is none.
+    /// A parser at the front of the value of the object's first property with this key. PIPE where no property has it.
     pub fn value_of(&self, view: &PodObject<'d>, key: u32) -> Result<Parser<'d>, Errno>
         ensures found { IfOk result (IsValueOf key (object_bytes view.now)) }
         ensures missing { IfErr result (λ e. (property_at key (object_bytes view.now) ≡ None) × (e ≡ Errno.PIPE)) }
@@ -250,7 +250,7 @@ impl<'d> Parser<'d> {
         }
     }
 
-    /// The view of the next pod, whatever it is.
+    /// The view of the next pod, of any type.
     pub fn get_pod(&mut self) -> Result<Pod<'d>, Errno>
         ensures pod { IfOk result (λ pod. next_pod self.old ≡ Some (pod_bytes pod)) }
         ensures moved { OnOk result (self.new ≡ state_behind self.old) }

@@ -164,10 +164,10 @@ fn a_parser_of_a_pod_begins_with_it(rt: HostRuntime) -> Result<(), Fail> {
     Ok(())
 }
 
-/// How deep the structs stand in one another.
+/// The nesting depth of the structs.
 const DEPTH: u32 = 300;
 
-/// So many structs, each but the innermost with one struct in it.
+/// This many structs, each but the innermost with one struct in it.
 fn nested_structs(alloc: Global) -> Result<Vec<u8>, AllocError> {
     let mut bytes = Vec::new(alloc);
     for outer in 0..DEPTH {

@@ -6,11 +6,11 @@ use Rattle.spa_print.specs.declared.left.Inside.{Inside}
 use Rattle.spa_print.specs.declared.left.Left.{Left}
 use Rattle.spa_print.specs.declared.left.Left.TheVariants as left
 
--- how many values are left of a struct or of an object
+-- how many values are left of a container
 abbrev pub left_count : Left → ℕ
 left_count (left.Members vs) = member_node_count (views vs.now)
 left_count (left.Properties ps) = property_node_count (property_views ps.now)
 
--- of so many values one is begun, and what is in it and what is left behind it are the others at the most
+-- one of `n` values is begun, and those in it and those left behind it are at most the others
 abbrev pub GoesInside : ℕ → Inside → Type 0
 GoesInside count it = left_count it.inner + left_count it.behind + 1 ≤ count

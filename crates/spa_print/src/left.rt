@@ -1,4 +1,4 @@
-//! What is left to print of a struct or of an object.
+//! What is left to print of a container.
 ghost use Rattle.std.specs.Prelude.{◌≡◌, ◌+◌, IfOk, IfSome};
 ghost use Rattle.spa_format.specs.Tree.{member_node_count, node_count, property_node_count};
 ghost use Rattle.spa_value.specs.View.{view};
@@ -8,21 +8,21 @@ ghost use Rattle.spa_print.specs.Counting.{GoesInside, left_count};
 use spa_value::{Property, Value};
 use std::fmt;
 
-/// The members of a struct, or the properties of an object, that are left.
+/// The members of a struct, or the properties of an object, that are left to print.
 #[derive(Clone, Copy)]
 pub(crate) enum Left<'a> {
     Members(&'a [Value]),
     Properties(&'a [Property]),
 }
 
-/// A struct or an object that is begun within another one, and what is left behind it there.
+/// A container that is begun inside another one, and what is left behind it there.
 #[derive(Clone, Copy)]
 pub(crate) struct Inside<'a> {
     pub(crate) inner: Left<'a>,
     pub(crate) behind: Left<'a>,
 }
 
-/// Prints a value that holds no others, and of a struct or of an object what comes before what it holds, which is answered.
+/// Prints a value that is no container; of a container it prints the text before the members or properties, and answers these.
 pub(crate) fn begin_printing<'a, W: fmt::Write>(
     f: &mut fmt::Formatter<W>,
     value: &'a Value,
@@ -50,7 +50,7 @@ pub(crate) fn begin_printing<'a, W: fmt::Write>(
 }
 
 impl<'a> Left<'a> {
-    /// Prints on, to the next struct or object, which is begun, or to the end.
+    /// Prints up to the next container, which is begun, or to the end.
     pub(crate) fn print_on<W: fmt::Write>(
         self,
         f: &mut fmt::Formatter<W>,
@@ -63,7 +63,7 @@ impl<'a> Left<'a> {
         }
     }
 
-    /// Prints what comes between the value before these and the next one of them.
+    /// Prints the text between the value before these and the next of them.
     pub(crate) fn part<W: fmt::Write>(self, f: &mut fmt::Formatter<W>) -> fmt::Result {
         match self {
             Left::Members(members) => part_members(f, members),
@@ -88,7 +88,7 @@ fn part_properties<W: fmt::Write>(f: &mut fmt::Formatter<W>, left: &[Property]) 
     }
 }
 
-/// Prints members on.
+/// Prints members up to the next container, which is begun, or to the end.
 fn print_members<'a, W: fmt::Write>(
     f: &mut fmt::Formatter<W>,
     members: &'a [Value],
@@ -110,7 +110,7 @@ fn print_members<'a, W: fmt::Write>(
     Ok(None)
 }
 
-/// Prints properties on.
+/// Prints properties up to the next whose value is a container, which is begun, or to the end.
 fn print_properties<'a, W: fmt::Write>(
     f: &mut fmt::Formatter<W>,
     properties: &'a [Property],

@@ -1,4 +1,4 @@
-//! Bodies of arrays, over any of the ten types of fixed size.
+//! Reads the bodies of arrays, over any of the ten types of fixed size.
 ghost use Rattle.std.specs.Prelude.{◌≡◌, IfErr, IfOk};
 ghost use Rattle.spa_format.specs.Pod.{IsBody};
 ghost use Rattle.spa_format.specs.Tree.{array_type, type_of};
@@ -11,7 +11,8 @@ use spa_utils::{Fd, Float32, Float64, Fraction, Id, Rectangle, SpaTypes};
 use spa_value::ValueArray;
 use std::alloc::Global;
 
-/// The elements in the body of an array of any of the ten types.
+/// Reads the array, over any of the ten types, with this body. Refused as `InvalidType` and `WrongSize`, each where that fault stands, and as
+/// `OutOfMemory`.
 #[tactic(auto, using(spa_leaf::proofs::Refusals::array_refused))]
 #[inline(always)]
 pub(crate) fn read_any_array(alloc: Global, body: &[u8]) -> Result<ValueArray, Refusal>

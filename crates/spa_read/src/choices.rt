@@ -1,4 +1,4 @@
-//! Bodies of choices, over any of the nine types of fixed size that have bytes.
+//! Reads the bodies of choices, over any of the nine types of fixed size that have bytes.
 ghost use Rattle.std.specs.Prelude.{◌≡◌, IfErr, IfOk};
 ghost use Rattle.spa_format.specs.Pod.{IsBody};
 ghost use Rattle.spa_format.specs.Tree.{choice_type, type_of};
@@ -12,7 +12,8 @@ use spa_utils::{Fd, Float32, Float64, Fraction, Id, Rectangle, SpaTypes};
 use spa_value::ChoiceValue;
 use std::alloc::Global;
 
-/// The choice in a body of one over any of the nine types.
+/// Reads the choice, over any of the nine types, with this body. Refused as `InvalidType`, `InvalidChoiceType`, `MissingChoiceValues` and
+/// `WrongSize`, each where that fault stands, and as `OutOfMemory`.
 #[tactic(auto, using(spa_leaf::proofs::Refusals::choice_refused, spa_leaf::proofs::Steps::type_of_choice))]
 #[inline(always)]
 pub fn read_any_choice(alloc: Global, body: &[u8]) -> Result<ChoiceValue, Refusal>

@@ -1,4 +1,4 @@
-//! What is read of the body of a struct or of an object, up to the next struct or object in it.
+//! Reads the body of a container up to the next container in it.
 ghost use Rattle.std.specs.Prelude.{◌≡◌, ◌≢◌, ◌+◌, ◌*◌, ◌<◌, ◌≤◌, ◌^◌, [], IfErr, IfNone, IfOk, IfSome, OnOk, length};
 ghost use Rattle.spa_format.specs.Tree.{Tree};
 ghost use Rattle.spa_format.specs.Words.{header_size};
@@ -17,14 +17,14 @@ use spa_utils::SpaTypes;
 use spa_value::{Object, Property, PropertyFlags, Takes, Value};
 use std::alloc::{AllocError, Global};
 
-/// What is read of a body so far.
+/// A container whose body is being read: its members or properties so far.
 #[derive(Drop)]
 pub(crate) enum Inside {
     Struct(Vec<Value>),
     Object(OpenObject),
 }
 
-/// What is read of an object so far.
+/// An object whose body is being read: its type, its id and its properties so far.
 #[derive(Drop)]
 pub(crate) struct OpenObject {
     pub(crate) type_: u32,
@@ -36,18 +36,18 @@ pub(crate) struct OpenObject {
     pub(crate) flags: PropertyFlags,
 }
 
-/// A body that is read pod by pod.
+/// A list of members, or an object, that grows by one pod of a body after another.
 pub(crate) trait Grows: Takes {
     ghost inside: { Self → Inside };
 
-    /// Goes on to the next pod in a struct or, behind its key and flags, in an object, where these are whole.
+    /// The bytes from the next pod on: in an object those behind the property's key and flags. None: the key and the flags are cut short.
     fn reach<'a>(&mut self, left: &'a [u8]) -> Option<&'a [u8]>
         requires { left.now ≢ [] }
         ensures same { so_far (inside self.new) ≡ so_far (inside self.old) }
         ensures reached { IfSome result (λ place. Reaches (inside self.new) left.now place.now) }
         ensures short { IfNone result (LacksKey (inside self.old) left.now) };
 
-    /// Makes room for one more, and where there is none, for those behind it too.
+    /// Makes room for one more pod; where there is none, also for the whole pods that follow in `behind`. Refused only for want of memory.
     fn reserve(&mut self, behind: &[u8]) -> Result<(), AllocError>
         ensures room { OnOk result (Self.has_room self.new) }
         ensures same { IsAlike (inside self.old) (inside self.new) };
@@ -116,7 +116,7 @@ impl Grows for OpenObject {
     }
 }
 
-/// How many pods room is made for: one, and the whole ones that follow it, each behind so many bytes.
+/// How many pods to make room for: one, and the whole ones that follow it in `behind`, each with `between` bytes before it.
 #[inline(never)]
 fn pods_from(behind: &[u8], between: usize) -> usize
     requires { between ≤ header_size }
@@ -136,8 +136,8 @@ fn pods_from(behind: &[u8], between: usize) -> usize
     count
 }
 
-/// Reads pods up to the end of a body, where it answers nothing, or up to a struct or an object, which it answers opened and
-/// where it then stands.
+/// Reads pods up to the end of a body, where the answer is None, or up to the next container, which is answered, opened; `left` is then at that
+/// container.
 #[inline(always)]
 pub(crate) fn read_leaves<'de, G: Grows, const LENIENT: bool>(
     alloc: Global,
@@ -180,7 +180,7 @@ pub(crate) fn read_leaves<'de, G: Grows, const LENIENT: bool>(
 }
 
 impl Inside {
-    /// Reads on as the members of a struct or as the properties of an object.
+    /// Reads further members or properties, as `read_leaves` does.
     #[inline(always)]
     pub(crate) fn read_on<'de, const LENIENT: bool>(
         &mut self,
@@ -204,7 +204,7 @@ impl Inside {
         }
     }
 
-    /// Makes room for one more, and where there is none, for those behind it too.
+    /// Makes room for one more pod; where there is none, also for the whole pods that follow in `behind`. Refused only for want of memory.
     #[inline(always)]
     pub(crate) fn reserve(&mut self, behind: &[u8]) -> Result<(), AllocError>
         ensures room { OnOk result (HasRoom self.new) }
@@ -216,7 +216,7 @@ impl Inside {
         }
     }
 
-    /// Puts the next member, or the value of the next property, behind the others.
+    /// Appends the next member, or the value of the property whose key and flags are read.
     #[inline(always)]
     pub(crate) fn put(&mut self, value: Value)
         requires { HasRoom self.old }
@@ -228,7 +228,7 @@ impl Inside {
         }
     }
 
-    /// The value that is read.
+    /// The struct or object of the members or properties so far.
     #[inline(always)]
     pub(crate) fn into_value(self) -> Value
         ensures { view result ≡ so_far self }

@@ -1,4 +1,4 @@
-//! What the lenient reading reads in the place of a pod: the one step in which it differs from the exact reading.
+//! What the lenient reading reads in place of a pod: the one step in which it differs from the exact reading.
 ghost use Rattle.std.specs.Prelude.{◌≡◌, ◌+◌, ◌==◌, ◌≤◌, Decides, length, position, take};
 ghost use Rattle.spa_format.specs.Tree.{choice_type};
 ghost use Rattle.spa_read.specs.Reading.{EndsInNul, IsNoneChoice, ReadsAs, ReadsBody, ReadsText, StaysChoice};
@@ -10,10 +10,10 @@ use spa_utils::SpaTypes;
 /// The shape word of a None choice.
 const NONE_SHAPE: u32 = 0;
 
-/// The byte that ends a text.
+/// The byte behind a text.
 const NUL: u8 = 0;
 
-/// What the lenient reading reads in the place of this pod.
+/// The front with the type and the body that the lenient reading reads in place of its own.
 pub(crate) fn read_as<'de>(front: Front<'de>) -> Front<'de>
     ensures reads { ReadsAs front.entry.type_ front.entry.body.now result.type_ result.body.now }
     ensures rest { result.rest.now ≡ front.entry.rest.now }
@@ -33,7 +33,7 @@ pub(crate) fn read_as<'de>(front: Front<'de>) -> Front<'de>
     }
 }
 
-/// Whether it is a choice of shape 0 with room for its child header.
+/// Whether a body of this type is a None choice's, with room for its child header.
 fn is_none_choice(type_: u32, body: &[u8]) -> bool
     ensures { Decides result (IsNoneChoice type_ body.now) }
 {
@@ -43,7 +43,7 @@ fn is_none_choice(type_: u32, body: &[u8]) -> bool
     u32_at(body, 0) == NONE_SHAPE
 }
 
-/// The type and the body that are read in the place of a None choice of this body.
+/// The type and the body that are read in place of a None choice with this body.
 fn none_choice_as(body: &[u8]) -> (u32, &[u8])
     requires { IsNoneChoice choice_type body.now }
     ensures { ReadsAs choice_type body.now result.0 result.1.now }
@@ -78,7 +78,7 @@ fn stays_choice(type_: u32) -> bool
     }
 }
 
-/// So many first bytes, or all, where these are fewer.
+/// The first `len` bytes, or all where there are fewer.
 fn first_of(body: &[u8], len: usize) -> &[u8]
     ensures { result.now ≡ take len body.now }
 {
@@ -88,7 +88,7 @@ fn first_of(body: &[u8], len: usize) -> &[u8]
     &body[..len]
 }
 
-/// What is read of a body of this type, which is no None choice.
+/// The part that is read of a body of this type, which is no None choice's: of a string up to its first NUL, of any other all.
 fn body_as(type_: u32, body: &[u8]) -> &[u8]
     ensures { ReadsBody type_ body.now result.now }
 {
@@ -98,7 +98,7 @@ fn body_as(type_: u32, body: &[u8]) -> &[u8]
     body
 }
 
-/// What is read of a string's body: where it ends in NUL, what stands before the first NUL, and that.
+/// The part that is read of a string's body: up to and with the first NUL where the last byte is NUL, else all.
 fn text_as(body: &[u8]) -> &[u8]
     ensures { ReadsText body.now result.now }
 {
@@ -114,7 +114,7 @@ fn text_as(body: &[u8]) -> &[u8]
     }
 }
 
-/// Where the first NUL is.
+/// The offset of the first NUL. None: there is no NUL.
 fn first_nul(body: &[u8]) -> Option<usize>
     ensures { result ≡ position (λ x. x == 0) body.now }
 {

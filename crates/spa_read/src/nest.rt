@@ -1,4 +1,4 @@
-//! The structs and objects that are begun, each within the next one.
+//! The reader's explicit stack: the containers whose bodies are being read, each inside the next one.
 ghost use Rattle.std.specs.Prelude.{◌≡◌, ◌⊎◌, ◌+◌, ◌*◌, ◌<◌, ◌≤◌, ◌^◌, ◌++◌, ◌∷◌, [], ℕ, List, true, IfErr, IfNone, IfOk, IfSome, OnOk, length, reverse};
 ghost use Rattle.spa_fixed.specs.declared.fault.Refusal.TheVariants as refusal;
 ghost use Rattle.spa_format.specs.Tree.{object_type, struct_type};
@@ -16,15 +16,16 @@ use spa_value::{PropertyFlags, Value, discard};
 use std::alloc::{AllocError, Global};
 use std::mem;
 
-/// A struct or an object whose header is read and whose body isn't yet read to its end.
+/// A container whose header is read, and whose body isn't yet read to its end.
 #[derive(Drop)]
 pub(crate) struct PartlyRead<'de> {
-    /// What follows it in the input, which is what remains of the body around it.
+    /// The bytes behind it in the input, which are what is left of the body around it.
     pub(crate) rest: &'de [u8],
     pub(crate) inside: Inside,
 }
 
-/// The struct or the object of a front, with what is left of its body. An object's body may lack its type and its id.
+/// Begins the container of a front, and answers it with what is left of its body. Refused as `WrongSize` where an object's body is too short for
+/// its type and id.
 #[inline(always)]
 pub(crate) fn begin_reading<'de>(
     alloc: Global,
@@ -59,19 +60,19 @@ pub(crate) fn begin_reading<'de>(
     Ok((begun, behind))
 }
 
-/// Structs and objects that are begun, each within the next one.
+/// The stack of the containers that are begun, each inside the next one.
 #[derive(Drop)]
 pub(crate) struct Nest<'de> {
-    /// The innermost.
+    /// The innermost container.
     inner: PartlyRead<'de>,
-    /// Those between it and the outermost, the innermost last.
+    /// The containers between it and the outermost, the innermost last.
     between: Vec<PartlyRead<'de>>,
-    /// The outermost, where that is another one: so two levels take no memory for the list.
+    /// The outermost container, where it isn't the innermost: so two levels take no memory for the list.
     outermost: Option<PartlyRead<'de>>,
 }
 
 impl<'de> Nest<'de> {
-    /// One alone.
+    /// The stack of one container.
     #[inline(always)]
     pub(crate) fn new(alloc: Global, inner: PartlyRead<'de>) -> Nest<'de>
         ensures inner { result.inner ≡ inner.entry }
@@ -84,8 +85,8 @@ impl<'de> Nest<'de> {
         }
     }
 
-    /// Reads on to the next struct or object, which is begun, or to the end of the innermost, which is put into the one around
-    /// it. Whether something is left to read: where not, the innermost is the outermost, and is read.
+    /// Reads up to the next container, which is begun, or to the end of the innermost, which is put into the one around it. Answers whether there is
+    /// more to do: if not, the innermost is the outermost, and is whole.
     #[inline(always)]
     pub(crate) fn step<const LENIENT: bool>(
         &mut self,
@@ -116,7 +117,7 @@ impl<'de> Nest<'de> {
         }
     }
 
-    /// Goes into the one that is begun.
+    /// Makes a container that is begun the innermost. Refused only for want of memory.
     #[inline(always)]
     fn push(&mut self, begun: PartlyRead<'de>) -> Result<(), AllocError>
         ensures inner { OnOk result (self.new.inner ≡ begun.entry) }
@@ -132,7 +133,7 @@ impl<'de> Nest<'de> {
         Ok(())
     }
 
-    /// The one around the innermost, where there is one.
+    /// Removes and answers the container around the innermost. None: there is none.
     #[inline(always)]
     fn pop(&mut self) -> Option<PartlyRead<'de>>
         ensures inner { self.new.inner ≡ self.old.inner }
@@ -145,7 +146,7 @@ impl<'de> Nest<'de> {
         self.outermost.take()
     }
 
-    /// Puts the innermost, which is read, into the one around it. Whether there is one.
+    /// Puts the innermost, which is whole, into the container around it. Answers whether there is one. Refused only as `OutOfMemory`.
     #[inline(always)]
     fn end(&mut self) -> Result<bool, Refused<'de>>
         ensures ended { IfOk result (λ within. EndsInner within self.old self.new) }
@@ -165,7 +166,7 @@ impl<'de> Nest<'de> {
         Ok(true)
     }
 
-    /// The value of the innermost, where nothing is around it.
+    /// The value of the innermost container, which is the only one.
     #[inline(always)]
     pub(crate) fn into_value(self) -> Value
         ensures { view result ≡ so_far self.entry.inner.inside }
@@ -178,7 +179,7 @@ impl<'de> Nest<'de> {
         inner.inside.into_value()
     }
 
-    /// Takes apart what is read, by loops: it may be nested deep.
+    /// Drops what is read so far by loops, at any nesting depth.
     #[cold]
     #[inline(never)]
     pub(crate) fn give_up(self) {

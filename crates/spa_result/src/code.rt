@@ -1,4 +1,4 @@
-//! Result codes, and what they mean.
+//! Result codes, and their meanings.
 ghost use Rattle.std.specs.Prelude.{◌≡◌, ◌⊎◌, ◌<ℤ◌, pos, IsTrue};
 ghost use Rattle.spa_result.specs.ResultCode.{async_code, is_asynchronous, meaning_of};
 
@@ -10,12 +10,12 @@ use spa_utils::Errno;
 #[derive(Debug, PartialEq, Eq, Drop)]
 pub struct SpaResult(i32);
 
-/// What a call that didn't fail answered.
+/// The answer of a call that didn't fail.
 #[derive(Debug, PartialEq, Eq, Drop)]
 pub enum SpaSuccess {
-    /// The call is done, with that code.
+    /// The call has completed, with this code.
     Sync(i32),
-    /// The call will be done later, under that sequence number.
+    /// The call will complete later, under this sequence number.
     Async(AsyncSeq),
 }
 
@@ -29,21 +29,21 @@ impl SpaResult {
         SpaResult(code)
     }
 
-    /// The result of a call that will be done later, under the low 30 bits of that number.
+    /// The result of a call that will complete later, under the low 30 bits of this number.
     pub fn new_return_async(seq: i32) -> SpaResult
         ensures { result.0 ≡ async_code seq }
     {
         SpaResult(AsyncSeq::from_seq(seq).raw())
     }
 
-    /// The code's top two bits are 01: the call will be done later.
+    /// Whether the code's top two bits are 01: the call will complete later.
     pub fn is_async(&self) -> bool
         ensures { result ≡ is_asynchronous self.now.0 }
     {
         self.0.cast_unsigned() >> SEQ_BITS == 1
     }
 
-    /// What the code means. A code below 0 is the error of its magnitude.
+    /// The meaning of the code. A code below 0 is the error of its magnitude.
     pub fn into_result(self) -> Result<SpaSuccess, Error>
         ensures { IsAnswer (meaning_of self.0) result }
     {
@@ -56,7 +56,7 @@ impl SpaResult {
         }
     }
 
-    /// The code of a call that is done, or the error. For codes that aren't asynchronous.
+    /// The code of a call that has completed, or the error. Only for codes that aren't asynchronous.
     pub fn into_sync_result(self) -> Result<i32, Error>
         requires { ¬ (IsTrue (is_asynchronous self.0)) }
         ensures { IsSyncAnswer (meaning_of self.0) result }
@@ -67,7 +67,7 @@ impl SpaResult {
         }
     }
 
-    /// The sequence number of a call that will be done later, or the error. For codes that are below 0 or asynchronous.
+    /// The sequence number of a call that will complete later, or the error. Only for codes that are below 0 or asynchronous.
     pub fn into_async_result(self) -> Result<AsyncSeq, Error>
         requires { (self.0 <ℤ pos 0) ⊎ IsTrue (is_asynchronous self.0) }
         ensures { IsAsyncAnswer (meaning_of self.0) result }

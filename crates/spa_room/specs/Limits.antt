@@ -1,10 +1,10 @@
--- How long what is written may be.
+-- How many bytes may be written.
 use Rattle.std.specs.Prelude.{ℕ, ◌^◌}
 
--- the most bytes that are appended at once, of those whose number is fixed
+-- the greatest number of bytes that `append_array` and its kin append at once
 abbrev pub longest_piece : ℕ
 longest_piece = 64
 
--- a vector's length is below it
+-- the length of a vector is below this number
 abbrev pub vector_limit : ℕ
 vector_limit = 2 ^ 63

@@ -1,4 +1,4 @@
-//! Bytes with room behind them.
+//! Bytes with spare capacity behind them.
 #![tactic(auto)]
 
 mod written;

@@ -14,7 +14,7 @@ use std::alloc::Global;
 use std::marker::Model;
 use std::mem;
 
-/// Bytes, one behind another. A refused call changes nothing.
+/// The bytes that were written. A refused call changes nothing.
 #[derive(Drop)]
 pub struct Written {
     bytes: Vec<u8>,
@@ -29,11 +29,11 @@ impl Model for Written {
     ghost invariant = { λ w. w.count ≤ length w.bytes.items };
 }
 
-/// How many bytes longer the vector is made at least, where it has the capacity.
+/// The least number of bytes by which the vector is made longer, where it has the capacity.
 const ROOM_STEP: usize = 4096;
 
-/// The vector, longer by so many bytes at least where there is the memory. It is handed over whole, and not lent, so that
-/// a builder whose calls are inlined can lie in registers.
+/// The vector, at least `more` bytes longer where there is memory for it. It is moved and not borrowed, so that a builder
+/// whose calls are inlined can be kept in registers.
 #[cold]
 #[inline(never)]
 fn grown(mut bytes: Vec<u8>, more: usize) -> Vec<u8>
@@ -49,7 +49,7 @@ fn grown(mut bytes: Vec<u8>, more: usize) -> Vec<u8>
     bytes
 }
 
-/// Makes room for so many bytes behind the first ones.
+/// Makes room for `more` bytes behind the first `count`. Refused only for want of memory.
 #[inline(always)]
 fn make_room(bytes: &mut Vec<u8>, count: usize, more: usize) -> Result<(), Errno>
     requires within { count ≤ length bytes.old.items }
@@ -70,7 +70,7 @@ fn make_room(bytes: &mut Vec<u8>, count: usize, more: usize) -> Result<(), Errno
     Err(Errno::NOMEM)
 }
 
-/// Writes these bytes over those from this place on.
+/// Overwrites the bytes from the offset `at` on with these.
 #[inline(always)]
 fn write_over(bytes: &mut Vec<u8>, at: usize, piece: &[u8])
     requires { at + length piece.now ≤ length bytes.old.items }
@@ -82,7 +82,7 @@ fn write_over(bytes: &mut Vec<u8>, at: usize, piece: &[u8])
 }
 
 impl Written {
-    /// None yet, in this vector.
+    /// No bytes yet, over this vector.
     #[inline]
     pub fn new(bytes: Vec<u8>) -> Written
         ensures { result ≡ [] }
@@ -90,7 +90,7 @@ impl Written {
         Written { bytes, count: 0 }
     }
 
-    /// How many there are.
+    /// How many bytes are written.
     #[inline(always)]
     pub fn len(&self) -> usize
         ensures { result ≡ length self.now }
@@ -98,7 +98,7 @@ impl Written {
         self.count
     }
 
-    /// Where the next one will stand.
+    /// The offset at which the next byte will be written.
     #[inline(always)]
     pub fn place(&self) -> usize
         ensures at { result ≡ length self.now }
@@ -107,7 +107,7 @@ impl Written {
         self.count
     }
 
-    /// All of them.
+    /// The bytes that are written.
     #[inline]
     pub fn as_slice(&self) -> &[u8]
         ensures { result.now ≡ self.now }
@@ -115,7 +115,7 @@ impl Written {
         &self.bytes[..self.count]
     }
 
-    /// The vector, which holds them and nothing else.
+    /// The vector, with the bytes that are written and nothing else.
     #[inline]
     pub fn into_inner(self) -> Vec<u8>
         ensures { result.items ≡ self }
@@ -125,7 +125,7 @@ impl Written {
         bytes
     }
 
-    /// Keeps the first ones alone, as many as are asked for.
+    /// Keeps only the first `count` bytes.
     #[inline(always)]
     pub fn truncate(&mut self, count: usize)
         requires { count ≤ length self.old }
@@ -134,13 +134,13 @@ impl Written {
         self.count = count;
     }
 
-    /// What the vector takes memory from.
+    /// The allocator of the vector.
     #[inline]
     pub fn allocator(&self) -> Global {
         *self.bytes.allocator()
     }
 
-    /// Appends these bytes.
+    /// Appends these bytes. Refused only for want of memory.
     #[inline]
     pub fn append(&mut self, piece: &[u8]) -> Result<(), Errno>
         ensures ok { OnOk result (self.new ≡ self.old ++ piece.now) }
@@ -155,7 +155,7 @@ impl Written {
         Ok(())
     }
 
-    /// Appends the first of these bytes, as many as are asked for.
+    /// Appends the first `count` of these bytes. Refused only for want of memory.
     #[inline(always)]
     #[tactic(auto, using(crate::proofs::Pieces::take_into))]
     pub fn append_first<const N: usize>(
@@ -176,7 +176,7 @@ impl Written {
         Ok(())
     }
 
-    /// Appends these bytes, whose number is known.
+    /// Appends these `N` bytes. Refused only for want of memory.
     #[inline(always)]
     pub fn append_array<const N: usize>(&mut self, piece: [u8; N]) -> Result<(), Errno>
         requires { N ≤ longest_piece }
@@ -187,7 +187,7 @@ impl Written {
         self.append_first(piece, N)
     }
 
-    /// Appends a header, a body that is at hand in two parts, and so many zeros, into room that is made once.
+    /// Appends a header, a body that is given in two parts, and zeros; room is made once. Refused only for want of memory.
     #[inline(always)]
     pub fn append_parts(
         &mut self,
@@ -216,7 +216,7 @@ impl Written {
         Ok(())
     }
 
-    /// Writes a word over four of them.
+    /// Overwrites the four bytes at the offset `at` with a word.
     #[tactic(auto, unfolding(spa_format::specs::Words::word_bytes))]
     #[inline]
     pub fn patch(&mut self, at: usize, n: u32)
@@ -226,7 +226,7 @@ impl Written {
         self.bytes[at..at + 4].copy_from_slice(&n.to_le_bytes());
     }
 
-    /// Writes two words over eight of them.
+    /// Overwrites the eight bytes at the offset `at` with two words.
     #[inline]
     pub fn patch_two(&mut self, at: usize, first: u32, second: u32)
         requires { at + 8 ≤ length self.old }

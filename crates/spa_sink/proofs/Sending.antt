@@ -145,7 +145,7 @@ begun_behind law a b c xs ys p h =
       sent = sent_twice law a b c xs h.first p h.sent;
     }
 
--- the same bytes, written otherwise
+-- equal bytes are sent
 pub begun_as : {S : Type 0} {appends : S → List ℕ → S → Type 0} (a b : S) (xs ys : List ℕ) →
     xs ≡ ys → Begun appends a xs b → Begun appends a ys b
 begun_as {appends = appends} a b xs ys e h =

@@ -1,4 +1,4 @@
-//! What bytes are written to.
+//! Sinks and outputs.
 ghost use Rattle.std.specs.Prelude.{◌≡◌, ℕ, ◌+◌, ◌<◌, ◌≤◌, List, ◌++◌, length, take, drop, OnOk, OnErr, OnSome, IfErr, IfSome};
 ghost use Rattle.spa_sink.specs.declared.gen_error.GenError.{GenError};
 ghost use Rattle.spa_sink.specs.declared.gen_error.GenError.TheVariants.{Full, TooLarge, NulInText, OutOfMemory};
@@ -8,32 +8,32 @@ use crate::gen_error::GenError;
 use arrayvec::ArrayVec;
 use std::alloc::Global;
 
-/// Takes bytes at its end.
+/// A sink: takes bytes at its end.
 ///
-/// What it took is a relation between the sink before and after, so that a device whose bytes nobody knows is a sink too.
+/// Its contracts relate the sink before and after, so that a device whose bytes aren't known is a sink, too.
 pub trait PodSink: Drop {
-    /// The first, with these bytes at its end, is the second.
+    /// The sink before, with these bytes appended, is the sink after.
     ghost appends: { Self → List ℕ → Self → Type 0 };
 
-    /// The first, asked to take this many bytes in all, may answer this error and be left as the second.
+    /// The sink before, asked to take this many bytes in all, may answer this error and be the sink after.
     ghost refuses: { Self → ℕ → Self → GenError → Type 0 };
 
-    /// Appends the bytes. A refusal leaves a beginning of them appended.
+    /// Appends the bytes. After a refusal a beginning of them may have been appended.
     fn append(&mut self, bytes: &[u8]) -> Result<(), GenError>
         ensures ok { OnOk result (appends self.old bytes.now self.new) }
         ensures begun { OnErr result ((count : ℕ) × appends self.old (take count bytes.now) self.new) }
         ensures cause { IfErr result (λ e. refuses self.old (length bytes.now) self.new e) };
 
-    /// The allocator that its bytes lie in, where it has one. A writer may put together in memory of this allocator what it appends then:
-    /// so the sink may always refuse for want of memory, and be left as it was. A sink that has none keeps the default.
+    /// The allocator of the sink's bytes, where it has one. A writer may put together bytes in memory of this allocator before it appends them:
+    /// so the sink may always refuse for want of memory, and stay as it was. A sink without an allocator keeps the default.
     fn own_allocator(&self) -> Option<Global>
         ensures memory { OnSome result ((n : ℕ) → refuses self.now n self.now OutOfMemory) }
     {
         None
     }
 
-    /// How many bytes more it takes at the most, where it knows that. A writer may answer `Full` for more than these before it
-    /// appends a byte. A sink that doesn't know keeps the default.
+    /// The greatest number of bytes that the sink still takes, where it knows that. A writer may answer `Full` for more bytes before
+    /// it appends one. A sink that doesn't know keeps the default.
     fn room(&self) -> Option<usize>
         ensures full { IfSome result (λ room. (n : ℕ) → room < n → refuses self.now n self.now Full) }
     {
@@ -46,22 +46,22 @@ pub trait PodSink: Drop {
 
     ghost refuses_after: { (a b c : Self) (xs : List ℕ) (n : ℕ) (e : GenError) → appends a xs b → refuses b n c e → refuses a (length xs + n) c e };
 
-    /// A sink knows nothing of texts, nor of sizes.
+    /// A sink never refuses for a text or for a size.
     ghost never_nul: { (a b : Self) (n : ℕ) → refuses a n b NulInText → ⊥ };
 
     ghost never_large: { (a b : Self) (n : ℕ) → refuses a n b TooLarge → ⊥ };
 }
 
-/// A sink whose bytes are known, and can be changed after they were written.
+/// An output: a sink whose bytes are known, and can be changed after they were written.
 pub trait PodOutput: PodSink {
-    /// The bytes that it holds.
+    /// The bytes of the output.
     ghost content: { Self → List ℕ };
 
-    /// How many bytes it holds.
+    /// How many bytes the output has.
     fn len(&self) -> usize
         ensures { result ≡ length (content self.now) };
 
-    /// Writes these four bytes over those from this place on.
+    /// Overwrites the four bytes at the offset `at`.
     fn overwrite(&mut self, at: usize, bytes: [u8; 4])
         requires { at + 4 ≤ length (content self.old) }
         ensures value { content self.new ≡ take at (content self.old) ++ (bytes ++ drop (at + 4) (content self.old)) }

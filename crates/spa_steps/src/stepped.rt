@@ -13,7 +13,7 @@ use spa_utils::{Fd, Float32, Float64, Fraction, Id, Rectangle};
 pub struct Steps<T> {
     /// The least element that may be one of them.
     pub low: T,
-    /// The greatest one.
+    /// The greatest element that may be one of them.
     pub high: T,
     /// The step.
     pub step: T,
@@ -29,11 +29,11 @@ pub trait Stepped: Lattice {
     fn is_multiple(&self, step: &Self) -> bool
         ensures { IsTrue result ↔ IsMultipleOf (Self.fixed self.now) (Self.fixed step.now) };
 
-    /// Those of some multiples that are multiples of another step too.
+    /// The multiples of `steps` that are multiples of another step, too.
     fn narrowed(steps: &Steps<Self>, other: &Self) -> Steps<Self>
         ensures { AreNarrowed Self.fixed steps.now other.now result };
 
-    /// The first of some multiples, of rectangles that of the first width and the first height.
+    /// The first of the multiples of `steps`; of rectangles that with the first width and the first height. None: there are none.
     fn first(steps: &Steps<Self>) -> Option<Self>
         ensures { IsFirst Self.fixed steps.now result };
 }
@@ -45,7 +45,7 @@ pub fn is_in_steps<T: Stepped>(steps: &Steps<T>, x: &T) -> bool
     steps.low.is_at_most(x) && x.is_at_most(&steps.high) && x.is_multiple(&steps.step)
 }
 
-/// Those multiples that lie from one element to another.
+/// The multiples of `steps` that are from `low` to `high`.
 pub fn within<T: Stepped>(steps: &Steps<T>, low: &T, high: &T) -> Steps<T>
     ensures { AreInBoth T.fixed steps.now (T.fixed low.now) (T.fixed high.now) result }
 {
@@ -56,14 +56,14 @@ pub fn within<T: Stepped>(steps: &Steps<T>, low: &T, high: &T) -> Steps<T>
     }
 }
 
-/// The multiples that both have.
+/// The multiples that both lists of steps have.
 pub fn multiples_of_both<T: Stepped>(steps: &Steps<T>, others: &Steps<T>) -> Steps<T>
     ensures { AreOfBoth T.fixed steps.now others.now result }
 {
     T::narrowed(&within(steps, &others.low, &others.high), &others.step)
 }
 
-/// The multiples of another step among those of a type that has no steps: any do.
+/// The multiples of another step, of a type that has no steps: any answer fits the contract.
 fn narrowed_of_none<T: Ordered>(steps: &Steps<T>, other: &T) -> Steps<T>
     requires { ¬ (IsStepKind T.kind) }
     ensures { AreNarrowed T.fixed steps.now other.now result }
@@ -72,7 +72,7 @@ fn narrowed_of_none<T: Ordered>(steps: &Steps<T>, other: &T) -> Steps<T>
     *steps
 }
 
-/// The first multiple of a type that has no steps: none is.
+/// The first multiple, of a type that has no steps: there is none.
 fn first_of_none<T: Ordered>(steps: &Steps<T>) -> Option<T>
     requires { ¬ (IsStepKind T.kind) }
     ensures { IsFirst T.fixed steps.now result }
@@ -81,10 +81,10 @@ fn first_of_none<T: Ordered>(steps: &Steps<T>) -> Option<T>
     None
 }
 
-/// The least number of the type of Ints.
+/// The least number of an Int.
 const INT_LEAST: i64 = -0x8000_0000;
 
-/// The greatest one.
+/// The greatest number of an Int.
 const INT_GREATEST: i64 = 0x7fff_ffff;
 
 /// The greatest length of a side of a rectangle.
@@ -116,7 +116,7 @@ fn heights(steps: &Steps<Rectangle>) -> Steps<u32>
     }
 }
 
-/// Those lengths of a side that are multiples of another step too.
+/// The lengths of a side that are multiples of another step, too.
 fn narrowed_side(steps: &Steps<u32>, other: u32) -> Steps<u32>
     ensures { AreSidesNarrowed steps.now other result }
 {
@@ -133,7 +133,7 @@ fn narrowed_side(steps: &Steps<u32>, other: u32) -> Steps<u32>
     }
 }
 
-/// The first of these lengths of a side.
+/// The first of these lengths of a side. None: there are none.
 fn first_side(steps: &Steps<u32>) -> Option<u32>
     ensures { IsFirstMultiple steps.now.low steps.now.high steps.now.step result }
 {

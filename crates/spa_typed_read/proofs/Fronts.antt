@@ -25,7 +25,7 @@ read_as input body rest t v o e b =
     let r = pod_read input body rest t v o e b in
     record { value = v; begins = r.begins; follows = r.follows; holds = refl }
 
--- the same of a kind of fixed size
+-- the front, of a kind of fixed size, and its body are read
 pub fixed_read : (input body rest : List ℕ) (t : ℕ) (k : Kind) (x : Fixed) → Opens input t body rest → t ≡ type_number k →
     kind_of x ≡ k → IsFixedBody k body x → IsRead input rest (λ w. w ≡ fixed x)
 fixed_read input body rest t k x o e f b =

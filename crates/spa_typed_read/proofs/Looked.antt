@@ -40,7 +40,7 @@ depth_among : (ps qs : Properties) (k f : ℕ) (v : Tree) → depth_of v ≤ pro
 depth_among no_properties qs k f v = omega arith
 depth_among (property j g w ps) qs k f v = (let more = depth_among ps qs k f v in omega (arith, more))
 
--- properties of which one is deep nest deep
+-- properties are deep where one of them is
 pub deep_nests : (b : List ℕ) (ps : Properties) → HoldsDeep b → AreProperties ps b → levels_looked_into < property_depth ps
 deep_nests b ps d m =
     let k = props_left d.properties ps d.first d.left d.are (subst (AreProperties ps) d.parts m) in

@@ -13,7 +13,7 @@ use Rattle.spa_fixed.specs.declared.fault.DeserializeError.{DeserializeError}
 use Rattle.spa_fixed.specs.declared.fault.DeserializeError.TheVariants as error
 use Rattle.spa_leaf.specs.Reading.{OnFault, OnMemory, IsShortAt}
 
--- the front isn't there, or is of another type: the input is short, or its type number isn't the one asked for
+-- the fault of an input whose front isn't there, or has another type number than the one asked for
 abbrev pub LacksBytes : ℕ → List ℕ → FaultKind → Type 0
 LacksBytes t b fault_kind.Short = ¬ (HasFront b)
 LacksBytes t b fault_kind.Tag = HasFront b × (word_at b 4 ≢ t)
@@ -23,13 +23,13 @@ abbrev pub LacksFront : ℕ → List ℕ → DeserializeError (Bor (List ℕ)) �
 LacksFront t b (error.Nom f) = (f.input.now ≡ b) × LacksBytes t b f.kind
 LacksFront t b _ = ⊥
 
--- the same for an object, or its body lacks its type or its id
+-- the refusal where no object is at the front, or where the body of one is too short for its type and its id
 abbrev pub LacksObject : List ℕ → DeserializeError (Bor (List ℕ)) → Type 0
 LacksObject b (error.Nom f) = (f.input.now ≡ b) × LacksBytes object_type b f.kind
 LacksObject b error.WrongSize = HasFront b × (word_at b 4 ≡ object_type) × (length (body_of b) < header_size)
 LacksObject b _ = ⊥
 
--- the input is of another type than the one asked for, and nothing else is said
+-- the refusal is `Tag` at this input: its type number isn't the one asked for
 abbrev pub IsTagAt : List ℕ → DeserializeError (Bor (List ℕ)) → Type 0
 IsTagAt b (error.Nom f) = (f.kind ≡ fault_kind.Tag) × (f.input.now ≡ b)
 IsTagAt b _ = ⊥
@@ -40,19 +40,19 @@ pub data Asked : Type 0 where
   array_of : Kind → Asked
   choice_of : Kind → Asked
 
--- the type number that it asks for
+-- the type number that a typed read asks for
 abbrev pub asked_type : Asked → ℕ
 asked_type (of_type t) = t
 asked_type (array_of k) = array_type
 asked_type (choice_of k) = choice_type
 
--- the value is one that is asked for
+-- the value is one that the read asks for
 abbrev pub IsAsked : Asked → Tree → Type 0
 IsAsked (of_type t) v = type_of v ≡ t
 IsAsked (array_of k) v = (xs : List Fixed) × (v ≡ array k xs)
 IsAsked (choice_of k) v = (s : Shape) × (f : ℕ) × (x : Fixed) × (xs : List Fixed) × (v ≡ choice s f k x xs)
 
--- another type number stands there than the one that is asked for: the pod's own, or that of an array's elements
+-- the input has another type number than the one asked for: the pod's own, or that of an array's elements
 abbrev pub HasOtherType : Asked → List ℕ → Type 0
 HasOtherType (of_type t) b = word_at b 4 ≢ t
 HasOtherType (array_of k) b =
@@ -70,14 +70,14 @@ BeginsOther (choice_of k) b = (v : Tree) × Begins b v × (type_of v ≡ choice_
 abbrev pub StandsAsked : Asked → Fault → List ℕ → Type 0
 StandsAsked a k b = (word_at b 4 ≡ asked_type a) × StandsAtFront k b
 
--- which fault of the bytes it is
+-- the fault of the bytes that a `Nom` refusal names
 abbrev pub NamesBytes : Asked → List ℕ → FaultKind → Type 0
 NamesBytes a b fault_kind.Short = ¬ (HasFront b)
 NamesBytes a b fault_kind.Tag = HasFront b × HasOtherType a b
 NamesBytes a b fault_kind.Text = StandsAsked a fault.Text b
 
--- The refusal names a fault that stands, at the front of the input. A refusal for lack of memory names none, and no
--- other refusal is answered.
+-- The refusal names a fault that stands at the front of the input. One for want of memory names none, and there are no
+-- other refusals.
 abbrev pub NamesAsked : Asked → List ℕ → DeserializeError (Bor (List ℕ)) → Type 0
 NamesAsked a b (error.Nom f) = (f.input.now ≡ b) × NamesBytes a b f.kind
 NamesAsked a b error.UnsupportedType = BeginsOther a b
@@ -88,9 +88,9 @@ NamesAsked a b error.WrongSize = StandsAsked a fault.WrongSize b
 NamesAsked a b error.OutOfMemory = ⊤
 NamesAsked a b _ = ⊥
 
--- Any refusal but one for lack of memory says that the input begins with no pod of a value that is asked for, and names
--- a fault that stands. One for lack of memory says that the front is there and of the type that is asked for, and that
--- such a read takes memory. Where the front isn't there, the input is short, whatever else it declares.
+-- Any refusal but one for want of memory says that the input begins with no pod of a value that is asked for, and names
+-- a fault that stands. One for want of memory says that the front is there and of the type that is asked for, and that
+-- such a read takes memory. Where the front isn't there, the refusal is `Short`, whatever else the input has.
 pub record RefusesAsked (a : Asked) (takes_memory : Type 0) (b : List ℕ) (e : DeserializeError (Bor (List ℕ))) : Type 0 where
   pub refused : OnFault ((v : Tree) → Begins b v → ¬ (IsAsked a v)) e
   pub named : NamesAsked a b e

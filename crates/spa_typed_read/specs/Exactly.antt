@@ -1,4 +1,4 @@
--- Reads that are refused only where the input isn't read so: docs/FORMAT.md, "Faults".
+-- Reads that are refused only where the input begins with no value that they read: docs/FORMAT.md, "Faults".
 use Rattle.std.specs.Prelude.{◌≡◌, ◌≢◌, ℕ, List, []}
 use Rattle.std.specs.Borrow.{Bor}
 use Rattle.spa_format.specs.Tree.{Tree, Trees, member, struct}
@@ -13,12 +13,12 @@ use Rattle.spa_leaf.specs.Reading.{IsRead, IsShortAt, Names, OnFault, OnMemory, 
 use Rattle.spa_leaf.specs.Refusing.{StandsInMembers}
 use Rattle.spa_typed_read.specs.Asking.{LacksFront, RefusesAsked, of_type}
 
--- the input begins with no value that is read as one of this type
+-- the input begins with no value that is read as one of the type `X`
 abbrev pub IsUnread : {X : Type 0} → (Tree → X → Type 0) → List ℕ → Type 0
 IsUnread {X = X} reads b = (v : Tree) (x : X) → Begins b v → ¬ (reads v x)
 
--- Any refusal but one for lack of memory says that the input begins with no value that is read so. Where the front isn't
--- there, the input is short. One for lack of memory says that the front is there, and that such a read takes memory.
+-- Any refusal but one for want of memory says that the input begins with no value that is read so. Where the front isn't
+-- there, it is `Short`. One for want of memory says that the front is there, and that such a read takes memory.
 pub record RefusesExactly {X : Type 0} (reads : Tree → X → Type 0) (takes_memory : Type 0) (b : List ℕ) (e : DeserializeError (Bor (List ℕ))) : Type 0 where
   pub unread : OnFault (IsUnread reads b) e
   pub short_first : ¬ (HasFront b) → IsShortAt b e
@@ -32,29 +32,29 @@ AreUnread {X = X} reads b = (vs : Trees) (x : X) → AreMembers vs b → ¬ (rea
 abbrev pub AreNoMembers : List ℕ → Type 0
 AreNoMembers b = (vs : Trees) → ¬ (AreMembers vs b)
 
--- Any refusal of members, whatever they are, but one for lack of memory says that these bytes are none, and names a fault that
--- stands in them. One for lack of memory says that there are some bytes.
+-- A refusal of members of any types: but for want of memory it says that these bytes are no members, and names a fault that
+-- stands in them. One for want of memory says that there is at least one byte.
 pub record RefusesMembers (b : List ℕ) (e : DeserializeError (Bor (List ℕ))) : Type 0 where
   pub unread : OnFault (AreNoMembers b) e
   pub named : Names (λ k place. StandsInMembers b place k) e
   pub memory : OnMemory (b ≢ []) e
 
--- Of members that are read one by one: the first one isn't there, or is refused, or is read, and those behind it are refused.
+-- A refusal of members that are read one by one: the first isn't there, or is refused, or is read and those behind it are refused.
 pub data RefusesFirst {A : Type 0} (reads : Tree → A → Type 0) (refuses others : List ℕ → DeserializeError (Bor (List ℕ)) → Type 0) (b : List ℕ) (e : DeserializeError (Bor (List ℕ))) : Type 0 where
   missing : b ≡ [] → e ≡ error.PropertyMissing → RefusesFirst reads refuses others b e
   first : b ≢ [] → refuses b e → RefusesFirst reads refuses others b e
   behind : (x : A) (rest : List ℕ) → IsRead b rest (λ v. reads v x) → others rest e → RefusesFirst reads refuses others b e
 
--- one more member is left than are read
+-- the refusal where a member is left behind those that are read
 abbrev pub RefusesMore : List ℕ → DeserializeError (Bor (List ℕ)) → Type 0
 RefusesMore b e = (b ≢ []) × (e ≡ error.UnreadMembers)
 
--- The struct at the front isn't opened, or its members are refused.
+-- The refusal of the struct at the front: it isn't opened, or its members are refused.
 pub data RefusesStructOf (refuses : List ℕ → DeserializeError (Bor (List ℕ)) → Type 0) (b : List ℕ) (e : DeserializeError (Bor (List ℕ))) : Type 0 where
   not_struct : LacksFront struct_type b e → RefusesStructOf refuses b e
   its_members : HasFront b → word_at b 4 ≡ struct_type → refuses (body_of b) e → RefusesStructOf refuses b e
 
--- the first of these members and those behind it are read so
+-- the first of these members and those behind it are read as these results
 pub record ReadsFirst {A R : Type 0} (reads : Tree → A → Type 0) (others : Trees → R → Type 0) (vs : Trees) (a : A) (r : R) : Type 0 where
   pub first : Tree
   pub behind : Trees
@@ -62,18 +62,18 @@ pub record ReadsFirst {A R : Type 0} (reads : Tree → A → Type 0) (others : T
   pub first_is : reads first a
   pub behind_are : others behind r
 
--- this value is a struct whose members are read so
+-- this value is a struct whose members are read as this result
 pub record ReadsStruct {X : Type 0} (reads : Trees → X → Type 0) (v : Tree) (x : X) : Type 0 where
   pub members : Trees
   pub is : v ≡ struct members
   pub are : reads members x
 
--- a choice is at the front of the input, whether it is a pod or not
+-- the front of the input is there and has the type number of choices; it need not be a pod
 abbrev pub BeginsChoice : List ℕ → Type 0
 BeginsChoice b = HasFront b × (word_at b 4 ≡ choice_type)
 
--- A value of this kind, or a None choice of one, isn't read. Where no choice is there, it is refused as a value of the kind is. A choice is
--- refused for a fault that stands in it, or, where it is a pod of which no value is read, as unsupported.
+-- The refusal of a value of this kind or of a None choice over it. Where the front is no choice, it is that of a value of the kind. A choice is
+-- refused for a fault that stands in it, or, where it is a pod of which no value is read, as `UnsupportedType`.
 pub data RefusesSettled {X : Type 0} (k : Kind) (reads : Tree → X → Type 0) (b : List ℕ) (e : DeserializeError (Bor (List ℕ))) : Type 0 where
   no_choice : ¬ (BeginsChoice b) → RefusesAsked (of_type (type_number k)) ⊥ b e → RefusesSettled k reads b e
   malformed : BeginsChoice b → RefusesInput b e → OnMemory ⊥ e → RefusesSettled k reads b e

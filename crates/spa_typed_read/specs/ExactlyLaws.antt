@@ -1,4 +1,4 @@
--- The laws of types whose reads are refused exactly, for the built-in ones.
+-- The laws of the built-in types that are refused exactly.
 use Rattle.std.specs.Prelude.{◌≡◌, ◌≢◌, ℕ, List, ⊤, refl}
 use Rattle.std.proofs.Common.{sym, ap, ◌∙◌, subst}
 use Rattle.std.specs.Borrow.{Bor}
@@ -18,7 +18,7 @@ use Rattle.spa_typed_read.specs.Exactly.{BeginsChoice, IsUnread, RefusesExactly,
 use Rattle.spa_view.specs.Settled.{settled_of}
 use Rattle.spa_leaf.specs.Reading.{MayLackMemory, OnFault, OnMemory, RefusesInput}
 
--- what a refusal says is weakened
+-- a weaker fact than the one that a refusal says
 pub fault_to : {I : Type 0} (A B : Type 0) (e : DeserializeError I) → (A → B) → OnFault A e → OnFault B e
 fault_to A B (error.Nom f) to h = to h
 fault_to A B error.UnsupportedType to h = to h
@@ -47,7 +47,7 @@ memory_to A B error.NoElementLeft to h = h
 memory_to A B error.FailedReader to h = h
 memory_to A B error.OutOfMemory to h = to h
 
--- what holds whatever the refusal is
+-- a fact that holds whatever the refusal is
 pub fault_there : {I : Type 0} (A : Type 0) (e : DeserializeError I) → A → OnFault A e
 fault_there A (error.Nom f) h = h
 fault_there A error.UnsupportedType h = h
@@ -90,7 +90,7 @@ both_on_memory A B error.NoElementLeft h k = tt
 both_on_memory A B error.FailedReader h k = tt
 both_on_memory A B error.OutOfMemory h k = (h, k)
 
--- a type whose values are those that are asked for
+-- a type whose values are those that the read asks for is refused exactly
 pub asked_exactly : {X : Type 0} (a : Asked) (m : Type 0) (reads : Tree → X → Type 0) →
     ((v : Tree) (x : X) → reads v x → IsAsked a v) → (b : List ℕ) (e : DeserializeError (Bor (List ℕ))) →
     RefusesAsked a m b e → RefusesExactly reads m b e
@@ -100,7 +100,7 @@ asked_exactly {X = X} a m reads asked b e r = record {
   memory = memory_to (m × HasFront b × (word_at b 4 ≡ asked_type a)) (m × HasFront b) e (λ k. (k.0, k.1)) r.memory;
 }
 
--- a type that any value is read as
+-- a type as which any value is read is refused exactly
 pub any_exactly : {X : Type 0} (reads : Tree → X → Type 0) (b : List ℕ) (e : DeserializeError (Bor (List ℕ))) →
     RefusesInput b e → RefusesExactly reads ⊤ b e
 any_exactly reads b e r = record {
@@ -109,7 +109,7 @@ any_exactly reads b e r = record {
   memory = memory_to (MayLackMemory b) (⊤ × HasFront b) e (λ k. (tt, k.0)) r.memory;
 }
 
--- the same where it asks for memory only where this holds
+-- a type as which any value is read, and whose read takes memory only where `takes_memory` holds, is refused exactly
 pub passed_exactly : {X : Type 0} (reads : Tree → X → Type 0) (takes_memory : Type 0) (b : List ℕ) (e : DeserializeError (Bor (List ℕ))) →
     RefusesInput b e → OnMemory takes_memory e → RefusesExactly reads takes_memory b e
 passed_exactly reads takes_memory b e r m = record {
@@ -118,7 +118,7 @@ passed_exactly reads takes_memory b e r m = record {
   memory = both_on_memory takes_memory (HasFront b) e m (memory_to (MayLackMemory b) (HasFront b) e (λ k. k.0) r.memory);
 }
 
--- a type that is read as another one is, and made of that
+-- a type that is made of another type, which is read, is refused exactly where that type is
 pub made_exactly : {C X : Type 0} (reads : Tree → C → Type 0) (takes_memory : Type 0) (content : X → C) (b : List ℕ)
     (e : DeserializeError (Bor (List ℕ))) → RefusesExactly reads takes_memory b e →
     RefusesExactly (λ v (x : X). reads v (content x)) takes_memory b e
@@ -128,7 +128,7 @@ made_exactly {X = X} reads takes_memory content b e r = record {
   memory = r.memory;
 }
 
--- any choice over a kind is one
+-- each choice over a kind is one that a read of such choices asks for
 pub choice_asked : {T : Type 0} (k : Kind) (f : T → Fixed) (v : Tree) (c : Choice T) → v ≡ choice_tree k f c → IsAsked (choice_of k) v
 choice_asked k f v c h = of_values k f v c.0.0 c.1 h
   where
@@ -140,7 +140,7 @@ choice_asked k f v c h = of_values k f v c.0.0 c.1 h
     of_values k f v n (E.Enum x xs) h = (_, _, _, _, h)
     of_values k f v n (E.Flags x xs) h = (_, _, _, _, h)
 
--- what is no choice is itself, settled
+-- a value that is no choice stays itself when it is settled
 itself : (v : Tree) → type_of v ≢ choice_type → settled_of v ≡ v
 itself (fixed x) n = refl
 itself (string s) n = refl
@@ -152,14 +152,14 @@ itself (pointer t a) n = refl
 itself (struct vs) n = refl
 itself (object t i ps) n = refl
 
--- where no choice is there, a value that is read so is of the kind
+-- where the front is no choice, a value that is read settled is of the kind
 of_its_kind : (k : Kind) (x : Fixed) (b : List ℕ) (v : Tree) → kind_of x ≡ k → ¬ (BeginsChoice b) → Begins b v → settled_of v ≡ fixed x →
     type_of v ≡ type_number k
 of_its_kind k x b v i n g h =
     let other : type_of v ≢ choice_type = λ t. n (g.there, (format.begun b v g).0 ∙ t) in
     ap type_of (sym (itself v other) ∙ h) ∙ ap type_number i
 
--- such a read is refused exactly where no such value is there
+-- a settled read is refused exactly
 pub settled_exactly : {X : Type 0} (k : Kind) (says : X → Fixed) → ((x : X) → kind_of (says x) ≡ k) →
     (b : List ℕ) (e : DeserializeError (Bor (List ℕ))) → RefusesSettled k (λ v (x : X). settled_of v ≡ fixed (says x)) b e →
     RefusesExactly (λ v (x : X). settled_of v ≡ fixed (says x)) ⊥ b e

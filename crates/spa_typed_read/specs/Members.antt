@@ -1,4 +1,4 @@
--- Readers of a struct's members and of an object's properties: what they have left, and what their calls take.
+-- Models of the readers of a struct's members, of an object's properties and of an array's elements: the remaining bytes, and what each call takes.
 use Rattle.std.specs.Prelude.{◌≡◌, ◌≢◌, ℕ, ◌+◌, ◌*◌, ◌<◌, ◌≤◌, ◌⊎◌, Bool, true, false, List, [], ◌∷◌, ◌++◌, length, drop, map, take}
 use Rattle.spa_format.specs.Words.{word_at, header_size}
 use Rattle.spa_format.specs.Kind.{Kind, Fixed, IsFixedBody, body_size, type_number}
@@ -11,18 +11,18 @@ use Rattle.spa_fixed.specs.declared.fault.DeserializeError.{DeserializeError}
 use Rattle.spa_fixed.specs.declared.fault.DeserializeError.TheVariants as error
 use Rattle.spa_leaf.specs.Reading.{IsRead, IsShortAt}
 
--- what a reader has left of its body, what follows the pod, and whether the reader has failed
+-- a reader: the remaining bytes of the body, the bytes that follow the pod, and whether the reader has failed
 pub record Reader : Type 0 where
   pub left : List ℕ
   pub after : List ℕ
   pub failed : Bool
 
--- all is read, and no call was refused
+-- all of the body is read, and no call was refused
 pub record AtEnd (r : Reader) : Type 0 where
   pub good : r.failed ≡ false
   pub none_left : r.left ≡ []
 
--- it isn't ended where a call was refused, nor where something is left
+-- the refusal of ending a reader: a call was refused before, or bytes of the body are left
 abbrev pub RefusesEnd : Reader → DeserializeError (Bor (List ℕ)) → Type 0
 RefusesEnd r e =
     ((r.failed ≡ true) × (e ≡ error.FailedReader))
@@ -33,7 +33,7 @@ pub record OpensStruct (input : List ℕ) (r : Reader) : Type 0 where
   pub good : r.failed ≡ false
   pub opens : Opens input struct_type r.left r.after
 
--- this is the reader that was lent, some members further and not failed
+-- `now` is the borrowed reader `lent`, zero or more members further and not failed
 pub record Ahead (lent now : Reader) : Type 0 where
   pub members : Trees
   pub seen : List ℕ
@@ -42,24 +42,24 @@ pub record Ahead (lent now : Reader) : Type 0 where
   pub are : AreMembers members seen
   pub after : now.after ≡ lent.after
 
--- this is the reader that was lent, some members further, or it has failed
+-- `now` is the borrowed reader `lent`, zero or more members further, or it has failed
 pub record Further (lent now : Reader) : Type 0 where
   pub ahead : now.failed ≡ false → Ahead lent now
 
--- all that the reader had left are these members
+-- the remaining bytes of the reader were members, of which the fact holds
 pub record AllMembers (lent : Reader) (P : Trees → Type 0) : Type 0 where
   pub members : Trees
   pub are : AreMembers members lent.left
   pub holds : P members
 
--- the next member is taken
+-- the next member was read, and the fact holds of its value
 pub record TakesField (old new : Reader) (P : Tree → Type 0) : Type 0 where
   pub was_good : old.failed ≡ false
   pub good : new.failed ≡ false
   pub field : IsRead old.left new.left P
   pub after : new.after ≡ old.after
 
--- an object's reader, and the object's type and id
+-- an object's reader: the object's type and id, and the reader of its properties
 pub record ObjectReader : Type 0 where
   pub type : ℕ
   pub id : ℕ
@@ -75,12 +75,12 @@ pub record OpensObject (input : List ℕ) (r : ObjectReader) : Type 0 where
   pub its_id : r.id ≡ word_at body 4
   pub left : r.reader.left ≡ drop header_size body
 
--- this is a reader of the same object: one of its type and its id
+-- the two readers are of objects of one type and one id
 pub record IsOfObject (lent now : ObjectReader) : Type 0 where
   pub type : now.type ≡ lent.type
   pub id : now.id ≡ lent.id
 
--- this is the object's reader that was lent, some properties further and not failed
+-- `now` is the borrowed reader `lent` of an object, zero or more properties further and not failed
 pub record AheadIn (lent now : ObjectReader) : Type 0 where
   pub properties : Properties
   pub seen : List ℕ
@@ -90,18 +90,18 @@ pub record AheadIn (lent now : ObjectReader) : Type 0 where
   pub after : now.reader.after ≡ lent.reader.after
   pub object : IsOfObject lent now
 
--- this is the object's reader that was lent, some properties further, or it has failed; it is of the same object
+-- `now` is the borrowed reader `lent` of an object, zero or more properties further, or it has failed; its type and id are the same
 pub record FurtherIn (lent now : ObjectReader) : Type 0 where
   pub ahead : now.reader.failed ≡ false → AheadIn lent now
   pub object : IsOfObject lent now
 
--- all that the reader had left are these properties
+-- the remaining bytes of the reader were properties, of which the fact holds
 pub record AllProperties (lent : ObjectReader) (P : Properties → Type 0) : Type 0 where
   pub properties : Properties
   pub are : AreProperties properties lent.reader.left
   pub holds : P properties
 
--- the next property, which has this key and these flags, is taken
+-- the next property, which has this key and these flags, was read, and the fact holds of its value
 pub record TakesProperty (old new : ObjectReader) (key flags : ℕ) (P : Tree → Type 0) : Type 0 where
   pub was_good : old.reader.failed ≡ false
   pub good : new.reader.failed ≡ false
@@ -112,26 +112,26 @@ pub record TakesProperty (old new : ObjectReader) (key flags : ℕ) (P : Tree �
   pub after : new.reader.after ≡ old.reader.after
   pub object : IsOfObject old new
 
--- A refusal of the next property under a key: the reader has failed; or none is left, and it is the same; or another key
--- stands there, of a property that is taken.
+-- A refusal of the read of the next property by its key: the reader has failed; or no property is left, and the reader didn't move;
+-- or the next property, which was read, has another key.
 pub data RefusesKey (Takes : ℕ → ℕ → Type 0) (key : ℕ) (old new : ObjectReader) (e : DeserializeError (Bor (List ℕ))) : Type 0 where
   fails : new.reader.failed ≡ true → RefusesKey Takes key old new e
   missing : e ≡ error.PropertyMissing → AtEnd old.reader → new ≡ old → RefusesKey Takes key old new e
   wrong_key : (found flags : ℕ) → e ≡ error.PropertyWrongKey found → found ≢ key → Takes found flags → RefusesKey Takes key old new e
 
--- Why the next property isn't read under a key: none is left; its key is short, or another one; or its value is refused.
+-- Why the next property isn't read by its key: none is left; its key is short, or another one; or its value is refused.
 pub data RefusesNext (refuses : List ℕ → DeserializeError (Bor (List ℕ)) → Type 0) (key : ℕ) (b : List ℕ) (e : DeserializeError (Bor (List ℕ))) : Type 0 where
   key_missing : b ≡ [] → e ≡ error.PropertyMissing → RefusesNext refuses key b e
   key_short : b ≢ [] → length b < header_size → IsShortAt b e → RefusesNext refuses key b e
   key_other : header_size ≤ length b → word_at b 0 ≢ key → e ≡ error.PropertyWrongKey (word_at b 0) → RefusesNext refuses key b e
   value_refused : header_size ≤ length b → refuses (drop header_size b) e → RefusesNext refuses key b e
 
--- an array's reader: how many elements are left, what has them, and what follows the array
+-- an array's reader: how many elements are left, and the reader of their bytes
 pub record ArrayReader : Type 0 where
   pub count : ℕ
   pub reader : Reader
 
--- so many elements of this size are left; of a kind whose bodies have no bytes there are none
+-- the remaining bytes are those of the elements that are left, of this size each; of a kind whose bodies are empty there are none
 pub record HasElements (size : ℕ) (r : ArrayReader) : Type 0 where
   pub whole : length r.reader.left ≡ r.count * size
   pub units : size ≡ 0 → r.count ≡ 0
@@ -147,7 +147,7 @@ pub record OpensArray (k : Kind) (input : List ℕ) (r : ArrayReader) : Type 0 w
   pub left : r.reader.left ≡ drop header_size body
   pub elements : HasElements (body_size k) r
 
--- the next element is taken: a body of this kind says a value, of which this element is made
+-- the next element was read: it is made of the value of a body of this kind
 pub record TakesElement {C X : Type 0} (k : Kind) (fixed : C → Fixed) (made_of : C → X) (old new : ArrayReader) (x : X) : Type 0 where
   pub was_good : old.reader.failed ≡ false
   pub good : new.reader.failed ≡ false
@@ -158,21 +158,21 @@ pub record TakesElement {C X : Type 0} (k : Kind) (fixed : C → Fixed) (made_of
   pub left : new.reader.left ≡ drop (body_size k) old.reader.left
   pub after : new.reader.after ≡ old.reader.after
 
--- these elements are taken, one call after another, and this reader is left
+-- these elements were read, one call after another, from the reader `old` to the reader `new`
 abbrev pub TakesElements : {C X : Type 0} → Kind → (C → Fixed) → (C → X) → ArrayReader → List X → ArrayReader → Type 0
 TakesElements k fixed made_of old [] new = new ≡ old
 TakesElements k fixed made_of old (x ∷ xs) new =
     (next : ArrayReader) × TakesElement k fixed made_of old next x × TakesElements k fixed made_of next xs new
 
--- the value that one of a type of fixed size is written as, by the one that stands for it
+-- the tree of a value of a type of fixed size, by its canonical value
 abbrev pub single_tree : {C X : Type 0} → (C → Fixed) → (X → C) → X → Tree
 single_tree says stands_for x = tree.fixed (says (stands_for x))
 
--- the array that a list is written as, each of it by the value that stands for it
+-- the tree of the array as which a list is written, each element by its canonical value
 abbrev pub list_tree : {C X : Type 0} → Kind → (C → Fixed) → (X → C) → List X → Tree
 list_tree k fixed stands_for xs = array k (map (λ x. fixed (stands_for x)) xs)
 
--- this value is an array, and the list is made of its elements, of all of them in their order
+-- this value is an array, and the list is made of all its elements, in order
 pub record IsMadeOf {C X : Type 0} (k : Kind) (fixed : C → Fixed) (made_of : C → X) (xs : List X) (v : Tree) : Type 0 where
   pub elements : List C
   pub value : v ≡ array k (map fixed elements)

@@ -1,4 +1,4 @@
--- What a visitor is handed, and what is made of it.
+-- The content that a visitor is handed, and the value that it makes of it.
 use Rattle.std.specs.Prelude.{◌≡◌, ◌≢◌, ℕ, List, [], map, false, true, ⊤, Vec}
 use Rattle.std.specs.Borrow.{Bor}
 use Rattle.std.specs.Global.{Global}
@@ -17,7 +17,7 @@ use Rattle.spa_typed_read.specs.Members.{Ahead, AheadIn, Further, FurtherIn, Obj
 use Rattle.spa_typed_read.specs.declared.visitor.Visit.{Visit}
 use Rattle.spa_typed_read.specs.declared.visitor.Visit.TheVariants as visit
 
--- What is handed over says this value. The elements of an array say none by themselves: their read says it.
+-- The content is that of this value. The elements of an array have no tree by themselves: their read gives it.
 abbrev pub SaysValue : {E : Type 0} → Visit E → Tree → Type 0
 SaysValue visit.None v = v ≡ fixed none
 SaysValue (visit.Bool x) v = v ≡ fixed (bool x)
@@ -36,65 +36,67 @@ SaysValue (visit.Array xs) v = ⊥
 SaysValue (visit.Choice c) v = v ≡ choice_view c
 SaysValue (visit.Pointer t a) v = v ≡ pointer t a
 
--- a body of this type says a value, which this that is handed over says too
+-- the content is that of the value with this type and this body
 pub record SaysBody {E : Type 0} (type : ℕ) (body : List ℕ) (given : Visit E) : Type 0 where
   pub value : Tree
   pub its_type : type_of value ≡ type
   pub read : IsBody value body
   pub says : SaysValue given value
 
--- the input begins with a pod of a value of this type, which this that is handed over says
+-- the content is that of the value at the front of the input, which is of this type
 pub record IsHanded {E : Type 0} (type : ℕ) (input : List ℕ) (given : Visit E) : Type 0 where
   pub value : Tree
   pub begins : Begins input value
   pub its_type : type_of value ≡ type
   pub says : SaysValue given value
 
--- Of the pod at the front, of this type, the visitor was handed something that says its value, and this is what it made
--- of it; and this follows the pod.
+-- The visitor was handed the content of the pod at the front, which is of this type, and made x of it; and `rest` follows
+-- the pod.
 pub record IsVisited {E X : Type 0} (type : ℕ) (visits : Visit E → X → Type 0) (input rest : List ℕ) (x : X) : Type 0 where
   pub given : Visit E
   pub handed : IsHanded type input given
   pub follows : rest ≡ rest_of input
   pub made : visits given x
 
--- The read is refused by itself, for memory only where it is that of a choice; or the visitor, which was handed what
--- says the value at the front, declined it.
+-- The refusal of a visit: the read is refused, for memory only where it is that of a choice; or the visitor declined the
+-- content of the pod at the front.
 pub data RefusesVisit {E : Type 0} (type : ℕ) (declines : Visit E → DeserializeError (Bor (List ℕ)) → Type 0) (input : List ℕ) (e : DeserializeError (Bor (List ℕ))) : Type 0 where
   unread : RefusesAsked (of_type type) (type ≡ choice_type) input e → RefusesVisit type declines input e
   declined : (given : Visit E) → IsHanded type input given → declines given e → RefusesVisit type declines input e
 
--- the same of an array over this kind, whose elements the visitor was handed
+-- The refusal of the visit of an array over this kind: the read is refused, or the visitor declined the elements.
 pub data RefusesArrayVisit {E : Type 0} (k : Kind) (fixed : E → Fixed) (declines : Visit E → DeserializeError (Bor (List ℕ)) → Type 0) (input : List ℕ) (e : DeserializeError (Bor (List ℕ))) : Type 0 where
   no_array : RefusesAsked (array_of k) ⊤ input e → RefusesArrayVisit k fixed declines input e
   declined_array : (xs : Vec E Global) → Begins input (array k (map fixed xs.items)) → declines (visit.Array xs) e → RefusesArrayVisit k fixed declines input e
 
--- The struct at the front isn't opened. Or its reader was lent to the visitor, which declined it; or which answered, and left the
--- reader failed, or members unread.
+-- The refusal of the visit of a struct: it isn't opened; or the visitor, which borrowed its reader, declined it; or the visitor made a value and
+-- left the reader failed, or members unread.
 pub data RefusesStruct (declines : Reader → Reader → DeserializeError (Bor (List ℕ)) → Type 0) (leaves : Reader → Reader → Type 0) (input : List ℕ) (e : DeserializeError (Bor (List ℕ))) : Type 0 where
   no_struct : LacksFront struct_type input e → RefusesStruct declines leaves input e
   declined_struct : (lent now : Reader) → OpensStruct input lent → Further lent now → declines lent now e → RefusesStruct declines leaves input e
   failed_struct : (lent now : Reader) → OpensStruct input lent → leaves lent now → now.failed ≡ true → e ≡ error.FailedReader → RefusesStruct declines leaves input e
   unread_struct : (lent now : Reader) → OpensStruct input lent → Ahead lent now → leaves lent now → now.left ≢ [] → e ≡ error.UnreadMembers → RefusesStruct declines leaves input e
 
--- the same of the object at the front
+-- The refusal of the visit of an object: it isn't opened; or the visitor, which borrowed its reader, declined it; or the visitor made a value
+-- and left the reader failed, or properties unread.
 pub data RefusesObject (declines : ObjectReader → ObjectReader → DeserializeError (Bor (List ℕ)) → Type 0) (leaves : ObjectReader → ObjectReader → Type 0) (input : List ℕ) (e : DeserializeError (Bor (List ℕ))) : Type 0 where
   no_object : LacksObject input e → RefusesObject declines leaves input e
   declined_object : (lent now : ObjectReader) → OpensObject input lent → FurtherIn lent now → declines lent now e → RefusesObject declines leaves input e
   failed_object : (lent now : ObjectReader) → OpensObject input lent → leaves lent now → now.reader.failed ≡ true → e ≡ error.FailedReader → RefusesObject declines leaves input e
   unread_object : (lent now : ObjectReader) → OpensObject input lent → AheadIn lent now → leaves lent now → now.reader.left ≢ [] → e ≡ error.UnreadMembers → RefusesObject declines leaves input e
 
--- A visitor declines a struct that it is lent at its first member, but for lack of memory, only where its members aren't read so.
+-- A visitor that borrowed a struct's reader at its first member declines it, unless for want of memory, only where no result is read of the
+-- members.
 pub record DeclinesExactly {X : Type 0} (reads : Trees → X → Type 0) (takes_memory : Type 0) (lent now : Reader) (e : DeserializeError (Bor (List ℕ))) : Type 0 where
   pub unread : lent.failed ≡ false → OnFault (AreUnread reads lent.left) e
   pub memory : lent.failed ≡ false → OnMemory takes_memory e
 
--- It answers without a refused call, and leaves members only where they aren't read so.
+-- A visitor that made a value had no refused call, and left members unread only where no result is read of all of them.
 pub record LeavesExactly {X : Type 0} (reads : Trees → X → Type 0) (lent now : Reader) : Type 0 where
   pub good : lent.failed ≡ false → now.failed ≡ false
   pub unread : lent.failed ≡ false → now.left ≢ [] → AreUnread reads lent.left
 
--- the same of an object, by its type, its id and its properties
+-- the two of an object's reader: no result is read of the object's type, id and properties
 pub record DeclinesExactlyIn {X : Type 0} (reads : ℕ → ℕ → Properties → X → Type 0) (takes_memory : Type 0) (lent now : ObjectReader) (e : DeserializeError (Bor (List ℕ))) : Type 0 where
   pub unread : lent.reader.failed ≡ false → OnFault (NoneRead (reads lent.type lent.id) lent.reader.left) e
   pub memory : lent.reader.failed ≡ false → OnMemory takes_memory e

@@ -12,7 +12,7 @@ use spa_fixed::{ChoiceElement, DeserializeError};
 use spa_utils::{Choice, Fd, Float32, Float64, Fraction, Id, Rectangle};
 use spa_value::Bitmap;
 
-/// The text of a string, which is a part of the input. It asks for no memory.
+/// The text of a string, borrowed from the input. It asks for no memory.
 impl<'de> PodDeserialize<'de> for &'de str {
     ghost reads = { λ value s. value ≡ string s.now };
 
@@ -40,7 +40,7 @@ impl<'de> PodDeserialize<'de> for String {
     }
 }
 
-/// Bytes, which are a part of the input. It asks for no memory.
+/// Bytes, borrowed from the input. It asks for no memory.
 impl<'de> PodDeserialize<'de> for &'de [u8] {
     ghost reads = { λ value b. value ≡ bytes b.now };
 
@@ -68,7 +68,7 @@ impl<'de> PodDeserialize<'de> for Vec<u8> {
     }
 }
 
-/// The bytes of a bitmap, which are a part of the input. It asks for no memory.
+/// The bytes of a bitmap, borrowed from the input. It asks for no memory.
 impl<'de> PodDeserialize<'de> for Bitmap<'de> {
     ghost reads = { λ value b. value ≡ bitmap b.0.now };
 
@@ -238,7 +238,7 @@ impl<'de, T: ArrayElement> PodDeserialize<'de> for Vec<T> {
     }
 }
 
-/// A choice over one of the nine types that have bytes. One over another of them is refused as `UnsupportedType`.
+/// A choice over one of the nine types that have bytes. A choice over another of the nine is refused as `UnsupportedType`.
 impl<'de, T: ChoiceElement> PodDeserialize<'de> for Choice<T> {
     ghost reads = { λ value it. value ≡ choice_tree T.kind T.fixed it };
 

@@ -1,4 +1,4 @@
-//! Types that are made of what is read: of a struct's members, and of anything else.
+//! Types that are made of a content that is read: of a struct's members, or of any other readable type.
 ghost use Rattle.std.specs.Prelude.{◌≡◌, ◌⊎◌, ℕ, List, false, IfErr, IfOk};
 ghost use Rattle.std.specs.Borrow.{Bor};
 ghost use Rattle.spa_fixed.specs.declared.fault.DeserializeError.{DeserializeError};
@@ -16,18 +16,18 @@ use crate::members::StructPodDeserializer;
 use spa_fixed::DeserializeError;
 use spa_value::{Held, Value};
 
-/// A type of a program's own: it is read as another one is, its content, and made of that. So it is read exactly where the
-/// front is a pod of such a content, unless memory runs out.
+/// A type of a program's own that is made of another type, its content, which is what is read. So, unless memory runs out, it is read exactly
+/// where the front is a pod of such a content.
 ///
 /// The content of a struct is `StructOf` its members, that of an object `ObjectOf` its properties.
 pub trait DeserializeAs: Sized + Drop {
-    /// What it is read as.
+    /// The type of the content, which is read.
     type Content: Drop;
 
-    /// What it is made of.
+    /// The content of which a value is made.
     ghost content: { Self → Self.Content };
 
-    /// Makes it.
+    /// Makes a value of its content.
     fn of_content(given: Self::Content) -> Self
         ensures { content result ≡ given };
 }
@@ -61,7 +61,7 @@ where
     ghost exactly = { λ b e r. made_exactly T.Content.reads (T.Content.takes_memory b) T.content b e (T.Content.exactly b e r) };
 }
 
-/// Any value, kept so that it is let go by a loop: where what is read behind it is refused, too.
+/// Any value, which is dropped by a loop: also where a later member is refused.
 impl DeserializeAs for Held {
     type Content = Value;
 
@@ -74,18 +74,18 @@ impl DeserializeAs for Held {
 
 /// The members of a struct, the first one and those behind it, up to `()`: `(A, (B, (C, ())))` are three.
 pub trait DeserializeMembers<'de>: Sized + Drop {
-    /// Which results these members may be read as.
+    /// The results as which these members may be read.
     ghost reads_members: { Trees → Self → Type 0 };
 
-    /// How such members may be refused, in these bytes.
+    /// The refusals of such members in these bytes.
     ghost refuses_members: { List ℕ → DeserializeError (Bor (List ℕ)) → Type 0 };
 
     /// Whether their reads take memory, in these bytes.
     ghost takes_memory: { List ℕ → Type 0 };
 
-    /// Reads all that is left.
+    /// Reads all members that are left.
     ///
-    /// Refusals: `PropertyMissing` where a member isn't there, `UnreadMembers` where there is one more, else that of the
+    /// Refusals: `PropertyMissing` where a member isn't there, `UnreadMembers` where there is one more, else the refusal of the
     /// member's type.
     fn read_members(
         reader: &mut StructPodDeserializer<'de>,
@@ -93,7 +93,7 @@ pub trait DeserializeMembers<'de>: Sized + Drop {
         ensures same { Further reader.old reader.new }
         ensures end { IfOk result (λ _. AtEnd reader.new) }
         ensures read { IfOk result (λ x. AllMembers reader.old (λ members. reads_members members x)) }
-        // A refusal is that of the member that isn't read. But for lack of memory it says that these bytes are no such members.
+        // A refusal is that of the member that isn't read. Unless it is for want of memory, these bytes are no such members.
         ensures named { reader.old.failed ≡ false → IfErr result (refuses_members reader.old.left) }
         ensures refused { reader.old.failed ≡ false → IfErr result (λ e. OnFault (AreUnread reads_members reader.old.left) e) }
         ensures memory { reader.old.failed ≡ false → IfErr result (OnMemory (takes_memory reader.old.left)) };
@@ -135,7 +135,7 @@ impl<'de, A: ExactDeserialize<'de>, R: DeserializeMembers<'de>> DeserializeMembe
     }
 }
 
-/// A struct of these members: `StructOf<(i32, (Rectangle, ()))>` is one of an Int and a Rectangle.
+/// The content of a struct with these members: `StructOf<(i32, (Rectangle, ()))>` is a struct of an Int and a Rectangle.
 #[derive(Drop)]
 pub struct StructOf<M>(pub M);
 

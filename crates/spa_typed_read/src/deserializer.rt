@@ -1,4 +1,4 @@
-//! What reads one pod from the front of an input.
+//! The deserializer, which reads one pod from the front of an input.
 ghost use Rattle.std.specs.Prelude.{⊤, ◌≡◌, ℕ, ◌*◌, ◌<◌, ◌≤◌, List, IfErr, IfOk, IsErrAnd, length};
 ghost use Rattle.std.specs.Borrow.{Bor};
 ghost use Rattle.spa_fixed.specs.declared.fault.DeserializeError.{DeserializeError};
@@ -20,13 +20,13 @@ use std::marker::Model;
 
 /// A type that is read from a pod.
 pub trait PodDeserialize<'de>: Sized + Drop {
-    /// Which results a value may be read as.
+    /// The results as which a value may be read.
     ghost reads: { Tree → Self → Type 0 };
 
-    /// How an input may be refused. A type that promises nothing of its refusals keeps the default.
+    /// The refusals of an input. A type that promises nothing of its refusals keeps the default.
     ghost refuses: { List ℕ → DeserializeError (Bor (List ℕ)) → Type 0 } = { λ _ _. ⊤ };
 
-    /// Reads the pod at the front of the deserializer's input.
+    /// Reads the pod at the front of the deserializer's input. `refuses` states the refusals.
     fn deserialize(
         deserializer: PodDeserializer<'de>,
     ) -> Result<(Self, DeserializeSuccess<'de>), DeserializeError<&'de [u8]>>
@@ -34,7 +34,7 @@ pub trait PodDeserialize<'de>: Sized + Drop {
         ensures refused { IfErr result (λ e. refuses deserializer.entry e) };
 }
 
-/// Any value, whose tree is the pod's one value. A refusal says what that of `deserialize_any_from` says.
+/// Any value, whose tree is the pod's one value. The refusals are those of `deserialize_any_from`.
 impl<'de> PodDeserialize<'de> for Value {
     ghost reads = { λ value it. view it ≡ value };
 
@@ -47,7 +47,7 @@ impl<'de> PodDeserialize<'de> for Value {
     }
 }
 
-/// Reads one pod from the front of an input. In contracts it is the bytes that are left.
+/// Reads one pod from the front of an input. Its model is the remaining bytes.
 #[derive(Drop)]
 pub struct PodDeserializer<'de> {
     pub(crate) input: &'de [u8],
@@ -62,7 +62,7 @@ impl<'de> Model for PodDeserializer<'de> {
     ghost view = { λ it. it.input.now };
 }
 
-/// A pod was read. In contracts it is the bytes that follow it.
+/// A pod was read. The model is the bytes that follow it.
 #[derive(Drop)]
 pub struct DeserializeSuccess<'de>(PodDeserializer<'de>);
 
@@ -75,14 +75,14 @@ impl<'de> Model for DeserializeSuccess<'de> {
 }
 
 impl<'de> DeserializeSuccess<'de> {
-    /// A pod was read, and this follows it.
+    /// A pod was read, and `rest` follows it.
     pub(crate) fn before(alloc: Global, rest: &'de [u8]) -> DeserializeSuccess<'de>
         ensures { result ≡ rest.now }
     {
         DeserializeSuccess(PodDeserializer { input: rest, alloc })
     }
 
-    /// What follows the pod.
+    /// The bytes that follow the pod.
     pub(crate) fn rest(self) -> &'de [u8]
         ensures { result.now ≡ self.entry }
     {
@@ -91,7 +91,8 @@ impl<'de> DeserializeSuccess<'de> {
 }
 
 impl<'de> PodDeserializer<'de> {
-    /// Reads the pod at the front of the input as a value of this type, and answers what follows it.
+    /// Reads the pod at the front of the input as a value of the type `P`, and answers the bytes that follow it. The refusals are
+    /// those of `P`.
     pub fn deserialize_from<P: PodDeserialize<'de>>(
         alloc: Global,
         input: &'de [u8],
@@ -103,7 +104,7 @@ impl<'de> PodDeserializer<'de> {
         Ok((success.0.input, value))
     }
 
-    /// Reads the pod at the front of the input, whatever it is, and answers what follows it.
+    /// Reads the pod at the front of the input, of any type, and answers the bytes that follow it.
     ///
     /// Unless memory runs out, this succeeds exactly where the front that the first size word names is there and is a
     /// pod. Refusals: `Nom` with `Short` or `Text`, `InvalidType`, `InvalidChoiceType`, `MissingChoiceValues`,
@@ -134,8 +135,9 @@ impl<'de> PodDeserializer<'de> {
         }
     }
 
-    /// Reads what the front of the input conveys in the lenient reading (docs/FORMAT.md), and answers what follows the front. That also finds the value of
-    /// a None choice over an array, and the text of a string that ends in several NULs, at any depth: what `spa_pod_filter` and ALSA leave.
+    /// Reads the value that the front of the input conveys in the lenient reading (docs/FORMAT.md), and answers the bytes that follow the front.
+    /// Beyond the exact reading, it finds the value of a None choice over an array, and the text of a string that ends in several NULs, at any
+    /// nesting depth: `spa_pod_filter` and ALSA leave such bytes.
     ///
     /// Unless memory runs out, this succeeds exactly where the front that the first size word names is there and conveys a value. A pod conveys its
     /// own value: where `deserialize_any_from` accepts, this gives the same. Refusals are those of that call, each where that fault stands in
@@ -183,12 +185,12 @@ impl<'de> PodDeserializer<'de> {
     /// - `InvalidChoiceType`: a choice's shape word is above 4.
     /// - `MissingChoiceValues`: a choice has fewer values than its shape needs.
     /// - `WrongSize`: a body isn't as long as its type's bodies are, or isn't made of whole elements.
-    /// - `OutOfMemory`: a growth was refused.
+    /// - `OutOfMemory`: memory ran out.
     pub fn deserialize_any_counted(
         alloc: Global,
         input: &'de [u8],
     ) -> (Result<(&'de [u8], Value), DeserializeError<&'de [u8]>>, u64)
-        // Its answer is that of `deserialize_any_from`.
+        // It answers as `deserialize_any_from` does.
         ensures value { IfOk result.0 (λ read. Begins input.now (view read.1)) }
         ensures one { IfOk result.0 (λ read. (w : Tree) → Begins input.now w → w ≡ view read.1) }
         ensures rest { IfOk result.0 (λ read. read.0.now ≡ rest_of input.now) }
@@ -208,7 +210,7 @@ impl<'de> PodDeserializer<'de> {
         }
     }
 
-    /// Reads the pod at the front of what is left, whatever it is. Refusals are those of `deserialize_any_from`.
+    /// Reads the pod at the front of the remaining bytes, of any type. The refusals are those of `deserialize_any_from`.
     pub fn deserialize_any(
         self,
     ) -> Result<(Value, DeserializeSuccess<'de>), DeserializeError<&'de [u8]>>
@@ -221,12 +223,12 @@ impl<'de> PodDeserializer<'de> {
         Ok((value, self.after(rest)))
     }
 
-    /// The allocator that it was given.
+    /// The allocator that the deserializer was given.
     pub fn allocator(&self) -> Global {
         self.alloc
     }
 
-    /// A pod was read, and this follows it.
+    /// A pod was read, and `rest` follows it.
     pub(crate) fn after(self, rest: &'de [u8]) -> DeserializeSuccess<'de>
         ensures { result ≡ rest.now }
     {

@@ -16,15 +16,15 @@ use spa_fixed::ChoiceElement;
 use spa_utils::{Choice, Fd, Float32, Float64, Fraction, Id, Rectangle};
 use spa_value::{Bitmap, Value};
 
-/// A type whose read, unless memory runs out, succeeds exactly where the front is a pod of a value that is read as one of it.
+/// A type whose read, unless memory runs out, succeeds exactly where the front is a pod of a value that is read as this type.
 ///
-/// A type that another one is made of has to be one. What `DeserializeAs` makes is one.
+/// The content of a `DeserializeAs` has to be such a type, and then the type that is made of it is one.
 pub trait ExactDeserialize<'de>: PodDeserialize<'de> {
-    /// Whether the read of such an input takes memory. A type that takes some keeps the default.
+    /// Whether the read of such an input takes memory. A type whose read takes memory keeps the default.
     ghost takes_memory: { List ℕ → Type 0 } = { λ _. ⊤ };
 
-    /// Any refusal but one for lack of memory says that no such value is there; where the front isn't there, it is `Nom` with
-    /// `Short`. Memory runs out only where the front is there and such a read takes memory.
+    /// The law of its refusals. Any but one for want of memory says that the input begins with no such value; where the front isn't
+    /// there, it is `Nom` with `Short`. Memory runs out only where the front is there and such a read takes memory.
     ghost exactly: { (b : List ℕ) (e : DeserializeError (Bor (List ℕ))) → Self.refuses b e → RefusesExactly Self.reads (takes_memory b) b e };
 }
 

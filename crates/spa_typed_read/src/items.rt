@@ -1,4 +1,4 @@
-//! The elements of an array, read one by one.
+//! Reads the elements of an array one by one.
 ghost use Rattle.std.specs.Prelude.{◌≡◌, ◌≢◌, ◌<◌, ◌≤◌, ◌⊎◌, false, length, true, IfErr, IfOk, IsErrAnd, IsOk, OnErr};
 ghost use Rattle.spa_bytes.specs.Opening.{Opens};
 ghost use Rattle.spa_fixed.specs.declared.fault.DeserializeError.TheVariants as error;
@@ -18,8 +18,8 @@ use spa_utils::SpaTypes;
 use std::alloc::Global;
 use std::marker::{Model, PhantomData};
 
-/// Opens the array at the front of the input, whose elements have to be of this type. Refusals: `Nom` with `Short` or `Tag`,
-/// and `WrongSize` where the body lacks a child header.
+/// Opens the array at the front of the input. Refusals: `Nom` with `Short` where the front isn't there, `Nom` with `Tag` where it is no
+/// array or its elements are of another type than `T`, and `WrongSize` where the body lacks a child header.
 #[inline(always)]
 pub(crate) fn open_array_of<'de, T: CanonicalFixedSizedPod>(
     input: &'de [u8],
@@ -42,9 +42,9 @@ pub(crate) fn open_array_of<'de, T: CanonicalFixedSizedPod>(
     Ok(front)
 }
 
-/// Reads an array's elements one by one. Once one was refused, every call answers `FailedReader`.
+/// Reads an array's elements one by one. Once a call was refused, every call answers `FailedReader`.
 ///
-/// In contracts it is how many elements are left, their bytes, what follows the array, and whether it has failed.
+/// Its model: how many elements are left, their bytes, the bytes that follow the array, and whether it has failed.
 #[derive(Drop)]
 pub struct ArrayPodDeserializer<'de, E: FixedSizedPod> {
     left: &'de [u8],
@@ -100,7 +100,7 @@ impl<'de, E: FixedSizedPod> ArrayPodDeserializer<'de, E> {
         ensures failed { OnErr result (self.new.reader.failed ≡ true) }
         ensures stays { self.old.reader.failed ≡ true → IsErrAnd result (λ e. e ≡ error.FailedReader) }
         ensures past_last { self.old.reader.failed ≡ false → self.old.count ≡ 0 → IsErrAnd result (λ e. e ≡ error.NoElementLeft) }
-        // Of an array that was opened whole elements are left, and so it is refused for nothing else.
+        // Since whole elements are left of an array that was opened, there is no other refusal.
         ensures taken { self.old.reader.failed ≡ false → 0 < self.old.count → HasElements E.CanonicalType.SIZE self.old → IsOk result }
     {
         if self.failed {
@@ -136,7 +136,7 @@ impl<'de, E: FixedSizedPod> ArrayPodDeserializer<'de, E> {
         Ok(DeserializeSuccess::before(self.alloc, self.after))
     }
 
-    /// The allocator that it was given.
+    /// The allocator that the reader was given.
     pub fn allocator(&self) -> Global {
         self.alloc
     }

@@ -1,4 +1,4 @@
-//! Laws of what is written and read back, of refusals, of arrays that are read element by element, and of readers that are lent. Each
+//! Laws of values that are written and read back, of refusals, of arrays that are read element by element, and of borrowed readers. Each
 //! function does nothing: its contract is the law.
 ghost use Rattle.std.specs.Prelude.{◌≡◌, ◌<◌, ◌≤◌, ◌++◌, [], List, drop, length, ℕ};
 ghost use Rattle.std.specs.Borrow.{Bor};
@@ -22,46 +22,46 @@ use crate::exact::ExactDeserialize;
 use crate::object_content::DeserializeProperties;
 use spa_fixed::{CanonicalFixedSizedPod, FixedSizedPod};
 
-/// What is taken of an array, up to where no element is left, is made of its elements, of all of them in their order.
+/// The elements that an array's reader gives, up to where no element is left, are all elements of the array, in order.
 pub fn elements_are_the_arrays<E: FixedSizedPod>()
     ensures { (input : List ℕ) (xs : List E) (first last : ArrayReader) → OpensArray E.CanonicalType.kind input first → TakesElements E.CanonicalType.kind E.CanonicalType.fixed E.of_canonical first xs last → last.count ≡ 0 → IsRead input last.reader.after (IsMadeOf E.CanonicalType.kind E.CanonicalType.fixed E.of_canonical xs) }
 {}
 
-/// What is taken of the array that a list is written as is that list, where the definitions of its type give each value back. Of
-/// units, which have no bytes, nothing is taken.
+/// A list that is written as an array is read back element by element as that list, where `of_canonical` of its type undoes `to_canonical`.
+/// Of units, which have no bytes, no element is read back.
 pub fn lists_come_back<E: FixedSizedPod>()
-    // A pod of that array,
+    // From a pod of that array,
     ensures pod { (input : List ℕ) (xs ys : List E) (first last : ArrayReader) → ((x : E) → E.of_canonical (E.to_canonical x) ≡ x) → Begins input (list_tree E.CanonicalType.kind E.CanonicalType.fixed E.to_canonical xs) → OpensArray E.CanonicalType.kind input first → TakesElements E.CanonicalType.kind E.CanonicalType.fixed E.of_canonical first ys last → last.count ≡ 0 → ys ≡ xs }
-    // as its encoding is,
+    // such as its encoding,
     ensures encoding { (rest : List ℕ) (xs : List E) → 0 < E.CanonicalType.SIZE → IsTyped (list_tree E.CanonicalType.kind E.CanonicalType.fixed E.to_canonical xs) → IsWritable (list_tree E.CanonicalType.kind E.CanonicalType.fixed E.to_canonical xs) → Begins (encoding_of (list_tree E.CanonicalType.kind E.CanonicalType.fixed E.to_canonical xs) ++ rest) (list_tree E.CanonicalType.kind E.CanonicalType.fixed E.to_canonical xs) }
-    // but that of units.
+    // but not of units.
     ensures units { (input : List ℕ) (ys : List E) (first last : ArrayReader) → E.CanonicalType.SIZE ≡ 0 → OpensArray E.CanonicalType.kind input first → TakesElements E.CanonicalType.kind E.CanonicalType.fixed E.of_canonical first ys last → ys ≡ [] }
 {}
 
-/// A value is read back as itself from a pod of the value that stands for it, where the definitions of its type give it back.
+/// A value is read back as itself from a pod of its canonical value, where `of_canonical` of its type undoes `to_canonical`.
 pub fn values_come_back<E: FixedSizedPod>()
-    // What is read of a pod of it stands for it,
+    // From a pod of its canonical value,
     ensures pod { (input rest : List ℕ) (x : E) (c : E.CanonicalType) → E.of_canonical (E.to_canonical x) ≡ x → Begins input (single_tree E.CanonicalType.fixed E.to_canonical x) → IsRead input rest (λ v. v ≡ fixed (E.CanonicalType.fixed c)) → E.of_canonical c ≡ x }
-    // and its encoding is such a pod.
+    // such as its encoding.
     ensures encoding { (rest : List ℕ) (x : E) → IsTyped (single_tree E.CanonicalType.fixed E.to_canonical x) → Begins (encoding_of (single_tree E.CanonicalType.fixed E.to_canonical x) ++ rest) (single_tree E.CanonicalType.fixed E.to_canonical x) }
 {}
 
-/// A type that is refused exactly comes back from what its value is written as, whatever follows that.
+/// A value of an exact type is read back from its encoding, whatever bytes follow that.
 pub fn exact_types_come_back<'de, P: ExactDeserialize<'de>>()
-    // A refusal, but for lack of memory, says that the input begins with no value that is read so.
+    // A refusal, unless for want of memory, says that the input begins with no value that is read so.
     ensures exactly { (b : List ℕ) (e : DeserializeError (Bor (List ℕ))) → P.refuses b e → RefusesExactly P.reads (P.takes_memory b) b e }
-    // What a value is written as is read as its normal form is, and what follows is left.
+    // The encoding of a value is read as its normal form, and the bytes that follow are left.
     ensures read { (v : Tree) (rest left : List ℕ) (x : P) → IsTyped v → IsWritable v → IsRead (encoding_of v ++ rest) left (λ w. P.reads w x) → P.reads (normal_of v) x × (left ≡ rest) }
-    // Where that is read as something, nothing but memory can be wanting, and only where such a read takes some.
+    // Where the normal form is read as a value of the type, only memory can be wanting, and only where such a read takes memory.
     ensures refused { (v : Tree) (rest : List ℕ) (x : P) (e : DeserializeError (Bor (List ℕ))) → IsTyped v → IsWritable v → P.reads (normal_of v) x → P.refuses (encoding_of v ++ rest) e → (e ≡ error.OutOfMemory) × P.takes_memory (encoding_of v ++ rest) }
 {}
 
-/// Of an object that is accepted, and whose properties nest in 1000 levels at most, a read takes memory only for what is asked for.
+/// The read of an accepted object whose properties' values have a nesting depth of at most 1000 takes memory only for the properties asked for.
 pub fn passing_takes_no_memory<'de, P: DeserializeProperties<'de>>()
     ensures { (b : List ℕ) (type id : ℕ) (ps : Properties) → Begins b (object type id ps) → property_depth ps ≤ levels_looked_into → TakesIn P.takes_memory b → P.takes_memory (drop header_size (body_of b)) }
 {}
 
-/// A reader that is lent goes further by one call after another.
+/// Each call of a borrowed reader takes it further.
 pub fn readers_go_further()
     ensures no_member { (r : Reader) → Further r r }
     ensures members { (a b c : Reader) → Further a b → Further b c → Further a c }
@@ -69,7 +69,7 @@ pub fn readers_go_further()
     ensures properties { (a b c : ObjectReader) → FurtherIn a b → FurtherIn b c → FurtherIn a c }
 {}
 
-/// Members are the pod of the first one and, behind it, those of the others. Of properties a key and flags come before each.
+/// Members are the pod of the first and, behind it, those of the others. Properties have a key and flags before each pod.
 pub fn members_are_fronts()
     ensures parts { (b : List ℕ) (v : Tree) (vs : Trees) → AreMembers (member v vs) b → Begins b v × AreMembers vs (rest_of b) }
     ensures whole { (b : List ℕ) (v : Tree) (vs : Trees) → Begins b v → AreMembers vs (rest_of b) → AreMembers (member v vs) b }

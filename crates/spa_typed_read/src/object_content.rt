@@ -14,43 +14,42 @@ use crate::exact::ExactDeserialize;
 use crate::properties::ObjectPodDeserializer;
 use spa_fixed::DeserializeError;
 
-/// A property that has to be there, with the value of the first one under its key.
+/// A property that has to be there: the value of the first property with the key `KEY`.
 #[derive(Drop)]
 pub struct Required<const KEY: u32, P>(pub P);
 
-/// A property that may be there, with the value of the first one under its key.
+/// A property that may be there: the value of the first property with the key `KEY`, or None.
 #[derive(Drop)]
 pub struct Optional<const KEY: u32, P>(pub Option<P>);
 
-/// The properties of an object, one and those after it, up to `()`. They stand in the object in any order, and others among
-/// them.
+/// The properties of an object, the first and those behind it, up to `()`. The object may have them in any order, and others too.
 pub trait DeserializeProperties<'de>: Sized + Drop {
-    /// Which results these properties may be read as.
+    /// The results as which these properties may be read.
     ghost reads_properties: { Properties → Self → Type 0 };
 
-    /// How they may be refused, in these bytes.
+    /// The refusals of these properties in these bytes.
     ghost refuses_properties: { List ℕ → DeserializeError (Bor (List ℕ)) → Type 0 };
 
     /// Whether their reads take memory, in these bytes.
     ghost takes_memory: { List ℕ → Type 0 };
 
-    /// The keys under which they are looked for.
+    /// The keys of these properties.
     ghost asks: { ℕ → Type 0 };
 
-    /// Is this one of these keys?
+    /// Whether this is one of their keys.
     fn asks_for(key: u32) -> bool
         ensures yes { result ≡ true → asks key }
         ensures no { result ≡ false → ¬ (asks key) };
 
-    /// Finds them among properties of which none before this place is under one of their keys.
+    /// Finds these properties in an object, from `from` on: no property before that place has one of their keys.
     ///
-    /// Refusals: `PropertyMissing` where one that has to be there isn't, else those of `find_property`.
+    /// Refusals: `PropertyMissing` where a `Required` one isn't there, else those of `find_property`.
     fn find_from(
         reader: &ObjectPodDeserializer<'de>,
         from: &'de [u8],
     ) -> Result<Self, DeserializeError<&'de [u8]>>
         ensures found { reader.now.reader.failed ≡ false → (b : List ℕ) → LeadsToAll asks from.now b → IfOk result (λ x. (ps : Properties) → AreProperties ps b → reads_properties ps x) }
-        // A refusal is that of the property that isn't read. But for lack of memory it says that these bytes are no such properties.
+        // A refusal is that of the property that isn't read. Unless it is for want of memory, these bytes are no such properties.
         ensures named { reader.now.reader.failed ≡ false → (b : List ℕ) → LeadsToAll asks from.now b → IfErr result (refuses_properties b) }
         ensures refused { reader.now.reader.failed ≡ false → (b : List ℕ) → LeadsToAll asks from.now b → IfErr result (λ e. OnFault (NoneRead reads_properties b) e) }
         ensures memory { reader.now.reader.failed ≡ false → (b : List ℕ) → LeadsToAll asks from.now b → IfErr result (OnMemory (takes_memory b)) };
@@ -152,13 +151,13 @@ impl<
     }
 }
 
-/// An object of this type and id, with these properties.
+/// The content of an object of this type and id with these properties.
 #[derive(Drop)]
 pub struct ObjectOf<const TYPE: u32, const ID: u32, P>(pub P);
 
-/// An object of this type and id, with these properties in any order, and others among them. Refusals: `Nom` with `Short` or
-/// `Tag` where the front isn't there or is no object; `WrongSize` where it lacks its type or id, `UnsupportedType` where one of
-/// them is another; else those of `DeserializeProperties` and of `skip_properties`.
+/// An object of this type and id, which has these properties in any order, and may have others. Refusals: `Nom` with `Short` or
+/// `Tag` where the front isn't there or is no object; `WrongSize` where it lacks its type or id, `UnsupportedType` where its
+/// type or its id is another one; else those of `DeserializeProperties` and of `skip_properties`.
 impl<'de, const TYPE: u32, const ID: u32, P: DeserializeProperties<'de>> PodDeserialize<'de>
     for ObjectOf<TYPE, ID, P> {
     ghost reads = { λ value it. ReadsObject TYPE ID P.reads_properties value it.0 };

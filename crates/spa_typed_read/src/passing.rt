@@ -1,4 +1,4 @@
-//! Values that are passed where they are, and not kept.
+//! Values that are checked in the input and skipped.
 ghost use Rattle.std.specs.Prelude.{⊤};
 ghost use Rattle.spa_leaf.specs.Reading.{OnMemory, RefusesInput};
 ghost use Rattle.spa_rewrite.specs.Look.{IsTooDeep};
@@ -11,8 +11,8 @@ use spa_leaf::error_at;
 use spa_rewrite::{Rejected, look_at_pod};
 use spa_value::discard;
 
-/// Any value, which is looked at where it is and not kept. Memory is asked for only where more than 1000 structs and objects stand in one
-/// another, not counting those that end where the one around them does. A refusal says what that of `deserialize_any_from` says.
+/// Any value, which is checked in the borrowed input and not kept. Memory is asked for only where the nesting depth, without containers in tail
+/// position, is above 1000. The refusals are those of `deserialize_any_from`.
 #[derive(Drop)]
 pub struct Skipped;
 

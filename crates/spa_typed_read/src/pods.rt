@@ -1,4 +1,4 @@
-//! Whole pods of one type at the front: what the built-in types are read from.
+//! Reads the pod of one type at the front, for the built-in types.
 ghost use Rattle.std.specs.Prelude.{⊤, ◌≡◌, ◌≢◌, IfErr, IfOk, map};
 ghost use Rattle.spa_fixed.specs.Choices.{choice_tree};
 ghost use Rattle.spa_format.specs.Kind.{type_number};
@@ -19,7 +19,7 @@ use spa_leaf::{
 use spa_utils::{Choice, SpaTypes};
 
 impl<'de> PodDeserializer<'de> {
-    /// The value of one of the ten types.
+    /// Reads a value of one of the ten types of fixed size.
     #[inline(always)]
     pub(crate) fn fixed_pod<T: CanonicalFixedSizedPod>(
         self,
@@ -34,7 +34,7 @@ impl<'de> PodDeserializer<'de> {
         }
     }
 
-    /// The text of a string.
+    /// Reads the borrowed text of a string.
     pub(crate) fn text_pod(
         self,
     ) -> Result<(&'de str, DeserializeSuccess<'de>), DeserializeError<&'de [u8]>>
@@ -48,7 +48,7 @@ impl<'de> PodDeserializer<'de> {
         }
     }
 
-    /// The bytes of a pod of bytes.
+    /// Reads the borrowed bytes of a pod of bytes.
     pub(crate) fn bytes_pod(
         self,
     ) -> Result<(&'de [u8], DeserializeSuccess<'de>), DeserializeError<&'de [u8]>>
@@ -59,7 +59,7 @@ impl<'de> PodDeserializer<'de> {
         Ok((front.body, self.after(front.rest)))
     }
 
-    /// The bytes of a bitmap.
+    /// Reads the borrowed bytes of a bitmap.
     pub(crate) fn bitmap_pod(
         self,
     ) -> Result<(&'de [u8], DeserializeSuccess<'de>), DeserializeError<&'de [u8]>>
@@ -70,7 +70,7 @@ impl<'de> PodDeserializer<'de> {
         Ok((front.body, self.after(front.rest)))
     }
 
-    /// A pointer's type and address.
+    /// Reads a pointer's type and address.
     pub(crate) fn pointer_pod(
         self,
     ) -> Result<((u32, u64), DeserializeSuccess<'de>), DeserializeError<&'de [u8]>>
@@ -84,7 +84,7 @@ impl<'de> PodDeserializer<'de> {
         }
     }
 
-    /// The elements of an array over one of the ten types.
+    /// Reads the elements of an array over one of the ten types.
     pub(crate) fn array_pod<T: CanonicalFixedSizedPod>(
         self,
     ) -> Result<(Vec<T>, DeserializeSuccess<'de>), DeserializeError<&'de [u8]>>
@@ -98,7 +98,7 @@ impl<'de> PodDeserializer<'de> {
         }
     }
 
-    /// The choice over one of the nine types that have bytes. One over another of them is refused as `UnsupportedType`.
+    /// Reads a choice over one of the nine types that have bytes. A choice over another of the nine is refused as `UnsupportedType`.
     pub(crate) fn choice_pod<T: ChoiceElement>(
         self,
     ) -> Result<(Choice<T>, DeserializeSuccess<'de>), DeserializeError<&'de [u8]>>

@@ -1,4 +1,4 @@
-//! The properties of an object, read one by one.
+//! Reads the properties of an object one by one, or finds them by their keys.
 ghost use Rattle.std.specs.Prelude.{◌≡◌, ◌≢◌, ℕ, ◌<◌, ◌≤◌, ◌⊎◌, [], drop, false, length, true, IfErr, IfNone, IfOk, IsErrAnd, IsOk, MatchOption, OnErr, OnOk};
 ghost use Rattle.spa_fixed.specs.declared.fault.DeserializeError.TheVariants as error;
 ghost use Rattle.spa_format.specs.Pod.{AreProperties};
@@ -21,7 +21,7 @@ use spa_value::PropertyFlags;
 use std::alloc::Global;
 use std::marker::Model;
 
-/// The input is short, at this place.
+/// The refusal `Nom` with `Short` at this place.
 fn short_at(place: &[u8]) -> DeserializeError<&[u8]>
     ensures { IsShortAt place.now result }
 {
@@ -31,7 +31,7 @@ fn short_at(place: &[u8]) -> DeserializeError<&[u8]>
     })
 }
 
-/// The first place whose key is asked for: the one that was met before, or else this one, if its key is.
+/// The first place of a property whose key `R` asks for: the one that was met before, else this one if its key is asked for.
 #[inline(always)]
 fn first_asked<'de, R: DeserializeProperties<'de>>(
     before: Option<&'de [u8]>,
@@ -49,7 +49,7 @@ fn first_asked<'de, R: DeserializeProperties<'de>>(
 
 /// Reads an object's properties one by one. Once a property was refused, every call answers `FailedReader`.
 ///
-/// In contracts it is the object's type and id, what is left of its body, what follows the object, and whether it has
+/// Its model: the object's type and id, the remaining bytes of its body, the bytes that follow the object, and whether it has
 /// failed.
 #[derive(Drop)]
 pub struct ObjectPodDeserializer<'de> {
@@ -70,7 +70,8 @@ impl<'de> Model for ObjectPodDeserializer<'de> {
 }
 
 impl<'de> ObjectPodDeserializer<'de> {
-    /// The reader of the object at the front of the input.
+    /// The reader of the object at the front of the input. Refusals: `Nom` with `Short` or `Tag`, and `WrongSize` where the body lacks the
+    /// object's type or id.
     pub(crate) fn open(
         deserializer: PodDeserializer<'de>,
     ) -> Result<ObjectPodDeserializer<'de>, DeserializeError<&'de [u8]>>
@@ -106,11 +107,12 @@ impl<'de> ObjectPodDeserializer<'de> {
         self.id
     }
 
-    /// Reads the next property's value as one of this type, with its key and flags; at the end there is none.
+    /// Reads the next property's value as one of the type `P`, and answers it with its key and flags. None: there are no more
+    /// properties.
     ///
-    /// A refusal is `Nom` with `Short`, at the key, where fewer bytes are left than a key and flags; that of the type, of what
-    /// is left of the object's body behind key and flags; or `FailedReader` where a property was refused before. After it the
-    /// reader has failed.
+    /// Refusals: `Nom` with `Short`, at the key, where fewer bytes are left than a key and flags; those of `P`, for the
+    /// remaining bytes of the object's body behind key and flags; and `FailedReader` where a property was refused before. After
+    /// a refusal the reader has failed.
     pub fn deserialize_property<P: PodDeserialize<'de>>(
         &mut self,
     ) -> Result<Option<(P, u32, PropertyFlags)>, DeserializeError<&'de [u8]>>
@@ -148,9 +150,9 @@ impl<'de> ObjectPodDeserializer<'de> {
 
     /// Reads the next property, which has to have this key, and answers its value and its flags.
     ///
-    /// Refusals: `PropertyMissing` at the end, and `PropertyWrongKey` with the next property's key where that is another one;
-    /// the reader then stands behind that property. These two don't make the reader fail. Any other one is that of
-    /// `deserialize_property`.
+    /// Refusals: `PropertyMissing` where there are no more properties, and `PropertyWrongKey` with the next property's key
+    /// where that is another one; the reader is then behind that property. After these two the reader hasn't failed. The others
+    /// are those of `deserialize_property`.
     pub fn deserialize_property_key<P: PodDeserialize<'de>>(
         &mut self,
         key: u32,
@@ -178,22 +180,22 @@ impl<'de> ObjectPodDeserializer<'de> {
         }
     }
 
-    /// Looks for the first property under this key among those that are left, and reads its value as one of this type; where none
-    /// is under the key there is none. The reader stays where it is, so that properties are found in any order. It looks at 16
-    /// bytes of each property before that one, and at nothing behind it.
+    /// Finds the first property with this key among the remaining ones, and reads its value as one of the type `P`. None: no
+    /// property has the key. The reader doesn't move, so that properties can be found in any order. The search reads 16 bytes of
+    /// each property before that one, and nothing behind it.
     ///
-    /// Refusals: `FailedReader` where a property was refused before; `Nom` with `Short` where a property isn't there as its size
-    /// says; else that of the type.
+    /// Refusals: `FailedReader` where a property was refused before; `Nom` with `Short` where the search comes to a property that
+    /// isn't whole; else those of `P`.
     pub fn find_property<P: PodDeserialize<'de>>(
         &self,
         key: u32,
     ) -> Result<Option<P>, DeserializeError<&'de [u8]>>
-        // It is read behind whole properties under other keys, or there are none but these.
+        // The property is behind whole properties with other keys, or there are only such.
         ensures found { self.now.reader.failed ≡ false → IfOk result (FindsIn P.reads key self.now.reader.left) }
-        // Where properties are left, it is the first of them under the key, or there is none.
+        // Where the remaining bytes are properties, it is the first of them with the key, or none has it.
         ensures first { self.now.reader.failed ≡ false → IfOk result (FindsFirst P.reads key self.now.reader.left) }
         ensures stays { self.now.reader.failed ≡ true → IsErrAnd result (λ e. e ≡ error.FailedReader) }
-        // It is refused where a property isn't there, or as the type refuses the first one's value.
+        // A refusal is for a property that isn't whole, or is that of the type for the first one's value.
         ensures refused { self.now.reader.failed ≡ false → IfErr result (RefusesUnder P.refuses key self.now.reader.left) }
     {
         match self.find_from::<P, ()>(key, self.left) {
@@ -202,15 +204,15 @@ impl<'de> ObjectPodDeserializer<'de> {
         }
     }
 
-    /// Finds these properties among those that are left, each the first one under its key, and leaves the reader where it is. Where they
-    /// stand in the order in which they are asked for, one walk over the properties finds them all; a search that finds nothing is one more.
+    /// Finds these properties among the remaining ones, each the first with its key, and doesn't move the reader. Where the object has them in the
+    /// order in which they are asked for, one walk finds them all; each search that finds none takes one walk more.
     ///
-    /// Refusals: `PropertyMissing` where one that has to be there isn't, else those of `find_property`.
+    /// Refusals: `PropertyMissing` where a `Required` one isn't there, else those of `find_property`.
     pub fn find_properties<P: DeserializeProperties<'de>>(
         &self,
     ) -> Result<P, DeserializeError<&'de [u8]>>
         ensures found { self.now.reader.failed ≡ false → IfOk result (λ x. (ps : Properties) → AreProperties ps self.now.reader.left → P.reads_properties ps x) }
-        // A refusal is that of the property that isn't read. But for lack of memory it says that these bytes are no such properties.
+        // A refusal is that of the property that isn't read. Unless it is for want of memory, these bytes are no such properties.
         ensures named { self.now.reader.failed ≡ false → IfErr result (P.refuses_properties self.now.reader.left) }
         ensures refused { self.now.reader.failed ≡ false → IfErr result (λ e. OnFault (NoneRead P.reads_properties self.now.reader.left) e) }
         ensures memory { self.now.reader.failed ≡ false → IfErr result (OnMemory (P.takes_memory self.now.reader.left)) }
@@ -218,8 +220,8 @@ impl<'de> ObjectPodDeserializer<'de> {
         P::find_from(self, self.left)
     }
 
-    /// Looks for the first property under this key from a place on, as `find_property` does. It also answers the place from which those
-    /// that `R` asks for are to be looked for: at the first of them that it met, or else behind what it looked at.
+    /// Finds the first property with this key from a place on, as `find_property` does. It also answers the place from which to search for the
+    /// properties of `R`: that of the first of them which it met, or else the place behind those it walked over.
     #[inline(always)]
     pub(crate) fn find_from<P: PodDeserialize<'de>, R: DeserializeProperties<'de>>(
         &self,
@@ -260,13 +262,13 @@ impl<'de> ObjectPodDeserializer<'de> {
         Ok((None, next.unwrap_or(left)))
     }
 
-    /// Passes all properties that are left, whatever they are. Refusals are those of `deserialize_property` into a `Skipped`; after
-    /// one the reader has failed.
+    /// Checks all remaining properties, of any types, and skips them. The refusals are those of `deserialize_property` into a
+    /// `Skipped`; after one the reader has failed.
     pub fn skip_properties(&mut self) -> Result<(), DeserializeError<&'de [u8]>>
         ensures same { FurtherIn self.old self.new }
         ensures end { OnOk result (AtEnd self.new.reader) }
         ensures failed { OnErr result (self.new.reader.failed ≡ true) }
-        // A reader that has failed stays so, and another one is refused where what was left is no properties.
+        // A reader that has failed stays so, and another one is refused only where the remaining bytes aren't properties.
         ensures stays { self.old.reader.failed ≡ true → IsErrAnd result (λ e. e ≡ error.FailedReader) }
         ensures refused { self.old.reader.failed ≡ false → IfErr result (RefusesProperties self.old.reader.left) }
         ensures memory { self.old.reader.failed ≡ false → IfErr result (OnMemory (HoldsDeep self.old.reader.left)) }
@@ -298,7 +300,7 @@ impl<'de> ObjectPodDeserializer<'de> {
         Ok(DeserializeSuccess::before(self.alloc, self.after))
     }
 
-    /// The allocator that it was given.
+    /// The allocator that the reader was given.
     pub fn allocator(&self) -> Global {
         self.alloc
     }

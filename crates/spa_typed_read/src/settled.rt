@@ -1,4 +1,4 @@
-//! Values that are read through None choices, which fixation leaves in their places.
+//! Values that are read through None choices, which fixation leaves in place of other choices.
 ghost use Rattle.std.specs.Prelude.{◌≡◌, IfNone, IfSome};
 ghost use Rattle.spa_format.specs.Front.{front_of};
 ghost use Rattle.spa_format.specs.Tree.{fixed};
@@ -15,13 +15,13 @@ use spa_rewrite::{Rejected, look_at_pod};
 use spa_utils::SpaTypes;
 use spa_view::{FixedPod, FromPod, Pod};
 
-/// A value of one of the ten types of fixed size, read settled: as it stands there, or as the value of a None choice. Fixation leaves a None
-/// choice of a value where a format has the value, so `Required<KEY, Settled<i32>>` reads a property of any format that is fixated. It
-/// asks for no memory. A None choice over a text or over bytes is no pod, so these are read as they are.
+/// A value of one of the ten types of fixed size, read as itself or as the value of a None choice. Fixation leaves a None choice where a
+/// format had another choice, so `Required<KEY, Settled<i32>>` reads a property of any fixated format. It asks for no memory. A None choice
+/// over a text or over bytes is no pod, so texts and bytes need no `Settled`.
 #[derive(Drop)]
 pub struct Settled<T>(pub T);
 
-/// The pod at the front, where it is a choice's.
+/// The zero-copy view of the pod at the front, where it is a choice's. None: the front isn't there or is of another type.
 #[inline(always)]
 fn choice_at(input: &[u8]) -> Option<Pod<'_>>
     ensures there { IfSome result (λ _. BeginsChoice input.now) }
@@ -35,8 +35,8 @@ fn choice_at(input: &[u8]) -> Option<Pod<'_>>
     Some(pod)
 }
 
-/// Refusals: where no choice is there, those of the type. Of a choice: `InvalidType`, `InvalidChoiceType`, `MissingChoiceValues` and `WrongSize`
-/// where that fault stands in it, and else `UnsupportedType`, for another shape or over another type.
+/// Refusals: where the front is no choice, those of the type. Of a choice: `InvalidType`, `InvalidChoiceType`, `MissingChoiceValues` and
+/// `WrongSize`, each where that fault stands in it, and else `UnsupportedType`, where it is of another shape or over another type.
 impl<'de, T: FixedPod> PodDeserialize<'de> for Settled<T> {
     ghost reads = { λ value it. settled_of value ≡ fixed (T.fixed it.0) };
 

@@ -1,4 +1,4 @@
-//! Typed reads: a pod of one type at the front, and what a visitor makes of it.
+//! Typed reads: reads a pod of one type at the front, and hands its content to a visitor.
 ghost use Rattle.std.specs.Prelude.{◌≡◌, ◌≢◌, ℕ, IfErr, IfOk, map};
 ghost use Rattle.spa_bytes.specs.Opening.{Opens};
 ghost use Rattle.spa_fixed.specs.declared.fault.Refusal.TheVariants as refusal;
@@ -26,8 +26,8 @@ use spa_read::read_any_choice;
 use spa_utils::{Fd, Float32, Float64, Fraction, Id, Rectangle, SpaTypes};
 use std::alloc::Global;
 
-/// Opens the pod at the front of the input, which has to be of this type. Refusals: `Nom` with `Short` where the front isn't
-/// there, else `Nom` with `Tag` where its type number is another one.
+/// Opens the pod at the front of the input, which has to have this type number. Refusals: `Nom` with `Short` where the front isn't there, else
+/// `Nom` with `Tag` where its type number is another one.
 #[inline(always)]
 pub(crate) fn open_as<'de>(
     input: &'de [u8],
@@ -51,8 +51,7 @@ pub(crate) fn open_as<'de>(
     Ok(front)
 }
 
-/// What a visitor is handed of a body of this type, which is any but that of an array, of a struct or of an object. Only a
-/// choice asks for memory.
+/// The content of a body of this type, for a visitor. The type isn't that of arrays, structs or objects. Only a choice asks for memory.
 #[inline(always)]
 fn content<'de, E>(alloc: Global, type_: u32, body: &'de [u8]) -> Result<Visit<'de, E>, Refusal>
     requires no_array { type_ ≢ array_type }
@@ -197,7 +196,7 @@ impl<'de> PodDeserializer<'de> {
         self.deserialize_as(SpaTypes::Double.0, visitor)
     }
 
-    /// Hands a text, which is a part of the input, to the visitor.
+    /// Hands a text, borrowed from the input, to the visitor.
     ///
     /// Refusals: `Nom` with `Short` where the front isn't there, `Nom` with `Tag` where it is of another type, `Nom`
     /// with `Text` where the body is no text with one NUL behind it; else the visitor's.
@@ -211,7 +210,7 @@ impl<'de> PodDeserializer<'de> {
         self.deserialize_as(SpaTypes::String.0, visitor)
     }
 
-    /// Hands bytes, which are a part of the input, to the visitor.
+    /// Hands bytes, borrowed from the input, to the visitor.
     ///
     /// Refusals: `Nom` with `Short` where the front isn't there, `Nom` with `Tag` where it is of another type; else the
     /// visitor's.
@@ -225,7 +224,7 @@ impl<'de> PodDeserializer<'de> {
         self.deserialize_as(SpaTypes::Bytes.0, visitor)
     }
 
-    /// Hands the bytes of a bitmap, which are a part of the input, to the visitor.
+    /// Hands the bytes of a bitmap, borrowed from the input, to the visitor.
     ///
     /// Refusals: `Nom` with `Short` where the front isn't there, `Nom` with `Tag` where it is of another type; else the
     /// visitor's.

@@ -1,4 +1,4 @@
-//! Visitors: what is made of the pod that a typed read finds.
+//! Visitors, which make a value of the pod that a typed read finds.
 ghost use Rattle.std.specs.Prelude.{⊤, ℕ, IfErr, IfOk, List, OnOk};
 ghost use Rattle.std.specs.Borrow.{Bor};
 ghost use Rattle.spa_fixed.specs.declared.fault.DeserializeError.{DeserializeError};
@@ -12,7 +12,7 @@ use spa_fixed::DeserializeError;
 use spa_utils::{Fd, Float32, Float64, Fraction, Id, Rectangle};
 use spa_value::ChoiceValue;
 
-/// What a visitor is handed: the content of any pod but a struct or an object.
+/// The content of a pod, of any type but structs and objects, as it is handed to a visitor.
 #[derive(Drop)]
 pub enum Visit<'de, E> {
     /// No value.
@@ -27,11 +27,11 @@ pub enum Visit<'de, E> {
     Float(Float32),
     /// A float of 64 bits, by its bits.
     Double(Float64),
-    /// A text, which is a part of the input.
+    /// A text, borrowed from the input.
     String(&'de str),
-    /// Bytes, which are a part of the input.
+    /// Bytes, borrowed from the input.
     Bytes(&'de [u8]),
-    /// The bytes of a bitmap, which are a part of the input.
+    /// The bytes of a bitmap, borrowed from the input.
     Bitmap(&'de [u8]),
     /// A width and a height.
     Rectangle(Rectangle),
@@ -49,44 +49,44 @@ pub enum Visit<'de, E> {
     Pointer(u32, u64),
 }
 
-/// The element of the visitors that take no array: it has no value.
+/// The element type of visitors that take no array. It has no values.
 #[derive(Drop)]
 pub enum Never {}
 
 /// Makes a value of the pod that a typed read finds. Each call may decline what it is handed, with any error:
 /// `UnsupportedType` is the usual one.
 pub trait Visitor<'de>: Sized + Drop {
-    /// What it makes.
+    /// The type of the values that the visitor makes.
     type Value: Drop;
 
-    /// The elements of the arrays that it takes; `Never` where it takes none.
+    /// The element type of the arrays that the visitor takes; `Never` where it takes none.
     type ArrayElem;
 
-    /// What it may make of what it is handed.
+    /// The values that the visitor may make of a content.
     ghost visits: { Self → Visit Self.ArrayElem → Self.Value → Type 0 };
 
-    /// What it may make of a struct with these members.
+    /// The values that the visitor may make of a struct with these members.
     ghost visits_struct: { Self → Trees → Self.Value → Type 0 };
 
-    /// What it may make of an object of this type and id, with these properties.
+    /// The values that the visitor may make of an object of this type and id with these properties.
     ghost visits_object: { Self → ℕ → ℕ → Properties → Self.Value → Type 0 };
 
-    /// What it may decline, and how. A visitor that promises nothing of that keeps the default.
+    /// The contents that the visitor may decline, and with which error. A visitor that promises nothing of that keeps the default.
     ghost declines: { Self → Visit Self.ArrayElem → DeserializeError (Bor (List ℕ)) → Type 0 } = { λ _ _ _. ⊤ };
 
-    /// What it may decline of a struct, and how: by the reader as it was lent and as it is left.
+    /// The structs that the visitor may decline, and with which error: by the borrowed reader before and after the call.
     ghost declines_struct: { Self → Reader → Reader → DeserializeError (Bor (List ℕ)) → Type 0 } = { λ _ _ _ _. ⊤ };
 
-    /// How it may leave the reader of a struct where it answers: by the reader as it was lent and as it is left.
+    /// How the visitor may leave the borrowed reader of a struct where it makes a value: by the reader before and after the call.
     ghost leaves_struct: { Self → Reader → Reader → Type 0 } = { λ _ _ _. ⊤ };
 
-    /// What it may decline of an object, and how.
+    /// The objects that the visitor may decline, and with which error.
     ghost declines_object: { Self → ObjectReader → ObjectReader → DeserializeError (Bor (List ℕ)) → Type 0 } = { λ _ _ _ _. ⊤ };
 
-    /// How it may leave the reader of an object where it answers.
+    /// How the visitor may leave the borrowed reader of an object where it makes a value.
     ghost leaves_object: { Self → ObjectReader → ObjectReader → Type 0 } = { λ _ _ _. ⊤ };
 
-    /// Takes the content of a pod that is no struct and no object.
+    /// Makes a value of the content of a pod that is neither a struct nor an object.
     fn visit(
         &self,
         given: Visit<'de, Self::ArrayElem>,
@@ -94,8 +94,8 @@ pub trait Visitor<'de>: Sized + Drop {
         ensures made { IfOk result (λ x. visits self.now given.entry x) }
         ensures declined { IfErr result (λ e. declines self.now given.entry e) };
 
-    /// Reads a struct's members, up to the last one where it succeeds: what it makes is owed only where they are all
-    /// read, and elsewhere the read is refused.
+    /// Reads a struct's members and makes a value of them. It should read all: `made` is owed only then, and otherwise
+    /// the typed read is refused.
     fn visit_struct(
         &self,
         reader: &mut StructPodDeserializer<'de>,
@@ -105,8 +105,8 @@ pub trait Visitor<'de>: Sized + Drop {
         ensures left { OnOk result (leaves_struct self.now reader.old reader.new) }
         ensures made { IfOk result (λ x. AtEnd reader.new → AllMembers reader.old (λ members. visits_struct self.now members x)) };
 
-    /// Reads an object's properties, up to the last one where it succeeds: what it makes is owed only where they are all
-    /// read, and elsewhere the read is refused.
+    /// Reads an object's properties and makes a value of them. It should read all: `made` is owed only then, and otherwise
+    /// the typed read is refused.
     fn visit_object(
         &self,
         reader: &mut ObjectPodDeserializer<'de>,

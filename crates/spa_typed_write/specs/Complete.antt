@@ -9,21 +9,21 @@ use Rattle.spa_format.specs.Typed.{AllPropertiesTyped, AllTyped, IsTyped}
 use Rattle.spa_format.specs.Writable.{HasNul, IsTooLarge, IsWritable, SomeHasNul, SomeTooLarge, SomeValueHasNul, SomeValueTooLarge}
 use Rattle.spa_leaf.specs.Written.{IsExtended, Refusing}
 
--- why a value can't be written: a text in it holds NUL, or a size word is past 32 bits
+-- why a value can't be written: a text in it holds NUL, or a size doesn't fit a word of 32 bits
 abbrev pub Unwritable : Tree → GenError → Type 0
 Unwritable v = RefusedFor (HasNul v) (IsTooLarge v) (λ _. ⊥)
 
--- why a value isn't written behind so many bytes of an output of fixed size: it can't be written, or it doesn't fit
+-- why a value isn't written behind the `held` bytes of an output of fixed size: it can't be written, or it doesn't fit
 abbrev pub RefusesAtLimit : ℕ → ℕ → Tree → GenError → Type 0
 RefusesAtLimit held limit v =
     RefusedFor (HasNul v) (IsTooLarge v) (λ e. (e ≡ Full) × (limit < held + length (encoding_of v)))
 
--- Bytes are refused: a text in them holds NUL, a size word is past 32 bits, or the output as it was may refuse so many bytes.
+-- The refusal of `n` bytes: a text in them holds NUL, a size doesn't fit a word of 32 bits, or the output as it was may refuse `n` bytes.
 -- It is a record, so that lemmas find its arguments.
 pub record RefusesBytes {S : Type 0} (refuses : Refusing S) (old : S) (nul large : Type 0) (n : ℕ) (e : GenError) : Type 0 where
   pub cause : RefusedFor nul large (λ _. ⊥) e ⊎ MayRefuse refuses old n e
 
--- the same of a value's encoding, of members' and of properties'
+-- the refusal of a value's encoding, of members' encodings and of properties
 abbrev pub RefusesValue : {S : Type 0} → Refusing S → S → Tree → GenError → Type 0
 RefusesValue refuses old v = RefusesBytes refuses old (HasNul v) (IsTooLarge v) (length (encoding_of v))
 
@@ -33,20 +33,20 @@ RefusesMembers refuses old vs = RefusesBytes refuses old (SomeHasNul vs) (SomeTo
 abbrev pub RefusesProperties : {S : Type 0} → Refusing S → S → Properties → GenError → Type 0
 RefusesProperties refuses old ps = RefusesBytes refuses old (SomeValueHasNul ps) (SomeValueTooLarge ps) (length (property_encodings ps))
 
--- an output holds what it held and the encoding of this value, which can be written
+-- the encoding of this value, which can be written, was appended to an output
 pub record IsWritten {S : Type 0} (content : S → List ℕ) (refuses : Refusing S) (old : S) (v : Tree) (new : S) : Type 0 where
   pub extended : IsExtended content refuses old (encoding_of v) new
   pub typed : IsTyped v
   pub writable : IsWritable v
 
--- the same of members, one after another
+-- the encodings of these members, which can be written, were appended to an output one after another
 pub record AreWritten {S : Type 0} (content : S → List ℕ) (refuses : Refusing S) (old : S) (vs : Trees) (new : S) : Type 0 where
   pub extended : IsExtended content refuses old (member_encodings vs) new
   pub typed : AllTyped vs
   pub no_nul : ¬ (SomeHasNul vs)
   pub fits : ¬ (SomeTooLarge vs)
 
--- the same of properties
+-- these properties, whose values can be written, were appended to an output one after another, each with key and flags
 pub record ArePropertiesWritten {S : Type 0} (content : S → List ℕ) (refuses : Refusing S) (old : S) (ps : Properties) (new : S) : Type 0 where
   pub extended : IsExtended content refuses old (property_encodings ps) new
   pub typed : AllPropertiesTyped ps

@@ -1,4 +1,4 @@
--- What a successful write hands on: docs/FORMAT.md, "The encoding of a value".
+-- The answer of a successful write: docs/FORMAT.md, "The encoding of a value".
 use Rattle.std.specs.Prelude.{ℕ}
 
 -- the output, and how many bytes were written to it

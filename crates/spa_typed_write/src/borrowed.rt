@@ -1,4 +1,4 @@
-//! Texts, bytes, bitmaps and pointers, written from where they lie.
+//! Writes borrowed texts, bytes and bitmaps, and pointers.
 ghost use Rattle.spa_format.specs.Tree as tree;
 
 use crate::exact::{SerializeAs, write_bitmap, write_bytes, write_pointer, write_text};

@@ -1,4 +1,4 @@
-//! Choices over one of the nine types of fixed size that have bytes.
+//! Writes choices over one of the nine types of fixed size that have bytes.
 ghost use Rattle.spa_fixed.specs.Choices.{choice_tree};
 
 use crate::exact::{SerializeAs, write_alternatives};

@@ -1,4 +1,4 @@
-//! The writer of arrays.
+//! The writer of arrays, element by element.
 ghost use Rattle.std.specs.Prelude.{◌≡◌, ◌+◌, ◌*◌, ◌<◌, ◌≤◌, ◌++◌, ◌⊎◌, IfErr, IfOk, MatchOption, None, OnErr, OnOk, Some, length};
 ghost use Rattle.spa_sink.specs.Writing.{MayRefuse};
 ghost use Rattle.spa_sink.specs.declared.gen_error.GenError.TheVariants.{Failed, TooLarge, WrongCount};
@@ -16,7 +16,7 @@ use spa_sink::{GenError, PodOutput, put_padding};
 use spa_utils::SpaTypes;
 use std::marker::{Model, PhantomData};
 
-/// Writes the elements of an array, one by one. After a refusal it answers `Failed` to every call.
+/// Writes the elements of an array one by one. After a refusal every call answers `Failed`.
 #[derive(Drop)]
 pub struct ArrayPodSerializer<O: PodOutput, P: FixedSizedPod> {
     out: Option<O>,
@@ -37,8 +37,8 @@ impl<O: PodOutput, P: FixedSizedPod> Model for ArrayPodSerializer<O, P> {
 }
 
 impl<O: PodOutput> PodSerializer<O> {
-    /// Begins an array of this many elements. It is refused as `TooLarge` where its body, which is 8 bytes and one element's
-    /// size for each, is 4294967296 bytes or more, and else where the output refuses the 16 bytes before the first.
+    /// Begins an array of `length` elements. Refused as `TooLarge` where its body, which has 8 bytes and the size of each element, has
+    /// 4294967296 bytes or more, and else with the output's error where that refuses the 16 bytes before the first element.
     pub fn serialize_array<P: FixedSizedPod>(
         self,
         length: u32,
@@ -65,8 +65,8 @@ impl<O: PodOutput> PodSerializer<O> {
 }
 
 impl<O: PodOutput, P: FixedSizedPod> ArrayPodSerializer<O, P> {
-    /// Writes one element more, and answers the size of an element. It is refused as `WrongCount` where none is left, and
-    /// else where the output refuses the element's body; as `Failed` after a refusal.
+    /// Writes the next element, and answers its size in bytes. Refused as `Failed` after a refusal, as `WrongCount` where no element is left,
+    /// and else with the output's error where that refuses the element's body.
     pub fn serialize_element(&mut self, element: &P) -> Result<u64, GenError>
         ensures element { OnOk result (GrowsByElement self.old (fixed_body (P.CanonicalType.fixed (P.to_canonical element.now))) self.new) }
         ensures count { IfOk result (λ count. count ≡ P.CanonicalType.SIZE) }
@@ -86,8 +86,8 @@ impl<O: PodOutput, P: FixedSizedPod> ArrayPodSerializer<O, P> {
         Ok(P::CanonicalType::SIZE as u64)
     }
 
-    /// Ends the array. It is refused as `WrongCount` where elements are left, and else where the output refuses the padding;
-    /// as `Failed` after a refusal.
+    /// Ends the array. Refused as `Failed` after a refusal, as `WrongCount` where elements are left, and else with the output's error where that
+    /// refuses the padding.
     pub fn end(self) -> Result<SerializeSuccess<O>, GenError>
         ensures all { OnOk result (MatchOption self ⊥ (λ w. w.left ≡ 0)) }
         ensures pod { IfOk result (λ s. MatchOption self ⊥ (λ w. O.content s.output ≡ w.before ++ framed array_type w.body)) }

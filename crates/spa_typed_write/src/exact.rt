@@ -1,4 +1,4 @@
-//! Types that are written wherever they can be.
+//! Types whose write is refused only where their value can't be written or the output refuses it.
 ghost use Rattle.std.specs.Prelude.{◌≡◌, ◌≤◌, IfErr, OnOk, length, map};
 ghost use Rattle.spa_fixed.specs.Choices.{choice_tree};
 ghost use Rattle.spa_format.specs.Tree as tree;
@@ -19,22 +19,23 @@ use spa_write::write_sized;
 
 /// A type whose write is refused only where its value can't be written, or where the output may refuse its encoding.
 ///
-/// A type that another one is made of has to be one. What `SerializeAs` writes is one, so each built-in type is.
+/// The members and the properties that `write_struct` and `write_object` write have to be of such types. A `SerializeAs` is one, and so is each
+/// built-in type.
 pub trait ExactSerialize: PodSerialize {
-    /// Appends the value's encoding. What a refused write leaves in the output isn't said.
+    /// Appends the value's encoding. The contract doesn't state what a refused write leaves in the output.
     fn write_exactly<O: PodOutput>(&self, out: &mut O) -> Result<(), GenError>
         ensures written { OnOk result (IsWritten O.content O.refuses out.old (Self.value self.now) out.new) }
         ensures refused { IfErr result (RefusesValue O.refuses out.old (Self.value self.now)) };
 }
 
-/// A type that says how it is written: each built-in one, and one of a program's own, by `write_struct` of its members or by
-/// `write_object` of its properties. So it is refused only as `NulInText` where a text in it holds NUL, as `TooLarge` where a
-/// size word is 4294967296 or more, and where the output refuses its encoding.
+/// A type that is written as another value: each built-in type, and a type of a program's own, by `write_struct` of its members or by
+/// `write_object` of its properties. Refused only as `NulInText` where a text in the value holds NUL, as `TooLarge` where a size word would be
+/// 4294967296 or more, and with the output's error where that refuses the encoding.
 pub trait SerializeAs {
-    /// The value that is written.
+    /// The tree of the value that is written.
     ghost says: { Self → Tree };
 
-    /// Appends its encoding. What a refused write leaves in the output isn't said.
+    /// Appends the encoding of that value. The contract doesn't state what a refused write leaves in the output.
     fn write_as<O: PodOutput>(&self, out: &mut O) -> Result<(), GenError>
         ensures written { OnOk result (IsWritten O.content O.refuses out.old (says self.now) out.new) }
         ensures refused { IfErr result (RefusesValue O.refuses out.old (says self.now)) };
@@ -77,7 +78,7 @@ impl SerializeAs for Value {
     }
 }
 
-/// Appends a value of a type of fixed size.
+/// Appends the encoding of a value of a type of fixed size.
 #[inline(always)]
 pub(crate) fn write_number<T: CanonicalFixedSizedPod, O: PodOutput>(
     out: &mut O,
@@ -89,7 +90,7 @@ pub(crate) fn write_number<T: CanonicalFixedSizedPod, O: PodOutput>(
     put_number(out, value)
 }
 
-/// Appends an array of elements of one type of fixed size.
+/// Appends the encoding of an array of these elements.
 pub(crate) fn write_elements<T: CanonicalFixedSizedPod, O: PodOutput>(
     out: &mut O,
     values: &[T],
@@ -100,7 +101,7 @@ pub(crate) fn write_elements<T: CanonicalFixedSizedPod, O: PodOutput>(
     put_elements(out, values)
 }
 
-/// Appends a choice over one type of fixed size.
+/// Appends the encoding of a choice over one type of fixed size.
 pub(crate) fn write_alternatives<T: ChoiceElement, O: PodOutput>(
     out: &mut O,
     choice: &Choice<T>,
@@ -111,7 +112,7 @@ pub(crate) fn write_alternatives<T: ChoiceElement, O: PodOutput>(
     put_alternatives(out, choice)
 }
 
-/// Appends a text.
+/// Appends the encoding of a text.
 pub(crate) fn write_text<O: PodOutput>(out: &mut O, text: &str) -> Result<(), GenError>
     ensures written { OnOk result (IsWritten O.content O.refuses out.old (tree.string text.now) out.new) }
     ensures refused { IfErr result (RefusesValue O.refuses out.old (tree.string text.now)) }
@@ -119,7 +120,7 @@ pub(crate) fn write_text<O: PodOutput>(out: &mut O, text: &str) -> Result<(), Ge
     put_text(out, text)
 }
 
-/// Appends bytes.
+/// Appends the encoding of bytes.
 pub(crate) fn write_bytes<O: PodOutput>(out: &mut O, bytes: &[u8]) -> Result<(), GenError>
     ensures written { OnOk result (IsWritten O.content O.refuses out.old (tree.bytes bytes.now) out.new) }
     ensures refused { IfErr result (RefusesValue O.refuses out.old (tree.bytes bytes.now)) }
@@ -127,7 +128,7 @@ pub(crate) fn write_bytes<O: PodOutput>(out: &mut O, bytes: &[u8]) -> Result<(),
     put_bytes(out, bytes)
 }
 
-/// Appends a bitmap.
+/// Appends the encoding of a bitmap.
 pub(crate) fn write_bitmap<O: PodOutput>(out: &mut O, bytes: &[u8]) -> Result<(), GenError>
     ensures written { OnOk result (IsWritten O.content O.refuses out.old (tree.bitmap bytes.now) out.new) }
     ensures refused { IfErr result (RefusesValue O.refuses out.old (tree.bitmap bytes.now)) }
@@ -135,7 +136,7 @@ pub(crate) fn write_bitmap<O: PodOutput>(out: &mut O, bytes: &[u8]) -> Result<()
     put_bitmap(out, bytes)
 }
 
-/// Appends a pointer.
+/// Appends the encoding of a pointer.
 pub(crate) fn write_pointer<O: PodOutput>(
     out: &mut O,
     type_: u32,

@@ -1,4 +1,4 @@
-//! The writers of structs and objects.
+//! The writers of structs and objects, member by member.
 ghost use Rattle.std.specs.Prelude.{◌≡◌, ◌+◌, ◌<◌, ◌≤◌, [], ◌++◌, ◌⊎◌, IfErr, IfOk, MatchOption, None, OnErr, OnOk, Some, length};
 ghost use Rattle.spa_sink.specs.Writing.{MayRefuse};
 ghost use Rattle.spa_sink.specs.declared.gen_error.GenError.TheVariants.{Failed, TooLarge};
@@ -17,7 +17,7 @@ use spa_utils::SpaTypes;
 use spa_value::PropertyFlags;
 use std::marker::Model;
 
-/// Writes the members of a struct, one by one. After a refusal it answers `Failed` to every call.
+/// Writes the members of a struct one by one. After a refusal every call answers `Failed`.
 #[derive(Drop)]
 pub struct StructPodSerializer<O: PodOutput> {
     pod: OpenPod<O>,
@@ -32,7 +32,7 @@ impl<O: PodOutput> Model for StructPodSerializer<O> {
     ghost view = { λ w. w.pod };
 }
 
-/// Writes the properties of an object, one by one. After a refusal it answers `Failed` to every call.
+/// Writes the properties of an object one by one. After a refusal every call answers `Failed`.
 #[derive(Drop)]
 pub struct ObjectPodSerializer<O: PodOutput> {
     pod: OpenPod<O>,
@@ -48,7 +48,7 @@ impl<O: PodOutput> Model for ObjectPodSerializer<O> {
 }
 
 impl<O: PodOutput> PodSerializer<O> {
-    /// Begins a struct. It is refused only where the output refuses the 8 bytes of the header.
+    /// Begins a struct. Refused only with the output's error, where that refuses the 8 bytes of the header.
     #[inline(always)]
     pub fn serialize_struct(self) -> Result<StructPodSerializer<O>, GenError>
         ensures begun { IfOk result (λ w. w ≡ Some (record { type = struct_type; before = O.content self; body = [] })) }
@@ -60,8 +60,8 @@ impl<O: PodOutput> PodSerializer<O> {
         })
     }
 
-    /// Begins an object of this type, with this id. It is refused only where the output refuses the 8 bytes of the
-    /// header, or the 8 bytes of type and id behind it.
+    /// Begins an object of this type and id. Refused only with the output's error, where that refuses the 8 bytes of the header, or
+    /// the 8 bytes of type and id behind it.
     #[inline(always)]
     pub fn serialize_object(self, type_: u32, id: u32) -> Result<ObjectPodSerializer<O>, GenError>
         ensures begun { IfOk result (λ w. w ≡ Some (record { type = object_type; before = O.content self; body = word_bytes type_ ++ word_bytes id })) }
@@ -76,8 +76,8 @@ impl<O: PodOutput> PodSerializer<O> {
 }
 
 impl<O: PodOutput> StructPodSerializer<O> {
-    /// Writes one member more, and answers how many bytes it took. It is refused as the member is, or where the output
-    /// refuses the member's encoding; as `Failed` after a refusal.
+    /// Writes the next member, and answers the length of its encoding in bytes. Refused as `Failed` after a refusal, as the
+    /// member's type refuses it, and with the output's error where that refuses the encoding.
     #[inline(always)]
     pub fn serialize_field<P: PodSerialize>(&mut self, field: &P) -> Result<u64, GenError>
         ensures member { OnOk result (Grows self.old (encoding_of (P.value field.now)) self.new) }
@@ -90,8 +90,8 @@ impl<O: PodOutput> StructPodSerializer<O> {
         self.pod.put(field)
     }
 
-    /// Ends the struct. It is refused as `TooLarge` exactly where its body is 4294967296 bytes or more, and as `Failed`
-    /// exactly after a refusal.
+    /// Ends the struct. Refused as `Failed` after a refusal, as `TooLarge` where its body has 4294967296 bytes or more, and
+    /// never otherwise.
     #[inline(always)]
     pub fn end(self) -> Result<SerializeSuccess<O>, GenError>
         ensures pod { IfOk result (λ s. MatchOption self ⊥ (λ w. O.content s.output ≡ w.before ++ framed w.type w.body)) }
@@ -105,9 +105,9 @@ impl<O: PodOutput> StructPodSerializer<O> {
 }
 
 impl<O: PodOutput> ObjectPodSerializer<O> {
-    /// Writes one property more, and answers how many bytes it took: 8 of key and flags, and the value's encoding. It is
-    /// refused as the value is, or where the output refuses key and flags or the value's encoding; as `Failed` after a
-    /// refusal.
+    /// Writes the next property, and answers how many bytes it has: 8 of key and flags, and the value's encoding. Refused as
+    /// `Failed` after a refusal, as the value's type refuses it, and with the output's error where that refuses key and flags or
+    /// the encoding.
     #[inline(always)]
     pub fn serialize_property<P: PodSerialize>(
         &mut self,
@@ -126,8 +126,8 @@ impl<O: PodOutput> ObjectPodSerializer<O> {
         self.pod.put_property(key, flags.bits(), value)
     }
 
-    /// Ends the object. It is refused as `TooLarge` exactly where its body is 4294967296 bytes or more, and as `Failed`
-    /// exactly after a refusal.
+    /// Ends the object. Refused as `Failed` after a refusal, as `TooLarge` where its body has 4294967296 bytes or more, and
+    /// never otherwise.
     #[inline(always)]
     pub fn end(self) -> Result<SerializeSuccess<O>, GenError>
         ensures pod { IfOk result (λ s. MatchOption self ⊥ (λ w. O.content s.output ≡ w.before ++ framed w.type w.body)) }

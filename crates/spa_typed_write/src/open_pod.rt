@@ -1,4 +1,4 @@
-//! Structs and objects whose members are written one by one.
+//! A struct or an object that is open: its members or properties are written one by one.
 ghost use Rattle.std.specs.Prelude.{◌≡◌, ◌+◌, ◌<◌, ◌≤◌, [], ◌++◌, ◌⊎◌, IfErr, IfOk, MatchOption, None, OnErr, OnOk, Some, length};
 ghost use Rattle.spa_sink.specs.Writing.{MayRefuse};
 ghost use Rattle.spa_sink.specs.declared.gen_error.GenError.TheVariants.{Failed, TooLarge};
@@ -13,7 +13,7 @@ use spa_leaf::{begin, close};
 use spa_sink::{GenError, PodOutput, put_two};
 use std::marker::Model;
 
-/// A struct or an object that isn't closed. After a refusal its output is given up.
+/// A struct or an object that is open, so that its size word is 0 for now. After a refusal it has no output any more.
 #[derive(Drop)]
 pub(crate) struct OpenPod<O: PodOutput> {
     out: Option<O>,
@@ -33,7 +33,7 @@ impl<O: PodOutput> Model for OpenPod<O> {
 }
 
 impl<O: PodOutput> OpenPod<O> {
-    /// Begins a pod of this type.
+    /// Opens a pod of this type at the end of the output. Refused only where the output refuses the 8 bytes of its header.
     #[inline(always)]
     pub(crate) fn begin_pod(mut out: O, type_: u32) -> Result<OpenPod<O>, GenError>
         ensures begun { IfOk result (λ w. w ≡ Some (record { type = type_; before = O.content out; body = [] })) }
@@ -47,7 +47,7 @@ impl<O: PodOutput> OpenPod<O> {
         })
     }
 
-    /// Appends two words.
+    /// Appends two words to the body.
     #[inline(always)]
     pub(crate) fn put_words(&mut self, first: u32, second: u32) -> Result<(), GenError>
         ensures grown { OnOk result (Grows self.old (word_bytes first ++ word_bytes second) self.new) }
@@ -63,7 +63,7 @@ impl<O: PodOutput> OpenPod<O> {
         Ok(())
     }
 
-    /// Appends a value, and answers how many bytes its encoding has.
+    /// Appends the encoding of a value to the body, and answers its length in bytes.
     #[inline(always)]
     pub(crate) fn put<P: PodSerialize>(&mut self, value: &P) -> Result<u64, GenError>
         ensures encoding { OnOk result (Grows self.old (encoding_of (P.value value.now)) self.new) }
@@ -81,7 +81,7 @@ impl<O: PodOutput> OpenPod<O> {
         Ok(len)
     }
 
-    /// Appends a key, flags and a value, and answers how many bytes they take.
+    /// Appends a key, flags and the encoding of a value to the body, and answers their length in bytes.
     #[inline(always)]
     pub(crate) fn put_property<P: PodSerialize>(
         &mut self,
@@ -108,7 +108,7 @@ impl<O: PodOutput> OpenPod<O> {
         Ok(len)
     }
 
-    /// Writes the size word.
+    /// Closes the pod: writes its size word. Refused as `Failed` after a refusal, and as `TooLarge` where the body has 4294967296 bytes or more.
     #[inline(always)]
     pub(crate) fn close(self) -> Result<SerializeSuccess<O>, GenError>
         ensures pod { IfOk result (λ s. MatchOption self ⊥ (λ w. O.content s.output ≡ w.before ++ framed w.type w.body)) }

@@ -1,4 +1,4 @@
-//! Texts, bytes and values that own what they hold, written as what they lend.
+//! Writes owned texts, bytes and values, as the borrowed ones are written.
 ghost use Rattle.std.specs.Prelude.{string_bytes};
 ghost use Rattle.spa_format.specs.Tree as tree;
 ghost use Rattle.spa_value.specs.View.{view};

@@ -16,14 +16,14 @@ use std::marker::Model;
 
 /// A type that is written as a pod.
 pub trait PodSerialize {
-    /// The value that is written.
+    /// The tree of the value that is written.
     ghost value: { Self → Tree };
 
-    /// What the value itself may be refused for, the output aside. A type that promises nothing here keeps the default.
+    /// The errors with which the type may refuse the value, whatever the output is. A type that promises nothing here keeps the default.
     ghost refuses: { Self → GenError → Type 0 } = { λ _ _. Unit {0} };
 
-    /// Appends the value's encoding to the serializer's output. It is refused for one of the value's own causes, or
-    /// where the output may refuse as many bytes as the encoding has.
+    /// Appends the value's encoding to the serializer's output. Refused as `refuses` states, or with an error with which the
+    /// output may refuse as many bytes as the encoding has.
     fn serialize<O: PodOutput>(
         &self,
         serializer: PodSerializer<O>,
@@ -47,7 +47,7 @@ impl<O: PodOutput> Model for PodSerializer<O> {
     ghost view = { λ s. s.out };
 }
 
-/// A pod was written.
+/// A pod was written: the output, and the length of the pod in bytes.
 #[derive(Drop)]
 pub struct SerializeSuccess<O: PodOutput> {
     pub(crate) out: O,
@@ -63,17 +63,17 @@ impl<O: PodOutput> Model for SerializeSuccess<O> {
 }
 
 impl<O: PodOutput> PodSerializer<O> {
-    /// Writes a value to the end of an output. The answer is the output and the length of the value's encoding. A
-    /// refusal hands back no output.
+    /// Writes a value to the end of an output, and answers the output and the length of the value's encoding in bytes. Refused as the type
+    /// `P` refuses the value, or with an error of the output; the output isn't handed back then.
     pub fn serialize<P: PodSerialize>(out: O, pod: &P) -> Result<(O, u64), GenError>
         ensures encoding { IfOk result (λ done. O.content done.0 ≡ O.content out ++ encoding_of (P.value pod.now)) }
         ensures count { IfOk result (λ done. done.1 ≡ length (encoding_of (P.value pod.now))) }
         ensures typed { OnOk result (IsTyped (P.value pod.now)) }
         ensures writable { OnOk result (IsWritable (P.value pod.now)) }
-        // It reads back as the value's normal form, whatever follows it.
+        // The encoding reads back as the value's normal form, whatever follows it.
         ensures front { OnOk result ((r : List ℕ) → front_of (encoding_of (P.value pod.now) ++ r) ≡ encoding_of (P.value pod.now)) }
         ensures back { OnOk result (IsPod (encoding_of (P.value pod.now)) (normal_of (P.value pod.now))) }
-        // It is refused for the value's own causes, or where the output may refuse so many bytes.
+        // It is refused as the type refuses the value, or as the output may refuse this many bytes.
         ensures cause { IfErr result (λ e. P.refuses pod.now e ⊎ MayRefuse O.refuses out (length (encoding_of (P.value pod.now))) e) }
     {
         encodings_read_back();

@@ -1,4 +1,4 @@
-//! Pods that are written at once.
+//! Writes pods at once.
 ghost use Rattle.std.specs.Prelude.{◌≡◌, ◌-◌, ◌≤◌, ◌++◌, ◌⊎◌, IfErr, IfOk, OnOk, length};
 ghost use Rattle.spa_fixed.specs.Choices.{choice_tree};
 ghost use Rattle.spa_sink.specs.Writing.{MayRefuse, RefusedFor};
@@ -13,7 +13,7 @@ use spa_leaf::{put_alternatives, put_bitmap, put_bytes, put_number, put_pointer,
 use spa_sink::{GenError, PodOutput};
 use spa_utils::Choice;
 
-/// A pod was written to an output that had this length before.
+/// The success of a pod that was written to an output which had `start` bytes before.
 #[inline(always)]
 pub(crate) fn written_since<O: PodOutput>(start: usize, out: O) -> SerializeSuccess<O>
     requires { start ≤ length (O.content out) }
@@ -25,8 +25,8 @@ pub(crate) fn written_since<O: PodOutput>(start: usize, out: O) -> SerializeSucc
 }
 
 impl<O: PodOutput> PodSerializer<O> {
-    /// Writes a value of a type of fixed size, as the value that stands for it. It is refused only where the output refuses
-    /// its encoding.
+    /// Writes a value of a type of fixed size, as its canonical value. Refused only with the output's error, where that refuses the
+    /// encoding.
     #[inline(always)]
     pub fn serialized_fixed_sized_pod<P: FixedSizedPod>(
         self,
@@ -44,8 +44,8 @@ impl<O: PodOutput> PodSerializer<O> {
         Ok(written_since(start, out))
     }
 
-    /// Writes a text. It is refused as `NulInText` where it holds NUL, as `TooLarge` where it has 4294967295 bytes or more,
-    /// and else where the output refuses its encoding.
+    /// Writes a text. Refused as `NulInText` where it holds NUL, as `TooLarge` where it has 4294967295 bytes or more,
+    /// and else with the output's error where that refuses the encoding.
     pub fn serialize_string(self, text: &str) -> Result<SerializeSuccess<O>, GenError>
         ensures encoding { IfOk result (λ s. O.content s.output ≡ O.content self ++ encoding_of (tree.string text.now)) }
         ensures count { IfOk result (λ s. s.count ≡ length (encoding_of (tree.string text.now))) }
@@ -59,8 +59,8 @@ impl<O: PodOutput> PodSerializer<O> {
         Ok(written_since(start, out))
     }
 
-    /// Writes bytes. They are refused as `TooLarge` where they are 4294967296 or more, and else where the output refuses
-    /// their encoding.
+    /// Writes bytes. Refused as `TooLarge` where there are 4294967296 or more, and else with the output's error where that refuses
+    /// the encoding.
     pub fn serialize_bytes(self, bytes: &[u8]) -> Result<SerializeSuccess<O>, GenError>
         ensures encoding { IfOk result (λ s. O.content s.output ≡ O.content self ++ encoding_of (tree.bytes bytes.now)) }
         ensures count { IfOk result (λ s. s.count ≡ length (encoding_of (tree.bytes bytes.now))) }
@@ -74,8 +74,8 @@ impl<O: PodOutput> PodSerializer<O> {
         Ok(written_since(start, out))
     }
 
-    /// Writes a bitmap of these bytes. It is refused as `TooLarge` where they are 4294967296 or more, and else where the
-    /// output refuses its encoding.
+    /// Writes a bitmap of these bytes. Refused as `TooLarge` where there are 4294967296 or more, and else with the output's error where
+    /// that refuses the encoding.
     pub fn serialize_bitmap(self, bytes: &[u8]) -> Result<SerializeSuccess<O>, GenError>
         ensures encoding { IfOk result (λ s. O.content s.output ≡ O.content self ++ encoding_of (tree.bitmap bytes.now)) }
         ensures count { IfOk result (λ s. s.count ≡ length (encoding_of (tree.bitmap bytes.now))) }
@@ -89,8 +89,8 @@ impl<O: PodOutput> PodSerializer<O> {
         Ok(written_since(start, out))
     }
 
-    /// Writes a choice. It is refused as `TooLarge` where its body is 4294967296 bytes or more, which is 16 and the size of a
-    /// value for each of them, and else where the output refuses its encoding.
+    /// Writes a choice. Refused as `TooLarge` where its body, which has 16 bytes and the size of each value, has 4294967296 bytes or more,
+    /// and else with the output's error where that refuses the encoding.
     pub fn serialize_choice<T: ChoiceElement>(
         self,
         choice: &Choice<T>,
@@ -107,7 +107,7 @@ impl<O: PodOutput> PodSerializer<O> {
         Ok(written_since(start, out))
     }
 
-    /// Writes a pointer: a type number and an address. It is refused only where the output refuses its encoding.
+    /// Writes a pointer: a type number and an address. Refused only with the output's error, where that refuses the encoding.
     pub fn serialize_pointer(
         self,
         type_: u32,

@@ -17,7 +17,7 @@ tree_with c volume =
     (join_properties (property_views c.before.properties.items)
     (property PROP_VOLUME c.flags.0 (fixed (kind.float volume)) (property_views c.behind.properties.items)))
 
--- with its own
+-- the object of a control with its own volume
 abbrev pub control_tree : Control → Tree
 control_tree c = tree_with c c.volume.0
 
@@ -46,7 +46,7 @@ pub record IsChanged (input : List ℕ) (volume : ℕ) (bytes : List ℕ) : Type
   pub is_read : IsControl control value
   pub encoding : bytes ≡ encoding_of (tree_with control volume)
 
--- the same, but with this volume it can't be written
+-- an input begins with a control, which with this volume can't be written
 pub record IsUnwritable (input : List ℕ) (volume : ℕ) : Type 0 where
   pub control : Control
   pub value : Tree

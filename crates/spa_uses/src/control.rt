@@ -20,13 +20,13 @@ use libspa::utils::Float32;
 use spa_names::keys;
 use std::alloc::{AllocError, Global};
 
-/// Properties that are kept as they are. What they hold may be nested deep, so they are let go by a loop.
+/// Properties that are kept unchanged. They are dropped by a loop, at any nesting depth.
 pub struct Kept {
     pub properties: Vec<Property>,
 }
 
 impl Kept {
-    /// The properties, of which the caller disposes.
+    /// The properties, which the caller has to drop.
     pub fn into_properties(self) -> Vec<Property>
         ensures { result.items ≡ self.properties.items }
     {
@@ -46,7 +46,7 @@ impl Drop for Kept {
     }
 }
 
-/// A volume, and all else that its object says.
+/// A volume, and all other properties of its object.
 #[derive(Drop)]
 pub struct Control {
     /// The object's type.
@@ -64,7 +64,7 @@ pub struct Control {
 }
 
 impl Control {
-    /// The object, as it was but for what was assigned. Refused only for lack of memory.
+    /// The object, unchanged but for what was assigned. Refused only for want of memory.
     pub fn into_object(self) -> Result<Object, AllocError>
         ensures { IfOk result (λ o. object_view o ≡ control_tree self) }
     {
@@ -92,8 +92,8 @@ impl Control {
     }
 }
 
-/// An object in which a volume stands: all that it says is kept. The first volume counts. It is refused, but for memory, exactly
-/// where no such object is there.
+/// An object with a volume, all of whose properties are kept. The first volume counts. It is refused, but for want of memory, exactly
+/// where the front is no such object.
 impl<'de> PodDeserialize<'de> for Control {
     ghost reads = { λ value control. IsControl control value };
 
@@ -125,7 +125,7 @@ fn control_in<'de>(value: Value) -> Result<Control, DeserializeError<&'de [u8]>>
     }
 }
 
-/// The object taken apart at its first volume. Refusals: `PropertyMissing`, `UnsupportedType` where that property isn't a
+/// Splits the object at its first volume. Refusals: `PropertyMissing` where there is none, `UnsupportedType` where its value isn't a
 /// Float, and `OutOfMemory`.
 fn control_of<'de>(object: Object) -> Result<Control, DeserializeError<&'de [u8]>>
     ensures made { IfOk result (λ control. IsControl control (object_view object)) }
@@ -160,7 +160,7 @@ fn control_of<'de>(object: Object) -> Result<Control, DeserializeError<&'de [u8]
     })
 }
 
-/// The number of a Float, and none of another value.
+/// The number of a Float. None: the value is another one.
 fn float_of(value: &Value) -> Option<Float32>
     ensures some { IfSome result (λ x. view value.now ≡ fixed (kind.float x.0)) }
     ensures none { IfNone result ((n : ℕ) → view value.now ≢ fixed (kind.float n)) }
@@ -172,7 +172,7 @@ fn float_of(value: &Value) -> Option<Float32>
     }
 }
 
-/// Where the first volume stands.
+/// The index of the first volume. None: there is none.
 fn volume_place(properties: &[Property]) -> Option<usize>
     ensures { result ≡ position (λ p. p.key == keys.PROP_VOLUME) properties.now }
 {

@@ -9,7 +9,7 @@ use libspa::pod::serialize::{GenError, PodOutput, SerializeAs, write_struct};
 use libspa::pod::{Held, Value};
 use libspa::utils::Id;
 
-/// A value under an id. It may be nested as deep as the bytes of others say, so it is let go by a loop.
+/// A value under an id. Untrusted bytes decide its nesting depth, so it is dropped by a loop.
 #[derive(Drop)]
 pub struct Tagged {
     pub id: Id,

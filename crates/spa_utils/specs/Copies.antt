@@ -1,4 +1,4 @@
--- What a copy of a choice keeps: docs/FORMAT.md, "Choices".
+-- Copies of choices: docs/FORMAT.md, "Choices".
 use Rattle.std.specs.Prelude.{◌≡◌}
 use Rattle.spa_utils.specs.declared.choice.Choice.{Choice}
 use Rattle.spa_utils.specs.declared.choice.ChoiceEnum.{ChoiceEnum}

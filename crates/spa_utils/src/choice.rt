@@ -1,4 +1,4 @@
-//! Choices: a value that stands among others.
+//! Choices: a default, and the values that may be taken in its place.
 ghost use Rattle.std.specs.Prelude.{⊤, ◌≡◌, [], ◌∷◌, codes, IfOk, nat_eq};
 ghost use Rattle.std.proofs.Common.{rules};
 ghost use Rattle.std.specs.Cmp.Lexicographic.{pointwise};
@@ -23,7 +23,7 @@ impl<T: Copy> Clone for Choice<T> {
     }
 }
 
-/// The flags of a choice. None has a meaning yet, and all bits are kept.
+/// The flags word of a choice. No bit has a meaning yet, and all bits are kept.
 #[derive(Clone, Copy, Debug, PartialEq, Eq)]
 pub struct ChoiceFlags(u32);
 
@@ -154,7 +154,7 @@ impl<T: Copy> Clone for ChoiceEnum<T> {
     }
 }
 
-/// The same elements, by the allocator of the given ones.
+/// A copy of the elements, in memory of the list's allocator. Refused only for want of memory.
 #[inline(always)]
 fn copy_of<T: Copy>(values: &Vec<T>) -> Result<Vec<T>, AllocError>
     ensures { IfOk result (λ copy. copy.items ≡ values.now.items) }

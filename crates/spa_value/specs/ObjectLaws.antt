@@ -13,7 +13,7 @@ ObjectsHaveTheirFields =
     (o : Object) →
     object_view o ≡ object (out-Object o).type_ (out-Object o).id (property_views (out-Object o).properties.items)
 
--- and so has that of an object that is made of these
+-- and the tree of an object that is made of a type, an id and properties has these
 abbrev pub ObjectsAreMadeOfFields : Type 0
 ObjectsAreMadeOfFields =
     (type id : ℕ) (ps : Vec Property Global) →

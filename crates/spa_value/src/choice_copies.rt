@@ -1,4 +1,4 @@
-//! Copies of choices, each put where it is kept as soon as it is made.
+//! Copies choices, each into the place where it will stay.
 ghost use Rattle.std.specs.Prelude.{◌≡◌, OnOk, map};
 ghost use Rattle.spa_fixed.specs.Choices.{choice_enum_tree, choice_tree};
 ghost use Rattle.spa_format.specs.Tree.{choice, enum_choice, flags_choice};
@@ -15,7 +15,7 @@ use std::alloc::AllocError;
 
 /// One of the nine types that a choice may be over.
 trait Chosen: ChoiceElement {
-    /// A choice over it, as one over any of the nine.
+    /// The choice over this type as a variant of `ChoiceValue`.
     fn among(choice: Choice<Self>) -> ChoiceValue
         ensures { choice_view result ≡ choice_tree Self.kind Self.fixed choice };
 }
@@ -101,7 +101,7 @@ impl Chosen for Fd {
     }
 }
 
-/// Puts the copy of a choice.
+/// Puts the copy of a choice into `to`. Refused only for want of memory.
 #[inline(never)]
 pub(crate) fn put_choice<T: Takes>(choice: &ChoiceValue, to: &mut T) -> Result<(), AllocError>
     requires { T.has_room to.old }
@@ -120,7 +120,8 @@ pub(crate) fn put_choice<T: Takes>(choice: &ChoiceValue, to: &mut T) -> Result<(
     }
 }
 
-/// The same of a choice over one of the nine. Each shape's copy is put by its own arm, so that none is moved twice.
+/// Puts the copy of a choice over one of the nine types into `to`. The copy of each shape is put by an arm of its own, so that no copy is moved
+/// twice.
 #[inline(always)]
 fn put_values<C: Chosen, T: Takes>(choice: &Choice<C>, to: &mut T) -> Result<(), AllocError>
     requires { T.has_room to.old }
@@ -159,9 +160,9 @@ fn put_values<C: Chosen, T: Takes>(choice: &Choice<C>, to: &mut T) -> Result<(),
     Ok(())
 }
 
-// Those with a list take memory: they stand apart so that nothing is set aside for it where there is none.
+// Copies with a list take memory: they are functions of their own, so that copies without one need no stack for them.
 
-/// Puts the copy of a choice of this default and these alternatives.
+/// Puts the copy of an Enum choice, with this default and these alternatives, into `to`. Refused only for want of memory.
 #[inline(never)]
 fn put_enum<C: Chosen, T: Takes>(
     flags: ChoiceFlags,
@@ -181,7 +182,7 @@ fn put_enum<C: Chosen, T: Takes>(
     Ok(())
 }
 
-/// Puts the copy of a choice of this default and these flags among its values.
+/// Puts the copy of a Flags choice, with this default and these values behind it, into `to`. Refused only for want of memory.
 #[inline(never)]
 fn put_flags<C: Chosen, T: Takes>(
     flags: ChoiceFlags,
@@ -201,7 +202,7 @@ fn put_flags<C: Chosen, T: Takes>(
     Ok(())
 }
 
-/// Puts a choice of these flags and values.
+/// Puts a choice with this flags word and these values into `to`.
 #[inline(always)]
 fn put_made<C: Chosen, T: Takes>(flags: ChoiceFlags, values: ChoiceEnum<C>, to: &mut T)
     requires { T.has_room to.old }

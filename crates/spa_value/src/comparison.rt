@@ -1,4 +1,4 @@
-//! Two values compared up to the structs and objects in them.
+//! Compares two values up to the structs and objects in them.
 ghost use Rattle.std.specs.Prelude.{◌≡◌, IsTrue, true};
 ghost use Rattle.spa_format.specs.Tree.{member_node_count, object, property_node_count};
 ghost use Rattle.spa_value.specs.Comparison.{Compares, Steps, first_count, pair_eq};
@@ -9,33 +9,33 @@ ghost use Rattle.spa_value.specs.Views.{property_views, views};
 use crate::object::{Object, Property};
 use crate::value::Value;
 
-/// What is left to compare of two structs or of two objects.
+/// What is left to compare of two containers of one type: two structs' members, or two objects' properties.
 #[derive(Clone, Copy)]
 pub(crate) enum Pair<'a> {
     Members(&'a [Value], &'a [Value]),
     Properties(&'a [Property], &'a [Property]),
 }
 
-/// How two values compare.
+/// How two values compare, without the contents of containers.
 #[derive(Clone, Copy)]
 pub(crate) enum Verdict<'a> {
-    /// They are equal, or they aren't.
+    /// It is settled: whether they are equal.
     Settled(bool),
-    /// They are equal where all that is in them is.
+    /// They are equal exactly where these contents of the two are.
     Inside(Pair<'a>),
 }
 
-/// How two structs or two objects compare, as far as they are gone through.
+/// How far a comparison of two structs' members, or of two objects' properties, has come.
 #[derive(Clone, Copy)]
 pub(crate) enum Step<'a> {
-    /// They are equal, or they aren't.
+    /// It is settled: whether they are equal.
     Ended(bool),
-    /// They are equal where two others in them are, and what is left behind those.
+    /// They are equal exactly where the contents of the next two containers in them are, and what is left behind those two.
     Inside(Pair<'a>, Pair<'a>),
 }
 
-/// The answer where the value has this variant, and false elsewhere. (Of a guard, as `matches!` has it, the proof would
-/// not learn that the value is of another variant.)
+/// The answer where the value has this variant, and false otherwise. (From a guard, as in `matches!`, the proof would not learn that the value
+/// is of another variant.)
 macro_rules! where_of {
     ($value:expr, $variant:pat => $answer:expr) => {
         match $value {
@@ -45,7 +45,7 @@ macro_rules! where_of {
     };
 }
 
-/// Compares two values. Of two structs, or of two objects of one type and one id, what is in them isn't looked at.
+/// Compares two values, but not the contents of two structs, or of two objects of one type and one id, which it answers.
 #[inline(always)]
 pub(crate) fn compare<'a>(value: &'a Value, other: &'a Value) -> Verdict<'a>
     ensures { Compares (view value.now) (view other.now) result }
@@ -78,7 +78,7 @@ pub(crate) fn compare<'a>(value: &'a Value, other: &'a Value) -> Verdict<'a>
     }
 }
 
-/// The same of two objects.
+/// Compares the types and the ids of two objects, and answers their properties where those are equal.
 #[inline(always)]
 pub(crate) fn compare_objects<'a>(object: &'a Object, other: &'a Object) -> Verdict<'a>
     ensures { Compares (object_view object.now) (object_view other.now) result }
@@ -90,7 +90,7 @@ pub(crate) fn compare_objects<'a>(object: &'a Object, other: &'a Object) -> Verd
 }
 
 impl<'a> Pair<'a> {
-    /// Compares on, to the next two structs or objects, to a difference or to the end.
+    /// Compares up to the next two containers of one type, to a difference or to the end.
     #[inline(always)]
     pub(crate) fn step(self) -> Step<'a>
         ensures { Steps (pair_eq self.entry) (first_count self.entry) result }
@@ -113,7 +113,7 @@ impl<'a> Pair<'a> {
     }
 }
 
-/// Compares members on.
+/// Compares members up to the next two containers of one type, to a difference or to the end.
 #[inline(always)]
 fn members_step<'a>(members: &'a [Value], others: &'a [Value]) -> Step<'a>
     ensures { Steps (members_eq (views members.now) (views others.now)) (member_node_count (views members.now)) result }
@@ -137,7 +137,7 @@ fn members_step<'a>(members: &'a [Value], others: &'a [Value]) -> Step<'a>
     Step::Ended(others_left.is_empty())
 }
 
-/// Compares properties on.
+/// Compares properties up to the next two values that are containers of one type, to a difference or to the end.
 #[inline(always)]
 fn properties_step<'a>(properties: &'a [Property], others: &'a [Property]) -> Step<'a>
     ensures { Steps (properties_eq (property_views properties.now) (property_views others.now)) (property_node_count (property_views properties.now)) result }

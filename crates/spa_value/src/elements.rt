@@ -1,11 +1,11 @@
-//! Lists of elements compared in blocks.
+//! Compares lists of elements in blocks.
 ghost use Rattle.std.specs.Prelude.{◌≡◌, length};
 ghost use Rattle.std.specs.Cmp.Lexicographic.{pointwise};
 
-/// How many elements are compared before the first look at how they compare: so many become vectors, with one branch for all.
+/// How many elements are compared before a branch on the outcome: the compiler makes vector instructions of a block.
 const BLOCK_COUNT: usize = 128;
 
-/// Whether two lists are equal element by element, as `==` tells.
+/// Whether two lists are of one length and equal element by element, by `==` of the elements.
 #[inline(always)]
 pub(crate) fn same_elements<T: PartialEq>(elements: &Vec<T>, others: &Vec<T>) -> bool
     ensures { result ≡ pointwise T.eq elements.now.items others.now.items }
@@ -13,7 +13,7 @@ pub(crate) fn same_elements<T: PartialEq>(elements: &Vec<T>, others: &Vec<T>) ->
     same_slices(elements.as_slice(), others.as_slice())
 }
 
-/// The same of slices.
+/// Whether two slices are of one length and equal element by element, by `==` of the elements.
 #[inline(always)]
 fn same_slices<T: PartialEq>(elements: &[T], others: &[T]) -> bool
     ensures { result ≡ pointwise T.eq elements.now others.now }
@@ -35,7 +35,7 @@ fn same_slices<T: PartialEq>(elements: &[T], others: &[T]) -> bool
     left == others_left
 }
 
-/// Whether two blocks are equal element by element.
+/// Whether two blocks of `BLOCK_COUNT` elements are equal element by element.
 #[inline(always)]
 fn same_block<T: PartialEq>(block: &[T], other: &[T]) -> bool
     requires len { length block.now ≡ BLOCK_COUNT }

@@ -1,4 +1,4 @@
-//! The properties of an object that is made one by one, taken apart by a loop where they go out of scope.
+//! The properties of an object that a macro makes one by one; they are dropped by a loop where they go out of scope.
 ghost use Rattle.std.specs.Prelude.{◌≡◌, ◌++◌, ◌∷◌, [], IfErr, OnErr, OnOk};
 ghost use Rattle.spa_value.specs.declared.object.Object.{out-Object};
 
@@ -9,8 +9,8 @@ use spa_utils::Errno;
 use std::alloc::Global;
 use std::marker::Model;
 
-/// The properties that an object of a macro has so far, in order. What they hold may be nested deep: where they aren't handed over,
-/// they are taken apart by `discard`.
+/// The properties, in order, that an object of a macro has so far. Where they aren't handed over, `discard` drops their values, at any nesting
+/// depth.
 #[doc(hidden)]
 pub struct HeldProperties {
     properties: Vec<Property>,
@@ -30,7 +30,7 @@ impl Model for HeldProperties {
 }
 
 impl HeldProperties {
-    /// None.
+    /// No properties.
     pub fn new(alloc: Global) -> HeldProperties
         ensures { result ≡ [] }
     {
@@ -39,7 +39,7 @@ impl HeldProperties {
         }
     }
 
-    /// Puts a property behind the others. Where there is no memory for it they stay, and the answer is NOMEM.
+    /// Appends a property. Refused as NOMEM where there is no memory for it: the properties stay as they were.
     pub fn put(&mut self, property: Property) -> Result<(), Errno>
         ensures put { OnOk result (self.new ≡ self.old ++ property ∷ []) }
         ensures kept { OnErr result (self.new ≡ self.old) }
@@ -53,7 +53,7 @@ impl HeldProperties {
         Ok(())
     }
 
-    /// The object of these properties.
+    /// The object with this type, this id and these properties.
     pub fn into_object(self, type_: u32, id: u32) -> Object
         ensures type_ { (out-Object result).type_ ≡ type_ }
         ensures id { (out-Object result).id ≡ id }

@@ -1,4 +1,4 @@
-//! Copies of what lies in a struct or in an object, made by a loop over those that are begun.
+//! Copies structs and objects by a loop, with an explicit stack of the containers whose copies are begun.
 ghost use Rattle.std.specs.Prelude.{◌≡◌, ◌++◌, ◌∷◌, ◌<◌, ◌≤◌, [], IfNone, IfOk, IfSome, OnOk, vec_capacity, vec_len};
 ghost use Rattle.spa_value.specs.NestedCopies.{Begins, CopiesOn, Ends, HasPlace, Steps, TakesMember, TakesProperty, completed, copied, nested_view, so_far, values_left, whole};
 ghost use Rattle.spa_value.specs.View.{object_view, view};
@@ -15,14 +15,14 @@ use bitflags::Flags;
 use std::alloc::{AllocError, Global};
 use std::mem;
 
-/// A struct that is copied: the copies so far, and what is left behind their sources.
+/// A struct whose copy is begun: the copies of its members so far, and the members that are left to copy.
 #[derive(Drop)]
 pub(crate) struct CopiedStruct<'a> {
     copies: Vec<Value>,
     left: &'a [Value],
 }
 
-/// The same of an object.
+/// An object whose copy is begun: the copies of its properties so far, and the properties that are left to copy.
 #[derive(Drop)]
 pub(crate) struct CopiedObject<'a> {
     type_: u32,
@@ -35,14 +35,14 @@ pub(crate) struct CopiedObject<'a> {
     left: &'a [Property],
 }
 
-/// A struct or an object whose copy is begun.
+/// A container whose copy is begun.
 #[derive(Drop)]
 pub(crate) enum Copying<'a> {
     Struct(CopiedStruct<'a>),
     Object(CopiedObject<'a>),
 }
 
-/// A struct or an object that is to be copied.
+/// A borrowed container that is to be copied.
 #[derive(Clone, Copy)]
 pub(crate) enum Nested<'a> {
     Struct(&'a Vec<Value>),
@@ -120,7 +120,7 @@ fn begin_object(object: &Object) -> Result<CopiedObject<'_>, AllocError>
 }
 
 impl<'a> CopiedStruct<'a> {
-    /// Copies on, to the next struct or object among the members, or to their end.
+    /// Copies members up to the next that is a struct or an object, which is answered, or all of them. Refused only for want of memory.
     #[inline(always)]
     fn copy_on(&mut self) -> Result<Option<Nested<'a>>, AllocError>
         ensures { IfOk result (λ nested. CopiesOn (copying_variant.Struct self.old) nested (copying_variant.Struct self.new)) }
@@ -139,7 +139,7 @@ impl<'a> CopiedStruct<'a> {
 }
 
 impl<'a> CopiedObject<'a> {
-    /// Copies on, to the next struct or object among the values of the properties, or to their end.
+    /// Copies properties up to the next whose value is a struct or an object, which is answered, or all of them. Refused only for want of memory.
     #[inline(always)]
     fn copy_on(&mut self) -> Result<Option<Nested<'a>>, AllocError>
         ensures { IfOk result (λ nested. CopiesOn (copying_variant.Object self.old) nested (copying_variant.Object self.new)) }
@@ -160,7 +160,7 @@ impl<'a> CopiedObject<'a> {
 }
 
 impl<'a> Copying<'a> {
-    /// Copies on, to the next struct or object in it, or to its end.
+    /// Copies up to the next container in this one, which is answered, or to its end. Refused only for want of memory.
     #[inline(always)]
     fn copy_on(&mut self) -> Result<Option<Nested<'a>>, AllocError>
         ensures { IfOk result (λ nested. CopiesOn self.old nested self.new) }
@@ -178,7 +178,7 @@ impl<'a> Copying<'a> {
         }
     }
 
-    /// Makes room for one more copy.
+    /// Makes room for one more copy. Refused only for want of memory.
     #[inline(always)]
     fn reserve(&mut self) -> Result<(), AllocError>
         ensures place { OnOk result (HasPlace self.new) }
@@ -191,7 +191,7 @@ impl<'a> Copying<'a> {
         }
     }
 
-    /// Puts the copy of the member or of the property's value that was begun behind the others.
+    /// Appends the copy of the member, or of the property's value, at which copying stopped.
     #[inline(always)]
     fn put(&mut self, value: Value)
         requires { HasPlace self.old }
@@ -208,7 +208,7 @@ impl<'a> Copying<'a> {
         }
     }
 
-    /// The value of the copies so far.
+    /// The struct or object of the copies so far.
     #[inline(always)]
     fn into_value(self) -> Value
         ensures { view result ≡ so_far self.entry }
@@ -224,17 +224,17 @@ impl<'a> Copying<'a> {
     }
 }
 
-/// Structs and objects whose copies are begun, each within the one before.
+/// The containers whose copies are begun, each inside the one before.
 #[derive(Drop)]
 pub(crate) struct Copies<'a> {
     inner: Copying<'a>,
-    /// Those around the innermost, the outermost first.
+    /// The containers around the innermost, the outermost first.
     around: Vec<Copying<'a>>,
 }
 
 impl<'a> Copies<'a> {
-    /// Copies on, to the next struct or object, which is begun, or to the end of the innermost, which is put into the one
-    /// around it. Whether something is left to copy: where not, the innermost is the outermost, and is copied.
+    /// Copies up to the next container, whose copy is begun, or to the end of the innermost, which is put into the one around it. Answers whether
+    /// there is more to do: if not, the innermost is the outermost, and is copied. Refused only for want of memory.
     #[inline(always)]
     fn step(&mut self) -> Result<bool, AllocError>
         ensures { IfOk result (λ goes_on. Steps goes_on self.old self.new) }
@@ -252,7 +252,7 @@ impl<'a> Copies<'a> {
         Ok(true)
     }
 
-    /// Puts the innermost, which is copied, into the one around it. Whether there is one.
+    /// Puts the innermost, whose copy is whole, into the one around it. Answers whether there is one around it.
     #[inline(always)]
     fn end(&mut self) -> Result<bool, AllocError>
         ensures { IfOk result (λ goes_on. Ends goes_on self.old self.new) }
@@ -270,7 +270,7 @@ impl<'a> Copies<'a> {
         Ok(true)
     }
 
-    /// Takes the copies apart, by loops: they may be nested deep.
+    /// Drops the copies by loops, at any nesting depth.
     #[cold]
     #[inline(never)]
     fn give_up(self) {
@@ -282,7 +282,7 @@ impl<'a> Copies<'a> {
     }
 }
 
-/// Copies a struct or an object.
+/// Copies a container. Refused only for want of memory.
 #[inline(always)]
 pub(crate) fn copy_nested(nested: Nested<'_>) -> Result<Value, AllocError>
     ensures { IfOk result (λ copy. view copy ≡ nested_view nested.entry) }
@@ -293,7 +293,7 @@ pub(crate) fn copy_nested(nested: Nested<'_>) -> Result<Value, AllocError>
     }
 }
 
-/// Copies a struct: at once where no struct or object is in it.
+/// Copies a struct, without a stack where it has no container in it. Refused only for want of memory.
 #[inline(never)]
 pub(crate) fn struct_copy(members: &Vec<Value>) -> Result<Value, AllocError>
     ensures { IfOk result (λ copy. view copy ≡ struct (views members.now.items)) }
@@ -305,7 +305,7 @@ pub(crate) fn struct_copy(members: &Vec<Value>) -> Result<Value, AllocError>
     }
 }
 
-/// Copies an object: at once where no struct or object is in it.
+/// Copies an object, without a stack where it has no container in it. Refused only for want of memory.
 #[inline(never)]
 pub(crate) fn object_copy(object: &Object) -> Result<Value, AllocError>
     ensures { IfOk result (λ copy. view copy ≡ object_view object.now) }
@@ -321,7 +321,7 @@ pub(crate) fn object_copy(object: &Object) -> Result<Value, AllocError>
     }
 }
 
-/// Copies the rest of a begun struct or object, from this one in it on, by a loop.
+/// Copies the container `nested` and what is left behind it of the one whose copy is begun, by a loop. Refused only for want of memory.
 #[inline(never)]
 fn copy_within<'a>(outermost: Copying<'a>, nested: Nested<'a>) -> Result<Value, AllocError>
     ensures { IfOk result (λ copy. view copy ≡ completed outermost.entry (nested_view nested.entry)) }

@@ -1,26 +1,26 @@
-//! Where a value is put as soon as it is made, so that it isn't moved on its way.
+//! Places into which a value is put as soon as it is made, so that it isn't moved again.
 ghost use Rattle.std.specs.Prelude.{◌≡◌, ⊤, IsSomeAnd};
 ghost use Rattle.spa_format.specs.Tree.{Tree};
 ghost use Rattle.spa_value.specs.View.{view};
 
 use crate::value::Value;
 
-/// What takes a value that is read or copied.
+/// A place that takes a value that is read or copied.
 #[doc(hidden)]
 pub trait Takes {
-    /// There is room for it.
+    /// There is room for a value.
     ghost has_room: { Self → Type 0 };
 
-    /// What it was, the tree of the value that it took, and what it is.
+    /// The relation of the place before, the tree of the value that it took, and the place after.
     ghost takes: { Self → Tree → Self → Type 0 };
 
-    /// Puts the value there.
+    /// Puts the value into the place.
     fn put(&mut self, value: Value)
         requires { has_room self.old }
         ensures { takes self.old (view value) self.new };
 }
 
-/// A lone value.
+/// A place for one value: what was in it before is dropped.
 impl Takes for Option<Value> {
     ghost has_room = { λ _. ⊤ };
 

@@ -28,7 +28,7 @@ fn struct_of(members: Result<Vec<Value>, AllocError>) -> Result<Value, AllocErro
     Ok(Value::Struct(members?))
 }
 
-/// The same elements.
+/// A copy of the elements.
 fn copied<T: Copy>(alloc: Global, elements: &[T]) -> Result<Vec<T>, AllocError> {
     let mut copy = Vec::new(alloc);
     copy.extend_from_slice(elements)?;
@@ -450,7 +450,7 @@ pub(crate) fn objects(alloc: Global) -> Result<Vec<Object>, AllocError> {
     single(alloc, object)
 }
 
-/// So many structs, each but the innermost holding one.
+/// This many structs, each nested in the one before.
 fn nested_structs(alloc: Global, count: usize) -> Result<Value, AllocError> {
     let mut value = Value::Struct(Vec::new(alloc));
     for _ in 1..count {
@@ -459,7 +459,7 @@ fn nested_structs(alloc: Global, count: usize) -> Result<Value, AllocError> {
     Ok(value)
 }
 
-/// How many structs stand in one another, and one alone.
+/// How many structs are nested in one another, and one alone.
 const DEPTHS: &[usize] = &[301, 1];
 
 /// Structs nested deep, and one struct.

@@ -1,4 +1,4 @@
-//! Views of arrays and choices, and their values, read where they lie.
+//! Zero-copy views of arrays and choices, and of their values.
 ghost use Rattle.std.specs.Prelude.{◌≡◌, ◌≤◌, ◌<◌, ◌∷◌, ◌^◌, List, ℕ, IfErr, IfOk, OnOk, drop, length};
 ghost use Rattle.spa_format.specs.Faults.{choice_header_size};
 ghost use Rattle.spa_format.specs.Kind.{Fixed, Kind};
@@ -15,8 +15,8 @@ use spa_fixed::{CanonicalFixedSizedPod, NONE_SHAPE, RANGE_SHAPE, STEP_SHAPE, nex
 use spa_utils::{ChoiceFlags, Errno, SpaTypes};
 use std::marker::PhantomData;
 
-/// A view of an array's elements, or of a choice's values: they have no headers, and share the child header before them, which has
-/// the size and the type of one.
+/// A zero-copy view of an array's elements, or of a choice's values: they have no headers of their own, and share the child header before
+/// them, which has the size and the type of one.
 #[derive(Clone, Copy, Debug)]
 pub struct PodArray<'a> {
     body: &'a [u8],
@@ -40,7 +40,7 @@ impl<'a> PodArray<'a> {
         u32_at(self.body, 0)
     }
 
-    /// How many whole elements are there; none where an element's size is 0.
+    /// How many whole elements there are; 0 where the size of an element is 0.
     pub fn len(&self) -> usize
         ensures count { result ≡ element_count (array_bytes self.now) }
         ensures accepted { (k : Kind) (xs : List Fixed) → IsArray k xs (array_bytes self.now) → result ≡ length xs }
@@ -52,7 +52,7 @@ impl<'a> PodArray<'a> {
         (self.body.len() - HEADER_LEN) / size
     }
 
-    /// The elements in order, as long as whole ones are there. INVAL exactly where an element's type or size isn't that of `T`.
+    /// An iterator over the elements in order, up to the first that isn't whole. INVAL exactly where an element's type or size isn't that of `T`.
     pub fn elements<T: CanonicalFixedSizedPod>(&self) -> Result<PodElements<'a, T>, Errno>
         ensures ok { OnOk result (HasKind T.kind (array_bytes self.now)) }
         ensures values { IfOk result (λ elements. elements_left T.kind elements ≡ values_in T.kind (drop header_size (array_bytes self.now))) }
@@ -71,7 +71,7 @@ impl<'a> PodArray<'a> {
     }
 }
 
-/// The elements that are still to come. It ends for good at the first that isn't whole.
+/// An iterator over the elements. It ends for good at the first that isn't whole.
 #[derive(Clone, Copy, Debug)]
 pub struct PodElements<'a, T: CanonicalFixedSizedPod> {
     left: &'a [u8],
@@ -98,7 +98,7 @@ impl<'a, T: CanonicalFixedSizedPod> Iterator for PodElements<'a, T> {
     }
 }
 
-/// A view of a choice.
+/// A zero-copy view of a choice.
 #[derive(Clone, Copy, Debug)]
 pub struct PodChoice<'a> {
     pod: Pod<'a>,
@@ -125,7 +125,7 @@ impl<'a> PodChoice<'a> {
         u32_at(self.pod.body(), 0)
     }
 
-    /// The flags, which say nothing in a None choice.
+    /// The flags word, which means nothing in a None choice.
     pub fn flags(&self) -> ChoiceFlags
         ensures flags { result.0 ≡ word_at (body_of (choice_bytes self.now)) 4 }
         ensures accepted { (s : Shape) (f : ℕ) (k : Kind) (x : Fixed) (xs : List Fixed) → IsPod (choice_bytes self.now) (choice s f k x xs) →

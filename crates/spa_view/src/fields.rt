@@ -1,4 +1,4 @@
-//! Views of structs, and their members.
+//! Zero-copy views of structs, and of their members.
 ghost use Rattle.std.specs.Prelude.{◌≡◌, ◌≤◌, ◌<◌, ◌*◌, length};
 ghost use Rattle.spa_format.specs.Words.{body_of, header_size, size_limit, word_at};
 
@@ -23,7 +23,7 @@ impl<'a> PodStruct<'a> {
         self.pod
     }
 
-    /// The members in order, as long as whole pods are there.
+    /// An iterator over the members in order, up to the first that isn't a whole pod.
     pub fn fields(&self) -> PodStructIter<'a>
         ensures walk { fields_left result ≡ walk (body_of (struct_bytes self.now)) }
         ensures accepted { (vs : Trees) → IsPod (struct_bytes self.now) (struct vs) →
@@ -37,7 +37,7 @@ impl<'a> PodStruct<'a> {
     }
 }
 
-/// The members of a struct that are still to come. It ends for good at the first that isn't whole.
+/// An iterator over the members of a struct. It ends for good at the first that isn't whole.
 #[derive(Clone, Copy, Debug)]
 pub struct PodStructIter<'a> {
     left: &'a [u8],

@@ -12,10 +12,10 @@ use crate::type_tests::CHOICE_SHAPE_AT;
 use spa_bytes::HEADER_LEN;
 use spa_utils::Errno;
 
-/// Where the properties of an object's pod begin: behind its header, its type and its id.
+/// The offset in an object's pod at which its properties begin: behind its header, its type and its id.
 const PROPERTIES_AT: usize = HEADER_LEN + HEADER_LEN;
 
-/// Where a property has the shape word of a choice, and where that ends.
+/// The offsets in a property at which the shape word of its choice begins and ends.
 const SHAPE_AT: usize = HEADER_LEN + CHOICE_SHAPE_AT;
 
 const SHAPE_END: usize = SHAPE_AT + 4;
@@ -31,7 +31,7 @@ fn fixate_prop(prop: &mut [u8])
     }
 }
 
-/// Does so for each property that the walk gives.
+/// Fixates each property that the walk over these bytes finds.
 fn fixate_props(props: &mut [u8])
     ensures { props.new ≡ fixated_properties props.old }
 {

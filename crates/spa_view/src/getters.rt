@@ -1,4 +1,4 @@
-//! What a pod says, read from any bytes: each getter succeeds exactly where its test is true.
+//! Getters of a pod's content, over any bytes: each succeeds exactly where its test is true.
 ghost use Rattle.std.specs.Prelude.{◌≡◌, ◌==◌, IfErr, IfOk, OnOk, position};
 ghost use Rattle.spa_format.specs.Kind as k;
 ghost use Rattle.spa_format.specs.Kind.{content};
@@ -15,7 +15,7 @@ use spa_utils::{Errno, Fd, Float32, Float64, Fraction, Id, Rectangle};
 /// The byte behind a text.
 const NUL: u8 = 0;
 
-/// Where a pointer's body has the type word.
+/// The offset of the type word in a pointer's body.
 const POINTER_TYPE_AT: usize = 0;
 
 impl<'a> Pod<'a> {
@@ -201,7 +201,7 @@ impl<'a> Pod<'a> {
     }
 }
 
-/// The bytes before the first NUL, or all of them where none is there.
+/// The bytes before the first NUL, or all where there is none.
 fn before_nul(body: &[u8]) -> &[u8]
     ensures { result.now ≡ t.before_nul body.now }
 {
@@ -211,7 +211,7 @@ fn before_nul(body: &[u8]) -> &[u8]
     }
 }
 
-/// Where the first NUL is.
+/// The offset of the first NUL. None: there is none.
 fn nul_place(body: &[u8]) -> Option<usize>
     ensures { result ≡ position (λ x. x == 0) body.now }
 {

@@ -1,4 +1,4 @@
-//! Values looked up by key, whether each stands there as it is or as a None choice.
+//! Looks values up by key, also through None choices.
 ghost use Rattle.std.specs.Prelude.{◌≡◌, ℕ, IfNone, IfSome};
 ghost use Rattle.spa_format.specs.Pod.{IsPod};
 ghost use Rattle.spa_format.specs.Tree.{Properties, Tree, bytes, fixed, object, string};
@@ -11,12 +11,12 @@ use spa_fixed::CanonicalFixedSizedPod;
 use spa_utils::{Fd, Float32, Float64, Fraction, Id, Rectangle};
 use std::str;
 
-/// A type of values that are read where they lie: one of the ten types of fixed size, `&str` for texts, `&[u8]` for Bytes.
+/// A type of values that are read from a zero-copy view: one of the ten types of fixed size, `&str` for texts, `&[u8]` for Bytes.
 pub trait FromPod<'a>: Sized {
-    /// What a value says.
+    /// The tree of a value.
     ghost says: { Self → Tree };
 
-    /// The value that the pod says. None exactly where it says none of this type.
+    /// The value of the pod. None exactly where the pod has none of this type.
     fn from_pod(pod: &Pod<'a>) -> Option<Self>
         ensures value { IfSome result (λ x. Says (says x) (pod_bytes pod.now)) }
         ensures none { IfNone result ((x : Self) → ¬ (Says (says x) (pod_bytes pod.now))) };
@@ -45,7 +45,7 @@ impl FixedPod for Fraction {}
 
 impl FixedPod for Fd {}
 
-/// The value of a body of its size.
+/// A value of fixed size: the body has to have the type's size.
 impl<'a, T: FixedPod> FromPod<'a> for T {
     ghost says = { λ x. fixed (T.fixed x) };
 
@@ -72,7 +72,7 @@ impl<'a> FromPod<'a> for &'a str {
     }
 }
 
-/// The bytes of Bytes.
+/// The bytes of a Bytes.
 impl<'a> FromPod<'a> for &'a [u8] {
     ghost says = { λ it. bytes it.now };
 
@@ -88,8 +88,8 @@ impl<'a> PodObject<'a> {
     ghost use Rattle.spa_view.specs.Found.{IsSettledUnder, StandsUnder};
     ghost use Rattle.spa_view.specs.View.{object_bytes};
 
-    /// The value under the key, which is that of the first property with it, or the value of the None choice there. None exactly
-    /// where no property has the key, or the first one's value is of another type.
+    /// The value of the first property with the key, or, where that is a None choice, the choice's value. None exactly where no
+    /// property has the key, or the first one's value is of another type.
     pub fn get<T: FromPod<'a>>(&self, key: Id) -> Option<T>
         ensures value { IfSome result (λ x. StandsUnder key.0 (T.says x) (object_bytes self.now)) }
         ensures none { IfNone result ((x : T) → ¬ (StandsUnder key.0 (T.says x) (object_bytes self.now))) }

@@ -1,4 +1,4 @@
-//! Views and the bytes that they stand for, for crates that walk pods themselves.
+//! Views and their bytes, for crates that walk pods themselves.
 ghost use Rattle.std.specs.Prelude.{◌≡◌, IfNone, IfSome, length};
 ghost use Rattle.spa_format.specs.Front.{HasFront, front_of, rest_of};
 ghost use Rattle.spa_format.specs.Words.{body_of, extent, word_at};
@@ -6,8 +6,8 @@ ghost use Rattle.spa_view.specs.View.{pod_bytes};
 
 use crate::pod::Pod;
 
-/// The pod at the front of the bytes, and what follows it: None where fewer than 8 bytes are there, or fewer than the
-/// whole pod takes.
+/// The pod at the front of the bytes, and the bytes that follow it. None: there are fewer than 8 bytes, or fewer than the whole
+/// pod has.
 pub fn split_first<'a>(bytes: &'a [u8]) -> Option<(Pod<'a>, &'a [u8])>
     ensures there { IfSome result (λ split. HasFront bytes.now) }
     ensures front { IfSome result (λ split. pod_bytes split.0 ≡ front_of bytes.now) }

@@ -1,4 +1,4 @@
-//! Views of whole pods.
+//! Zero-copy views of whole pods.
 ghost use Rattle.std.specs.Prelude.{◌≡◌, ◌≤◌, ◌<◌, ◌+◌, ◌^◌, IfNone, IfSome, length, take};
 ghost use Rattle.spa_format.specs.Front.{HasFront, front_of};
 ghost use Rattle.spa_format.specs.Words.{body_of, extent, header_size, size_limit, word_at};
@@ -6,12 +6,12 @@ ghost use Rattle.spa_format.specs.Words.{body_of, extent, header_size, size_limi
 use spa_bytes::{HEADER_LEN, extent_of, u32_at};
 use spa_utils::SpaTypes;
 
-/// Where the size word and the type word of a pod stand.
+/// The offsets of the size word and of the type word in a pod.
 pub(crate) const SIZE_AT: usize = 0;
 
 const TYPE_AT: usize = 4;
 
-/// A view of a whole pod, with its padding, in bytes that outlive it.
+/// A zero-copy view of a whole pod, with its padding, in bytes that outlive it.
 #[derive(Clone, Copy, Debug)]
 pub struct Pod<'a> {
     pub(crate) bytes: &'a [u8],
@@ -21,7 +21,7 @@ pub struct Pod<'a> {
 impl<'a> Pod<'a> {
     ghost use Rattle.spa_view.specs.View.{pod_bytes};
 
-    /// The pod at the front of the bytes: None where fewer than 8 bytes are there, or fewer than the whole pod takes.
+    /// The pod at the front of the bytes. None: there are fewer than 8 bytes, or fewer than the whole pod has.
     pub fn from_bytes(bytes: &'a [u8]) -> Option<Pod<'a>>
         ensures there { IfSome result (λ pod. HasFront bytes.now) }
         ensures front { IfSome result (λ pod. pod_bytes pod ≡ front_of bytes.now) }
@@ -46,14 +46,14 @@ impl<'a> Pod<'a> {
         &self.bytes[..HEADER_LEN + self.size() as usize]
     }
 
-    /// How many bytes the pod takes, header and padding counted.
+    /// The length of the pod in bytes, with header and padding.
     pub fn extent(&self) -> usize
         ensures { result ≡ length (pod_bytes self.now) }
     {
         self.bytes.len()
     }
 
-    /// The type that the header names.
+    /// The type in the header.
     pub fn type_(&self) -> SpaTypes
         ensures { result.0 ≡ word_at (pod_bytes self.now) 4 }
     {

@@ -1,4 +1,4 @@
-//! Views of objects, and their properties.
+//! Zero-copy views of objects, and of their properties.
 ghost use Rattle.std.specs.Prelude.{◌≡◌, ◌≤◌, ◌<◌, ◌+◌, ◌*◌, ℕ, IfNone, IfSome, drop, length};
 ghost use Rattle.spa_format.specs.Words.{body_of, header_size, size_limit, word_at};
 ghost use Rattle.spa_format.specs.Walk.{extent_behind};
@@ -8,12 +8,12 @@ use crate::pod::Pod;
 use spa_bytes::{HEADER_LEN, extent_of, u32_at};
 use spa_utils::{Id, SpaTypes};
 
-/// Where an object's body has its type and its id.
+/// The offsets of the type and of the id in an object's body.
 const OBJECT_TYPE_AT: usize = 0;
 
 const OBJECT_ID_AT: usize = 4;
 
-/// Where a property has its key, its flags and the size word of its value.
+/// The offsets of the key, the flags and the value's size word in a property.
 const KEY_AT: usize = 0;
 
 const FLAGS_AT: usize = 4;
@@ -56,7 +56,7 @@ impl<'a> PodObject<'a> {
         Id(u32_at(self.pod.body(), OBJECT_ID_AT))
     }
 
-    /// The properties in order, as long as whole ones are there.
+    /// An iterator over the properties in order, up to the first that isn't whole.
     pub fn props(&self) -> PodObjectIter<'a>
         ensures walk { props_left result ≡ property_walk (properties_of (object_bytes self.now)) }
         ensures accepted { (t i : ℕ) (ps : Properties) → IsPod (object_bytes self.now) (object t i ps) →
@@ -68,7 +68,7 @@ impl<'a> PodObject<'a> {
         PodObjectIter { left }
     }
 
-    /// The first property with the key.
+    /// The first property with the key. None: no property has it.
     pub fn find_prop(&self, key: Id) -> Option<PodProp<'a>>
         ensures { IsFirst key.0 (property_walk (properties_of (object_bytes self.now))) result }
     {
@@ -80,7 +80,7 @@ impl<'a> PodObject<'a> {
         None
     }
 
-    /// Whether no property's value is a choice of another shape than None.
+    /// Whether no property's value is a choice of a shape other than None.
     pub fn is_fixated(&self) -> bool
         ensures settled { result ≡ all_settled (property_walk (properties_of (object_bytes self.now))) }
         ensures accepted { (t i : ℕ) (ps : Properties) → IsPod (object_bytes self.now) (object t i ps) →
@@ -136,7 +136,7 @@ impl<'a> PodProp<'a> {
     }
 }
 
-/// How many bytes the first property takes, where it is there.
+/// The length of the first property in bytes. None: there is no whole one.
 pub(crate) fn prop_extent(left: &[u8]) -> Option<usize>
     ensures there { IfSome result (λ n. (n ≡ extent_behind header_size left.now) × (n ≤ length left.now)) }
     ensures none { IfNone result (length left.now < extent_behind header_size left.now) }
@@ -151,7 +151,7 @@ pub(crate) fn prop_extent(left: &[u8]) -> Option<usize>
     Some(extent)
 }
 
-/// The properties of an object that are still to come. It ends for good at the first that isn't whole.
+/// An iterator over the properties of an object. It ends for good at the first that isn't whole.
 #[derive(Clone, Copy, Debug)]
 pub struct PodObjectIter<'a> {
     left: &'a [u8],

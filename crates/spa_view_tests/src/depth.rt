@@ -1,4 +1,4 @@
-//! Structs that stand deep in one another, looked into.
+//! Looks into deeply nested structs.
 use crate::compare::assert_holds;
 use spa_spelling::nested_structs;
 use spa_view::Pod;
@@ -7,7 +7,7 @@ use std::alloc::{AllocError, Global};
 /// Few levels, and more than a stack of 8 MB holds of a function that calls itself for each.
 const DEPTHS: &[u32] = &[300, 100_000];
 
-/// How many structs stand in one another, each first in the one around it.
+/// How many structs are nested in one another, each first in the one around it.
 fn levels_of(bytes: &[u8]) -> u32 {
     let mut levels = 0u32;
     let mut inner = Pod::from_bytes(bytes);

@@ -1,4 +1,4 @@
--- What visitors decline.
+-- The contents that visitors decline.
 use Rattle.std.specs.Prelude.{◌≡◌, ◌≢◌, List, ℕ, false, true}
 use Rattle.std.specs.Borrow.{Bor}
 use Rattle.spa_fixed.specs.declared.fault.DeserializeError.{DeserializeError}
@@ -9,15 +9,15 @@ use Rattle.spa_typed_read.specs.Members.{ObjectReader, Reader}
 use Rattle.spa_typed_read.specs.declared.visitor.Visit.{Visit}
 use Rattle.spa_typed_read.specs.declared.visitor.Visit.TheVariants as visit
 
--- It declines what isn't handed over in this way, and that as UnsupportedType.
+-- The visitor declines a content of any other variant, as UnsupportedType.
 abbrev pub DeclinesOthers : {G X : Type 0} → (X → G) → G → DeserializeError (Bor (List ℕ)) → Type 0
 DeclinesOthers handed given e = (e ≡ error.UnsupportedType) × ((x : _) → given ≢ handed x)
 
--- It declines any struct and any object, as UnsupportedType, and so answers none.
+-- The visitor declines every struct and every object, as UnsupportedType.
 abbrev pub DeclinesAll : {R : Type 0} → R → R → DeserializeError (Bor (List ℕ)) → Type 0
 DeclinesAll lent now e = e ≡ error.UnsupportedType
 
--- What the visitor that makes values declines: the elements of an array, and what it has no memory for.
+-- The visitor that makes values declines the elements of an array, as UnsupportedType, and anything for want of memory.
 abbrev pub DeclinesValue : {E : Type 0} → Visit E → DeserializeError (Bor (List ℕ)) → Type 0
 DeclinesValue (visit.String s) e = e ≡ error.OutOfMemory
 DeclinesValue (visit.Bytes b) e = e ≡ error.OutOfMemory

@@ -6,7 +6,7 @@ ghost use Rattle.spa_visitors.specs.Declining.{DeclinesAll, DeclinesOthers};
 use spa_fixed::DeserializeError;
 use spa_typed_read::{Never, ObjectPodDeserializer, StructPodDeserializer, Visit, Visitor};
 
-/// Answers the text that it is given, which is a part of the input.
+/// Answers the text that it is given, borrowed from the input.
 #[derive(Drop)]
 pub struct StringVisitor;
 
@@ -61,7 +61,7 @@ impl<'de> Visitor<'de> for StringVisitor {
     }
 }
 
-/// Answers the bytes that it is given, which are a part of the input.
+/// Answers the bytes that it is given, borrowed from the input.
 #[derive(Drop)]
 pub struct BytesVisitor;
 
@@ -116,7 +116,7 @@ impl<'de> Visitor<'de> for BytesVisitor {
     }
 }
 
-/// Answers the bytes of the bitmap that it is given, which are a part of the input.
+/// Answers the bytes of the bitmap that it is given, borrowed from the input.
 #[derive(Drop)]
 pub struct BitmapVisitor;
 

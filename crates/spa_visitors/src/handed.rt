@@ -1,4 +1,4 @@
-//! One visitor for all types that have a case of what is handed over.
+//! One visitor for all types that have a variant of `Visit`.
 ghost use Rattle.std.specs.Prelude.{◌≡◌, ◌≢◌, IfErr, IfNone, IfOk, IfSome};
 ghost use Rattle.spa_typed_read.specs.declared.visitor.Never.{Never};
 ghost use Rattle.spa_typed_read.specs.declared.visitor.Visit.{Visit};
@@ -8,18 +8,18 @@ use spa_fixed::DeserializeError;
 use spa_typed_read::{Never, ObjectPodDeserializer, StructPodDeserializer, Visit, Visitor};
 use std::marker::PhantomData;
 
-/// A type that has a case of its own of what is handed over.
+/// A type that has a variant of its own of `Visit`.
 pub trait Handed: Sized + Drop {
-    /// That case.
+    /// That variant, of a value.
     ghost handed: { Self → Visit Never };
 
-    /// What is handed over in that case, and None of any other.
+    /// The value of that variant. None: the content is of another one.
     fn of_visit(given: Visit<'_, Never>) -> Option<Self>
         ensures there { IfSome result (λ x. given.entry ≡ handed x) }
         ensures other { IfNone result ((x : Self) → given.entry ≢ handed x) };
 }
 
-/// Answers what it is given of one type.
+/// Answers the values of the type `T` that it is given.
 #[derive(Drop)]
 pub struct HandedVisitor<T>(pub(crate) PhantomData<T>);
 

@@ -1,4 +1,4 @@
-//! The visitor that makes a value of whatever it is handed.
+//! The visitor that makes a `Value` of any content.
 ghost use Rattle.std.specs.Prelude.{◌≡◌, IfErr, IfOk, OnOk};
 ghost use Rattle.spa_format.specs.Tree.{object, struct};
 ghost use Rattle.spa_typed_read.specs.Members.{AllMembers, AllProperties, AtEnd, Further, FurtherIn};
@@ -12,11 +12,11 @@ use spa_typed_read::{Never, ObjectPodDeserializer, StructPodDeserializer, Visit,
 use spa_value::{Object, Property, Value, discard};
 use std::alloc::Global;
 
-/// Makes a value of what it is handed, and of a struct's members and an object's properties. It declines the elements of an
-/// array, as `UnsupportedType`: `PodDeserializer::deserialize_any` reads those.
+/// Makes a `Value` of any content, of a struct's members and of an object's properties. It declines the elements of an array,
+/// as `UnsupportedType`: `PodDeserializer::deserialize_any` reads those.
 #[derive(Drop)]
 pub struct ValueVisitor {
-    /// What it takes memory from.
+    /// The allocator of the values that it makes.
     pub alloc: Global,
 }
 
@@ -82,8 +82,7 @@ impl<'de> Visitor<'de> for ValueVisitor {
     }
 }
 
-/// The values of all members that are left. Where one is refused, those before it are taken apart by a loop: they may be nested
-/// deep.
+/// Reads all members that are left. Where one is refused, those before it are dropped by a loop, at any nesting depth.
 fn read_members<'de>(
     alloc: Global,
     reader: &mut StructPodDeserializer<'de>,
@@ -113,7 +112,7 @@ fn read_members<'de>(
     }
 }
 
-/// All properties that are left. Where one is refused, those before it are taken apart by a loop.
+/// Reads all properties that are left. Where one is refused, those before it are dropped by a loop, at any nesting depth.
 fn read_properties<'de>(
     alloc: Global,
     reader: &mut ObjectPodDeserializer<'de>,

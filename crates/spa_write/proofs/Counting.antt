@@ -1,4 +1,4 @@
--- How many values lie in a list, and how many bytes they have at least.
+-- How many values a list has in it, and how many bytes they have at least.
 use Rattle.std.proofs.Common.{◌≡◌, ℕ, ◌+◌, ◌*◌, ◌<◌, ◌≤◌, List, length, take, drop, get_or, Option, Some, None, IfSome, Bool, true, false, ap, ◌∙◌, arith, length-append}
 use Rattle.std.specs.Prelude.{IfNone, is_some, not}
 use Rattle.spa_format.specs.Tree.{Tree, fixed, string, bytes, bitmap, array, choice, pointer, struct, object, struct_type, object_type, Trees, no_trees, member, Properties, no_properties, property, type_of, join_members, join_properties, node_count, member_node_count, property_node_count}
@@ -60,7 +60,7 @@ property_count_next ps i p l e =
     let b = property_count_join (property_views (take i ps)) (property p.key p.flags.0 (view p.value) no_properties) in
     omega (arith, a, b)
 
--- A struct or an object, from what lies in it.
+-- A struct or an object, from the values in it.
 
 pub whole_left : (r : Option ℕ) (number left count : ℕ) (v : Tree) → node_count v ≡ 1 + count → number ≡ left + 1 →
     IfSome r (λ n. left ≡ n + count) → IfSome r (λ n. number ≡ n + node_count v)

@@ -17,7 +17,7 @@ use Rattle.spa_leaf.proofs.Parts.{TakesParts, stop_as, stop_behind, stop_first}
 use Rattle.spa_write.specs.Measured.{ArePut}
 use Rattle.spa_write.proofs.Stopping.{struct_parts}
 
--- so many bytes of headers stand before the second members in the encodings of the first
+-- `outer` bytes of headers are before the second members in the encodings of the first
 pub record AreWithin (vs : Trees) (outer : ℕ) (ws : Trees) : Type 0 where
   pub size : length (member_encodings vs) ≡ outer + length (member_encodings ws)
   pub no_nul : ¬ (SomeHasNul ws) → ¬ (SomeHasNul vs)
@@ -63,7 +63,7 @@ within_too_long vs ws outer big h le e r =
     size_refused (SomeHasNul vs) (IsTooLarge (struct vs)) (λ _. ⊥) (size_limit ≤ big)
     (λ b. inl (omega (arith, b, le, h.size))) e r
 
--- A sink took the headers of the structs around the second members, which are to be written with so many bytes.
+-- A sink took the headers of the structs around the second members, which are to be written with `left` bytes.
 pub record AreBegun {S : Type 0} (appends : Appending S) (old : S) (vs : Trees) (now : S) (ws : Trees) (left : ℕ) : Type 0 where
   pub heads : List ℕ
   pub parts : member_encodings vs ≡ heads ++ member_encodings ws
@@ -136,7 +136,7 @@ pub left_within : {S : Type 0} {appends : Appending S} (a b : S) (vs ws : Trees)
 left_within a b vs ws n h =
     omega (arith, ap length h.parts, length-append h.heads (member_encodings ws))
 
--- So many bytes of headers stand before the second members in the encodings of the first, and a struct of the second can be written.
+-- `outer` bytes of headers are before the second members in the encodings of the first, and a struct of the second can be written.
 pub record IsWritableWithin (vs : Trees) (outer : ℕ) (ws : Trees) : Type 0 where
   pub size : length (member_encodings vs) ≡ outer + length (member_encodings ws)
   pub writable : IsWritable (struct ws)

@@ -137,7 +137,7 @@ pub record Passed (from : Left) (old : List ℕ) (left : Left) (now : List ℕ) 
   pub nul : LeftHasNul from ↔ LeftHasNul left
   pub large : LeftTooLarge from ↔ LeftTooLarge left
 
--- the same of members, and of properties
+-- what was left was appended up to what is left now: of a list of members, and of one of properties
 pub record PassedMembers (from : List Value) (old : List ℕ) (rest : List Value) (now : List ℕ) : Type 0 where
   pub bytes : now ++ member_encodings (views rest) ≡ old ++ member_encodings (views from)
   pub longer : length old ≤ length now

@@ -9,11 +9,11 @@ use Rattle.spa_value.specs.Views.{views}
 use Rattle.spa_write.specs.Measured.{AreMeasured, AreShort, IsMeasured}
 use Rattle.spa_write.proofs.MemberLists.{measured_next, measured_none}
 
--- so many from this place on
+-- `n` short values from the index `from` on
 pub record ShortAt (vs : List Value) (from n : ℕ) : Type 0 where
   pub each : (i : ℕ) (v : Value) → from ≤ i → i < from + n → v ≡ get_or vs i v → IsMeasured (view v) 16
 
--- so many at each of four places
+-- `n` short values from each of four indexes on
 pub record ShortAtFour (vs : List Value) (part n : ℕ) : Type 0 where
   pub first : ShortAt vs 0 n
   pub second : ShortAt vs part n

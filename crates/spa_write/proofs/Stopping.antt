@@ -213,7 +213,7 @@ object_put more a b c v t i ps n k tf jf is e d w p h =
     whole_put more a b c v ((word_bytes k ++ word_bytes object_type) ++ (word_bytes t ++ word_bytes i))
     (property_encodings ps) (object_head v t i ps n k is e d) p h.encodings (subst IsTyped (sym is) (tf, jf, h.typed)) w
 
--- the same, where the second word was read before
+-- where a sink stops within two words of which the second was read before
 pub two_stop_at : {S : Type 0} {appends : Appending S} {refuses : Refusing S} (a c : S) (x y read n : ℕ) (e : GenError) →
     read ≡ y → appends a (take n (word_bytes x ++ word_bytes read)) c → refuses a 8 c e →
     Stops appends refuses a (word_bytes x ++ word_bytes y) c e

@@ -1,4 +1,4 @@
--- Structs and objects that are begun, one within another, and what is left of each: docs/FORMAT.md, "The encoding of a value".
+-- The containers that are begun, each inside the next one around it, and what is left of each: docs/FORMAT.md, "The encoding of a value".
 use Rattle.std.specs.Prelude.{◌≡◌, ℕ, ◌+◌, ◌<◌, ◌≤◌, ◌⊎◌, ◌↔◌, List, [], ◌∷◌, ◌++◌, length, take, drop, Option, Some, None}
 use Rattle.spa_format.specs.Words.{header_size, size_limit, word_bytes}
 use Rattle.spa_format.specs.Tree.{Tree, struct}
@@ -15,54 +15,54 @@ use Rattle.spa_write.specs.declared.left.Nested.TheVariants as nested
 use Rattle.spa_write.specs.declared.left.Stop.{Stop}
 use Rattle.spa_write.specs.declared.left.Begun.{Begun}
 
--- the bytes that are to be written of what is left
+-- the bytes that are still to be written for what is left of a container
 abbrev pub left_encodings : Left → List ℕ
 left_encodings (left.Members vs) = member_encodings (views vs.now)
 left_encodings (left.Properties ps) = property_encodings (property_views ps.now)
 
--- each value that is left has numbers within their types, and texts in UTF-8
+-- each value that is left in the container has numbers within their types, and texts in UTF-8
 abbrev pub LeftTyped : Left → Type 0
 LeftTyped (left.Members vs) = AllTyped (views vs.now)
 LeftTyped (left.Properties ps) = AllPropertiesTyped (property_views ps.now)
 
--- a text in what is left holds NUL
+-- a text in what is left of the container holds NUL
 abbrev pub LeftHasNul : Left → Type 0
 LeftHasNul (left.Members vs) = SomeHasNul (views vs.now)
 LeftHasNul (left.Properties ps) = SomeValueHasNul (property_views ps.now)
 
--- a size word in what is left is past 32 bits
+-- a size word in what is left of the container doesn't fit 32 bits
 abbrev pub LeftTooLarge : Left → Type 0
 LeftTooLarge (left.Members vs) = SomeTooLarge (views vs.now)
 LeftTooLarge (left.Properties ps) = SomeValueTooLarge (property_views ps.now)
 
--- what is left can be written
+-- what is left of the container can be written
 pub record LeftIsWritable (l : Left) : Type 0 where
   pub typed : LeftTyped l
   pub no_nul : ¬ (LeftHasNul l)
   pub fits : ¬ (LeftTooLarge l)
 
--- the tree of a struct or of an object
+-- the tree of a container
 abbrev pub nested_tree : Nested → Tree
 nested_tree (nested.Struct vs) = struct (views vs.now)
 nested_tree (nested.Object o) = object_view o.now
 
--- the encoding of this value, which can be written, stands behind what was there
+-- the encoding of this value, which can be written, was appended to the old bytes
 pub record IsAppended (v : Tree) (old new : List ℕ) : Type 0 where
   pub bytes : new ≡ old ++ encoding_of v
   pub typed : IsTyped v
   pub writable : IsWritable v
 
--- a value was appended, or it is a struct or an object, and nothing was
+-- either the value's encoding was appended, or the value is the container that is answered, and nothing was appended
 abbrev pub PutsOrPasses : Tree → List ℕ → Option Nested → List ℕ → Type 0
 PutsOrPasses v old None new = IsAppended v old new
 PutsOrPasses v old (Some n) new = (nested_tree n ≡ v) × (new ≡ old)
 
--- all that was left was appended
+-- all that was left of the container was appended
 pub record PutsAll (from : Left) (old new : List ℕ) : Type 0 where
   pub bytes : new ≡ old ++ left_encodings from
   pub writable : LeftIsWritable from
 
--- what was left was appended up to this value in it, and this is left behind that
+-- what was left of the container was appended up to this value in it, behind which `behind` is left
 pub record StopsAt (from : Left) (old : List ℕ) (v : Tree) (behind : Left) (new : List ℕ) : Type 0 where
   pub bytes : old ++ left_encodings from ≡ new ++ (encoding_of v ++ left_encodings behind)
   pub longer : length old ≤ length new
@@ -70,16 +70,16 @@ pub record StopsAt (from : Left) (old : List ℕ) (v : Tree) (behind : Left) (ne
   pub nul : LeftHasNul from ↔ (HasNul v ⊎ LeftHasNul behind)
   pub large : LeftTooLarge from ↔ (IsTooLarge v ⊎ LeftTooLarge behind)
 
--- what was left was appended to its end, or up to a struct or an object in it
+-- what was left of the container was appended up to its end, or up to the next container in it
 abbrev pub PutsOn : Left → List ℕ → Option Stop → List ℕ → Type 0
 PutsOn from old None new = PutsAll from old new
 PutsOn from old (Some s) new = StopsAt from old (nested_tree s.nested) s.left new
 
--- the pod that begins there ends with the bytes: its size word is written
+-- the bytes once the pod that begins at the offset `start` is closed: it ends with the bytes, and its size word is written
 abbrev pub closed_at : ℕ → List ℕ → List ℕ
 closed_at start b = take start b ++ (word_bytes (begun_length b start) ++ drop (start + 4) b)
 
--- the header of a struct or of an object of this tree was appended, and all in it is left
+-- the header of the container with this tree was appended, and all in it is left
 pub record Begins (v : Tree) (old : List ℕ) (begun : Begun) (new : List ℕ) : Type 0 where
   pub room : begun.start + header_size ≤ length new
   pub closed : closed_at begun.start (new ++ left_encodings begun.left) ≡ old ++ encoding_of v
@@ -89,8 +89,8 @@ pub record Begins (v : Tree) (old : List ℕ) (begun : Begun) (new : List ℕ) :
   pub large : IsTooLarge v ↔ ((size_limit ≤ length (encoded_body v)) ⊎ LeftTooLarge begun.left)
   pub shorter : length (left_encodings begun.left) + header_size ≤ length (encoding_of v)
 
--- A pod is begun in these bytes: once what is left of it is appended and its size word is written, this holds of them. What
--- keeps it from being written keeps the whole value.
+-- A container is begun in these bytes: once what is left of it is appended and its size word is written, `holds` is true of them. What keeps the
+-- container from being written, NUL or a size, keeps the whole value `v` from it.
 pub record AwaitsClosing (holds : List ℕ → Type 0) (v : Tree) (begun : Begun) (now : List ℕ) : Type 0 where
   pub room : begun.start + header_size ≤ length now
   pub closes : LeftIsWritable begun.left → begun_length (now ++ left_encodings begun.left) begun.start < size_limit → holds (closed_at begun.start (now ++ left_encodings begun.left))
@@ -98,12 +98,12 @@ pub record AwaitsClosing (holds : List ℕ → Type 0) (v : Tree) (begun : Begun
   pub nul : LeftHasNul begun.left → HasNul v
   pub large : LeftTooLarge begun.left → IsTooLarge v
 
--- pods are begun, one within another, the innermost first: once all are closed, the bytes are the value's encoding
+-- containers are begun, each inside the next, the innermost first: once all are closed, the bytes are the encoding of the value `v`
 abbrev pub AwaitsAllClosing : Tree → List Begun → List ℕ → Type 0
 AwaitsAllClosing v [] now = IsAppended v [] now
 AwaitsAllClosing v (inner ∷ outer) now = AwaitsClosing (AwaitsAllClosing v outer) v inner now
 
--- how many bytes are left in them, and one for each
+-- how many bytes are still to be written for the containers that are begun, and one more for each
 abbrev pub bytes_left : List Begun → ℕ
 bytes_left [] = 0
 bytes_left (inner ∷ outer) = bytes_left outer + (length (left_encodings inner.left) + 1)

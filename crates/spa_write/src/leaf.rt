@@ -1,4 +1,4 @@
-//! Values without members, written.
+//! Writes values that are neither structs nor objects.
 ghost use Rattle.std.specs.Prelude.{IfErr, OnErr, OnOk};
 ghost use Rattle.spa_sink.specs.Writing.{Begun, RefusesWrite};
 ghost use Rattle.spa_format.specs.Encoding.{encoding_of};
@@ -11,8 +11,9 @@ use spa_leaf::{
 use spa_sink::{GenError, PodSink};
 use spa_value::{ChoiceValue, Value, ValueArray};
 
-/// Appends the encoding of a value that is neither a struct nor an object. Where it is refused as `NulInText` or
-/// `TooLarge`, nothing is appended; where the sink refuses it, the sink has taken a beginning of it.
+/// Appends the encoding of a value that is neither a struct nor an object. It is refused as `NulInText` where it is a text with NUL, and as
+/// `TooLarge` where its body has 4294967296 bytes or more: nothing is appended then. Where the sink refuses it, the sink may have taken a
+/// beginning of the encoding.
 pub fn put_leaf<S: PodSink>(sink: &mut S, value: &Value) -> Result<(), GenError>
     requires { IsLeaf (view value.now) }
     ensures put { OnOk result (IsPut S.appends sink.old (view value.now) sink.new) }
@@ -41,7 +42,7 @@ pub fn put_leaf<S: PodSink>(sink: &mut S, value: &Value) -> Result<(), GenError>
     }
 }
 
-/// Appends the pod of an array.
+/// Appends the encoding of an array, with the refusals of `put_leaf`.
 fn put_value_array<S: PodSink>(sink: &mut S, array: &ValueArray) -> Result<(), GenError>
     ensures put { OnOk result (IsPut S.appends sink.old (array_view array.now) sink.new) }
     ensures begun { OnErr result (Begun S.appends sink.old (encoding_of (array_view array.now)) sink.new) }
@@ -61,7 +62,7 @@ fn put_value_array<S: PodSink>(sink: &mut S, array: &ValueArray) -> Result<(), G
     }
 }
 
-/// Appends the pod of a choice.
+/// Appends the encoding of a choice, with the refusals of `put_leaf`.
 fn put_choice_value<S: PodSink>(sink: &mut S, choice: &ChoiceValue) -> Result<(), GenError>
     ensures put { OnOk result (IsPut S.appends sink.old (choice_view choice.now) sink.new) }
     ensures begun { OnErr result (Begun S.appends sink.old (encoding_of (choice_view choice.now)) sink.new) }

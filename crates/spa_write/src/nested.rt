@@ -1,6 +1,6 @@
-//! Values with their members, written by a loop over those that are begun.
+//! Writes values with their members by a loop, with an explicit stack of the containers that are begun.
 //!
-//! The encoding is put together in a vector of its own, where each size word is written once what it counts is there.
+//! The encoding is put together in a vector of its own. A container's size word is written once all that it counts is there.
 ghost use Rattle.std.specs.Prelude.{◌≡◌, [], IfErr, IfOk, OnOk};
 ghost use Rattle.spa_sink.specs.Writing.{RefusesWrite};
 ghost use Rattle.spa_sink.specs.declared.gen_error.GenError.TheVariants.{OutOfMemory};
@@ -20,8 +20,9 @@ use spa_utils::SpaTypes;
 use spa_value::{Object, Property, Value};
 use std::alloc::Global;
 
-/// The encoding of a value, in memory of this allocator: also of one that is nested deep, since what is begun is kept in a
-/// list.
+/// The encoding of a value, in memory of this allocator. The nesting depth is bounded by memory alone, since the containers that are begun are
+/// on a stack of their own, in that memory. Refused as `NulInText` where a text in the value holds NUL, as `TooLarge` where a size word would be
+/// 4294967296 or more, and as `OutOfMemory`.
 pub(crate) fn write_by_loop(alloc: Global, value: &Value) -> Result<Vec<u8>, GenError>
     ensures encoding { IfOk result (λ made. IsAppended (view value.now) [] made.items) }
     ensures refused { IfErr result (RefusesWrite (HasNul (view value.now)) (IsTooLarge (view value.now)) (λ e. e ≡ OutOfMemory)) }
@@ -53,7 +54,8 @@ pub(crate) fn write_by_loop(alloc: Global, value: &Value) -> Result<Vec<u8>, Gen
     }
 }
 
-/// Appends a value that is neither a struct nor an object. One of these is answered, and nothing is appended.
+/// Appends the encoding of a value that is neither a struct nor an object, and answers None. A struct or an object is answered itself, and
+/// nothing is appended.
 #[inline(always)]
 fn put_or_pass<'a>(out: &mut Vec<u8>, value: &'a Value) -> Result<Option<Nested<'a>>, GenError>
     ensures put { IfOk result (λ nested. PutsOrPasses (view value.now) out.old.items nested out.new.items) }
@@ -67,7 +69,7 @@ fn put_or_pass<'a>(out: &mut Vec<u8>, value: &'a Value) -> Result<Option<Nested<
     Ok(None)
 }
 
-/// Appends a value that is neither a struct nor an object.
+/// Appends the encoding of a value that is neither a struct nor an object.
 #[inline(always)]
 fn put_any_leaf(out: &mut Vec<u8>, value: &Value) -> Result<(), GenError>
     requires { IsLeaf (view value.now) }
@@ -80,7 +82,7 @@ fn put_any_leaf(out: &mut Vec<u8>, value: &Value) -> Result<(), GenError>
     }
 }
 
-/// Appends the header of a struct or of an object, with a size word of 0.
+/// Appends the header of a struct, or the header, type and id of an object, with a size word of 0 for now. Refused only as `OutOfMemory`.
 #[inline(always)]
 fn begin_nested<'a>(out: &mut Vec<u8>, nested: Nested<'a>) -> Result<Begun<'a>, GenError>
     ensures begun { IfOk result (λ begun. Begins (nested_tree nested.entry) out.old.items begun out.new.items) }
@@ -101,7 +103,7 @@ fn begin_nested<'a>(out: &mut Vec<u8>, nested: Nested<'a>) -> Result<Begun<'a>, 
     }
 }
 
-/// Appends what is left, to the next struct or object in it, or to its end.
+/// Appends what is left of a container up to the next container in it, which is answered, or up to its end.
 #[inline(always)]
 fn put_left<'a>(left: Left<'a>, out: &mut Vec<u8>) -> Result<Option<Stop<'a>>, GenError>
     ensures put { IfOk result (λ stop. PutsOn left.entry out.old.items stop out.new.items) }
@@ -113,7 +115,7 @@ fn put_left<'a>(left: Left<'a>, out: &mut Vec<u8>) -> Result<Option<Stop<'a>>, G
     }
 }
 
-/// Appends members, to the next struct or object, or to their end.
+/// Appends members up to the next that is a struct or an object, which is answered, or all of them.
 #[inline(always)]
 fn put_members<'a>(members: &'a [Value], out: &mut Vec<u8>) -> Result<Option<Stop<'a>>, GenError>
     ensures put { IfOk result (λ stop. PutsOn (left_variant.Members members.entry) out.old.items stop out.new.items) }
@@ -130,7 +132,8 @@ fn put_members<'a>(members: &'a [Value], out: &mut Vec<u8>) -> Result<Option<Sto
     Ok(None)
 }
 
-/// Appends properties, each with its key and flags, to the next whose value is a struct or an object, or to their end.
+/// Appends properties, each with its key and flags, up to the next whose value is a struct or an object, which is answered, or all of them. Of
+/// that next one the key and the flags are appended.
 #[inline(always)]
 fn put_properties<'a>(
     properties: &'a [Property],

@@ -1,4 +1,4 @@
-//! Values whose pods have sixteen bytes.
+//! Values whose pods have sixteen bytes: those of the nine types of fixed size whose bodies aren't empty.
 ghost use Rattle.std.specs.Prelude.{◌≡◌, IfSome, OnSome, true};
 ghost use Rattle.spa_format.specs.Encoding.{encoding_of};
 ghost use Rattle.spa_format.specs.Tree as tree;
@@ -11,7 +11,7 @@ ghost use Rattle.spa_write.specs.Measured.{AreShort, IsMeasured};
 use spa_fixed::{CanonicalFixedSizedPod, LONGEST_POD_LEN, pod_bytes, pod_len};
 use spa_value::Value;
 
-/// The encoding of a value of one of the nine types whose pods have sixteen bytes. None: it is of another type.
+/// The encoding of a value of one of the nine types whose pods have sixteen bytes. None: the value is of another type.
 #[inline(always)]
 pub(crate) fn short_encoding(value: &Value) -> Option<[u8; LONGEST_POD_LEN]>
     ensures encoding { IfSome result (λ pod. pod ≡ encoding_of (view value.now)) }
@@ -32,7 +32,7 @@ pub(crate) fn short_encoding(value: &Value) -> Option<[u8; LONGEST_POD_LEN]>
     }
 }
 
-/// The pod of a value of fixed size, which isn't empty.
+/// The encoding of a value of a type of fixed size whose body isn't empty.
 #[inline(always)]
 fn short_pod<T: CanonicalFixedSizedPod>(value: &T) -> [u8; LONGEST_POD_LEN]
     requires { extent T.SIZE ≡ LONGEST_POD_LEN }
@@ -43,10 +43,10 @@ fn short_pod<T: CanonicalFixedSizedPod>(value: &T) -> [u8; LONGEST_POD_LEN]
     pod_bytes(value)
 }
 
-/// In so many places are many values looked at in turn, so that the memory in which they lie is read at several places at once.
+/// How many parts of a list of values are looked at in turn, so that memory is read at several places at once.
 const PLACES: usize = 4;
 
-/// Whether all of these are of one of these nine types.
+/// Whether the pod of each of these values has sixteen bytes. The contract states what a yes means; a no promises nothing.
 pub(crate) fn are_short(values: &[Value]) -> bool
     ensures { result ≡ true → AreShort values.now }
 {
@@ -67,7 +67,7 @@ pub(crate) fn are_short(values: &[Value]) -> bool
     true
 }
 
-/// Whether it is of one of these nine types.
+/// Whether the pod of the value has sixteen bytes, which those of the nine types have.
 #[inline(always)]
 fn has_short_pod(value: &Value) -> bool
     ensures { result ≡ true → IsMeasured (view value.now) LONGEST_POD_LEN }
@@ -86,7 +86,7 @@ fn has_short_pod(value: &Value) -> bool
     }
 }
 
-/// Whether the pod of this value of fixed size has sixteen bytes.
+/// Whether the pod of this value of a type of fixed size has sixteen bytes.
 #[inline(always)]
 fn is_short<T: CanonicalFixedSizedPod>(value: &T) -> bool
     ensures { result ≡ true → IsMeasured (tree.fixed (T.fixed value.now)) LONGEST_POD_LEN }

@@ -1,4 +1,4 @@
-//! How long encodings are, before a byte of them is written.
+//! Computes how long encodings are, before a byte of them is written.
 ghost use Rattle.std.specs.Prelude.{◌≡◌, ◌+◌, ◌<◌, ◌≤◌, ◌⊎◌, IfErr, IfOk, IfSome, length, map};
 ghost use Rattle.spa_fixed.specs.Choices.{choice_tree};
 ghost use Rattle.spa_sink.specs.Writing.{RefusesWrite};
@@ -22,11 +22,11 @@ use spa_sink::GenError;
 use spa_utils::Choice;
 use spa_value::{ChoiceValue, Property, Value, ValueArray};
 
-/// A size word can't count so many bytes.
+/// The least number of bytes that a size word can't count.
 const SIZE_LIMIT: u64 = 1 << 32;
 
-/// How many bytes a value's encoding has. It is refused as `NulInText` where a text in it holds NUL, and as `TooLarge`
-/// where a size word would be 4294967296 or more.
+/// How many bytes a value's encoding has. Refused as `NulInText` where a text in the value holds NUL, and as `TooLarge` where a size word would
+/// be 4294967296 or more.
 #[cycle(size)]
 #[inline(always)]
 pub(crate) fn encoded_len(value: &Value) -> Result<u64, GenError>
@@ -43,8 +43,8 @@ pub(crate) fn encoded_len(value: &Value) -> Result<u64, GenError>
     }
 }
 
-/// How many bytes the encodings of these values have, which are to be the members of one struct. A struct that is the only
-/// member of another one takes no call.
+/// How many bytes the encodings of the members of one struct have, with the refusals of `encoded_len`. A struct that is the only member of
+/// another struct takes no call of its own.
 #[cycle(size)]
 pub(crate) fn members_len(members: &[Value]) -> Result<u64, GenError>
     ensures measured { IfOk result (λ n. AreMeasured (views members.now) n) }
@@ -60,10 +60,11 @@ pub(crate) fn members_len(members: &[Value]) -> Result<u64, GenError>
     sum_of(outer, len)
 }
 
-/// How many pods of sixteen bytes a size word can't count.
+/// The least number of pods of sixteen bytes that a size word can't count.
 const SHORT_LIMIT: usize = 1 << 28;
 
-/// How many bytes the encodings of these values have: at once where they are all short, and else measured one by one.
+/// How many bytes the encodings of the members of one struct have: by one multiplication where each pod has sixteen bytes, and else measured one
+/// by one.
 #[cycle(size)]
 fn all_len(members: &[Value]) -> Result<u64, GenError>
     ensures measured { IfOk result (λ n. AreMeasured (views members.now) n) }
@@ -80,7 +81,7 @@ fn all_len(members: &[Value]) -> Result<u64, GenError>
     Ok(total)
 }
 
-/// How many bytes these properties have, which are to be in one object.
+/// How many bytes the properties of one object have, with their keys and flags, and with the refusals of `encoded_len`.
 #[cycle(size)]
 pub(crate) fn properties_len(properties: &[Property]) -> Result<u64, GenError>
     ensures measured { IfOk result (λ n. PropertiesAreMeasured (property_views properties.now) n) }
@@ -94,7 +95,7 @@ pub(crate) fn properties_len(properties: &[Property]) -> Result<u64, GenError>
     Ok(total)
 }
 
-/// The sum, where a size word can count so many bytes.
+/// The sum of two numbers of bytes. Refused as `TooLarge` where it is 4294967296 or more.
 #[inline(always)]
 fn sum_of(total: u64, more: u64) -> Result<u64, GenError>
     ensures sum { IfOk result (λ sum. sum ≡ total + more) }
@@ -107,7 +108,8 @@ fn sum_of(total: u64, more: u64) -> Result<u64, GenError>
     }
 }
 
-/// The same by one comparison, which is faster in a loop that goes over properties.
+/// The sum of two numbers of bytes, refused as `TooLarge` where it is 4294967296 or more. It takes one comparison, which is faster than `sum_of`
+/// in a loop over properties.
 #[inline(always)]
 fn next_sum(total: u64, more: u64) -> Result<u64, GenError>
     ensures sum { IfOk result (λ sum. sum ≡ total + more) }
@@ -122,7 +124,7 @@ fn next_sum(total: u64, more: u64) -> Result<u64, GenError>
     }
 }
 
-/// The same of a value that is neither a struct nor an object.
+/// How many bytes the encoding of a value has that is neither a struct nor an object, with the refusals of `encoded_len`.
 #[inline(always)]
 pub(crate) fn leaf_len(value: &Value) -> Result<u64, GenError>
     requires { IsLeaf (view value.now) }
@@ -151,7 +153,7 @@ pub(crate) fn leaf_len(value: &Value) -> Result<u64, GenError>
     }
 }
 
-/// The length of the pod of a value of fixed size.
+/// The length in bytes of the encoding of a value of fixed size.
 #[inline(always)]
 fn number_len<T: CanonicalFixedSizedPod>(value: &T) -> Result<u64, GenError>
     ensures measured { IfOk result (λ n. IsMeasured (tree.fixed (T.fixed value.now)) n) }
@@ -160,7 +162,7 @@ fn number_len<T: CanonicalFixedSizedPod>(value: &T) -> Result<u64, GenError>
     Ok(pod_len(value) as u64)
 }
 
-/// The length of a pod whose body has so many bytes.
+/// The length in bytes of a pod whose body has `size` bytes. Refused as `TooLarge` where that is 4294967296 or more.
 fn framed_len(size: usize) -> Result<u64, GenError>
     ensures extent { IfOk result (λ n. n ≡ extent size) }
     ensures short { IfOk result (λ _. size < size_limit) }
@@ -172,7 +174,7 @@ fn framed_len(size: usize) -> Result<u64, GenError>
     }
 }
 
-/// The length of the pod of a text.
+/// The length in bytes of the encoding of a text. Refused as `NulInText` and as `TooLarge`.
 fn text_len(text: &str) -> Result<u64, GenError>
     ensures measured { IfOk result (λ n. IsMeasured (tree.string text.now) n) }
     ensures cause { IfErr result (λ e. RefusesWrite (HasNul (tree.string text.now)) (IsTooLarge (tree.string text.now)) (λ _. ⊥) e) }
@@ -184,7 +186,7 @@ fn text_len(text: &str) -> Result<u64, GenError>
     framed_len(bytes.len() + 1)
 }
 
-/// The length of the pod of bytes.
+/// The length in bytes of the encoding of bytes. Refused as `TooLarge`.
 fn bytes_len(bytes: &[u8]) -> Result<u64, GenError>
     ensures measured { IfOk result (λ n. IsMeasured (tree.bytes bytes.now) n) }
     ensures cause { IfErr result (λ e. RefusesWrite (HasNul (tree.bytes bytes.now)) (IsTooLarge (tree.bytes bytes.now)) (λ _. ⊥) e) }
@@ -192,7 +194,7 @@ fn bytes_len(bytes: &[u8]) -> Result<u64, GenError>
     framed_len(bytes.len())
 }
 
-/// The length of the pod of a bitmap.
+/// The length in bytes of the encoding of a bitmap. Refused as `TooLarge`.
 fn bitmap_len(bytes: &[u8]) -> Result<u64, GenError>
     ensures measured { IfOk result (λ n. IsMeasured (tree.bitmap bytes.now) n) }
     ensures cause { IfErr result (λ e. RefusesWrite (HasNul (tree.bitmap bytes.now)) (IsTooLarge (tree.bitmap bytes.now)) (λ _. ⊥) e) }
@@ -200,7 +202,7 @@ fn bitmap_len(bytes: &[u8]) -> Result<u64, GenError>
     framed_len(bytes.len())
 }
 
-/// The length of the pod of a pointer.
+/// The length in bytes of the encoding of a pointer.
 fn pointer_len(type_: u32, address: u64) -> Result<u64, GenError>
     ensures measured { IfOk result (λ n. IsMeasured (tree.pointer type_ address) n) }
     ensures cause { IfErr result (λ e. RefusesWrite (HasNul (tree.pointer type_ address)) (IsTooLarge (tree.pointer type_ address)) (λ _. ⊥) e) }
@@ -208,7 +210,7 @@ fn pointer_len(type_: u32, address: u64) -> Result<u64, GenError>
     Ok((HEADER_LEN + POINTER_LEN) as u64)
 }
 
-/// The length of the pod of elements of one type of fixed size.
+/// The length in bytes of the encoding of an array of these elements. Refused as `TooLarge`.
 fn elements_len<T: CanonicalFixedSizedPod>(values: &[T]) -> Result<u64, GenError>
     ensures measured { IfOk result (λ n. IsMeasured (tree.array T.kind (map T.fixed values.now)) n) }
     ensures cause { IfErr result (λ e. RefusesWrite (HasNul (tree.array T.kind (map T.fixed values.now))) (IsTooLarge (tree.array T.kind (map T.fixed values.now))) (λ _. ⊥) e) }
@@ -219,7 +221,7 @@ fn elements_len<T: CanonicalFixedSizedPod>(values: &[T]) -> Result<u64, GenError
     }
 }
 
-/// The length of the pod of a choice over one type of fixed size.
+/// The length in bytes of the encoding of a choice over one type of fixed size. Refused as `TooLarge`.
 fn alternatives_len<T: ChoiceElement>(choice: &Choice<T>) -> Result<u64, GenError>
     ensures measured { IfOk result (λ n. IsMeasured (choice_tree T.kind T.fixed choice.now) n) }
     ensures cause { IfErr result (λ e. RefusesWrite (HasNul (choice_tree T.kind T.fixed choice.now)) (IsTooLarge (choice_tree T.kind T.fixed choice.now)) (λ _. ⊥) e) }
@@ -230,7 +232,7 @@ fn alternatives_len<T: ChoiceElement>(choice: &Choice<T>) -> Result<u64, GenErro
     }
 }
 
-/// The length of the pod of an array.
+/// The length in bytes of the encoding of an array over any type. Refused as `TooLarge`.
 #[inline(always)]
 fn array_len(array: &ValueArray) -> Result<u64, GenError>
     ensures measured { IfOk result (λ n. IsMeasured (array_view array.now) n) }
@@ -250,7 +252,7 @@ fn array_len(array: &ValueArray) -> Result<u64, GenError>
     }
 }
 
-/// The length of the pod of a choice.
+/// The length in bytes of the encoding of a choice over any type. Refused as `TooLarge`.
 #[inline(always)]
 fn choice_len(choice: &ChoiceValue) -> Result<u64, GenError>
     ensures measured { IfOk result (λ n. IsMeasured (choice_view choice.now) n) }

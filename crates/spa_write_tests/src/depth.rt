@@ -1,4 +1,4 @@
-//! Structs and objects that stand deep in one another, through each call that writes or copies them.
+//! Deeply nested structs and objects, through each call that writes or copies them.
 use crate::compare::assert_holds;
 use crate::nested::read;
 use arrayvec::ArrayVec;

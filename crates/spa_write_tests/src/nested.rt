@@ -1,4 +1,4 @@
-//! Pods that stand deep in one another, and what is read of them.
+//! Deeply nested pods, and the values that are read of them.
 use spa_fixed::DeserializeError;
 use spa_typed_read::PodDeserializer;
 use spa_value::Value;

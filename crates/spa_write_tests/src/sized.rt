@@ -58,7 +58,7 @@ fn found_three<W: Write + Drop>(alloc: Global, device: W) -> Result<Found<W>, Al
     Ok(found)
 }
 
-/// A device that takes so many bytes at a time, and fails at this write.
+/// A device that takes this many bytes at a time, and fails at this write.
 fn limited(most: usize, failing: u32) -> Device {
     Device {
         taken: ArrayVec::new(),
@@ -136,7 +136,7 @@ fn a_device_takes_all_of_it(rt: HostRuntime) -> Result<(), Fail> {
     Ok(())
 }
 
-/// Whether the write failed when the device held so many bytes, the first ones of the encoding.
+/// Whether the write failed when the device had this many bytes, which are the first of the encoding.
 fn is_cut_at(found: &Found<Device>, count: u64, encoding: &[u8]) -> bool {
     is_cut(found, encoding) && found.1 == count
 }

@@ -179,7 +179,7 @@ fn assert_written(
     Ok(())
 }
 
-/// The same of a row's value.
+/// Checks that the value of a row is written as the row's words.
 fn assert_row(rt: &impl Abort, alloc: Global, row: &(&str, &str)) -> Result<(), Fail> {
     let value = value_of(alloc, row)?;
     let compared = assert_written(rt, alloc, &value, row);

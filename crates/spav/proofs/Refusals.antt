@@ -88,7 +88,7 @@ pub none_conveyed : (input left : List ℕ) (e : DeserializeError (Bor (List ℕ
     NoneAreConveyed input (length input - length left)
 none_conveyed input left e r b = none_there input left e r (for_bytes e b)
 
--- the same behind so many bytes
+-- no value is conveyed at the byte at which a refusal of bytes in place stands
 pub none_conveyed_at : (input : List ℕ) (at : ℕ) (e : DeserializeError ⊤) → lenient.RefusesListAt input at e → IsForBytes e → NoneAreConveyed input at
 none_conveyed_at input at e r b =
     let l = r.list.behind in

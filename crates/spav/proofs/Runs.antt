@@ -150,7 +150,7 @@ was_accepted (Accepts t) e n m a = (t, refl)
 was_accepted Inval e n m a = absurd (n a)
 was_accepted Nospc e n m a = absurd (m a)
 
--- the same of the place at which a list stops
+-- a list that stops at a call with one outcome stops there with a weaker one
 pub stops_as : (texts : List ℕ) (calls : List Call) (at : ℕ) (P Q : Outcome → Type 0) → ((o : Outcome) → P o → Q o) →
     StopsAt texts calls at P → StopsAt texts calls at Q
 stops_as texts calls at P Q f h = record {

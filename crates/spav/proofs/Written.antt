@@ -25,7 +25,7 @@ pub list_written : (old new : List ℕ) (len : ℕ) → AreRewritten old [] (tak
 list_written old new len r within same behind =
     record { values = r.0; members = r.1; written = is_written (member_encodings r.0) old new len r.2 within same behind }
 
--- the same in an output that is at least as long
+-- a list that is rewritten into an output at least as long as it
 pub into_written : (input old new : List ℕ) (len : ℕ) → AreRewrittenAs input len → AreRewritten input [] (take len new) → length input ≤ length old →
     length new ≡ length old → drop len new ≡ drop len old → ListIsWritten input len old new
 into_written input old new len t r room same behind =

@@ -1,11 +1,11 @@
 -- The numbers that the calls answer: docs/CAPI.md, "Answers".
 use Rattle.std.specs.Prelude.{◌≡◌, ◌⊎◌, ℕ, ℤ, pos, neg_ℤ}
 
--- done, or no
+-- 0: done, or no
 abbrev pub IsDone : ℤ → Type 0
 IsDone answer = answer ≡ pos 0
 
--- yes
+-- 1: yes
 abbrev pub IsYes : ℤ → Type 0
 IsYes answer = answer ≡ pos 1
 
@@ -25,15 +25,15 @@ IsInvalid answer = IsFailure 22 answer
 abbrev pub IsNoRoom : ℤ → Type 0
 IsNoRoom answer = IsFailure 28 answer
 
--- what a rewriting answers
+-- the answers of a rewriting
 abbrev pub IsRewritten : ℤ → Type 0
 IsRewritten answer = IsDone answer ⊎ IsNoMemory answer ⊎ IsInvalid answer ⊎ IsNoRoom answer
 
--- what a check answers
+-- the answers of a check
 abbrev pub IsChecked : ℤ → Type 0
 IsChecked answer = IsDone answer ⊎ IsNoMemory answer ⊎ IsInvalid answer
 
--- what a question answers that takes no memory
+-- the answers of a question that takes no memory
 abbrev pub IsTold : ℤ → Type 0
 IsTold answer = IsDone answer ⊎ IsYes answer
 
@@ -41,19 +41,19 @@ IsTold answer = IsDone answer ⊎ IsYes answer
 abbrev pub IsTooDeep : ℤ → Type 0
 IsTooDeep answer = IsFailure 40 answer
 
--- what the question of levels answers
+-- the answers of the question of the nesting depth
 abbrev pub IsNested : ℤ → Type 0
 IsNested answer = IsTold answer ⊎ IsTooDeep answer
 
--- what a question answers that may take memory
+-- the answers of a question that may take memory
 abbrev pub IsDecided : ℤ → Type 0
 IsDecided answer = IsTold answer ⊎ IsNoMemory answer
 
--- what a change in place answers
+-- the answers of a change in place
 abbrev pub IsChanged : ℤ → Type 0
 IsChanged answer = IsDone answer ⊎ IsInvalid answer
 
--- what a write of bytes that are there answers
+-- the answers of a copy into the output
 abbrev pub IsPut : ℤ → Type 0
 IsPut answer = IsDone answer ⊎ IsNoRoom answer
 
@@ -65,23 +65,23 @@ IsMissing answer = IsFailure 2 answer
 abbrev pub IsOther : ℤ → Type 0
 IsOther answer = IsFailure 71 answer
 
--- what a search for a property refuses
+-- the refusals of a search for a property
 abbrev pub IsUnfound : ℤ → Type 0
 IsUnfound answer = IsInvalid answer ⊎ IsMissing answer
 
--- what a search for the place of a property or a member answers
+-- the answers of a search for the offset of a property or a member
 abbrev pub IsFound : ℤ → Type 0
 IsFound answer = IsDone answer ⊎ IsUnfound answer
 
--- what a reading of all that pods hold answers
+-- the answers of a read of all items
 abbrev pub IsListRead : ℤ → Type 0
 IsListRead answer = IsPut answer ⊎ IsInvalid answer ⊎ IsTooDeep answer
 
--- what a read of a property answers
+-- the answers of a read of a property
 abbrev pub IsRead : ℤ → Type 0
 IsRead answer = IsDone answer ⊎ IsOther answer ⊎ IsUnfound answer
 
--- what a read of a text answers
+-- the answers of a read of a text
 abbrev pub IsTextRead : ℤ → Type 0
 IsTextRead answer = IsNoRoom answer ⊎ IsRead answer
 
@@ -97,26 +97,26 @@ IsDisjoint answer = IsFailure 61 answer
 abbrev pub IsPast : ℤ → Type 0
 IsPast answer = IsFailure 75 answer
 
--- that two inputs don't meet
+-- the answers where two inputs don't meet
 abbrev pub IsApart : ℤ → Type 0
 IsApart answer = IsInvalid answer ⊎ IsOther answer ⊎ IsUnsupported answer ⊎ IsDisjoint answer
 
--- what a negotiation answers
+-- the answers of a negotiation
 abbrev pub IsMet : ℤ → Type 0
 IsMet answer = IsDone answer ⊎ IsNoRoom answer ⊎ IsNoMemory answer ⊎ IsPast answer ⊎ IsApart answer
 
--- that two inputs aren't filtered
+-- the answers where two inputs aren't filtered
 abbrev pub IsUnfiltered : ℤ → Type 0
 IsUnfiltered answer = IsMissing answer ⊎ IsApart answer
 
--- what a filtering answers
+-- the answers of a filtering
 abbrev pub IsFiltered : ℤ → Type 0
 IsFiltered answer = IsDone answer ⊎ IsNoRoom answer ⊎ IsNoMemory answer ⊎ IsPast answer ⊎ IsUnfiltered answer
 
--- what a list of calls answers that isn't made to its end
+-- the answers of a list of calls that isn't made to its end
 abbrev pub IsStopped : ℤ → Type 0
 IsStopped answer = IsInvalid answer ⊎ IsPast answer ⊎ IsNoMemory answer
 
--- what a list of calls answers
+-- the answers of a list of calls
 abbrev pub IsBuilt : ℤ → Type 0
 IsBuilt answer = IsDone answer ⊎ IsNoRoom answer ⊎ IsStopped answer

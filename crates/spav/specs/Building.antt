@@ -12,7 +12,7 @@ use Rattle.spa_builder.specs.Step as builder
 use Rattle.spa_builder.specs.Step.{Outcome, Accepts, Inval, Nospc, add, add_prop, pop, push_array, push_choice, push_object, push_struct, step}
 use Rattle.spav.specs.declared.building.Call.{Call}
 
--- the numbers of the calls that are no type's
+-- the numbers of the calls that aren't type numbers
 abbrev pub key_number : ℕ
 key_number = 256
 
@@ -22,24 +22,24 @@ pop_number = 257
 abbrev pub array_number : ℕ
 array_number = 258
 
--- this part of the texts, where they go so far
+-- the `len` bytes of the texts at the offset `from`; None where the texts are shorter
 abbrev pub part_of : List ℕ → (from len : ℕ) → Option (List ℕ)
 part_of texts from len = if nat_le (from + len) (length texts) then Some (take len (drop from texts)) else None
 
--- these bytes, where they are UTF-8
+-- the bytes, where they are UTF-8, and else None
 abbrev pub text_of : Option (List ℕ) → Option (List ℕ)
 text_of None = None
 text_of (Some text) = if is_utf8 text then Some text else None
 
--- so many elements of a kind, whose bodies are one after another in this part of the texts; those of None have no bytes
+-- the `count` elements of a kind whose bodies are one after another in these bytes; of None there are no elements
 abbrev pub elements_in : Kind → (count : ℕ) → List ℕ → List Fixed
 elements_in k count b = kept_elements k (map (content k) (first_chunks (body_size k) count b))
 
--- the array of these, where the texts go so far
+-- the array of a call's elements; None where the texts are shorter
 abbrev pub array_in : Kind → List ℕ → Call → Option Tree
 array_in k texts c = option_map (λ b. array k (elements_in k c.second b)) (part_of texts c.bits (c.second * body_size k))
 
--- the array whose elements are of the type of this number, if that has a fixed size
+-- the array of a call whose elements are of the type of this number; None where that has no fixed size or the texts are shorter
 abbrev pub array_of : ℕ → List ℕ → Call → Option Tree
 array_of number texts c =
     if nat_eq number (type_number none_kind) then array_in none_kind texts c
@@ -54,7 +54,7 @@ array_of number texts c =
     else (if nat_eq number (type_number fd_kind) then array_in fd_kind texts c
     else None)))))))))
 
--- what a call of this number adds, if anything
+-- the value that a call of this number adds; None where it adds none
 abbrev pub added_by : ℕ → List ℕ → Call → Option Tree
 added_by number texts c =
     if nat_eq number (type_number none_kind) then Some (fixed none)
@@ -73,11 +73,11 @@ added_by number texts c =
     else (if nat_eq number array_number then array_of c.first texts c
     else None)))))))))))))
 
--- the frame of the pod that a call closes: the number 0 is for the innermost
+-- the frame of the pod that a call closes: 0 stands for the innermost
 abbrev pub frame_of : State → Call → ℕ
 frame_of s c = if nat_eq c.bits 0 then length s.opened else c.bits
 
--- which other call this number is, if any
+-- the builder's call of this number that adds no value; None where there is none
 abbrev pub begun_by : State → ℕ → Call → Option builder.Call
 begun_by s number c =
     if nat_eq number array_type then Some push_array
@@ -88,15 +88,15 @@ begun_by s number c =
     else (if nat_eq number pop_number then Some (pop (frame_of s c))
     else None)))))
 
--- the call that adds a value, if there is one, or another call
+-- the builder's call that adds the value, where there is one, or else the other call
 abbrev pub adds : Option Tree → Option builder.Call → Option builder.Call
 adds v other = elim v as (λ _. Option builder.Call) [ Some t ↦ Some (add t) | None ↦ other ]
 
--- the call of a builder, if it is one
+-- the builder's call that a call stands for; None where it is none
 abbrev pub said_by : State → ℕ → List ℕ → Call → Option builder.Call
 said_by s number texts c = adds (added_by number texts c) (begun_by s number c)
 
--- what a builder's call comes to; what is none is refused
+-- the outcome of a builder's call; a call that is none is refused
 abbrev pub outcome_of : State → Option builder.Call → Outcome
 outcome_of s None = Inval
 outcome_of s (Some call) = step s call
@@ -104,19 +104,19 @@ outcome_of s (Some call) = step s call
 abbrev pub outcome_in : List ℕ → State → Call → Outcome
 outcome_in texts s c = outcome_of s (said_by s c.what texts c)
 
--- the state behind calls that are accepted, one after another
+-- the state after these calls; None where one isn't accepted
 abbrev pub spelled_from : List ℕ → State → List Call → Option State
 spelled_from texts s [] = Some s
 spelled_from texts s (c ∷ cs) = elim (outcome_in texts s c) as (λ _. Option State) [ Accepts t ↦ spelled_from texts t cs | Inval ↦ None | Nospc ↦ None ]
 
--- each call is accepted, all trees are closed, and these are their encodings
+-- each call is accepted, no pod is open at the end, and these bytes are the encodings of the trees
 pub record Builds (texts : List ℕ) (calls : List Call) (bytes : List ℕ) : Type 0 where
   pub state : State
   pub spelled : spelled_from texts start calls ≡ Some state
   pub all_closed : state.opened ≡ []
   pub encodings : bytes ≡ member_encodings state.closed
 
--- the calls before this one are accepted, and it comes to such an outcome
+-- the calls before the one at the index `at` are accepted, and the outcome of that one is such
 pub record StopsAt (texts : List ℕ) (calls : List Call) (at : ℕ) (IsOutcome : Outcome → Type 0) : Type 0 where
   pub state : State
   pub before : spelled_from texts start (take at calls) ≡ Some state
@@ -124,7 +124,7 @@ pub record StopsAt (texts : List ℕ) (calls : List Call) (at : ℕ) (IsOutcome 
   pub here : take (at + 1) calls ≡ take at calls ++ call ∷ []
   pub comes : IsOutcome (outcome_in texts state call)
 
--- each call is accepted, and a tree is still open behind the last
+-- each call is accepted, and a pod is still open after the last
 pub record LeavesOpen (texts : List ℕ) (calls : List Call) (at : ℕ) : Type 0 where
   pub state : State
   pub spelled : spelled_from texts start calls ≡ Some state

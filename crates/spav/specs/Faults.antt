@@ -1,4 +1,4 @@
--- The first fault of the caller's bytes, and the byte at which it stands: docs/FORMAT.md, "Faults".
+-- The first fault of the caller's bytes, and its offset: docs/FORMAT.md, "Faults".
 use Rattle.std.specs.Prelude.{◌≡◌, ◌≢◌, ◌+◌, ◌<◌, ◌≤◌, ℕ, List, [], length, take, drop}
 use Rattle.spa_format.specs.Faults.{Fault, Short, Text, InvalidType, InvalidChoiceType, MissingChoiceValues, WrongSize, StandsAtFront}
 use Rattle.spa_format.specs.Front.{Begins, HasFront, IsRefused, rest_of}
@@ -17,28 +17,28 @@ fault_number InvalidChoiceType = 4
 fault_number MissingChoiceValues = 5
 fault_number WrongSize = 6
 
--- what a search through pods ends at: a fault, or a pod that nests deeper than is looked into
+-- the end of a search through pods: a fault, or a pod whose nesting depth is above the levels that are looked into
 pub data End : Type 0 where
   faulty : Fault → End
   too_deep : End
 
--- the search ends at the pod that begins there
+-- the search ends at the pod at the front of these bytes
 abbrev pub EndsAtPod : End → List ℕ → Type 0
 EndsAtPod (faulty k) b = StandsAtFront k b
 EndsAtPod too_deep b = NestsDeeper levels_looked_into b
 
--- the search ends at a key and flags of which fewer bytes are left
+-- the search ends at a key and flags that are cut short
 abbrev pub EndsAtKey : End → Type 0
 EndsAtKey (faulty k) = k ≡ Short
 EndsAtKey too_deep = ⊥
 
--- where a search begins: at the pod at the front, at members, at properties
+-- where a search begins: at the pod at the front, at members, or at properties
 pub data Scope : Type 0 where
   pod : Scope
   members : Scope
   properties : Scope
 
--- The search ends so, at this byte: all pods before it are passed.
+-- The search that begins there ends so at this offset: the pods before it are accepted, and passed.
 pub data Finds (e : End) : Scope → ℕ → List ℕ → Type 0 where
   at_pod : (b : List ℕ) → EndsAtPod e b → Finds e pod 0 b
   in_struct : (at : ℕ) (b : List ℕ) → HasFront b → word_at b 4 ≡ struct_type → Finds e members at (body_of b) → Finds e pod (header_size + at) b
@@ -49,7 +49,7 @@ pub data Finds (e : End) : Scope → ℕ → List ℕ → Type 0 where
   first_value : (at : ℕ) (b : List ℕ) → header_size ≤ length b → Finds e pod at (drop header_size b) → Finds e properties (header_size + at) b
   next_property : (at : ℕ) (b : List ℕ) (v : Tree) → header_size ≤ length b → Begins (drop header_size b) v → Finds e properties at (rest_of (drop header_size b)) → Finds e properties (header_size + extent (word_at (drop header_size b) 0) + at) b
 
--- The first pods, or none, stand before the byte `top`; the fault stands at the byte `at`, in the pod that begins there.
+-- Zero or more first pods are before the byte `top`; the fault stands at the byte `at`, in the pod that begins at `top`.
 pub record FaultStands (input : List ℕ) (kind top at : ℕ) : Type 0 where
   pub first : Trees
   pub before : AreMembers first (take top input)
@@ -61,7 +61,7 @@ pub record FaultStands (input : List ℕ) (kind top at : ℕ) : Type 0 where
   pub its_byte : at ≡ top + behind
   pub found : Finds (faulty fault) pod behind (drop top input)
 
--- Behind the first pods, or none, stands one that nests too deep, or one stands inside it.
+-- Behind zero or more first pods there is one with a nesting depth above the levels that are looked into, or one in it has.
 pub record NestsTooDeep (input : List ℕ) : Type 0 where
   pub left : List ℕ
   pub behind : IsLeft input left

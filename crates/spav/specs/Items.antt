@@ -1,4 +1,4 @@
--- What is read of the caller's pods as items, and where values stand: docs/CAPI.md, "Reading".
+-- The items of the caller's pods, and the offsets of values: docs/CAPI.md, "Reading".
 use Rattle.std.specs.Prelude.{◌≡◌, ◌⊎◌, ℕ, ◌+◌, ◌<◌, List, ◌++◌, length, take, drop, false, if◌then◌else◌, Option, Some, None}
 use Rattle.spa_format.specs.Front.{HasFront, front_of}
 use Rattle.spa_format.specs.Tree.{array_type, choice_type}
@@ -13,27 +13,27 @@ use Rattle.spa_view.specs.Tests.{IsArrayPod, IsChoicePod, IsStructPod}
 use Rattle.spav.specs.Reading.{BeginsObject}
 use Rattle.spav.specs.declared.items.Elements.{Elements}
 
--- the items of the input are so many, they are at the front of the output, and behind them it is as it was
+-- the input has `count` items, they are at the front of the output, and the output is unchanged behind them
 pub record AreRead (input : List ℕ) (count : ℕ) (old new : List Item) : Type 0 where
   pub counted : count ≡ length (items_of input)
   pub front : new ≡ items_of input ++ drop count old
 
--- they are so many, more than the output has, which is full of the first of them
+-- the input has `count` items, more than the output has room for, which is full of the first of them
 pub record ArePast (input : List ℕ) (count : ℕ) (new : List Item) : Type 0 where
   pub counted : count ≡ length (items_of input)
   pub first : new ≡ take (length new) (items_of input)
   pub more : length new < count
 
--- where the value of the None choice at the front begins, or the front itself
+-- the offset at which the value of the None choice at the front begins; 0 where the front is another pod
 abbrev pub settled_at : List ℕ → ℕ
 settled_at input = if holds_value (front_of input) then child_place else 0
 
--- a pod is at the front, and this is the item of it, or of the value of the None choice there
+-- the front is there, and this is its item, or that of the value of the None choice there
 pub record SaysItem (input : List ℕ) (item : Item) : Type 0 where
   pub front : HasFront input
   pub its_item : item ≡ head false 0 (settled_at input) (settled_bytes (front_of input))
 
--- in the object at the front, before the first property with this key, stand so many bytes of others
+-- how many bytes of other properties are before the first property with this key, in the object at the front; None where no property has it
 abbrev pub bytes_before_key : ℕ → List ℕ → Option ℕ
 bytes_before_key key input = place_of_key key (property_walk (properties_of (front_of input)))
 
@@ -54,7 +54,7 @@ pub record BeginsStruct (input : List ℕ) : Type 0 where
   pub front : HasFront input
   pub struct : IsStructPod (front_of input)
 
--- in the struct at the front, before the member of this number, stand so many bytes of others
+-- how many bytes of other members are before the member of this number, in the struct at the front; None where there is none
 abbrev pub bytes_before_member : ℕ → List ℕ → Option ℕ
 bytes_before_member number input = place_of_number number (walk (body_of (front_of input)))
 
@@ -70,7 +70,7 @@ pub record HasNoMember (number : ℕ) (input : List ℕ) : Type 0 where
   pub struct : BeginsStruct input
   pub none : bytes_before_member number input ≡ None
 
--- type and size of the elements are those of this child header, behind which so many stand
+-- type and size of the elements are those of the child header at the front of these bytes, and their number is that of the elements behind it
 pub record AreHeaded (values : List ℕ) (e : Elements) : Type 0 where
   pub its_type : e.element_type ≡ word_at values 4
   pub its_size : e.element_size ≡ word_at values 0
@@ -105,6 +105,6 @@ pub record SaysElements (input : List ℕ) (e : Elements) : Type 0 where
   pub front : HasFront input
   pub elements : HasElements (front_of input) e
 
--- neither is at the front
+-- neither an array nor a choice is at the front
 abbrev pub BeginsNoElements : List ℕ → Type 0
 BeginsNoElements input = HasFront input → HasNoElements (front_of input)

@@ -12,14 +12,14 @@ pub record ConveyedIsWritten (input : List ℕ) (count : ℕ) (old new : List �
   pub conveyed : ConveyMembers values input
   pub written : IsWritten (member_encodings values) count old new
 
--- the input conveys values one after another, whose encodings take so many bytes, and the output has fewer
+-- the input conveys values one after another, whose encodings have `count` bytes, and the output has fewer
 pub record ConveyedLacksRoom (input : List ℕ) (count : ℕ) (out : List ℕ) : Type 0 where
   pub values : Trees
   pub conveyed : ConveyMembers values input
   pub counted : count ≡ length (member_encodings values)
   pub short : length out < count
 
--- The input conveys none: some first bytes, or none, convey values before this byte, and nothing is conveyed there.
+-- The input doesn't convey values one after another: zero or more are conveyed before the byte `at`, and none at it.
 pub record NoneAreConveyed (input : List ℕ) (at : ℕ) : Type 0 where
   pub first : Trees
   pub before : ConveyMembers first (take at input)

@@ -7,7 +7,7 @@ use Rattle.spa_format.specs.Tree.{Trees}
 use Rattle.spa_fixed.specs.declared.fault.DeserializeError.{DeserializeError}
 use Rattle.spa_fixed.specs.declared.fault.DeserializeError.TheVariants.{OutOfMemory}
 
--- these bytes are so many, the front of the output became them, and behind them it is as it was
+-- these are `count` bytes, the front of the output became them, and the output is unchanged behind them
 pub record IsWritten (bytes : List ℕ) (count : ℕ) (old new : List ℕ) : Type 0 where
   pub counted : count ≡ length bytes
   pub front : new ≡ bytes ++ drop count old
@@ -18,14 +18,14 @@ pub record ListIsWritten (input : List ℕ) (count : ℕ) (old new : List ℕ) :
   pub members : AreMembers values input
   pub written : IsWritten (member_encodings values) count old new
 
--- the input is pods one after another, whose encodings take so many bytes, and the output has fewer
+-- the input is pods one after another, whose encodings have `count` bytes, and the output has fewer
 pub record ListLacksRoom (input : List ℕ) (count : ℕ) (out : List ℕ) : Type 0 where
   pub values : Trees
   pub members : AreMembers values input
   pub counted : count ≡ length (member_encodings values)
   pub short : length out < count
 
--- Where an input isn't pods one after another: some first pods, or none, stand before this byte, and no pod begins there.
+-- The input isn't pods one after another: zero or more are before the byte `at`, and none begins at it.
 pub record ListIsRefused (input : List ℕ) (at : ℕ) : Type 0 where
   pub first : Trees
   pub before : AreMembers first (take at input)
@@ -33,7 +33,7 @@ pub record ListIsRefused (input : List ℕ) (at : ℕ) : Type 0 where
   pub refused : IsRefused (drop at input)
   pub whole : (values : Trees) → ¬ (AreMembers values input)
 
--- a refusal for what the bytes are, and not for lack of memory
+-- the refusal is for a fault of the bytes, and not for want of memory
 abbrev pub IsForBytes : {I : Type 0} → DeserializeError I → Type 0
 IsForBytes OutOfMemory = ⊥
 IsForBytes _ = ⊤

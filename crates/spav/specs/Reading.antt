@@ -1,4 +1,4 @@
--- What is read of the front of an input, and of a property of the object there: docs/CAPI.md, "Reading".
+-- Reads of the front of an input, and of a property of the object there: docs/CAPI.md, "Reading".
 use Rattle.std.specs.Prelude.{◌≡◌, ℕ, List, drop, Option, None, Some}
 use Rattle.spa_format.specs.Words.{body_of, header_size, word_at}
 use Rattle.spa_format.specs.Kind.{Kind, Fixed, content}
@@ -18,11 +18,11 @@ pub record SaysObject (input : List ℕ) (type id : ℕ) : Type 0 where
   pub its_type : type ≡ word_at (body_of (front_of input)) 0
   pub its_id : id ≡ word_at (body_of (front_of input)) 4
 
--- the first property with this key of the object at the front, with key and flags, or none
+-- the first property with this key of the object at the front, with its key and flags; None where no property has it
 abbrev pub property_under : ℕ → List ℕ → Option (List ℕ)
 property_under key input = first_with_key key (property_walk (properties_of (front_of input)))
 
--- this is the pod of that property's value, or of the value of the None choice there
+-- this is the pod of the value of the first property with this key, or, where that is a None choice, of the choice's value
 pub record IsUnder (key : ℕ) (input pod : List ℕ) : Type 0 where
   pub object : BeginsObject input
   pub property : List ℕ
@@ -40,7 +40,7 @@ pub record HasUnder (key : ℕ) (input : List ℕ) (Holds : List ℕ → Type 0)
   pub under : IsUnder key input pod
   pub holds : Holds pod
 
--- the value under this key is of this kind, and says this
+-- the value under this key is of this kind, and is this value
 abbrev pub SaysUnder : Kind → ℕ → List ℕ → Fixed → Type 0
 SaysUnder kind key input said = HasUnder key input (λ pod. IsOfKind kind pod × (said ≡ content kind (body_of pod)))
 
@@ -52,6 +52,6 @@ HasOtherUnder kind key input = HasUnder key input (λ pod. ¬ (IsOfKind kind pod
 abbrev pub HasTextUnder : ℕ → List ℕ → List ℕ → Type 0
 HasTextUnder key input text = HasUnder key input (λ pod. IsNulEnded pod × (text ≡ before_nul (body_of pod)))
 
--- the value under this key is no such string
+-- the value under this key isn't a string whose body ends in NUL
 abbrev pub HasNoTextUnder : ℕ → List ℕ → Type 0
 HasNoTextUnder key input = HasUnder key input (λ pod. ¬ (IsNulEnded pod))

@@ -1,4 +1,4 @@
--- A search through pods for the first fault: how far it came, and what is left to look at.
+-- A search through pods for the first fault: how far it has come, and the bytes that are left.
 use Rattle.std.specs.Prelude.{◌≡◌, ◌+◌, ◌-◌, ◌≤◌, ℕ, List, length, drop, Bool, true, false}
 use Rattle.spa_format.specs.Front.{HasFront, IsRefused}
 use Rattle.spa_format.specs.Pod.{AreMembers, AreProperties}
@@ -10,22 +10,22 @@ use Rattle.spav.specs.declared.faults.Found.{Found}
 use Rattle.spav.specs.declared.faults.Found.TheVariants as found
 use Rattle.spav.specs.declared.faults.Inside.{Inside}
 
--- the pods that stand one after another with or without keys
+-- where a search begins at pods one after another, with or without keys before them
 abbrev pub scope_of : Bool → Scope
 scope_of true = properties
 scope_of false = members
 
--- what a search ends at that begins there
+-- a search that begins at this scope of these bytes ends at what was found
 abbrev pub IsFound : Scope → List ℕ → Found → Type 0
 IsFound scope b (found.Fault at why) = Says (λ k. Finds (faulty k) scope at b) ⊥ why
 IsFound scope b (found.TooDeep at) = Finds too_deep scope at b
 
--- they are no members, or no properties
+-- the bytes aren't members, or aren't properties
 abbrev pub AreNone : Bool → List ℕ → Type 0
 AreNone true pods = (ps : Properties) → ¬ (AreProperties ps pods)
 AreNone false pods = (vs : Trees) → ¬ (AreMembers vs pods)
 
--- a struct or an object is at the front, and these are its members or properties, behind so many bytes
+-- a struct or an object is at the front, and these are its members or properties, at the offset `before`
 abbrev pub Enters : Bool → List ℕ → List ℕ → ℕ → Type 0
 Enters true b pods before = (word_at b 4 ≡ object_type) × (header_size ≤ length (body_of b)) × (pods ≡ drop header_size (body_of b)) × (before ≡ header_size + header_size)
 Enters false b pods before = (word_at b 4 ≡ struct_type) × (pods ≡ body_of b) × (before ≡ header_size)
@@ -35,34 +35,34 @@ pub record IsEntered (b : List ℕ) (inside : Inside) : Type 0 where
   pub enters : Enters inside.keyed b inside.pods.now inside.before
   pub shorter : length inside.pods.now + inside.before ≤ length b
 
--- what a search that begins there finds, one that begins at the others finds, too
+-- whatever a search finds that begins at `left`, one that begins at `all` finds too, `behind` bytes further
 pub record Leads (from : Scope) (all : List ℕ) (to : Scope) (behind : ℕ) (left : List ℕ) : Type 0 where
   pub onward : (e : End) (n : ℕ) → Finds e to n left → Finds e from (behind + n) all
   pub room : behind + length left ≤ length all
 
--- so far no fault was found
+-- the search has come up to `left` and found no fault
 pub record Searches (keyed : Bool) (pods left : List ℕ) : Type 0 where
   pub leads : Leads (scope_of keyed) pods (scope_of keyed) (length pods - length left) left
   pub shorter : length left ≤ length pods
   pub none : AreNone keyed left
 
--- a refused pod of these
+-- the pod at the front of `here` is refused, and is one of these pods
 pub record IsRefusedAmong (keyed : Bool) (pods here : List ℕ) : Type 0 where
   pub leads : Leads (scope_of keyed) pods pod (length pods - length here) here
   pub shorter : length here ≤ length pods
   pub refused : IsRefused here
 
--- the refused pod to which a search came
+-- the pod at the front of `here` is refused, and a search that begins at `top` comes to it, `behind` bytes further
 pub record ComesTo (top : List ℕ) (behind : ℕ) (here : List ℕ) : Type 0 where
   pub leads : Leads pod top pod behind here
   pub refused : IsRefused here
 
--- the same, so many bytes further
+-- what was found, with an offset that is `n` bytes further
 abbrev pub found_behind : ℕ → Found → Found
 found_behind n (found.Fault at why) = found.Fault (n + at) why
 found_behind n (found.TooDeep at) = found.TooDeep (n + at)
 
--- at which byte
+-- the offset of what was found
 abbrev pub byte_of : Found → ℕ
 byte_of (found.Fault at why) = at
 byte_of (found.TooDeep at) = at

@@ -10,7 +10,7 @@ abbrev pub number_of : Side → ℕ
 number_of First = 0
 number_of Second = 1
 
--- no object is at the front: it isn't there, is no pod, or is a pod of another value
+-- no object is at the front: the front isn't there, is no pod, or is a pod of another type
 abbrev pub LacksObject : List ℕ → Type 0
 LacksObject input = IsRefused input ⊎ BeginsOther input
 

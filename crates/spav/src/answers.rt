@@ -1,4 +1,4 @@
-//! What calls answer.
+//! The numbers that the calls answer.
 
 /// Done, or no.
 pub(crate) const DONE: i32 = 0;
@@ -21,13 +21,13 @@ pub(crate) const MISSING: i32 = -2;
 /// The value under the key is of another type: `-EPROTO`.
 pub(crate) const OTHER: i32 = -71;
 
-/// No common value is sought for what stands there: `-ENOTSUP`.
+/// No common value is sought for the values under the key: `-ENOTSUP`.
 pub(crate) const UNSUPPORTED: i32 = -95;
 
-/// No value is admitted by both: `-ENODATA`.
+/// No value under the key is admitted by both: `-ENODATA`.
 pub(crate) const DISJOINT: i32 = -61;
 
-/// More levels stand in one another than are looked into: `-ELOOP`.
+/// The nesting depth is above 1000, the levels that are looked into: `-ELOOP`.
 pub(crate) const TOO_DEEP: i32 = -40;
 
 /// A size of the answer is 2^32 or more: `-EOVERFLOW`.

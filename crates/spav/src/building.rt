@@ -1,4 +1,4 @@
-//! Pods that are built by a list of calls, in the caller's memory.
+//! Builds pods by a list of calls, in the caller's memory.
 ghost use Rattle.std.specs.Prelude.{◌≡◌, ◌≢◌, ◌<◌, ◌⊎◌, Err, IfErr, IfNone, IfOk, IfSome, List, None, Option, Some, length, ℕ};
 ghost use Rattle.spa_format.specs.Tree.{bytes_type, string_type};
 ghost use Rattle.spa_builder.specs.Answers.{Makes};
@@ -19,10 +19,10 @@ use spa_utils::{Errno, Fd, Float32, Float64, Fraction, Frame, Id, Rectangle, Spa
 use std::alloc::Global;
 use std::str;
 
-/// The number of a call that says the key and the flags of a property.
+/// The number of a call that gives the key and the flags of a property.
 const KEY: u32 = 256;
 
-/// The number of a call that closes the innermost pod that is begun.
+/// The number of a call that closes the innermost open pod.
 const POP: u32 = 257;
 
 /// The number of a call that adds a whole array.
@@ -34,10 +34,10 @@ const ARRAY: u32 = 258;
 pub struct Call {
     /// The type of the value that is added, or of the pod that is begun; or KEY, or POP, or ARRAY.
     pub what: u32,
-    /// An Id, a truth value (0 is false), the bits of a Float, a width, a numerator, a pointer's type, an object's type, a choice's
-    /// shape, a key, the type of an array's elements.
+    /// An Id, a truth value (0 is false), the bits of a Float, a width, a numerator, a pointer's type, an object's type, a choice's shape, a key, or
+    /// the type of an array's elements.
     pub first: u32,
-    /// A height, a denominator, an object's id, a choice's flags, a property's flags, how many bytes a text has, how many elements an array.
+    /// A height, a denominator, an object's id, a choice's flags, a property's flags, how many bytes a text has, or how many elements an array has.
     pub second: u32,
     /// An Int.
     pub number: i32,
@@ -51,10 +51,10 @@ pub struct Call {
 /// Writes the pods that a list of calls builds, one after another, to the front of `out`. The texts of strings, bytes, and the elements of whole
 /// arrays, without padding between, are parts of `texts`.
 ///
-/// 0: `written` is their length, and what is behind them is as it was. -ENOSPC: their length, `written`, is more than `out` has. -EINVAL: the
-/// call at the place `at` of the list can't come there, or says nothing; where `at` is how many calls there are, a pod that was begun isn't
-/// closed. -EOVERFLOW: by that call the size of a pod is 4294967296 or more. -ENOMEM: memory was asked for and refused. Where the answer
-/// isn't 0, `out` is unchanged.
+/// 0: `written` is their length in bytes, and `out` is unchanged behind them. -ENOSPC: their length, `written`, is more than `out` has. -EINVAL:
+/// the call at the index `at` of the list isn't allowed there, or is none; where `at` is the number of calls, a pod is still open behind the
+/// last. -EOVERFLOW: that call would make the size of a pod 4294967296 or more. -ENOMEM: memory was asked for and refused. Where the answer isn't
+/// 0, `out` is unchanged.
 #[unsafe(no_mangle)]
 pub extern "C" fn spav_build(
     alloc: Global,
@@ -68,7 +68,7 @@ pub extern "C" fn spav_build(
     ensures room { IsNoRoom result → (bytes : List ℕ) × Builds texts.now calls.now bytes × (written.new ≡ length bytes) × (length out.old < length bytes) }
     ensures refused { IsInvalid result → StopsAt texts.now calls.now at.new (λ o. o ≡ Inval) ⊎ LeavesOpen texts.now calls.now at.new }
     ensures past { IsPast result → StopsAt texts.now calls.now at.new (λ o. o ≡ Nospc) }
-    // Memory is lacking only at a call that would else be accepted.
+    // Memory runs out only at a call that would otherwise be accepted.
     ensures memory { IsNoMemory result → (place : ℕ) × StopsAt texts.now calls.now place (λ o. (s : State) × (o ≡ Accepts s)) }
     ensures answers { IsBuilt result }
     ensures unchanged { ¬ (IsDone result) → out.new ≡ out.old }
@@ -87,7 +87,7 @@ pub extern "C" fn spav_build(
     }
 }
 
-/// What is answered where a call stops.
+/// The answer to a list of calls that stops with this error.
 fn answer_of(cause: Errno) -> i32
     ensures invalid { IsInvalid result → cause ≡ INVAL }
     ensures past { IsPast result → cause ≡ NOSPC }
@@ -103,7 +103,7 @@ fn answer_of(cause: Errno) -> i32
     NO_MEMORY
 }
 
-/// Makes the calls up to the first that isn't accepted, and says which that is, and why.
+/// Makes the calls. Refused at the first that isn't accepted, with its index and the cause.
 fn run(builder: &mut Builder, texts: &[u8], calls: &[Call]) -> Result<(), (usize, Errno)>
     requires { IsAt builder.old start }
     ensures all { IfOk result (λ _. (s : State) × (spelled_from texts.now start calls.now ≡ Some s) × IsAt builder.new s) }
@@ -148,7 +148,7 @@ fn make(builder: &mut Builder, texts: &[u8], call: &Call) -> Result<(), Errno>
     }
 }
 
-/// Makes a call that begins or closes a pod, or says a key.
+/// Makes a call that opens or closes a pod, or gives a key.
 fn begin_or_close_pod(builder: &mut Builder, call: &Call) -> Result<(), Errno>
     ensures { (s : State) → IsAt builder.old s → Makes (outcome_of s (begun_by s call.now.what call.now)) builder.old builder.new result }
 {
@@ -172,7 +172,7 @@ fn begin_or_close_pod(builder: &mut Builder, call: &Call) -> Result<(), Errno>
     Ok(())
 }
 
-/// Closes the innermost pod, which the call's frame has to name, unless that is 0.
+/// Closes the innermost open pod, which has to be the call's frame, unless that is 0.
 fn close_pod(builder: &mut Builder, call: &Call) -> Result<(), Errno>
     ensures { (s : State) → IsAt builder.old s → Makes (step s (pop (frame_of s call.now))) builder.old builder.new result }
 {
@@ -184,7 +184,7 @@ fn close_pod(builder: &mut Builder, call: &Call) -> Result<(), Errno>
     builder.pop(Frame(frame))
 }
 
-/// The part of the texts from a byte on.
+/// The `len` bytes of the texts from the offset `from` on. None: the texts are shorter.
 fn part(texts: &[u8], from: usize, len: usize) -> Option<&[u8]>
     ensures some { IfSome result (λ text. part_of texts.now from len ≡ Some text.now) }
     ensures none { IfNone result (part_of texts.now from len ≡ None) }
@@ -195,7 +195,7 @@ fn part(texts: &[u8], from: usize, len: usize) -> Option<&[u8]>
     Some(&texts[from..from + len])
 }
 
-/// Adds the bytes that a call names.
+/// Adds the bytes whose offset and length in the texts a call gives.
 fn add_part(builder: &mut Builder, texts: &[u8], call: &Call) -> Result<(), Errno>
     ensures { (s : State) → IsAt builder.old s → Makes (outcome_of s (said_by s bytes_type texts.now call.now)) builder.old builder.new result }
 {
@@ -205,7 +205,7 @@ fn add_part(builder: &mut Builder, texts: &[u8], call: &Call) -> Result<(), Errn
     }
 }
 
-/// Adds the array that a call names.
+/// Adds the array whose element type, offset in the texts and number of elements a call gives.
 fn add_array(builder: &mut Builder, texts: &[u8], call: &Call) -> Result<(), Errno>
     ensures { (s : State) → IsAt builder.old s → Makes (outcome_of s (said_by s array_number texts.now call.now)) builder.old builder.new result }
 {
@@ -224,7 +224,7 @@ fn add_array(builder: &mut Builder, texts: &[u8], call: &Call) -> Result<(), Err
     }
 }
 
-/// Adds the array that a call names, of elements of one type.
+/// Adds the array whose offset in the texts and number of elements a call gives, over the type `T`.
 fn add_array_of<T: CanonicalFixedSizedPod>(
     builder: &mut Builder,
     texts: &[u8],
@@ -239,7 +239,7 @@ fn add_array_of<T: CanonicalFixedSizedPod>(
     }
 }
 
-/// Adds the text that a call names.
+/// Adds the text whose offset and length in the texts a call gives.
 fn add_text(builder: &mut Builder, texts: &[u8], call: &Call) -> Result<(), Errno>
     ensures { (s : State) → IsAt builder.old s → Makes (outcome_of s (said_by s string_type texts.now call.now)) builder.old builder.new result }
 {

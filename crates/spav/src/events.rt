@@ -1,4 +1,4 @@
-//! What lies inside the caller's bytes, told into the caller's memory.
+//! Lists the nested pods of the caller's bytes, in the caller's memory.
 ghost use Rattle.std.specs.Prelude.{◌≡◌, ◌≤◌, ◌/◌, length};
 ghost use Rattle.spa_events.specs.Events.{IsFilled, IsListed, events_of};
 ghost use Rattle.spa_format.specs.Words.{header_size};
@@ -9,11 +9,11 @@ use spa_bytes::HEADER_LEN;
 use spa_events::laws::events_are_few;
 use spa_events::{Event, list_events};
 
-/// Writes what is told of each pod that the input consists of, and of each inside it, to the front of `out`: a pod comes before
-/// those inside it, and these before what follows it.
+/// Writes one event for each pod that the input consists of, and for each pod nested in these, to the front of `out`: a pod's event comes before
+/// those of the pods in it, and these before those of the pods that follow it.
 ///
-/// 0: `count` is how many they are, and what is behind them is as it was. -ENOSPC: `out` has room for fewer; it is full of the first
-/// of them, and `count`, an eighth of the input's length, is room enough.
+/// 0: `count` is the number of events, and `out` is unchanged behind them. -ENOSPC: there are more events than `out` has room for; it is full of the
+/// first of them, and `count`, an eighth of the input's length, is room enough for all.
 #[unsafe(no_mangle)]
 pub extern "C" fn spav_events(input: &[u8], out: &mut [Event], count: &mut usize) -> i32
     ensures listed { IsDone result → IsListed input.now count.new out.old out.new }

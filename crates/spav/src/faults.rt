@@ -1,4 +1,4 @@
-//! The first fault of the caller's bytes, and the byte at which it stands.
+//! Finds the first fault of the caller's bytes, and its offset.
 ghost use Rattle.std.specs.Prelude.{◌≡◌, ◌≢◌, ◌+◌, ◌-◌, ◌<◌, ◌≤◌, ◌++◌, [], IfErr, IfNone, IfOk, IfSome, List, ℕ, drop, length, take, true};
 ghost use Rattle.spa_fixed.specs.declared.fault.Refusal.TheVariants as refusal;
 ghost use Rattle.spa_format.specs.Faults.{Fault, Short, StandsAtFront};
@@ -20,16 +20,16 @@ use spa_fixed::Refusal;
 use spa_rewrite::{Rejected, behind_key, look_at_pod, look_at_pods};
 use spa_utils::SpaTypes;
 
-/// Why a search through pods ends, and how many bytes behind its beginning.
+/// Why a search through pods ends, and at which offset from where it began.
 #[derive(Clone, Copy)]
 enum Found {
-    /// This fault stands there.
+    /// This fault stands at the offset.
     Fault(usize, Refusal),
-    /// A pod begins there that nests too deep.
+    /// At the offset begins a pod with a nesting depth above 1000.
     TooDeep(usize),
 }
 
-/// The members of a struct or the properties of an object, and how many bytes of the pod are before them.
+/// The members of a struct or the properties of an object, and their offset in the pod.
 #[derive(Clone, Copy)]
 struct Inside<'a> {
     keyed: bool,
@@ -37,10 +37,10 @@ struct Inside<'a> {
     before: usize,
 }
 
-/// Which fault stands first in the input.
+/// Finds the first fault in the input.
 ///
-/// 0: none; the input is pods one after another. 1: one of the kind `kind`, at the byte `at`, in the pod that begins at the byte `top`. -ELOOP:
-/// none before a pod that nests in more than 1000 levels. Where the answer isn't 1, nothing is written.
+/// 0: there is none; the input is pods one after another. 1: a fault of the kind `kind` stands at the byte `at`, in the pod that begins at the
+/// byte `top`. -ELOOP: there is none before a pod with a nesting depth above 1000. Where the answer isn't 1, nothing is written.
 #[unsafe(no_mangle)]
 pub extern "C" fn spav_fault(input: &[u8], kind: &mut u32, top: &mut usize, at: &mut usize) -> i32
     ensures none { IsDone result → (values : Trees) × AreMembers values input.now }
@@ -80,7 +80,7 @@ fn number_of(why: Refusal) -> u32
     }
 }
 
-/// What the search for the fault of the pod at the front ends at. It goes into each refused pod, past those that are accepted.
+/// Searches the refused pod at the front for its first fault. The search goes into each refused pod, past those that are accepted.
 fn first_fault(input: &[u8]) -> Found
     requires refused { IsRefused input.now }
     ensures { IsFound pod input.now result }
@@ -102,7 +102,7 @@ fn first_fault(input: &[u8]) -> Found
     }
 }
 
-/// What was found, so many bytes further.
+/// What was found, with an offset that is `at` bytes further.
 fn behind(at: usize, found: Found) -> Found
     requires room { at + byte_of found < 18446744073709551616 }
     ensures { result ≡ found_behind at found }
@@ -113,7 +113,7 @@ fn behind(at: usize, found: Found) -> Found
     }
 }
 
-/// The fault of the pod at the front that stands in no member of it.
+/// The fault of the pod at the front, which is in none of its members.
 fn front_fault(here: &[u8]) -> Found
     requires refused { IsRefused here.now }
     requires alone { OpensHeaderAlone here.now }
@@ -125,7 +125,7 @@ fn front_fault(here: &[u8]) -> Found
     }
 }
 
-/// What is inside the struct or the object at the front.
+/// The members or properties of the struct or object at the front. None: only the header of the front is to be looked at.
 fn inside_of(here: &[u8]) -> Option<Inside<'_>>
     ensures entered { IfSome result (IsEntered here.now) }
     ensures alone { IfNone result (OpensHeaderAlone here.now) }
@@ -150,7 +150,8 @@ fn inside_of(here: &[u8]) -> Option<Inside<'_>>
     })
 }
 
-/// The first refused one of these pods, and what follows it. The last one isn't looked into: it is refused where no other is.
+/// The bytes from the first refused one of these pods on. The last one isn't looked into: it is refused where no other is. Or the end of the search,
+/// where it isn't a pod that is refused.
 fn refused_among(keyed: bool, pods: &[u8]) -> Result<&[u8], Found>
     requires refused { AreNone keyed pods.now }
     ensures here { IfOk result (λ here. IsRefusedAmong keyed pods.now here.now) }

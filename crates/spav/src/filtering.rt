@@ -1,4 +1,4 @@
-//! Filtering in the caller's memory.
+//! Filters objects in the caller's memory.
 ghost use Rattle.std.specs.Prelude.{◌≡◌, ◌<◌, List, length, ℕ};
 ghost use Rattle.spa_filter.specs.Filtering.{CanFilter};
 ghost use Rattle.spa_filter.specs.Refusals.{AreRefused};
@@ -16,15 +16,14 @@ use crate::sides::number_of;
 use spa_filter_pods::{FilterError, filter_pods};
 use std::alloc::Global;
 
-/// Writes the object to which the objects at the fronts of two inputs are filtered to the front of `out`: it admits exactly what both
-/// admit, and may still hold choices. What follows the two fronts doesn't count.
+/// Filters the objects at the fronts of two inputs, and writes the outcome to the front of `out`: under each key of both it admits exactly what
+/// both admit, and may still have choices. The bytes behind the two fronts don't count.
 ///
-/// 0: `written` is its length, and what is behind it is as it was. -ENOSPC: they are filtered to one whose length, `written`, is more
-/// than `out` has. -EINVAL: no object is at the front of the first input, where `told` is 0, or of the second, where it is 1. They
-/// aren't filtered: -EPROTO, they are of two types; -ENOENT, one has the key `told` as MANDATORY, and the other lacks it; -ENOTSUP, under
-/// the key `told` stands a choice for which no common value is sought; -ENODATA, under the key `told` no value is admitted by both.
-/// -EOVERFLOW: they are filtered to one that is too large for a pod. -ENOMEM: memory was asked for and refused. Where the answer isn't
-/// 0, `out` is unchanged.
+/// 0: `written` is the length of the outcome in bytes, and `out` is unchanged behind it. -ENOSPC: that length, `written`, is more than `out` has.
+/// -EINVAL: no object is at the front of the first input, where `told` is 0, or of the second, where it is 1. On a mismatch `told` is the first
+/// conflicting key: -EPROTO, the objects are of two types, and there is no key; -ENOENT, one has the key as MANDATORY, and the other lacks it;
+/// -ENOTSUP, the key has a choice for which no common value is sought; -ENODATA, no value is admitted by both. -EOVERFLOW: the outcome is too large
+/// for a pod. -ENOMEM: memory was asked for and refused. Where the answer isn't 0, `out` is unchanged.
 #[unsafe(no_mangle)]
 pub extern "C" fn spav_filter(
     alloc: Global,
@@ -36,7 +35,7 @@ pub extern "C" fn spav_filter(
 ) -> i32
     ensures done { IsDone result → (bytes : List ℕ) × BeginBoth a.now b.now (FilterIn bytes) × IsWritten bytes written.new out.old out.new }
     ensures room { IsNoRoom result → (bytes : List ℕ) × BeginBoth a.now b.now (FilterIn bytes) × (written.new ≡ length bytes) × (length out.old < length bytes) }
-    // Memory aside, and what is too large, they can't be filtered exactly where one of these is answered, and what it says stands.
+    // Memory and too large outcomes aside, the two can't be filtered exactly where one of these is answered, and the answer is right.
     ensures apart { IsUnfiltered result → ¬ (BeginBoth a.now b.now CanFilter) }
     ensures front { IsInvalid result → HasNoObject a.now b.now told.new }
     ensures types { IsOther result → BeginBoth a.now b.now (λ v w. AreRefused v w TypeMismatch) }

@@ -1,4 +1,4 @@
-//! Fixation in the caller's memory.
+//! Fixates objects in the caller's memory.
 ghost use Rattle.std.specs.Prelude.{◌≡◌, ℕ};
 ghost use Rattle.spa_format.specs.Fixation.{default_properties, fixated_bytes};
 ghost use Rattle.spa_format.specs.Front.{Begins};
@@ -12,8 +12,8 @@ use spa_view::PodObject;
 /// Sets each choice among the properties of the object at the front to its default, in place, unless the property's flags have
 /// DONT_FIXATE.
 ///
-/// 0: done; of an accepted object the bytes are now a pod of the fixated one. -EINVAL: no object is at the front, and nothing is
-/// changed. What isn't accepted can become an accepted pod: a choice of an unknown shape becomes one without alternatives.
+/// 0: done; where the object was accepted, the bytes are now a pod of the fixated one. -EINVAL: no object is at the front, and nothing is
+/// changed. Bytes that weren't accepted can become an accepted pod: a choice of an unknown shape becomes a None choice.
 #[unsafe(no_mangle)]
 pub extern "C" fn spav_fixate(bytes: &mut [u8]) -> i32
     ensures object { IsDone result → HasObject bytes.old }

@@ -1,4 +1,4 @@
-//! Lists of pods, rewritten where they lie in the caller's memory.
+//! Canonicalizes lists of pods in place, in the caller's memory.
 ghost use Rattle.std.specs.Prelude.{◌≡◌, false, true, ℕ};
 ghost use Rattle.spa_fixed.specs.declared.fault.DeserializeError.TheVariants as refused;
 ghost use Rattle.spa_in_place.specs.InPlace.{RefusesListAt};
@@ -12,11 +12,11 @@ use spa_fixed::DeserializeError;
 use spa_in_place::rewrite_in_place;
 use std::alloc::Global;
 
-/// Puts the rewritings of all pods that the bytes are at their front, one after another.
+/// Canonicalizes all pods that the bytes consist of, in place: their canonical encodings, one after another, are then the front of the bytes.
 ///
-/// 0: `written` is their length, never more than the pods had, and what is behind them is as it was. -EINVAL: the bytes aren't pods one
-/// after another; the pod that begins at the byte `at` is refused. -ENOMEM: memory was asked for and refused, which isn't asked for
-/// where they are pods that nest in 1000 levels at most. Where the answer isn't 0, nothing is changed.
+/// 0: `written` is the length of the encodings, never more than the pods had, and the bytes behind are unchanged. -EINVAL: the bytes aren't pods one
+/// after another; the pod that begins at the byte `at` is refused. -ENOMEM: memory was asked for and refused; it isn't asked for where the bytes
+/// are pods with a nesting depth of at most 1000. Where the answer isn't 0, nothing is changed.
 #[unsafe(no_mangle)]
 pub extern "C" fn spav_rewrite_in_place(
     alloc: Global,
@@ -46,7 +46,7 @@ pub extern "C" fn spav_rewrite_in_place(
     }
 }
 
-/// Whether it is refused for what the bytes are, and not for lack of memory.
+/// Whether a refusal is for a fault of the bytes, and not for want of memory.
 fn is_for_bytes(error: &DeserializeError<()>) -> bool
     ensures bytes { result ≡ true → IsForBytes error.now }
     ensures memory { result ≡ false → error.now ≡ refused.OutOfMemory }

@@ -1,4 +1,4 @@
-//! What the caller's pods hold, read into the caller's memory.
+//! Reads the contents of the caller's pods as items, in the caller's memory.
 ghost use Rattle.std.specs.Prelude.{◌≡◌, ◌≤◌, IfNone, IfSome, ℕ};
 ghost use Rattle.spa_format.specs.Front.{HasFront};
 ghost use Rattle.spa_format.specs.Pod.{AreMembers};
@@ -29,30 +29,30 @@ pub struct Elements {
     pub flags: u32,
     /// The type of the elements.
     pub element_type: u32,
-    /// The size of one, in bytes.
+    /// The size of one element, in bytes.
     pub element_size: u32,
-    /// How many they are.
+    /// How many elements there are.
     pub count: usize,
-    /// The byte of the pod at which they begin.
+    /// The offset in the pod at which the elements begin.
     pub at: usize,
 }
 
-/// Where the value of a None choice begins in its pod.
+/// The offset in a None choice's pod at which the pod of its value begins.
 const NONE_VALUE_AT: usize = 16;
 
-/// Where the elements of an array begin in its pod, and the values of a choice in its own.
+/// The offset in an array's pod at which the elements begin, and that in a choice's pod at which the values begin.
 const ARRAY_ELEMENTS_AT: usize = 16;
 
 const CHOICE_VALUES_AT: usize = 24;
 
-/// Where the properties of an object begin in its pod.
+/// The offset in an object's pod at which the properties begin.
 const PROPERTIES_AT: usize = 16;
 
-/// Writes the items of the pods of which the input consists, and of all that is inside them, to the front of `out`.
+/// Writes the items of the pods of which the input consists, and of all pods and elements in them, to the front of `out`.
 ///
-/// 0: `count` is how many they are, and what is behind them is as it was. -ENOSPC: `count` is more than `out` has, which is full of the first of
-/// them. -EINVAL: the input isn't pods one after another; the first fault, of the kind `kind`, stands at the byte `at`. -ELOOP: structs and objects
-/// stand more than 1000 deep in one another. Where the answer is neither 0 nor -ENOSPC, `out` is unchanged.
+/// 0: `count` is the number of items, and `out` is unchanged behind them. -ENOSPC: the number, `count`, is more than `out` has room for, which is
+/// full of the first of them. -EINVAL: the input isn't pods one after another; the first fault, of the kind `kind`, stands at the byte `at`. -ELOOP:
+/// the nesting depth is above 1000. Where the answer is neither 0 nor -ENOSPC, `out` is unchanged.
 #[tactic(auto, using(crate::proofs::Nesting::too_deep_in))]
 #[unsafe(no_mangle)]
 pub extern "C" fn spav_read(
@@ -89,7 +89,7 @@ pub extern "C" fn spav_read(
     DONE
 }
 
-/// The item of the pod at the front, or of the value of the None choice there.
+/// Reads the item of the pod at the front, or of the value of the None choice there.
 ///
 /// 0: done. -EINVAL: no pod is at the front, and nothing is written.
 #[unsafe(no_mangle)]
@@ -117,7 +117,7 @@ pub extern "C" fn spav_item(input: &[u8], item: &mut Item) -> i32
     }
 }
 
-/// The byte of the input at which the value of the first property with a key begins, in the object at the front.
+/// Finds the first property with a key in the object at the front: `at` is the byte of the input at which its value begins.
 ///
 /// 0: done. -EINVAL: no object is at the front. -ENOENT: no property has the key. Where the answer isn't 0, nothing is written.
 #[unsafe(no_mangle)]
@@ -144,7 +144,7 @@ pub extern "C" fn spav_find(input: &[u8], key: u32, at: &mut usize) -> i32
     }
 }
 
-/// The byte of the input at which the member of a number begins, in the struct at the front. The first has the number 0.
+/// Finds the member of a number, counted from 0, in the struct at the front: `at` is the byte of the input at which it begins.
 ///
 /// 0: done. -EINVAL: no struct is at the front. -ENOENT: it has no such member. Where the answer isn't 0, nothing is written.
 #[unsafe(no_mangle)]
@@ -170,7 +170,7 @@ pub extern "C" fn spav_member(input: &[u8], number: usize, at: &mut usize) -> i3
     }
 }
 
-/// The elements of the array at the front, or the values that the choice there takes.
+/// Reads type, size, number and offset of the elements of the array at the front, or of the values that the choice there takes.
 ///
 /// 0: done. -EINVAL: neither is at the front, and nothing is written.
 #[unsafe(no_mangle)]
@@ -192,7 +192,7 @@ pub extern "C" fn spav_elements(input: &[u8], elements: &mut Elements) -> i32
     }
 }
 
-/// The elements of an array, or the values that a choice takes.
+/// Type, size, number and offset of the elements of an array, or of the values that a choice takes. None: the pod is neither.
 fn elements_of(pod: &Pod<'_>) -> Option<Elements>
     ensures some { IfSome result (HasElements (pod_bytes pod.now)) }
     ensures none { IfNone result (HasNoElements (pod_bytes pod.now)) }

@@ -1,4 +1,4 @@
-//! Inputs in the lenient reading, rewritten into the caller's memory, or in place.
+//! Rewrites inputs leniently, into the caller's memory or in place.
 ghost use Rattle.std.specs.Prelude.{◌≡◌, ◌≤◌, ◌⊎◌, length};
 ghost use Rattle.spa_lenient.specs.Rewriting.{RefusesList};
 ghost use Rattle.spa_rewrite.specs.Shorter.{ArePodsWithin};
@@ -14,10 +14,10 @@ use std::alloc::Global;
 
 /// Writes the encodings of all values that the input conveys in the lenient reading, one after another, to the front of `out`.
 ///
-/// 0: `written` is their length, and what is behind them is as it was. -EINVAL: the input doesn't convey values one after another; nothing is
-/// conveyed at the byte `at`. -ENOSPC: it does, and `written`, the length of the encodings, is more than `out` has. -ENOMEM: memory was asked
-/// for and refused, which isn't asked for where the input is pods that nest in 1000 levels at most and `out` is as long. Where the answer isn't
-/// 0, `out` is unchanged.
+/// 0: `written` is the length of the encodings in bytes, and `out` is unchanged behind them. -EINVAL: the input doesn't convey values one after
+/// another; at the byte `at` no value is conveyed. -ENOSPC: it does, and the length, `written`, is more than `out` has. -ENOMEM: memory was asked for
+/// and refused; it isn't asked for where the input is pods with a nesting depth of at most 1000 and `out` is as long. Where the answer isn't 0, `out`
+/// is unchanged.
 #[unsafe(no_mangle)]
 pub extern "C" fn spav_rewrite_leniently(
     alloc: Global,
@@ -45,7 +45,7 @@ pub extern "C" fn spav_rewrite_leniently(
     }
 }
 
-/// Does the same by means of memory, where the output may be shorter than the input.
+/// Writes the lenient rewriting by means of memory, where the output may be shorter than the input.
 fn write_shorter(
     alloc: Global,
     input: &[u8],
@@ -66,7 +66,7 @@ fn write_shorter(
     }
 }
 
-/// What is answered to a refusal, and the byte at which nothing is conveyed.
+/// The answer to a refusal; `at` is the byte at which no value is conveyed.
 #[tactic(auto, using(crate::proofs::Refusals::none_conveyed))]
 fn refused(input: &[u8], left: &[u8], error: DeserializeError<&[u8]>, at: &mut usize) -> i32
     requires { RefusesList input.now left.now error }
@@ -82,11 +82,11 @@ fn refused(input: &[u8], left: &[u8], error: DeserializeError<&[u8]>, at: &mut u
     }
 }
 
-/// Puts the bytes' lenient rewritings at their front.
+/// Rewrites the bytes leniently in place: the encodings of the values that they convey, one after another, are then the front of the bytes.
 ///
-/// 0: `written` is their length, never more than the bytes had, and what is behind them is as it was. -EINVAL: the bytes don't convey values
-/// one after another; nothing is conveyed at the byte `at`. -ENOMEM: memory was asked for and refused, which isn't asked for where they are
-/// pods that nest in 1000 levels at most. Where the answer isn't 0, nothing is changed.
+/// 0: `written` is the length of the encodings, never more than the bytes had, and the bytes behind are unchanged. -EINVAL: the bytes don't convey
+/// values one after another; at the byte `at` no value is conveyed. -ENOMEM: memory was asked for and refused; it isn't asked for where the bytes
+/// are pods with a nesting depth of at most 1000. Where the answer isn't 0, nothing is changed.
 #[tactic(auto, using(crate::proofs::Refusals::none_conveyed_at))]
 #[unsafe(no_mangle)]
 pub extern "C" fn spav_rewrite_in_place_leniently(

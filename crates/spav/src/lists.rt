@@ -1,4 +1,4 @@
-//! Lists of pods, rewritten into the caller's memory and checked.
+//! Rewrites lists of pods into the caller's memory, and checks them.
 ghost use Rattle.std.specs.Prelude.{◌≡◌, ◌<◌, ◌≤◌, ◌++◌, drop, false, IfNone, IfSome, length, true};
 ghost use Rattle.spa_format.specs.Pod.{AreMembers};
 ghost use Rattle.spa_format.specs.Tree.{Trees};
@@ -14,12 +14,12 @@ use spa_in_place::{rewrite_across, rewrite_into};
 use spa_rewrite::{accept_all, canonical_stretch, rewrite_all};
 use std::alloc::Global;
 
-/// Writes the rewritings of all pods that the input consists of, one after another, to the front of `out`.
+/// Writes the canonical encodings of all pods that the input consists of, one after another, to the front of `out`.
 ///
-/// 0: `written` is their length, and what is behind them is as it was. -EINVAL: the input isn't pods one after another; the pod
-/// that begins at the byte `at` is refused. -ENOSPC: it is, and `written`, the length of the rewritings, is more than `out` has.
-/// -ENOMEM: memory was asked for and refused, which isn't asked for where the input is its own rewriting, nor where it is pods that nest
-/// in 1000 levels at most and `out` is as long. Where the answer isn't 0, `out` is unchanged.
+/// 0: `written` is the length of the encodings in bytes, and `out` is unchanged behind them. -EINVAL: the input isn't pods one after another; the pod
+/// that begins at the byte `at` is refused. -ENOSPC: it is, and the length, `written`, is more than `out` has. -ENOMEM: memory was asked for and
+/// refused; it isn't asked for where the input is pods with a nesting depth of at most 1000 and is canonical, or `out` is as long as it. Where the
+/// answer isn't 0, `out` is unchanged.
 #[unsafe(no_mangle)]
 pub extern "C" fn spav_rewrite(
     alloc: Global,
@@ -54,7 +54,7 @@ pub extern "C" fn spav_rewrite(
     }
 }
 
-/// What is answered without memory: where the output is as long as the input, or shorter than the rewritings.
+/// The answer where no memory is needed: the output is as long as the input, or shorter than the encodings. None: memory is needed.
 fn put_into(input: &[u8], out: &mut [u8], written: &mut usize) -> Option<i32>
     ensures done { IfSome result (λ answer. IsDone answer → ListIsWritten input.now written.new out.old out.new) }
     ensures room { IfSome result (λ answer. IsNoRoom answer → ListLacksRoom input.now written.new out.old) }
@@ -80,8 +80,8 @@ fn put_into(input: &[u8], out: &mut [u8], written: &mut usize) -> Option<i32>
     None
 }
 
-/// Puts the rewritings at the front of the output and says how many bytes they are, where each of them is found to be as long as its pod
-/// and all fit.
+/// Writes the encodings to the front of the output, and their length to `written`, where each is found to be as long as its pod and all fit.
+/// Answers whether it did.
 fn put_across(input: &[u8], out: &mut [u8], written: &mut usize) -> bool
     ensures done { result ≡ true → ListIsWritten input.now written.new out.old out.new }
     ensures unchanged { result ≡ false → out.new ≡ out.old }
@@ -97,8 +97,8 @@ fn put_across(input: &[u8], out: &mut [u8], written: &mut usize) -> bool
 
 /// Whether the input is pods one after another.
 ///
-/// 0: it is. -EINVAL: it isn't; the pod that begins at the byte `at` is refused. -ENOMEM: memory was asked for and refused, which
-/// isn't asked for where the input is pods that nest in 1000 levels at most.
+/// 0: it is. -EINVAL: it isn't; the pod that begins at the byte `at` is refused. -ENOMEM: memory was asked for and refused; it isn't
+/// asked for where the input is pods with a nesting depth of at most 1000.
 #[unsafe(no_mangle)]
 pub extern "C" fn spav_check(alloc: Global, input: &[u8], at: &mut usize) -> i32
     ensures done { IsDone result → (values : Trees) × AreMembers values input.now }
@@ -117,7 +117,7 @@ pub extern "C" fn spav_check(alloc: Global, input: &[u8], at: &mut usize) -> i32
     }
 }
 
-/// Puts bytes at the front of the output, where they fit, and says how many they are.
+/// Copies bytes to the front of the output where they fit, and their length to `written` in any case.
 pub(crate) fn put_front(bytes: &[u8], out: &mut [u8], written: &mut usize) -> i32
     ensures done { IsDone result → out.new ≡ bytes.now ++ drop (length bytes.now) out.old }
     ensures counted { written.new ≡ length bytes.now }

@@ -1,4 +1,4 @@
-//! Negotiation in the caller's memory.
+//! Negotiates objects in the caller's memory.
 ghost use Rattle.std.specs.Prelude.{◌≡◌, ◌<◌, List, length, ℕ};
 ghost use Rattle.spa_negotiate_pods.specs.Fronts.{AreFrontsRefused, BeginBoth, MeetIn, MeetTooLarge};
 ghost use Rattle.spa_negotiate_objects.specs.Meeting.{CanMeet};
@@ -14,14 +14,14 @@ use crate::sides::number_of;
 use spa_negotiate_pods::{NegotiateError, negotiate_pods};
 use std::alloc::Global;
 
-/// Writes the object in which the objects at the fronts of two inputs meet to the front of `out`: under each key of either a value
-/// that both admit, and no choice but one of the shape None. What follows the two fronts doesn't count.
+/// Negotiates the objects at the fronts of two inputs, and writes the object in which they meet to the front of `out`: it has a value that both
+/// admit under each key of both, and no choice of a shape other than None. The bytes behind the two fronts don't count.
 ///
-/// 0: `written` is its length, and what is behind it is as it was. -ENOSPC: they meet in one whose length, `written`, is more than
-/// `out` has. -EINVAL: no object is at the front of the first input, where `told` is 0, or of the second, where it is 1. They don't meet:
-/// -EPROTO, they are of two types; -ENOTSUP, under the key `told` stands a choice for which no common value is sought; -ENODATA,
-/// under the key `told` no value is admitted by both. -EOVERFLOW: they meet in one that is too large for a pod. -ENOMEM: memory was asked
-/// for and refused. Where the answer isn't 0, `out` is unchanged.
+/// 0: `written` is the length of that object in bytes, and `out` is unchanged behind it. -ENOSPC: that length, `written`, is more than `out` has.
+/// -EINVAL: no object is at the front of the first input, where `told` is 0, or of the second, where it is 1. On a mismatch `told` is the first
+/// conflicting key: -EPROTO, the objects are of two types, and there is no key; -ENOTSUP, the key has a choice for which no common value is sought;
+/// -ENODATA, no value is admitted by both. -EOVERFLOW: the object in which they meet is too large for a pod. -ENOMEM: memory was asked for and
+/// refused. Where the answer isn't 0, `out` is unchanged.
 #[unsafe(no_mangle)]
 pub extern "C" fn spav_negotiate(
     alloc: Global,
@@ -33,7 +33,7 @@ pub extern "C" fn spav_negotiate(
 ) -> i32
     ensures done { IsDone result → (bytes : List ℕ) × BeginBoth a.now b.now (MeetIn bytes) × IsWritten bytes written.new out.old out.new }
     ensures room { IsNoRoom result → (bytes : List ℕ) × BeginBoth a.now b.now (MeetIn bytes) × (written.new ≡ length bytes) × (length out.old < length bytes) }
-    // Memory aside, and what is too large, they can't meet exactly where one of these is answered, and what it says stands.
+    // Memory and too large outcomes aside, the two can't meet exactly where one of these is answered, and the answer is right.
     ensures apart { IsApart result → ¬ (BeginBoth a.now b.now CanMeet) }
     ensures front { IsInvalid result → HasNoObject a.now b.now told.new }
     ensures types { IsOther result → BeginBoth a.now b.now (λ v w. AreRefused v w TypeMismatch) }

@@ -1,6 +1,6 @@
-//! What is read of the pod at the front of the caller's bytes, and of the properties of the object there.
+//! Reads the pod at the front of the caller's bytes, and the properties of the object there.
 //!
-//! A read looks at type and size alone, as the views of PipeWire do: the bytes may be anything.
+//! A read looks only at type and size, as the views of PipeWire do: the bytes may be anything.
 ghost use Rattle.std.specs.Prelude.{◌≡◌, ◌≤◌, ◌+◌, ◌↔◌, ◌++◌, ◌∷◌, [], List, ℕ, IfErr, IfOk, drop, length};
 ghost use Rattle.spa_format.specs.Front.{HasFront};
 ghost use Rattle.spa_format.specs.Kind as k;
@@ -40,7 +40,7 @@ pub extern "C" fn spav_front(
     YES
 }
 
-/// The type and the id of the object at the front.
+/// Reads the type and the id of the object at the front.
 ///
 /// 0: done. -EINVAL: no object is at the front, and nothing is written.
 #[unsafe(no_mangle)]
@@ -61,7 +61,8 @@ pub extern "C" fn spav_object(input: &[u8], type_: &mut u32, id: &mut u32) -> i3
     DONE
 }
 
-/// The value of the first property with the key in the object at the front, settled, or what is answered where there is none.
+/// The value of the first property with the key in the object at the front, where a None choice is read as its value; or else the answer -EINVAL
+/// or -ENOENT.
 fn value_under(input: &[u8], key: u32) -> Result<Pod<'_>, i32>
     ensures found { IfOk result (λ pod. IsUnder key input.now (pod_bytes pod)) }
     ensures refused { IfErr result (λ answer. IsInvalid answer → ¬ (BeginsObject input.now)) }
@@ -80,7 +81,7 @@ fn value_under(input: &[u8], key: u32) -> Result<Pod<'_>, i32>
     }
 }
 
-/// The truth value under a key of the object at the front: any word but 0 is true.
+/// Reads the truth value under a key of the object at the front: any word but 0 is true.
 ///
 /// 0: done. -EINVAL: no object is at the front. -ENOENT: no property has the key. -EPROTO: the first that has it isn't a Bool. Where the
 /// answer isn't 0, nothing is written.
@@ -105,7 +106,7 @@ pub extern "C" fn spav_bool(input: &[u8], key: u32, value: &mut bool) -> i32
     }
 }
 
-/// The number of the Id under a key of the object at the front.
+/// Reads the number of the Id under a key of the object at the front.
 ///
 /// 0: done. -EINVAL: no object is at the front. -ENOENT: no property has the key. -EPROTO: the first that has it isn't an Id. Where the
 /// answer isn't 0, nothing is written.
@@ -130,7 +131,7 @@ pub extern "C" fn spav_id(input: &[u8], key: u32, value: &mut u32) -> i32
     }
 }
 
-/// The Int under a key of the object at the front.
+/// Reads the Int under a key of the object at the front.
 ///
 /// 0: done. -EINVAL: no object is at the front. -ENOENT: no property has the key. -EPROTO: the first that has it isn't an Int. Where the
 /// answer isn't 0, nothing is written.
@@ -155,7 +156,7 @@ pub extern "C" fn spav_int(input: &[u8], key: u32, value: &mut i32) -> i32
     }
 }
 
-/// The Long under a key of the object at the front.
+/// Reads the Long under a key of the object at the front.
 ///
 /// 0: done. -EINVAL: no object is at the front. -ENOENT: no property has the key. -EPROTO: the first that has it isn't a Long. Where the
 /// answer isn't 0, nothing is written.
@@ -180,7 +181,7 @@ pub extern "C" fn spav_long(input: &[u8], key: u32, value: &mut i64) -> i32
     }
 }
 
-/// The bits of the Float under a key of the object at the front.
+/// Reads the bits of the Float under a key of the object at the front.
 ///
 /// 0: done. -EINVAL: no object is at the front. -ENOENT: no property has the key. -EPROTO: the first that has it isn't a Float. Where the
 /// answer isn't 0, nothing is written.
@@ -205,7 +206,7 @@ pub extern "C" fn spav_float(input: &[u8], key: u32, bits: &mut u32) -> i32
     }
 }
 
-/// The bits of the Double under a key of the object at the front.
+/// Reads the bits of the Double under a key of the object at the front.
 ///
 /// 0: done. -EINVAL: no object is at the front. -ENOENT: no property has the key. -EPROTO: the first that has it isn't a Double. Where the
 /// answer isn't 0, nothing is written.
@@ -230,7 +231,7 @@ pub extern "C" fn spav_double(input: &[u8], key: u32, bits: &mut u64) -> i32
     }
 }
 
-/// The number of the file descriptor under a key of the object at the front.
+/// Reads the number of the file descriptor under a key of the object at the front.
 ///
 /// 0: done. -EINVAL: no object is at the front. -ENOENT: no property has the key. -EPROTO: the first that has it isn't an Fd. Where the
 /// answer isn't 0, nothing is written.
@@ -255,7 +256,7 @@ pub extern "C" fn spav_fd(input: &[u8], key: u32, value: &mut i64) -> i32
     }
 }
 
-/// The Rectangle under a key of the object at the front.
+/// Reads the Rectangle under a key of the object at the front.
 ///
 /// 0: done. -EINVAL: no object is at the front. -ENOENT: no property has the key. -EPROTO: the first that has it isn't a Rectangle. Where the
 /// answer isn't 0, nothing is written.
@@ -281,7 +282,7 @@ pub extern "C" fn spav_rectangle(input: &[u8], key: u32, width: &mut u32, height
     }
 }
 
-/// The Fraction under a key of the object at the front.
+/// Reads the Fraction under a key of the object at the front.
 ///
 /// 0: done. -EINVAL: no object is at the front. -ENOENT: no property has the key. -EPROTO: the first that has it isn't a Fraction. Where the
 /// answer isn't 0, nothing is written.
@@ -307,8 +308,8 @@ pub extern "C" fn spav_fraction(input: &[u8], key: u32, num: &mut u32, denom: &m
     }
 }
 
-/// The text under a key of the object at the front, which is what stands before the first NUL of a string's body: its bytes and one NUL
-/// go to the front of `out`.
+/// Reads the text under a key of the object at the front, which is the bytes before the first NUL of a string's body: they and one NUL are written
+/// to the front of `out`.
 ///
 /// 0: `len` is the text's length, without the NUL. -ENOSPC: `out` has no more than that. -EINVAL: no object is at the front. -ENOENT: no
 /// property has the key. -EPROTO: the first that has it isn't a string that ends in NUL. Where the answer isn't 0, `out` is unchanged.
@@ -333,7 +334,7 @@ pub extern "C" fn spav_string(input: &[u8], key: u32, out: &mut [u8], len: &mut 
     }
 }
 
-/// Puts a text and one NUL at the front of the output, where they fit, and says how long the text is.
+/// Copies a text and one NUL to the front of the output where they fit, and the text's length to `len` in any case.
 fn put_text(text: &[u8], out: &mut [u8], len: &mut usize) -> i32
     ensures done { IsDone result → out.new ≡ (text.now ++ 0 ∷ []) ++ drop (length text.now + 1) out.old }
     ensures counted { len.new ≡ length text.now }

@@ -1,4 +1,4 @@
-//! The two inputs by number.
+//! The numbers of the two inputs.
 ghost use Rattle.std.specs.Prelude.{◌≡◌};
 ghost use Rattle.spav.specs.Sides.{number_of};
 

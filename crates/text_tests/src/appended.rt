@@ -23,7 +23,7 @@ fn texts_stand_behind_what_was_there(rt: HostRuntime) -> Result<(), AllocError> 
     Ok(())
 }
 
-/// The same two, by a printer that keeps its memory.
+/// Appends 5 and null by one printer, which keeps its memory.
 fn print_twice_by_one(alloc: Global) -> Result<Vec<u8>, AllocError> {
     let mut printer = TextPrinter::new(alloc);
     let mut bytes = Vec::from_slice(alloc, b"a\n")?;

@@ -1,4 +1,4 @@
-//! Texts that nest deep.
+//! Deeply nested texts.
 use crate::read::{assert_so, held, printed};
 use spa_value::{Held, Value, same};
 use std::alloc::{AllocError, Global};
@@ -6,14 +6,14 @@ use std::alloc::{AllocError, Global};
 /// How deep the text nests.
 const LEVELS: usize = 100_000;
 
-/// So many structs, one within another.
+/// The text of `LEVELS` nested structs.
 fn nested_text(alloc: Global) -> Result<String, AllocError> {
     let mut text = "[".repeat(alloc, LEVELS)?;
     text.push_str("]".repeat(alloc, LEVELS)?.as_str())?;
     Ok(text)
 }
 
-/// The same as a value.
+/// The value of `nested_text`.
 fn nested_structs(alloc: Global) -> Result<Held, AllocError> {
     let mut nested = Held::from(Value::Struct(Vec::new(alloc)));
     for _ in 1..LEVELS {

@@ -1,4 +1,4 @@
-//! Bytes of structs that stand in one another, and values read from them.
+//! Bytes of nested structs, and values read from them.
 use libspa::pod::Held;
 use libspa::pod::deserialize::{DeserializeError, PodDeserializer};
 use spa_spelling::push_words;

@@ -1,4 +1,4 @@
-//! Structs that stand deep in one another, printed, added to a builder, and opened and closed by a parser.
+//! Deeply nested structs, printed, added to a builder, and opened and closed by a parser.
 use crate::deep::bytes::{DEPTHS, NONE, assert_holds, between, read};
 use libspa::pod::builder::Builder;
 use libspa::pod::parser::Parser;
@@ -7,7 +7,7 @@ use libspa::utils::Errno;
 use std::alloc::{AllocError, Global};
 use std::test::Fail;
 
-/// Whether the text of a value is that of so many structs around a None.
+/// Whether the text of a value is that of this many structs around a None.
 fn is_printed(alloc: Global, value: &Value, depth: u32) -> Result<bool, AllocError> {
     let printed = Printed::new(alloc, value);
     let found = format!(in alloc; "{printed:?}")?;
@@ -55,7 +55,7 @@ fn depth_ends_no_addition(rt: HostRuntime) -> Result<(), Fail> {
     Ok(())
 }
 
-/// Opens so many structs, and closes them from the innermost, in which no number is.
+/// Opens this many structs, and closes them from the innermost, in which no number is.
 fn is_opened(parser: &mut Parser, depth: u32) -> Result<bool, Errno> {
     for _ in 0..depth {
         let _ = parser.push_struct()?;

@@ -1,4 +1,4 @@
-//! A choice that gets shorter, deep in structs or objects that end where it does, rewritten where it lies.
+//! A choice that gets shorter, in tail position deep in structs or objects, rewritten in place.
 use crate::deep::bytes::{DEPTHS, assert_holds};
 use libspa::pod::rewrite_in_place;
 use spa_spelling::push_words;
@@ -25,7 +25,7 @@ fn byte_count(words: &[u32]) -> u32 {
     }
 }
 
-/// The pod in so many structs or objects.
+/// The pod in this many structs or objects.
 fn inside(alloc: Global, depth: u32, header: &[u32], pod: &[u32]) -> Result<Vec<u8>, AllocError> {
     let mut bytes = Vec::new(alloc);
     let step = byte_count(header).wrapping_add(4);

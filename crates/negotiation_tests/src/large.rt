@@ -64,7 +64,7 @@ fn many_alternatives(rt: HostRuntime) -> Result<(), Fail> {
     assert_meet(&rt, rt.alloc(), (even, others.as_slice()), None)
 }
 
-/// An object whose key 1 is structs in one another, so many, with the pod of these words in the innermost.
+/// An object whose key 1 has this many nested structs, with the pod of these words in the innermost.
 fn nested(alloc: Global, depth: u32, inner: &[u32]) -> Result<Vec<u8>, AllocError> {
     let size = depth.wrapping_mul(8);
     let mut bytes = bytes_of(alloc, &[size.wrapping_add(24), 15, 5, 3, 1, 0])?;

@@ -44,7 +44,7 @@ around_moved input old new count more l [] n same le f a = (f, ap (λ (x : Level
 around_moved input old new count more l (m ∷ ms) n same le f a =
     (f, open_moved input old new count more l m n same le a.1, around_moved input old new count more m ms m.at same le (fits input old count m ms a.2) a.2)
 
--- a level inside a pod lies within the input
+-- a level inside a pod is within the input
 held_room : (x y : Bool) (s : ℕ) → (y ≡ true → 8 ≤ s) → (x ≡ true → y ≡ false) →
     ((if y then 8 else 0) ≤ (if x then s else (if y then s else 0))) × ((if x then s else (if y then s else 0)) ≤ s) × ((if y then 8 else 0) ≤ 8)
 held_room true true s room one = absurd (let f = one refl in cc)

@@ -14,7 +14,7 @@ use Rattle.spa_events.proofs.Steps.{events_within-none, events_within-there}
 pub record IsWholePod (pod : List ℕ) : Type 0 where
   pub whole : length pod ≡ extent (word_at pod 0)
 
--- a teller tells of a whole pod no more than headers have room in it
+-- the function gives no more events of a whole pod than headers have room in it
 pub record TellsFew (tell : ℕ → ℕ → List ℕ → List Event) : Type 0 where
   pub few : (index at : ℕ) (pod : List ℕ) → IsWholePod pod → length (tell index at pod) * 8 ≤ length pod
 
@@ -79,7 +79,7 @@ pub few : (input : List ℕ) → length (events_of input) * 8 ≤ length input
 unfolding events_of
 few input = along_few 0 (events_within (length input) 0 no_parent) (within_few (length input) 0 no_parent) (length input) input 0 0 (omega arith)
 
--- two tellers tell the same of whole pods of at most this length
+-- the two functions give the same events of whole pods of at most this length
 pub record TellAlike (len : ℕ) (f g : ℕ → ℕ → List ℕ → List Event) : Type 0 where
   pub alike : (index at : ℕ) (pod : List ℕ) → IsWholePod pod → length pod ≤ len → f index at pod ≡ g index at pod
 
@@ -118,7 +118,7 @@ inside_alike false true k len f g same body index at e one short =
     (along_alike 8 len f g same (length (drop 8 body)) (drop 8 body) index at (omega arith) (omega arith))
 inside_alike false false k len f g same body index at e one short = refl
 
--- with a bound on levels that isn't less than the pod's length, all is told of it
+-- with a bound on levels that isn't less than the pod's length, these are all events of the pod
 pub enough : (n m depth parent index at : ℕ) (pod : List ℕ) → length pod ≡ extent (word_at pod 0) → length pod ≤ n → length pod ≤ m →
     events_within n depth parent index at pod ≡ events_within m depth parent index at pod
 enough zero m depth parent index at pod w a b = absurd (omega arith)

@@ -21,7 +21,7 @@ size_behind k b h =
     let e : k + 0 ≡ k = omega arith in
     word_at-drop k 0 (take (extent_behind k b) b) ∙ word_at-take (extent_behind k b) (k + 0) b (omega arith) ∙ ap (word_at b) e
 
--- what is told of a pod is told from the words behind k bytes
+-- the event of a pod behind k bytes has the words behind these
 pub told-behind : (depth parent at k : ℕ) (b : List ℕ) → (type size : ℕ) → type ≡ word_at b (k + 4) → size ≡ word_at b k →
     record { type_ = type; size = size; depth = depth; at = at; parent = parent } ≡ told depth parent at (drop k b)
 told-behind depth parent at k b type size et es =

@@ -52,7 +52,7 @@ next_depth input l e h = ap (λ (x : Event). x.depth) h.told_of
 pub next_parent : (input : List ℕ) (l : Level) (e : Event) → HasNext input l e → e.parent ≡ l.parent
 next_parent input l e h = ap (λ (x : Event). x.parent) h.told_of
 
--- the event lies within its level, as a whole
+-- the pod of the event is within its level, as a whole
 pub next_whole : (input : List ℕ) (l : Level) (e : Event) → Fits input l → HasNext input l e → behind e ≤ l.end
 next_whole input l e f h =
     let x = next_extent input l e h in

@@ -9,7 +9,7 @@ use std::error::Error;
 use std::fmt;
 use std::fmt::Debug;
 
-/// What is wrong with the bytes at a place.
+/// The fault of the bytes at a place.
 #[derive(Clone, Copy, PartialEq, Eq, Debug)]
 pub enum FaultKind {
     /// Fewer bytes are left than a header has, than its size word says, or than a property's key and flags have.

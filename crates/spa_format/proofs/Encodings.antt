@@ -31,7 +31,7 @@ length-framed type body =
     let up : n ≤ padded_size n = omega arith in
     omega arith
 
--- the header and the body lie within the encoding
+-- the header and the body are within the encoding
 pub body_within : (type : ℕ) (body : List ℕ) →
     header_size + length body ≤ length (framed type body)
 body_within type body = omega (arith, length-framed type body)

@@ -37,7 +37,7 @@ pub fn normal_forms_stay()
     ensures { (v : Tree) → normal_of (normal_of v) ≡ normal_of v }
 {}
 
-/// What bytes say is a normal value, whose numbers are within their types and which can be written.
+/// The value of a pod is a normal form, its numbers are within their types, and it can be written.
 pub fn readings_are_normal()
     ensures normal { (b : List ℕ) (v : Tree) → IsPod b v → normal_of v ≡ v }
     ensures typed { (b : List ℕ) (v : Tree) → IsBytes b → IsPod b v → IsTyped v }

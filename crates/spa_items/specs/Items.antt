@@ -1,4 +1,4 @@
--- What is read of pods one after another, and of all inside them: docs/FORMAT.md, "Items".
+-- The items of pods one after another, and of all pods and elements in them: docs/FORMAT.md, "Items".
 use Rattle.std.specs.Prelude.{ℕ, zero, suc, ◌+◌, Bool, true, false, List, [], ◌∷◌, ◌++◌, length, drop, if◌then◌else◌}
 use Rattle.spa_events.specs.Events.{is_object, is_struct}
 use Rattle.spa_format.specs.Walk.{walk_behind}
@@ -6,7 +6,7 @@ use Rattle.spa_format.specs.Words.{body_of, header_size, word_at}
 use Rattle.spa_items.specs.Contents.{content, elements, values_of, word_or}
 use Rattle.spa_items.specs.declared.item.Item.{Item}
 
--- how many bytes stand before a pod: a property's key and flags, or none
+-- how many bytes are before a pod: 8 of a property's key and flags, or none
 abbrev pub before : Bool → ℕ
 before keyed = if keyed then header_size else 0
 
@@ -25,12 +25,13 @@ head keyed depth at p =
       second = c.second;
     }
 
--- What a reading gives of pods one after another, the first of which begins at the byte `at`. It is given where each begins, and the pod.
+-- The items of pods one after another, the first of which begins at the byte `at`. The function gives those of one pod, by the byte at which it
+-- begins and the pod.
 abbrev pub items_along : (ℕ → List ℕ → List Item) → ℕ → List (List ℕ) → List Item
 items_along read at [] = []
 items_along read at (p ∷ ps) = read at p ++ items_along read (at + length p) ps
 
--- What it gives inside a pod whose body begins at this byte: of the members of a struct, of the properties of an object, else the elements.
+-- The items in a pod whose body begins at this byte: those of the members of a struct, of the properties of an object, or else of the elements.
 abbrev pub items_inside : (Bool → ℕ → List ℕ → List Item) → (type depth at : ℕ) → List ℕ → List Item
 items_inside read type depth at b =
     if is_struct type then items_along (read false) at (walk_behind 0 b)
@@ -45,15 +46,15 @@ items_within (suc n) depth keyed at p =
     head keyed depth at p
     ∷ items_inside (items_within n (depth + 1)) (word_at pod 4) (depth + 1) (at + before keyed + header_size) (body_of pod)
 
--- the items of pods that stand in these bytes one after another
+-- the items of the pods one after another in these bytes
 abbrev pub items_in : (levels depth : ℕ) → Bool → ℕ → List ℕ → List Item
 items_in levels depth keyed at b = items_along (items_within levels depth keyed) at (walk_behind (before keyed) b)
 
--- The items of an input: of the pods of which it consists, each before what is inside it. There are no more levels than bytes.
+-- The items of an input: of the pods of which it consists, each before those of the pods in it. There are no more levels than bytes.
 unfoldable pub items_of : List ℕ → List Item
 items_of input = items_in (length input) 0 false 0 input
 
--- these items are put over the first of a list, as far as it goes
+-- the list with its first items replaced by these, as far as it is long
 abbrev pub overlaid : List Item → List Item → List Item
 overlaid [] old = old
 overlaid (x ∷ xs) [] = []

@@ -1,4 +1,4 @@
--- How many bytes stand before a property or a member: docs/FORMAT.md, "Items".
+-- How many bytes are before a property or a member: docs/FORMAT.md, "Items".
 use Rattle.std.specs.Prelude.{ℕ, zero, suc, ◌+◌, List, [], ◌∷◌, length, Option, Some, None, if◌then◌else◌, nat_eq}
 use Rattle.std.specs.Option.{option_map}
 use Rattle.spa_format.specs.Words.{word_at}

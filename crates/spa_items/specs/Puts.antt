@@ -1,4 +1,4 @@
--- Items that are put from a place of an output on.
+-- Items that are written from an index of an output on.
 use Rattle.std.specs.Prelude.{◌≡◌, ℕ, zero, suc, ◌+◌, ◌≤◌, Bool, List, [], ◌∷◌, length, take, drop, if◌then◌else◌}
 use Rattle.spa_format.specs.Words.{body_of, header_size, word_at}
 use Rattle.spa_format.specs.Walk.{extent_behind}
@@ -8,18 +8,18 @@ use Rattle.spa_items.specs.declared.elements.Elements.{Elements}
 use Rattle.spa_items.specs.declared.item.Item.{Item}
 use Rattle.spa_items.specs.declared.listing.First.{First}
 
--- these items are put over a list from this place on, as far as it goes
+-- the list with its items from this index on replaced by these, as far as it is long
 abbrev pub put_from : ℕ → List Item → List Item → List Item
 put_from zero xs old = overlaid xs old
 put_from (suc n) xs [] = []
 put_from (suc n) xs (o ∷ os) = o ∷ put_from n xs os
 
--- so they were put, and this is the place behind them
+-- the items were written so, and this is the index behind them
 pub record ArePut (place : ℕ) (xs old : List Item) (behind : ℕ) (new : List Item) : Type 0 where
   pub counted : behind ≡ place + length xs
   pub written : new ≡ put_from place xs old
 
--- the first pod of these bytes, with what stands before it
+-- the first pod of these bytes, with the key and the flags before it
 abbrev pub first_of : Bool → List ℕ → List ℕ
 first_of keyed b = take (extent_behind (before keyed) b) b
 

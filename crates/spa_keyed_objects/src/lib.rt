@@ -1,4 +1,4 @@
-//! What negotiation and filtering of objects share: properties that are found by their keys, sets of keys, the properties of an answer, and the
+//! Shared by negotiation and filtering of objects: properties that are found by their keys, sets of keys, the properties of an outcome, and the
 //! two sides.
 #![tactic(auto)]
 

@@ -23,7 +23,7 @@ pub record SettleIn (out : List ℕ) (ours theirs : Tree) : Type 0 where
   pub encoding : out ≡ encoding_of (settled_of met)
   pub fixed : IsFixedFor ours theirs (settled_of met)
 
--- they filter to one in whose encoding, with each choice at its default, a size word is past 32 bits
+-- they filter to an object in whose encoding, with each choice at its default, a size doesn't fit a word of 32 bits
 pub record SettleTooLarge (ours theirs : Tree) : Type 0 where
   pub met : Tree
   pub filter : IsFilter ours theirs met
@@ -38,8 +38,8 @@ AgreeIn Filter a b out = BeginBoth a b (FilterIn out)
 abbrev pub AreFiltered : (a b : List ℕ) → Type 0
 AreFiltered a b = BeginBoth a b (λ ours theirs. (met : Tree) × IsFilter ours theirs met)
 
--- What two inputs are refused for: as to be filtered; of two that filter to one, so that they meet, its choices aren't settled where the answer is
--- too large or memory runs out.
+-- The refusal of two inputs: that of filtering them; or, where they filter to an object that is to be settled, TooLarge for the settled
+-- object or OutOfMemory.
 pub data Stands (a b : List ℕ) (e : FilterError) : Work → Type 0 where
   unfiltered : (work : Work) → AreFrontsRefused a b e → Stands a b e work
   unsettled : BeginBoth a b SettleTooLarge → e ≡ TooLarge → Stands a b e Negotiate

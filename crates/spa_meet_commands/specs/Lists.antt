@@ -108,8 +108,8 @@ pub record IsOnePairApart (work : Work) (a b : List ℕ) (e : FilterError) : Typ
   pub other : rest_of b ≡ []
   pub cause : ArentAgreed work a b e
 
--- What two inputs are refused for: the first is settled before the second, and both before any pair. What keeps two objects apart is
--- said where each list has one.
+-- The refusal of two inputs: one of the first comes before one of the second, and both before one of a pair. The refusal of two objects is
+-- given where each list has one object.
 abbrev pub AreListsRefused : Work → Failure → (a b : List ℕ) → Type 0
 AreListsRefused work (NoPod First place) a b = IsNoList First (NoPod First place) a
 AreListsRefused work (NoPod Second place) a b = IsList a × IsNoList Second (NoPod Second place) b

@@ -20,7 +20,7 @@ module _ (low s : ℕ) (pos : 0 < s) where
   pub found_aligned : (low + (s - low % s)) % s ≡ 0
   found_aligned = ap (λ z. z % s) found_is ∙ mul-mod_right s (u + 1)
 
-  -- no multiple lies between
+  -- no multiple is between
   module _ (none : low % s ≢ 0) (m : ℕ) (l : low ≤ m) (e : m % s ≡ 0) where
     abbrev v : ℕ
     v = m / s

@@ -12,7 +12,7 @@ use Rattle.spa_names.specs.declared.table.TheConstants.{OBJECTS}
 use Rattle.spa_names.specs.Rows.{Row, name_in}
 use Rattle.spa_names.specs.Tables.{rows_of, namings_of}
 
--- what a table says of a number
+-- a table's row of a number; None where it has none
 abbrev pub row_at : Table → ℕ → Option Row
 row_at table number = find (λ row. row.0 == number) (rows_of table)
 
@@ -24,7 +24,7 @@ name_of table number = option_map name_in (row_at table number)
 abbrev pub path_of : Table → ℕ → Option (List ℕ)
 path_of table number = option_map (λ row. row.1) (row_at table number)
 
--- what is expected under a key
+-- what is expected of the value under a key
 abbrev pub expected_under : Table → ℕ → Expected
 expected_under keys key = option_map_or (λ row. row.3) (row_at keys key) NOTHING
 

@@ -5,7 +5,7 @@ use Rattle.spa_names.specs.declared.entry.Expected.{Expected}
 use Rattle.spa_names.specs.declared.entry.TheConstants.Expected.{NOTHING}
 use Rattle.spa_names.specs.declared.key_entries.TheConstants.{EXPECTED}
 
--- a number, PipeWire's name for it, how many bytes of that stand before its own name, and what is expected under it as a key
+-- a number, PipeWire's name for it, how many bytes of that are before its own name, and what is expected under it where it is a key
 abbrev pub Row : Type 0
 Row = ℕ × List ℕ × ℕ × Expected
 
@@ -17,10 +17,10 @@ name_in row = drop row.2 row.1
 abbrev pub Naming : Type 0
 Naming = List ℕ × ℕ
 
--- the row that an entry of the code is
+-- the row of an entry of the code
 abbrev pub row_of : ℕ × Bor (List ℕ) × ℕ × ℕ → Row
 row_of entry = (entry.0, entry.1.now, entry.2, get_or EXPECTED entry.3 NOTHING)
 
--- the name and number that one of the code is
+-- the name and the number of a naming of the code
 abbrev pub naming_of : Bor (List ℕ) × ℕ → Naming
 naming_of naming = (naming.0.now, naming.1)

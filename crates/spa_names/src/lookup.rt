@@ -1,4 +1,4 @@
-//! Names looked up by numbers, and numbers by names.
+//! Looks names up by numbers, and numbers by names.
 ghost use Rattle.std.specs.Prelude.{◌≡◌, get_or};
 ghost use Rattle.std.specs.Option.{option_map};
 ghost use Rattle.spa_names.specs.declared.entry.TheConstants.Expected.{NOTHING};
@@ -12,7 +12,7 @@ use crate::key_entries::EXPECTED;
 use crate::table::{OBJECTS, Table};
 use spa_utils::SpaTypes;
 
-/// The name of a number.
+/// The name of a number. None: the table has none.
 #[tactic(auto, using(crate::proofs::Coming::name_begins))]
 pub fn name_of(table: Table, number: u32) -> Option<&'static str>
     ensures { option_map (λ name. name.now) result ≡ name_of table number }
@@ -23,7 +23,7 @@ pub fn name_of(table: Table, number: u32) -> Option<&'static str>
     }
 }
 
-/// PipeWire's own name for a number, of which its name is an end.
+/// PipeWire's own name for a number, which ends in its name. None: the table has none.
 pub fn path_of(table: Table, number: u32) -> Option<&'static str>
     ensures { option_map (λ path. path.now) result ≡ path_of table number }
 {
@@ -33,7 +33,7 @@ pub fn path_of(table: Table, number: u32) -> Option<&'static str>
     }
 }
 
-/// What is expected under a key, by the table of its object's keys.
+/// What is expected of the value under a key, by the table of its object's keys.
 pub fn expected_under(keys: Table, key: u32) -> Expected
     ensures { result ≡ expected_under keys key }
 {
@@ -43,7 +43,7 @@ pub fn expected_under(keys: Table, key: u32) -> Expected
     }
 }
 
-/// What stands there in `EXPECTED`.
+/// The element of `EXPECTED` at this index.
 fn expected_at(place: usize) -> Expected
     ensures { result ≡ get_or EXPECTED place NOTHING }
 {
@@ -54,7 +54,7 @@ fn expected_at(place: usize) -> Expected
     }
 }
 
-/// The number of a name.
+/// The number of a name. None: the table doesn't have it.
 pub fn number_of(table: Table, name: &str) -> Option<u32>
     ensures { result ≡ number_of table name.now }
 {
@@ -96,7 +96,7 @@ fn object_of(type_: SpaTypes) -> Option<(u32, Table, Table)>
     }
 }
 
-/// What a table says of a number.
+/// A table's entry of a number. None: it has none.
 fn entry_of(table: Table, number: u32) -> Option<Entry>
     ensures { option_map row_of result ≡ row_at table number }
 {

@@ -11,7 +11,7 @@ use spa_format::laws::pods_have_one_value;
 use spa_format::view_laws::{settled_properties_are_settled, walks_find_members};
 use spa_negotiate_objects::laws::meetings_are_plain;
 
-/// Two inputs that are refused for another cause than memory or the size of the answer don't begin with objects that can meet.
+/// Two inputs that are refused for a cause other than memory or the size of the answer don't begin with objects that can meet.
 pub fn refused_fronts_cannot_meet()
     ensures { (a b : List ℕ) (e : NegotiateError) → AreFrontsRefused a b e → OnNoMeeting (¬ (BeginBoth a b CanMeet)) e }
 {

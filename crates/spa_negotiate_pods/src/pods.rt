@@ -12,11 +12,11 @@ use spa_fronts::{NoObject, ObjectPod, object_in, object_pod};
 use spa_negotiate_objects::{NegotiateError, Side};
 use std::alloc::Global;
 
-/// The encoding of the object in which the objects at the fronts of two inputs meet, by the rules of `negotiate`. What follows
-/// the two fronts doesn't count.
+/// Negotiates the objects at the fronts of two inputs by the rules of `negotiate`, and answers the encoding of the object in
+/// which they meet. The bytes behind the two fronts don't count.
 ///
-/// The answer is one whole pod, and no property's value in it is a choice of another shape than None: `is_fixated` of a view of
-/// it is true.
+/// The answer is one whole pod, and no property's value in it is a choice of a shape other than None: `is_fixated` of a view
+/// of it is true.
 ///
 /// The refusals: `Unread` and `NotObject`, of the first side before the second; then those of `negotiate`; then `TooLarge`.
 pub fn negotiate_pods(alloc: Global, a: &[u8], b: &[u8]) -> Result<Vec<u8>, NegotiateError>

@@ -33,7 +33,7 @@ module _ (P Q : Fixed → Type 0) where
   pub none-only : (x : Fixed) → ((c : Fixed) → P c → Q c → c ≡ x) → ¬ (P x × Q x) → (c : Fixed) → ¬ (P c × Q c)
   none-only x only n c h = n (subst Both (only c h.0 h.1) h)
 
-  -- no content lies from low to high
+  -- no element is from low to high
   module _ (low high : Fixed) (each : (c : Fixed) → IsWithin low high c ↔ (P c × Q c)) where
     pub none-between : ¬ (IsAtMost low high) → (c : Fixed) → ¬ (P c × Q c)
     none-between n c h =

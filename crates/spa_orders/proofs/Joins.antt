@@ -47,7 +47,7 @@ module _ (k : Kind) (chain : IsChain k) (x y : Fixed) (p : kind_of x ≡ k) (q :
       ] in
       record { each = λ u. (λ (a : IsAtMost u y). (other u a, a), λ b. b.1) }
 
--- what lies within two ranges lies within that from the greater minimum to the lesser maximum
+-- an element of two ranges is one of that from the greater minimum to the lesser maximum
 pub within-both : (l h m g lo hi : Fixed) → IsJoin l m lo → IsMeet h g hi → (c : Fixed) →
     IsWithin lo hi c ↔ (IsWithin l h c × IsWithin m g c)
 within-both l h m g lo hi j k c =

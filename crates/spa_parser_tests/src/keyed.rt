@@ -1,4 +1,4 @@
-//! Forms of `parser_get!` with texts, with an object, and with what a None may stand for.
+//! Forms of `parser_get!` with texts, with an object, and with a None in place of a value.
 use crate::compare::{assert_holds, assert_same};
 use spa_parser::{Parser, parser_get};
 use spa_spelling::bytes_of;
@@ -6,7 +6,7 @@ use spa_utils::{Errno, Fraction, Id, Rectangle};
 use std::alloc::AllocError;
 use std::process::Abort;
 
-/// What the properties of a format say.
+/// The values of a format's properties.
 #[derive(Clone, Copy)]
 struct Format {
     id: Id,

@@ -408,20 +408,20 @@ pub opens_inside : (keyed inner : Bool) (left at body rest inside : List ℕ) (t
     IsInside type body inner inside → OpensInside keyed left inner inside rest
 opens_inside keyed inner left at body rest inside type k o i = record { here = at; type = type; body = body; its_key = k; opens = o; its_inside = i }
 
--- canonical ones were passed, and nothing is left
-pub passed_all : (asked keyed : Bool) (pods left : List ℕ) → asked ≡ true → Passes keyed true pods left 0 → length left ≡ 0 → AreLooked asked keyed pods asked 0
-passed_all asked keyed pods left a p z = record {
+-- such that are looked for were passed, and nothing is left
+pub passed_all : (asked keyed : Bool) (pods left : List ℕ) → Passes keyed asked pods left 0 → length left ≡ 0 → AreLooked asked keyed pods asked 0
+passed_all asked keyed pods left p z = record {
   shorter = subst (AreShorterInside keyed pods) (let e : 0 + 0 ≡ 0 = omega arith in e) (p.shorter 0 (shorter_none keyed left z));
-  exactly = λ _. (λ _. p.own refl (none_own keyed left z), λ _. a);
+  exactly = λ a. (λ _. p.own a (none_own keyed left z), λ _. a);
   unasked = λ e. e;
 }
 
--- what is found behind canonical ones
-pub found_behind : (ends asked keyed : Bool) (waiting : ℕ) (pods left : List ℕ) (f : Found) → Passes keyed true pods left 0 →
+-- what is found behind these
+pub found_behind : (ends asked keyed : Bool) (waiting : ℕ) (pods left : List ℕ) (f : Found) → Passes keyed asked pods left 0 →
     IsFound ends asked waiting keyed left f → IsFound ends asked waiting keyed pods f
 found_behind ends asked keyed waiting pods left (found.Fits canonical surplus) p l = record {
   shorter = subst (AreShorterInside keyed pods) (let e : 0 + surplus ≡ surplus = omega arith in e) (p.shorter surplus l.shorter);
-  exactly = λ a. (λ e. p.own refl ((l.exactly a).0 e), λ k. (l.exactly a).1 (p.kept k));
+  exactly = λ a. (λ e. p.own a ((l.exactly a).0 e), λ k. (l.exactly a).1 (p.kept k));
   unasked = l.unasked;
 }
 found_behind ends asked keyed waiting pods left found.Differs p d =

@@ -15,7 +15,7 @@ ghost use Rattle.spa_rewrite.specs.Steady.{IsInside};
 ghost use Rattle.spa_scan.specs.Canonical.{BeginsCanonical};
 ghost use Rattle.spa_scan.specs.Depth.{depth_of, levels_looked_into};
 
-use crate::steady::{CHOICE_HEADER, Inside, behind_key, inside_of, short_front};
+use crate::steady::{CHOICE_HEADER, Inside, behind_key, inside_of, is_steady_leaf, short_front};
 use crate::surplus::leaf_surplus;
 use spa_bytes::{HEADER_LEN, SECOND_WORD, open, u32_at};
 use spa_fixed::{FLAGS_SHAPE, Refusal};
@@ -298,14 +298,25 @@ pub(crate) fn look_into<'a>(
 ) -> Found<'a>
     ensures { IsFound ends canonical levels_looked_into keyed pods.now result }
 {
-    if !canonical {
-        return look_on(ends, keyed, canonical, pods, frames);
-    }
-    let left = behind_canonical(keyed, pods);
+    let left = behind_alike_first(ends, keyed, canonical, pods);
     if left.is_empty() {
         return Found::Fits(canonical, 0);
     }
     look_on(ends, keyed, canonical, left, frames)
+}
+
+/// What follows the first pods that a look which ends there passes without a call: canonical ones, or such that are as long as their encodings.
+#[inline(always)]
+fn behind_alike_first(ends: bool, keyed: bool, canonical: bool, pods: &[u8]) -> &[u8]
+    ensures { Passes keyed canonical pods.now result.now 0 }
+{
+    if canonical {
+        return behind_canonical(keyed, pods);
+    }
+    if ends {
+        return behind_as_long(keyed, pods);
+    }
+    pods
 }
 
 /// Looks inside with this array, and where it is too short with the long one.
@@ -367,7 +378,7 @@ fn look_inside<'a>(
             left = outer.pods;
             continue;
         }
-        match meet(keyed, canonical, left) {
+        match meet(ends, keyed, canonical, left) {
             Met::Leaves(rest, are_all, more) => {
                 if ends && is_difference(are_canonical, are_all, more) {
                     return Found::Differs;
@@ -407,12 +418,12 @@ fn is_difference(asked: bool, canonical: bool, surplus: usize) -> bool
 /// What stands first in pods: accepted ones that hold no others, a struct or an object, or a fault. `canonical` says whether all pods before are
 /// canonical.
 #[inline(always)]
-fn meet(keyed: bool, canonical: bool, left: &[u8]) -> Met<'_>
+fn meet(ends: bool, keyed: bool, canonical: bool, left: &[u8]) -> Met<'_>
     requires { 0 < length left.now }
     ensures { IsMet canonical keyed left.now result }
 {
     if !is_inside_first(keyed, left) {
-        let (rest, surplus) = behind_first(keyed, canonical, left);
+        let (rest, surplus) = behind_first(ends, keyed, canonical, left);
         if rest.len() < left.len() {
             return Met::Leaves(rest, canonical, surplus);
         }
@@ -433,18 +444,22 @@ fn meet(keyed: bool, canonical: bool, left: &[u8]) -> Met<'_>
 }
 
 /// What follows the first accepted pods that hold no others, as many as are found, and by how many bytes their encodings are shorter: where
-/// `canonical` is set those that are canonical. A key and flags stand before each where `keyed` is set.
+/// `canonical` is set those that are canonical, and else where `ends` is those that are as long as their encodings. A key and flags stand before
+/// each where `keyed` is set.
 #[inline(always)]
-fn behind_first(keyed: bool, canonical: bool, pods: &[u8]) -> (&[u8], usize)
+fn behind_first(ends: bool, keyed: bool, canonical: bool, pods: &[u8]) -> (&[u8], usize)
     ensures { Passes keyed canonical pods.now result.0.now result.1 }
 {
-    if !canonical {
-        if keyed {
-            return behind_leaves(true, pods);
-        }
-        return behind_leaves(false, pods);
+    if canonical {
+        return (behind_canonical(keyed, pods), 0);
     }
-    (behind_canonical(keyed, pods), 0)
+    if ends {
+        return (behind_as_long(keyed, pods), 0);
+    }
+    if keyed {
+        return behind_leaves(true, pods);
+    }
+    behind_leaves(false, pods)
 }
 
 /// Whether a struct or an object is first, or less than a pod of one word is left.
@@ -494,6 +509,41 @@ fn canonical_leaf(keyed: bool, left: &[u8]) -> Option<&[u8]>
         return None;
     };
     leaf_front(here)
+}
+
+/// What follows the first pods that hold no others and are as long as their encodings: of properties by one loop, and of members by another.
+#[inline(always)]
+fn behind_as_long(keyed: bool, pods: &[u8]) -> &[u8]
+    ensures { Passes keyed false pods.now result.now 0 }
+{
+    if keyed {
+        return behind_steady(true, pods);
+    }
+    behind_steady(false, pods)
+}
+
+/// The loop over these.
+#[inline(always)]
+fn behind_steady(keyed: bool, pods: &[u8]) -> &[u8]
+    ensures { Passes keyed false pods.now result.now 0 }
+{
+    let mut left = pods;
+    loop {
+        let Some(here) = behind_key(keyed, left) else {
+            return left;
+        };
+        if let Some(rest) = short_front(here) {
+            left = rest;
+            continue;
+        }
+        let Some(front) = open(here) else {
+            return left;
+        };
+        if !is_steady_leaf(front.type_, front.body) {
+            return left;
+        }
+        left = front.rest;
+    }
 }
 
 /// What follows the first accepted pods that hold no others, and by how many bytes their encodings are shorter.

@@ -1,5 +1,5 @@
-//! The bytes that a builder has written, at the front of a vector that is kept longer than they are: what lies behind
-//! them is room, which an append fills without asking for memory.
+//! The bytes that a builder has written, at the front of a vector that is longer than they are: the bytes behind them are
+//! spare room, which an append fills without asking for memory.
 ghost use Rattle.std.specs.Prelude.{◌≡◌, ◌+◌, ◌<◌, ◌≤◌, ◌++◌, ℕ, [], List, IfErr, OnErr, OnOk, drop, length, replicate, take};
 ghost use Rattle.std.proofs.Common.{append_assoc};
 ghost use Rattle.spa_sink.specs.declared.gen_error.GenError.TheVariants.{OutOfMemory};

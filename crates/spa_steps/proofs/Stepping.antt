@@ -30,7 +30,7 @@ module _ {T : Type 0} (f : T → Fixed) (k : Kind) (never : ¬ (IsStepKind k)) (
   first-none steps = λ x h. none_multiple x steps.step h.1
 
 module _ {T : Type 0} (f : T → Fixed) (steps : Steps T) where
-  -- the multiples that lie in other bounds too
+  -- the multiples that are within other bounds, too
   pub AreInBoth-within : (low high : Fixed) (w : Steps T) → IsJoin (f steps.low) low (f w.low) →
       IsMeet (f steps.high) high (f w.high) → f w.step ≡ f steps.step → AreInBoth f steps low high w
   AreInBoth-within low high w j m e =

@@ -1,4 +1,4 @@
--- What a typed read asks for, and what its refusals say: docs/FORMAT.md, "Faults".
+-- What a typed read asks for, and its refusals: docs/FORMAT.md, "Faults".
 use Rattle.std.specs.Prelude.{◌≡◌, ◌≢◌, ℕ, ◌<◌, ◌≤◌, ◌⊎◌, List, length, ⊤}
 use Rattle.std.specs.Borrow.{Bor}
 use Rattle.spa_format.specs.Words.{word_at, body_of, header_size}

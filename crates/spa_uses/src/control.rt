@@ -182,7 +182,7 @@ fn volume_place(properties: &[Property]) -> Option<usize>
 }
 
 /// The encoding of the object at the front with its first volume changed to this one, and all else as it was. None exactly where
-/// no object with a volume is there, or it can't be written. Refused only for lack of memory.
+/// no object with a volume is there, or it can't be written. Refused only for want of memory.
 pub fn with_volume(
     alloc: Global,
     input: &[u8],

@@ -1,4 +1,4 @@
--- What the laws of src/laws.rt say of the trees of objects, and of lists of properties.
+-- The laws of src/laws.rt on the trees of objects, and on lists of properties.
 use Rattle.std.specs.Prelude.{◌≡◌, ℕ, ◌+◌, ◌<◌, List, [], ◌∷◌, ◌++◌, length, take, drop, get_or, Vec}
 use Rattle.std.specs.Global.{Global}
 use Rattle.spa_format.specs.Tree.{object, property, join_properties}

@@ -11,7 +11,7 @@ use Rattle.spa_view.specs.declared.arrays.PodElements.{PodElements}
 abbrev pub array_bytes : PodArray → List ℕ
 array_bytes values = values.body.now
 
--- how many whole elements of the child size are there
+-- how many whole elements of the child size there are
 abbrev pub element_count : List ℕ → ℕ
 element_count b = (length b - header_size) / word_at b 0
 
@@ -19,11 +19,11 @@ element_count b = (length b - header_size) / word_at b 0
 abbrev pub HasKind : Kind → List ℕ → Type 0
 HasKind k b = (word_at b 4 ≡ type_number k) × (word_at b 0 ≡ body_size k)
 
--- what the whole bodies of this kind say that stand in these bytes one after another; a kind without bytes has none
+-- the values of the whole bodies of this kind, one after another in these bytes; of None, whose bodies are empty, there are none
 abbrev pub values_in : Kind → List ℕ → List Fixed
 values_in k b = map (content k) (first_chunks (body_size k) (length b / body_size k) b)
 
--- the values that are still to come
+-- the values that the iterator has left
 abbrev pub elements_left : {T : Type 0} → Kind → PodElements T → List Fixed
 elements_left k elements = values_in k elements.left.now
 
@@ -31,7 +31,7 @@ elements_left k elements = values_in k elements.left.now
 abbrev pub first_elements : ℕ → List ℕ → List ℕ
 first_elements n b = take (header_size + n * word_at b 0) b
 
--- in a choice's body the child header and the values that its shape takes, the default first
+-- the child header in a choice's body, and the values that its shape takes, the default first
 abbrev pub choice_values : List ℕ → List ℕ
 choice_values b =
     if nat_eq (word_at b 0) (shape_number none_choice) then first_elements 1 (drop header_size b)

@@ -1,4 +1,4 @@
--- What the tests of a view ask of its pod's bytes: docs/FORMAT.md, "Walks over views".
+-- The tests of a view, by its pod's bytes: docs/FORMAT.md, "Walks over views".
 use Rattle.std.specs.Prelude.{◌≡◌, ℕ, ◌-◌, ◌≤◌, ◌⊎◌, ◌==◌, List, slice_index}
 use Rattle.std.specs.List.{before_first}
 use Rattle.spa_format.specs.Words.{word_at, wide_at, header_size, body_of}
@@ -52,7 +52,7 @@ long_pointer_size = 16
 abbrev pub IsPointerPod : List ℕ → Type 0
 IsPointerPod b = (word_at b 4 ≡ pointer_type) × ((word_at b 0 ≡ short_pointer_size) ⊎ (word_at b 0 ≡ long_pointer_size))
 
--- the address in a pointer's body, by its length
+-- the address in a pointer's body, in four or eight bytes by the body's length
 abbrev pub IsAddress : ℕ → List ℕ → Type 0
 IsAddress a b =
     (word_at b 0 ≡ short_pointer_size → a ≡ word_at (body_of b) header_size)
@@ -62,6 +62,6 @@ IsAddress a b =
 abbrev pub IsNulEnded : List ℕ → Type 0
 IsNulEnded b = IsStringPod b × (slice_index (body_of b) (word_at b 0 - 1) ≡ 0)
 
--- the bytes before the first NUL
+-- the bytes before the first NUL, or all where there is none
 abbrev pub before_nul : List ℕ → List ℕ
 before_nul b = before_first (λ x. x == 0) b

@@ -1,4 +1,4 @@
--- What the views stand for: docs/FORMAT.md, "Walks over views".
+-- The models of the views, which are bytes: docs/FORMAT.md, "Walks over views".
 use Rattle.std.specs.Prelude.{ℕ, List}
 use Rattle.spa_view.specs.declared.arrays.PodChoice.{PodChoice}
 use Rattle.spa_view.specs.declared.pod.Pod.{Pod}
@@ -31,10 +31,10 @@ prop_bytes prop = prop.bytes.now
 abbrev pub flag_bits : PodPropFlags → ℕ
 flag_bits flags = flags.0
 
--- the pods that are still to come
+-- the pods that the iterator has left
 abbrev pub fields_left : PodStructIter → List (List ℕ)
 fields_left fields = walk fields.left.now
 
--- the properties that are still to come
+-- the properties that the iterator has left
 abbrev pub props_left : PodObjectIter → List (List ℕ)
 props_left props = property_walk props.left.now

@@ -1,4 +1,4 @@
-//! What stands behind None choices, and the values of arrays and choices. A table is a text with a row a line.
+//! The values of None choices, of arrays and of choices. A table is a text with a row a line.
 use crate::compare::{assert_bytes, assert_holds, assert_said};
 use bitflags::Flags;
 use spa_spelling::bytes_spelled;

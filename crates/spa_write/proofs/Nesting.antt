@@ -336,7 +336,7 @@ never_closed holds v inner now ended h p e r =
     size_refused (HasNul v) (IsTooLarge v) (λ d. d ≡ OutOfMemory) (size_limit ≤ begun_length ended inner.start)
     (λ l. h.past (subst (λ b. size_limit ≤ begun_length b inner.start) p.bytes l)) e r
 
--- the innermost but one is the last of the others, which lie the outermost first
+-- the innermost but one is the last of the others, of which the outermost is first
 pub innermost : (old new : List Begun) (next : Begun) → old ≡ new ++ next ∷ [] →
     reverse old ≡ next ∷ reverse new
 innermost old new next e = ap reverse e ∙ reverse-append new (next ∷ [])

@@ -1,6 +1,6 @@
 /* Each request for memory is refused in turn, alone or with all after it. From it on refused, the answer is -ENOMEM and the output is as it was;
  * refused alone, the answer may also be that of a call with memory, since what isn't got at once is asked for bit by bit. All memory is
- * given back. What is its own rewriting asks for none, nor what is written into as much room, or where it lies, and isn't deep. Linked with --wrap=malloc, --wrap=realloc and --wrap=free. */
+ * given back. What is canonical asks for none, nor what is written into as much room, or where it lies, and isn't deep. Linked with --wrap=malloc, --wrap=realloc and --wrap=free. */
 #include <errno.h>
 #include <stdio.h>
 #include <stdlib.h>

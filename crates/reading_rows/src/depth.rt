@@ -44,7 +44,7 @@ pub(crate) fn answer_depth(
 const INNER: usize = 4;
 
 /// The words of an input.
-fn words_of(alloc: Global, input: &[u8]) -> Result<Vec<u32>, AllocError> {
+pub(crate) fn words_of(alloc: Global, input: &[u8]) -> Result<Vec<u32>, AllocError> {
     let (words, _) = input.as_chunks::<4>();
     words
         .iter()

@@ -84,7 +84,7 @@ fn refused(error: DeserializeError<&[u8]>) -> Front<'_> {
 }
 
 /// The encoding of a value; nothing where the writer refuses it, or doesn't say how many bytes it wrote.
-fn encoding(alloc: Global, value: &Value) -> Result<Vec<u8>, AllocError> {
+pub(crate) fn encoding(alloc: Global, value: &Value) -> Result<Vec<u8>, AllocError> {
     match PodSerializer::serialize(Vec::new(alloc), value) {
         Ok((bytes, count)) if bytes.len() as u64 == count => Ok(bytes),
         Err(GenError::OutOfMemory) => Err(AllocError),

@@ -1,4 +1,5 @@
 //! How many pod headers a read opens, and values that stand deep in one another, copied and compared.
+use crate::lenient::answer_leniently;
 use spa_fixed::DeserializeError;
 use spa_spelling::{nested_pods, push_words};
 use spa_typed_read::PodDeserializer;
@@ -13,7 +14,7 @@ const INNER: usize = 2;
 
 /// Appends the answer to a row: of `headers` what a counted read of the input answers; of `opened` the same of pods in one another, as
 /// many as the first word says, with the words behind the size and the innermost pod behind it; of `same` whether pods so deep with
-/// either of the last two pods innermost are told to be the same; of `held` whether a value is lent and handed back.
+/// either of the last two pods innermost compare as `same`; of `held` whether a value is lent and handed back.
 pub(crate) fn answer_headers(
     alloc: Global,
     word: &str,
@@ -38,7 +39,7 @@ pub(crate) fn answer_headers(
             push_same(alloc, one.as_slice(), other.as_slice(), answers)
         }
         "held" => push_held(alloc, input, answers),
-        _ => answers.push_str(" no such row"),
+        _ => answer_leniently(alloc, word, input, words, answers),
     }
 }
 
@@ -100,7 +101,7 @@ fn deep_pods(alloc: Global, head: &[u32], inner: &[u32]) -> Result<Vec<u8>, Allo
     Ok(input)
 }
 
-/// Appends whether the values at the fronts of the two inputs are told to be the same, each way round.
+/// Appends whether `same` holds of the values at the fronts of the two inputs, each way round.
 fn push_same(
     alloc: Global,
     one: &[u8],

@@ -7,7 +7,8 @@
 //! - `view`: what the view of the front shows;
 //! - `levels`: how many structs and objects stand in one another;
 //! - `nested`, `waiting` and `deep`: pods that stand in many others;
-//! - `headers` and `opened`: how many headers a read opens; `same`: deep values compared; `held`: a value lent and handed back.
+//! - `headers` and `opened`: how many headers a read opens; `same`: deep values compared; `held`: a value lent and handed back;
+//! - `lenient`, `lenient-list` and `lenient-nested`: what a pod, a list and structs in one another are rewritten to in the lenient reading.
 #![tactic(auto)]
 
 mod changes;
@@ -15,6 +16,7 @@ mod depth;
 mod every_type;
 mod front;
 mod headers;
+mod lenient;
 mod lists;
 mod oracle;
 mod rewritten;

@@ -39,7 +39,7 @@ fn are_joined(first: &[u8], second: &[u8], both: &[u8]) -> bool {
     start == first && end == second
 }
 
-/// Whether an encoding is read as what it encodes, and is its own rewriting.
+/// Whether an encoding is read as what it encodes, and is canonical.
 pub(crate) fn is_rewritten_to_itself(
     alloc: Global,
     encoding: &[u8],

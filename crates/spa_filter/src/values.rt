@@ -43,7 +43,7 @@ fn is_supported(value: &Value) -> bool
     }
 }
 
-/// The same of a choice.
+/// Whether a common value is sought for this choice.
 fn is_choice_supported(choice: &ChoiceValue) -> bool
     ensures { IsTrue result ↔ IsSupported (choice_view choice.now) }
 {
@@ -60,7 +60,7 @@ fn is_choice_supported(choice: &ChoiceValue) -> bool
     }
 }
 
-/// The same of a choice over one type.
+/// Whether a common value is sought for a choice of this shape over this type.
 pub(crate) fn is_shape_supported<T: Element>(choice: &Choice<T>) -> bool
     ensures { IsTrue result ↔ IsSupported (choice_tree T.kind T.fixed choice.now) }
 {
@@ -106,7 +106,7 @@ fn shapes(value: &Value) -> (bool, bool)
     }
 }
 
-/// The same of a choice.
+/// Whether a choice is Flags, and whether it is a Range or a Step.
 fn choice_shapes(choice: &ChoiceValue) -> (bool, bool)
     ensures flags { result.0 ≡ is_flags (choice_view choice.now) }
     ensures bounded { result.1 ≡ is_bounded (choice_view choice.now) }
@@ -124,7 +124,7 @@ fn choice_shapes(choice: &ChoiceValue) -> (bool, bool)
     }
 }
 
-/// The same of a choice over one type.
+/// Whether a choice over one type is Flags, and whether it is a Range or a Step.
 fn typed_shapes<T: Element>(choice: &Choice<T>) -> (bool, bool)
     ensures flags { result.0 ≡ is_flags (choice_tree T.kind T.fixed choice.now) }
     ensures bounded { result.1 ≡ is_bounded (choice_tree T.kind T.fixed choice.now) }
@@ -170,7 +170,7 @@ fn values_meet(alloc: Global, a: &Value, b: &Value) -> Result<Option<Value>, All
     }
 }
 
-/// The same of two plain values.
+/// The value that two plain values have in common: either, where they are equal.
 fn plain_values_meet(alloc: Global, a: &Value, b: &Value) -> Result<Option<Value>, AllocError>
     requires first { IsPlainView a.now }
     requires second { IsPlainView b.now }
@@ -184,7 +184,7 @@ fn plain_values_meet(alloc: Global, a: &Value, b: &Value) -> Result<Option<Value
     Ok(None)
 }
 
-/// The same of a choice and any value.
+/// A value that admits exactly what the choice and the value both admit, where they admit one.
 fn choice_meets(alloc: Global, choice: &ChoiceValue, b: &Value) -> Result<Option<Value>, AllocError>
     requires { AreSayable (choice_view choice.now) (view b.now) }
     ensures { IfOk result (ValuesMeet (choice_view choice.now) (view b.now)) }
@@ -202,7 +202,7 @@ fn choice_meets(alloc: Global, choice: &ChoiceValue, b: &Value) -> Result<Option
     }
 }
 
-/// The same of a choice over one type and any value.
+/// A value that admits exactly what a choice over one type and the value both admit, where they admit one.
 fn typed_meets<T: Element>(
     alloc: Global,
     choice: &Choice<T>,
@@ -217,7 +217,7 @@ fn typed_meets<T: Element>(
     }
 }
 
-/// The same of a choice over one type and another choice.
+/// A value that admits exactly what a choice over one type and another choice both admit, where they admit one.
 fn typed_choices_meet<T: Element>(
     alloc: Global,
     choice: &Choice<T>,
@@ -232,7 +232,7 @@ fn typed_choices_meet<T: Element>(
     }
 }
 
-/// The same of a choice over one type and a plain value.
+/// The plain value, where the choice over one type admits it.
 fn typed_admits<T: Element>(choice: &Choice<T>, b: &Value) -> Option<Value>
     requires { IsPlainView b.now }
     ensures { ValuesMeet (choice_tree T.kind T.fixed choice.now) (view b.now) result }
@@ -243,7 +243,7 @@ fn typed_admits<T: Element>(choice: &Choice<T>, b: &Value) -> Option<Value>
     }
 }
 
-/// The same of a plain value and a choice.
+/// The plain value, where the choice admits it.
 fn plain_meets(a: &Value, choice: &ChoiceValue) -> Option<Value>
     requires { IsPlainView a.now }
     ensures { ValuesMeet (view a.now) (choice_view choice.now) result }

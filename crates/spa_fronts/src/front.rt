@@ -17,7 +17,7 @@ use std::alloc::Global;
 /// The pod of an object at the front of an input, as it is written.
 #[derive(Drop)]
 pub enum ObjectPod<'a> {
-    /// The front is its own rewriting, and lies here.
+    /// The front is canonical, and lies here.
     Lying(&'a [u8]),
     /// It isn't, or nests too deep to be looked into: this is its rewriting.
     Rewritten(Vec<u8>),
@@ -46,7 +46,7 @@ pub enum NoObject {
     OutOfMemory,
 }
 
-/// The pod of the object at the front of the input, as it is written. Memory is asked for only where the front isn't its own rewriting,
+/// The pod of the object at the front of the input, as it is written. Memory is asked for only where the front isn't canonical,
 /// or structs and objects stand more than 1000 deep in one another.
 pub fn object_pod(alloc: Global, input: &[u8]) -> Result<ObjectPod<'_>, NoObject>
     ensures object { IfOk result (λ pod. BeginsObjectIn input.now (bytes_of pod)) }

@@ -322,7 +322,7 @@ rest_placed input first rest steady others patched sub_old sub k n i c r s h p l
           ∙ ap (drop m) (so ∙ same) ∙ drop-drop m to input ∙ ap (λ j. drop j input) (sym at);
     }
 
--- pods that are all their own rewritings or became them
+-- pods that are canonical, or were made so
 pub across_rewritten : (input first rest steady others all patched : List ℕ) (at k : ℕ) → all ≡ input → input ≡ first ++ rest → AreCanonical first →
     rest ≡ steady ++ others → AreSteady steady → length others ≡ 0 → at ≡ length first → k ≡ length all - at →
     length patched ≡ length (take k (drop at all)) → ArePatched false (take k (drop at all)) patched →

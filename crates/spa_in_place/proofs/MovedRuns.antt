@@ -37,7 +37,7 @@ properties_written ps run written rest new k e q = λ qs m.
     let l = props_left ps qs run rest k m in
     ap (λ x. x ++ new) e ∙ ap (λ x. property_encodings ps ++ x) (q l.0 l.2) ∙ sym (property_encodings-join ps l.0) ∙ ap property_encodings (sym l.1)
 
-run_is : (noisy keyed : Bool) (run written : List ℕ) → AreRun noisy keyed run → IsRunWritten noisy run written → RunIs keyed run written
+run_is : (unpatched keyed : Bool) (run written : List ℕ) → AreRun unpatched keyed run → IsRunWritten unpatched run written → RunIs keyed run written
 run_is false false run written k e = record {
   its = record { values = k.values; members = k.members; long = sym (ap length k.same) };
   same = λ rest new q. members_written k.values run written rest new k.members (e ∙ k.same) q;
@@ -75,13 +75,13 @@ run_shorter true left run rest surplus e k s =
     record { values = l.0; properties = l.2; long = omega arith }
 
 -- a run that is moved as it is, and one that is patched there
-pub run_put : (noisy : Bool) (old new : List ℕ) (from to len : ℕ) → noisy ≡ false → MovesRun old new from to len → PutsRun noisy old new from to len
+pub run_put : (unpatched : Bool) (old new : List ℕ) (from to len : ℕ) → unpatched ≡ false → MovesRun old new from to len → PutsRun unpatched old new from to len
 run_put true old new from to len t m = absurd (let z : true ≡ false = t in cc)
 run_put false old new from to len t m = record { written = take len (drop from old); its = refl; front = m.front; behind = m.behind }
 
-pub run_patched : (noisy : Bool) (old mid sub : List ℕ) (from to len k : ℕ) → noisy ≡ true → MovesRun old mid from to len → from + len ≤ length old → to ≤ from → length mid ≡ length old →
+pub run_patched : (unpatched : Bool) (old mid sub : List ℕ) (from to len k : ℕ) → unpatched ≡ true → MovesRun old mid from to len → from + len ≤ length old → to ≤ from → length mid ≡ length old →
     k ≡ to + len - to → ArePatched false (take k (drop to mid)) sub → length sub ≡ length (take k (drop to mid)) →
-    PutsRun noisy old (put_mid to k mid sub) from to len
+    PutsRun unpatched old (put_mid to k mid sub) from to len
 run_patched false old mid sub from to len k t m l b same n p y = absurd (let z : false ≡ true = t in cc)
 run_patched true old mid sub from to len k t m l b same n p y =
     let k_is : k ≡ len = omega arith in
@@ -100,20 +100,20 @@ run_patched true old mid sub from to len k t m l b same n p y =
     }
 
 -- what is left behind a run that is moved
-left_behind_run : (noisy : Bool) (now new : List ℕ) (from to len : ℕ) → to ≤ from → PutsRun noisy now new from to len → drop (from + len) new ≡ drop len (drop from now)
-left_behind_run noisy now new from to len b p =
+left_behind_run : (unpatched : Bool) (now new : List ℕ) (from to len : ℕ) → to ≤ from → PutsRun unpatched now new from to len → drop (from + len) new ≡ drop len (drop from now)
+left_behind_run unpatched now new from to len b p =
     further_behind new now (to + len) (from + len) (omega arith) p.behind ∙ sym (drop-drop len from now)
 
-pub places_run : (all noisy keyed : Bool) (old now new : List ℕ) (gap from to len : ℕ) → PlacesOn all keyed old now gap from to → gap ≤ length old →
-    BeginsRun noisy keyed (drop from now) len → PutsRun noisy now new from to len → length new ≡ length now → PlacesOn all keyed old new gap (from + len) (to + len)
-places_run all noisy keyed old now new gap from to len p l r put same =
+pub places_run : (all unpatched keyed : Bool) (old now new : List ℕ) (gap from to len : ℕ) → PlacesOn all keyed old now gap from to → gap ≤ length old →
+    BeginsRun unpatched keyed (drop from now) len → PutsRun unpatched now new from to len → length new ≡ length now → PlacesOn all keyed old new gap (from + len) (to + len)
+places_run all unpatched keyed old now new gap from to len p l r put same =
     let on = p.on in
     let before = places_before all keyed old now gap from to p l in
     let here = drop from now in
     let run = take len here in
     let rest = drop len here in
-    let rest_is : drop (from + len) new ≡ rest = left_behind_run noisy now new from to len (omega arith) put in
-    let is = run_is noisy keyed run put.written r.its put.its in
+    let rest_is : drop (from + len) new ≡ rest = left_behind_run unpatched now new from to len (omega arith) put in
+    let is = run_is unpatched keyed run put.written r.its put.its in
     let within = r.within in
     let rest_long = ap length rest_is ∙ length-drop len here in
     let here_long = length-drop from now in
@@ -134,22 +134,22 @@ places_run all noisy keyed old now new gap from to len p l r put same =
       within = omega arith;
     }
 
-pub chain_run : (noisy keyed : Bool) (old now new : List ℕ) (from to end len : ℕ) → ChainsOn keyed old now from to end →
-    BeginsRun noisy keyed (drop from now) len → PutsRun noisy now new from to len → length new ≡ length now → ChainsOn keyed old new (from + len) (to + len) end
-chain_run noisy keyed old now new from to end len c r put same =
+pub chain_run : (unpatched keyed : Bool) (old now new : List ℕ) (from to end len : ℕ) → ChainsOn keyed old now from to end →
+    BeginsRun unpatched keyed (drop from now) len → PutsRun unpatched now new from to len → length new ≡ length now → ChainsOn keyed old new (from + len) (to + len) end
+chain_run unpatched keyed old now new from to end len c r put same =
     let p = c.places in
     let before = places_before false keyed old now 0 from to p (omega arith) in
     let here = drop from now in
     let run = take len here in
     let rest = drop len here in
-    let rest_is : drop (from + len) new ≡ rest = left_behind_run noisy now new from to len (omega arith) put in
-    let is = run_is noisy keyed run put.written r.its put.its in
+    let rest_is : drop (from + len) new ≡ rest = left_behind_run unpatched now new from to len (omega arith) put in
+    let is = run_is unpatched keyed run put.written r.its put.its in
     let behind = run_shorter keyed here run rest c.surplus (sym (take-append-drop len here)) is.its c.shorter in
     let within = r.within in
     let rest_long = ap length rest_is ∙ length-drop len here in
     let ends = c.ends_at in
     record {
-      places = places_run false noisy keyed old now new 0 from to len p (omega arith) r put same;
+      places = places_run false unpatched keyed old now new 0 from to len p (omega arith) r put same;
       surplus = c.surplus;
       shorter = subst (λ x. AreShorterInside keyed x c.surplus) (sym rest_is) behind;
       ends_at = omega arith;

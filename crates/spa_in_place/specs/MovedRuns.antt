@@ -3,7 +3,7 @@ use Rattle.std.specs.Prelude.{◌≡◌, ◌+◌, ◌<◌, ◌≤◌, ◌++◌, 
 use Rattle.spa_rewrite.specs.Nesting.{AreCanonicalInside}
 use Rattle.spa_rewrite.specs.Steady.{ArePatched, AreSteady}
 
--- pods that are their own rewritings, or noisy ones, as long as these are
+-- pods that are canonical, or as long as their encodings
 abbrev pub AreRun : Bool → Bool → List ℕ → Type 0
 AreRun false keyed run = AreCanonicalInside keyed run
 AreRun true keyed run = (keyed ≡ false) × AreSteady run
@@ -14,10 +14,10 @@ IsRunWritten false run new = new ≡ run
 IsRunWritten true run new = ArePatched false run new
 
 -- the first of these pods, so many bytes, are a run
-pub record BeginsRun (noisy keyed : Bool) (left : List ℕ) (len : ℕ) : Type 0 where
+pub record BeginsRun (unpatched keyed : Bool) (left : List ℕ) (len : ℕ) : Type 0 where
   pub some : 0 < len
   pub within : len ≤ length left
-  pub its : AreRun noisy keyed (take len left)
+  pub its : AreRun unpatched keyed (take len left)
 
 -- so many bytes from one place on are behind what is written up to another
 pub record MovesRun (old new : List ℕ) (from to len : ℕ) : Type 0 where
@@ -25,8 +25,8 @@ pub record MovesRun (old new : List ℕ) (from to len : ℕ) : Type 0 where
   pub behind : drop (to + len) new ≡ drop (to + len) old
 
 -- what is written of them is
-pub record PutsRun (noisy : Bool) (old new : List ℕ) (from to len : ℕ) : Type 0 where
+pub record PutsRun (unpatched : Bool) (old new : List ℕ) (from to len : ℕ) : Type 0 where
   pub written : List ℕ
-  pub its : IsRunWritten noisy (take len (drop from old)) written
+  pub its : IsRunWritten unpatched (take len (drop from old)) written
   pub front : take (to + len) new ≡ take to old ++ written
   pub behind : drop (to + len) new ≡ drop (to + len) old

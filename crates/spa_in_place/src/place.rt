@@ -36,11 +36,11 @@ pub(crate) fn place_all(surplus: usize, bytes: &mut [u8]) -> usize
     let end = bytes.len() - surplus;
     let (mut outermost, mut keyed) = (true, false);
     // A look at all pods has ended at the first.
-    let (mut look_at, mut noisy) = (1, false);
+    let (mut look_at, mut unpatched) = (1, false);
     let (mut from, mut to) = (0, 0);
     loop {
-        if let Some(run) = run_len(outermost, keyed, &mut look_at, &mut noisy, bytes, from) {
-            put_run(noisy, bytes, from, to, run);
+        if let Some(run) = run_len(outermost, keyed, &mut look_at, &mut unpatched, bytes, from) {
+            put_run(unpatched, bytes, from, to, run);
             from += run;
             to += run;
             continue;
@@ -71,23 +71,23 @@ pub(crate) fn place_all(surplus: usize, bytes: &mut [u8]) -> usize
 }
 
 /// How many bytes the pods from a place on take that are a run, with key and flags before each where `keyed` is set, if there is one; and
-/// whether it is noisy. Before the place to look at none is looked for. That goes on: behind a run to the pod behind the one that ended it.
+/// whether it is unpatched. Before the place to look at none is looked for. That goes on: behind a run to the pod behind the one that ended it.
 #[inline(always)]
 fn run_len(
     outermost: bool,
     keyed: bool,
     look_at: &mut usize,
-    noisy: &mut bool,
+    unpatched: &mut bool,
     bytes: &[u8],
     from: usize,
 ) -> Option<usize>
     requires { from ≤ length bytes.now }
-    ensures { IfSome result (λ len. BeginsRun noisy.new keyed (drop from bytes.now) len) }
+    ensures { IfSome result (λ len. BeginsRun unpatched.new keyed (drop from bytes.now) len) }
 {
     if from < *look_at {
         return None;
     }
-    let len = run_at(outermost, keyed, noisy, &bytes[from..]);
+    let len = run_at(outermost, keyed, unpatched, &bytes[from..]);
     let unlooked = if len < LONG_RUN { UNLOOKED } else { 1 };
     *look_at = from.saturating_add(len).saturating_add(unlooked);
     if len == 0 { None } else { Some(len) }
@@ -95,11 +95,11 @@ fn run_len(
 
 /// How many bytes the first canonical pods take; where these are few of the outermost pods, those whose encodings are as long as they are. Inside
 /// others only pods that hold none are looked at: a look at structs would be one at each level that they stand in.
-fn run_at(outermost: bool, keyed: bool, noisy: &mut bool, left: &[u8]) -> usize
+fn run_at(outermost: bool, keyed: bool, unpatched: &mut bool, left: &[u8]) -> usize
     ensures within { result ≤ length left.now }
-    ensures its { AreRun noisy.new keyed (take result left.now) }
+    ensures its { AreRun unpatched.new keyed (take result left.now) }
 {
-    *noisy = false;
+    *unpatched = false;
     if keyed {
         let (run, _) = leaf_properties(left);
         return run.len();
@@ -112,20 +112,20 @@ fn run_at(outermost: bool, keyed: bool, noisy: &mut bool, left: &[u8]) -> usize
     if own.len() >= LONG_RUN {
         return own.len();
     }
-    *noisy = true;
+    *unpatched = true;
     let (steady, _) = steady_stretch(left);
     steady.len()
 }
 
 /// Moves a run from one place down to another, and replaces pods that aren't canonical by their encodings there.
 #[inline(always)]
-fn put_run(noisy: bool, bytes: &mut [u8], from: usize, to: usize, len: usize)
+fn put_run(unpatched: bool, bytes: &mut [u8], from: usize, to: usize, len: usize)
     requires run { from + len ≤ length bytes.old }
     requires down { to ≤ from }
-    ensures { PutsRun noisy bytes.old bytes.new from to len }
+    ensures { PutsRun unpatched bytes.old bytes.new from to len }
 {
     move_run(bytes, from, to, len);
-    if noisy {
+    if unpatched {
         patch_all(&mut bytes[to..to + len]);
     }
 }
@@ -179,12 +179,12 @@ fn place(keyed: bool, bytes: &mut [u8], gap: usize) -> usize
     requires { gap ≤ length bytes.old }
     ensures { WritesPods keyed (drop gap bytes.old) bytes.old bytes.new result }
 {
-    let (mut look_at, mut noisy) = (gap.saturating_add(UNLOOKED), false);
+    let (mut look_at, mut unpatched) = (gap.saturating_add(UNLOOKED), false);
     let mut to = 0;
     let mut from = gap;
     loop {
-        if let Some(run) = run_len(false, keyed, &mut look_at, &mut noisy, bytes, from) {
-            put_run(noisy, bytes, from, to, run);
+        if let Some(run) = run_len(false, keyed, &mut look_at, &mut unpatched, bytes, from) {
+            put_run(unpatched, bytes, from, to, run);
             from += run;
             to += run;
             continue;

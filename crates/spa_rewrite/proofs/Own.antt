@@ -1,4 +1,4 @@
--- A front that is its own rewriting.
+-- A canonical front.
 use Rattle.std.proofs.Common.{◌≡◌, ℕ, ◌-◌, List, length, take, refl, sym, ap, ◌∙◌, arith, length-drop}
 use Rattle.spa_format.specs.Words.{extent, word_at}
 use Rattle.spa_format.specs.Encoding.{encoding_of}

@@ -1,4 +1,4 @@
--- Pods that are their own rewritings, among those of a list.
+-- Pods that are canonical, among those of a list.
 use Rattle.std.proofs.Common.{◌≡◌, ◌≢◌, ◌≤◌, arith, length-append, ℕ, List, [], ◌++◌, length, refl, sym, ap, ◌∙◌, subst, append_assoc}
 use Rattle.std.proofs.lemmas.List.{append-nil, nil_from_length}
 use Rattle.std.specs.Borrow.{Bor}
@@ -22,7 +22,7 @@ member_encodings-join (member v vs) ws =
     ap (λ l. encoding_of v ++ l) (member_encodings-join vs ws)
     ∙ sym (append_assoc (encoding_of v) (member_encodings vs) (member_encodings ws))
 
--- some first pods, and those behind them that are their own rewritings
+-- some first pods, and those behind them that are canonical
 pub next_stretch : (body left rest : List ℕ) (a b c : Tail) → MembersSoFar body left a b →
     TakesStretch left b rest c → MembersSoFar body rest a c
 next_stretch body left rest a b c h t =
@@ -42,7 +42,7 @@ pub left_of : (body left : List ℕ) (a b : Tail) → MembersSoFar body left a b
     IsLeft body left
 left_of body left a b h n = (h.values, h.first, h.parts, h.members, n)
 
--- pods that are their own rewritings, and those behind them
+-- canonical pods, and those behind them
 pub both_taken : (input rest : List ℕ) (a b c : Tail) → TakesStretch input a rest b →
     TakesMembers rest b c → TakesMembers input a c
 both_taken input rest a b c t m =
@@ -71,7 +71,7 @@ pub in_parts : (input first rest out : List ℕ) → input ≡ first ++ rest →
     AreRewritten rest [] out → AreRewrittenInParts input first out
 in_parts input first rest out e k r = (rest, e, (k.values, k.members, k.same), r)
 
--- what is left behind pods that are their own rewritings, and others
+-- what is left behind canonical pods, and others
 pub left_behind : (input first rest left : List ℕ) → input ≡ first ++ rest → AreCanonical first →
     IsLeft rest left → IsLeft input left
 left_behind input first rest left e k l =

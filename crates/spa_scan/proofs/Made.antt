@@ -1,4 +1,4 @@
--- What pods that are their own rewritings are made of.
+-- What canonical pods are made of.
 use Rattle.std.proofs.Common.{◌≡◌, ℕ, ◌+◌, ◌<◌, ◌≤◌, ◌-◌, List, ◌++◌, length, take, drop, refl, sym, ap, ◌∙◌, subst, arith, length-append, append_assoc}
 use Rattle.std.specs.Prelude.{max}
 use Rattle.std.proofs.lemmas.List.{drop-drop, drop-take, drop_at}
@@ -41,7 +41,7 @@ framed_zeros input t body e s =
     let long : length head ≡ 8 + n = omega arith in
     ap (take (p - n)) place ∙ sym (drop-take (8 + n) (p - n) input) ∙ ap (λ k. drop (8 + n) (take k input)) m ∙ ap (drop (8 + n)) (same ∙ two) ∙ drop_at head (padding n) (8 + n) long
 
--- a front that is its own rewriting: its body and its padding are as its value's are written
+-- a canonical front: its body and its padding are as its value's are written
 pub record MadeFront (input rest : List ℕ) (value : Tree) : Type 0 where
   pub there : HasFront input
   pub follows : rest ≡ rest_of input
@@ -85,7 +85,7 @@ made_body input rest body behind type h c o =
       value = refl;
     }
 
--- the first of pods that are their own rewritings, and the others
+-- the first of canonical pods, and the others
 pub record MadeMembers (left : List ℕ) (vs : Trees) : Type 0 where
   pub first : BeginsCanonical left (rest_of left)
   pub others : AreCanonical (rest_of left)

@@ -1,4 +1,4 @@
--- What a look can't miss: what bodies and fronts are like that are their own rewritings.
+-- What a look can't miss: what the bodies and fronts of canonical pods are like.
 use Rattle.std.proofs.Common.{◌≡◌, ℕ, ◌+◌, ◌*◌, ◌<◌, ◌≤◌, ◌-◌, ◌/◌, ◌%◌, ◌^◌, ◌⊎◌, inl, inr, List, [], ◌∷◌, ◌++◌, length, take, drop, zero, suc, refl, sym, ap, ◌∙◌, subst, arith, length-append, length-drop, length-take, append_assoc}
 use Rattle.std.specs.Prelude.{Bool, true, false, if◌then◌else◌, replicate}
 use Rattle.std.proofs.lemmas.List.{drop-drop, drop-take, drop_at, length-take-le}

@@ -52,14 +52,27 @@ fn format_written(alloc: Global, channels: Option<i32>) -> Result<Vec<u8>, GenEr
     put(Vec::new(alloc), &format(alloc, channels)?)
 }
 
+/// Compares what is written of the format with as many channels with these words.
+fn assert_format(
+    rt: &impl Abort,
+    alloc: Global,
+    channels: Option<i32>,
+    words: &str,
+) -> Result<(), Fail> {
+    let written = format_written(alloc, channels)?;
+    assert_words(rt, alloc, written.as_slice(), words)
+}
+
 #[test]
 fn declared_types_are_written(rt: HostRuntime) -> Result<(), Fail> {
-    let alloc = rt.alloc();
-    assert_written(&rt, alloc, &curve(alloc)?, CURVE)?;
-    let written = format_written(alloc, Some(2))?;
-    assert_words(&rt, alloc, written.as_slice(), FORMAT)?;
-    let written = format_written(alloc, None)?;
-    assert_words(&rt, alloc, written.as_slice(), WITHOUT_CHANNELS)
+    let curve = curve(rt.alloc())?;
+    assert_written(&rt, rt.alloc(), &curve, CURVE)
+}
+
+#[test]
+fn declared_objects_are_written(rt: HostRuntime) -> Result<(), Fail> {
+    assert_format(&rt, rt.alloc(), Some(2), FORMAT)?;
+    assert_format(&rt, rt.alloc(), None, WITHOUT_CHANNELS)
 }
 
 /// How many bytes follow what is read, and that written again; or why it isn't read.
@@ -109,24 +122,29 @@ fn assert_again(
     }
 }
 
+/// Compares what is read of these words as a format, written again, with the wanted words.
+fn assert_format_again(
+    rt: &impl Abort,
+    alloc: Global,
+    words: &str,
+    wanted: &str,
+) -> Result<(), Fail> {
+    let input = bytes_spelled(alloc, words)?;
+    assert_again(rt, alloc, format_again(alloc, input.as_slice()), wanted)
+}
+
 #[test]
 fn declared_types_come_back(rt: HostRuntime) -> Result<(), Fail> {
-    let alloc = rt.alloc();
-    let curve = bytes_spelled(alloc, CURVE)?;
-    let format = bytes_spelled(alloc, FORMAT)?;
-    let without = bytes_spelled(alloc, WITHOUT_CHANNELS)?;
-    assert_again(&rt, alloc, curve_again(alloc, curve.as_slice()), CURVE)?;
-    assert_again(&rt, alloc, format_again(alloc, format.as_slice()), FORMAT)?;
-    let found = format_again(alloc, without.as_slice());
-    assert_again(&rt, alloc, found, WITHOUT_CHANNELS)
+    let curve = bytes_spelled(rt.alloc(), CURVE)?;
+    let found = curve_again(rt.alloc(), curve.as_slice());
+    assert_again(&rt, rt.alloc(), found, CURVE)
 }
 
 #[test]
 fn properties_stand_in_any_order(rt: HostRuntime) -> Result<(), Fail> {
-    let alloc = rt.alloc();
-    let input = bytes_spelled(alloc, MIXED)?;
-    let found = format_again(alloc, input.as_slice());
-    assert_again(&rt, alloc, found, FORMAT)
+    assert_format_again(&rt, rt.alloc(), FORMAT, FORMAT)?;
+    assert_format_again(&rt, rt.alloc(), WITHOUT_CHANNELS, WITHOUT_CHANNELS)?;
+    assert_format_again(&rt, rt.alloc(), MIXED, FORMAT)
 }
 
 fn assert_kind(rt: &impl Abort, found: &str, wanted: &str, at: usize) {
@@ -151,17 +169,33 @@ fn assert_refusal(
     Ok(())
 }
 
-#[test]
-fn cut_pods_are_refused(rt: HostRuntime) -> Result<(), Fail> {
-    let alloc = rt.alloc();
-    let curve = bytes_spelled(alloc, CURVE)?;
+/// Each beginning of a curve is refused as short.
+fn assert_short_curves(rt: &impl Abort, alloc: Global, curve: &[u8]) -> Result<(), AllocError> {
     for len in 0..curve.len() {
-        assert_refusal(&rt, curve_again(alloc, &curve[..len]), "Short", len)?;
+        assert_refusal(rt, curve_again(alloc, &curve[..len]), "Short", len)?;
     }
-    let format = bytes_spelled(alloc, FORMAT)?;
+    Ok(())
+}
+
+/// Each beginning of a format is refused as short.
+fn assert_short_formats(rt: &impl Abort, alloc: Global, format: &[u8]) -> Result<(), AllocError> {
     for len in 0..format.len() {
-        assert_refusal(&rt, format_again(alloc, &format[..len]), "Short", len)?;
+        assert_refusal(rt, format_again(alloc, &format[..len]), "Short", len)?;
     }
+    Ok(())
+}
+
+#[test]
+fn cut_structs_are_refused(rt: HostRuntime) -> Result<(), Fail> {
+    let curve = bytes_spelled(rt.alloc(), CURVE)?;
+    assert_short_curves(&rt, rt.alloc(), curve.as_slice())?;
+    Ok(())
+}
+
+#[test]
+fn cut_objects_are_refused(rt: HostRuntime) -> Result<(), Fail> {
+    let format = bytes_spelled(rt.alloc(), FORMAT)?;
+    assert_short_formats(&rt, rt.alloc(), format.as_slice())?;
     Ok(())
 }
 

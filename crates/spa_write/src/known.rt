@@ -45,7 +45,7 @@ fn writable_members_len(members: &[Value]) -> u64
     outer + writable_all_len(left)
 }
 
-/// The same, one by one.
+/// How many bytes the encodings of these members have together, added up one by one.
 #[cycle(known)]
 fn writable_all_len(members: &[Value]) -> u64
     requires { IsWritable (tree.struct (views members.now)) }
@@ -71,7 +71,7 @@ fn writable_properties_len(properties: &[Property]) -> u64
     total
 }
 
-/// The same of a value that is neither a struct nor an object.
+/// The length of the encoding of a value that is no container, in bytes.
 #[inline(always)]
 fn writable_leaf_len(value: &Value) -> u64
     requires leaf { IsLeaf (view value.now) }
@@ -87,7 +87,7 @@ fn writable_leaf_len(value: &Value) -> u64
     }
 }
 
-/// The same of a text.
+/// The length of the encoding of a text, in bytes.
 #[inline(always)]
 fn writable_text_len(text: &str) -> u64
     requires { IsWritable (tree.string text.now) }

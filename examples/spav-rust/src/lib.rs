@@ -180,7 +180,7 @@ pub fn fault(input: &[u8]) -> Result<Option<Fault>, Error> {
     }
 }
 
-/// Whether the pod at the front is its own rewriting.
+/// Whether the pod at the front is canonical.
 pub fn is_canonical(input: &[u8]) -> Result<bool, Error> {
     match unsafe { raw::spav_is_canonical(input.as_ptr(), input.len()) } {
         0 => Ok(false),
@@ -598,7 +598,7 @@ impl<'a> Iterator for Walk<'a> {
     }
 }
 
-/// Bytes that are pods one after another, and their own rewriting: made by a rewriting alone, and never changed. What reads pods
+/// Bytes that are pods one after another, all canonical: made by a rewriting alone, and never changed. What reads pods
 /// and trusts their sizes can be handed them.
 #[derive(Clone, PartialEq, Eq, Debug)]
 pub struct Pods(Vec<u8>);

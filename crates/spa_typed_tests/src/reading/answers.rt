@@ -7,6 +7,7 @@ use crate::reading::objects::{Asking, device_said};
 use crate::reading::settled::{SETTLED, settled_said, stream_said};
 use crate::reading::structs::{Idle, Stubborn, screen_said};
 use crate::reading::visitors::called;
+use crate::reads::{USED, used};
 use spa_fixed::DeserializeError;
 use spa_spelling::bytes_spelled;
 use spa_typed_read::{PodDeserialize, PodDeserializer, StructOf};
@@ -126,11 +127,11 @@ fn own(alloc: Global, name: &str, input: &[u8]) -> Result<String, AllocError> {
     }
 }
 
-/// The answer of the call of this number.
+/// The answer of the call of this number, or of a read by a type that programs use.
 fn call_said(alloc: Global, name: &str, input: &[u8]) -> Result<String, AllocError> {
     match name.strip_prefix("call ").unwrap_or("").parse::<u8>() {
         Ok(call) => called(alloc, call, input),
-        Err(_) => String::from_str(alloc, "no such type"),
+        Err(_) => used(alloc, name, input),
     }
 }
 
@@ -282,7 +283,7 @@ gain | 16 14 4 4 3 0 | Tag
 capture and gain | 64 14 16 14 8 10 640 480 32 15 262146 2 65539 16 4 6 1036831949 0 | accepted
 capture and gain | 64 14 16 14 8 10 640 480 32 15 262146 2 65540 16 4 6 1036831949 0 | not 65540"#;
 
-const TABLES: &[&str] = &[READ, CALLS, OWN, VISITED, SETTLED, BUILT];
+const TABLES: &[&str] = &[READ, CALLS, OWN, VISITED, SETTLED, BUILT, USED];
 
 /// The tables: they are named here alone, as a function that names a long table is proved with all of it.
 fn tables() -> &'static [&'static str] {

@@ -9,7 +9,7 @@ other one, N of every fourth, and so on, and of a test as many as SAMPLE_SECONDS
 Each word of podtool and pod runs on each pod of examples/, on all of them one after another, and on a list whose last pod is
 short, `pod read` on what `json` makes of these; `pod`'s words meet and filter run on pairs of objects, of which some meet and some
 don't, as one input and as two files. A run must end as it does with memory, or write nothing and say that it is out of memory; `pod
-show`, which writes as it goes, may have written a beginning. A row of a program must have its answer or say so. A test must pass,
+show` and `--stream`, which write as they go, may have written a beginning. A row of a program must have its answer or say so. A test must pass,
 or end by an error that says so and by nothing else. Status 1 where one doesn't, or where a test has more requests than could be
 refused in SECONDS seconds (from the environment, 600). JOBS processes (from the environment, 1) share the requests of a test.
 """
@@ -35,6 +35,7 @@ WORDS = (
     ("rewrite",),
     ("rewrite", "--lenient"),
     ("rewrite", "--keep-going"),
+    ("rewrite", "--stream"),
     ("fixate",),
     ("check",),
 )
@@ -151,7 +152,7 @@ def refuse_in_programs(library, programs, sample):
         for command, name, given in (it for program in programs for it in runs_of(program, pathlib.Path(room))):
             program = command[0].name
             says = re.compile(rb"%b: (?:.*: )?out of memory\n" % program.encode())
-            goes_on = program == "pod" and command[1] == "show"
+            goes_on = program == "pod" and (command[1] == "show" or "--stream" in command)
             wanted, _ = run(command, given)
             for number in numbers(sample):
                 found, was_refused = run(command, given, library, number)

@@ -4,5 +4,6 @@ mod Requested
 mod Paired
 mod Running
 mod Shown
+mod Streamed
 mod Told
 mod Worked

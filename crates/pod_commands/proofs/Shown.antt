@@ -14,7 +14,7 @@ use Rattle.pod_commands.specs.Inputs.{AreMade, IsKnown, content_of, left_behind}
 use Rattle.pod_commands.specs.Making.{ShowsAs, ShowsBegin}
 use Rattle.pod_commands.specs.Showing.{IsCut, IsCutAt, IsToldAs}
 use Rattle.pod_commands.specs.declared.answer.Failure.{Failure}
-use Rattle.pod_commands.specs.declared.answer.Failure.TheVariants.{Pods, Texts, Compared, Pair, Lists, OutOfMemory, Unread, Unwritten}
+use Rattle.pod_commands.specs.declared.answer.Failure.TheVariants.{Pods, Texts, Compared, Pair, Lists, Stopped, OutOfMemory, Unread, Unwritten}
 use Rattle.pod_commands.specs.Answers.{Gets, Gives, IsNotShown, IsUnread, IsUnwritten, OnAnswer, Outlet, Streams, outlet}
 use Rattle.pod_commands.specs.Sending.{IsSent}
 use Rattle.pod_commands.specs.declared.answer.Answer.{Answer}
@@ -74,6 +74,7 @@ module _ (remaining : Option (List ℕ)) (holds : List ℕ → Option (List ℕ)
   cut now left behind name bytes old mid new (Compared n m w) e all c so = absurd c.1
   cut now left behind name bytes old mid new (Pair n w) e all c so = absurd c.1
   cut now left behind name bytes old mid new (Lists n m w) e all c so = absurd c.1
+  cut now left behind name bytes old mid new (Stopped n p k) e all c so = absurd c.1
 
   -- one isn't read
   pub unread : (old new : Option (List ℕ)) (why : Failure) → IsUnread why → IsCut remaining holds names old new why
@@ -118,6 +119,7 @@ shown_cut target remaining holds names old new (Pods n w) e c = (c.0, c.1, shown
 shown_cut target remaining holds names old new (Compared n m w) e c = (c.0, c.1, shown_part target old new holds c.0 e c.2)
 shown_cut target remaining holds names old new (Pair n w) e c = (c.0, c.1, shown_part target old new holds c.0 e c.2)
 shown_cut target remaining holds names old new (Lists n m w) e c = (c.0, c.1, shown_part target old new holds c.0 e c.2)
+shown_cut target remaining holds names old new (Stopped n p k) e c = (c.0, c.1, shown_part target old new holds c.0 e c.2)
 
 -- what is shown goes to a file, which isn't written where all isn't shown
 unsent_part : (target : Option (Bor (List ℕ))) (name : Bor (List ℕ)) (old : Option (List ℕ)) (holds : List ℕ → Option (List ℕ)) (out : List ℕ) →
@@ -135,6 +137,7 @@ unsent target name remaining holds names old first last (Pods n w) e c = (c.0, c
 unsent target name remaining holds names old first last (Compared n m w) e c = (c.0, c.1, unsent_part target name old holds c.0 e)
 unsent target name remaining holds names old first last (Pair n w) e c = (c.0, c.1, unsent_part target name old holds c.0 e)
 unsent target name remaining holds names old first last (Lists n m w) e c = (c.0, c.1, unsent_part target name old holds c.0 e)
+unsent target name remaining holds names old first last (Stopped n p k) e c = (c.0, c.1, unsent_part target name old holds c.0 e)
 
 unwritten : (remaining : Option (List ℕ)) (names : List (Bor (List ℕ))) (o : Outlet) (why : Failure) → IsUnwritten why →
     IsNotShown remaining o.before names o why

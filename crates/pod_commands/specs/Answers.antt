@@ -17,6 +17,7 @@ use Rattle.spa_recordings.specs.GoingOn.{MakesOf}
 use Rattle.spa_recordings.specs.declared.going_on.Refused.{Refused as OfRefused}
 use Rattle.spa_recordings.specs.declared.going_on.RefusedPod.{RefusedPod}
 use Rattle.spa_recordings.specs.declared.reading.Reading.{Reading}
+use Rattle.spa_recordings.specs.declared.reading.Reading.TheVariants.{Exact}
 use Rattle.spa_text_commands.specs.Answers as text
 use Rattle.spa_text_commands.specs.Differences.{Differ, RefusesEither, SayTheSame}
 use Rattle.spa_text_commands.specs.declared.answer.Failure.{Failure as TextFailure}
@@ -28,17 +29,19 @@ use Rattle.pod_commands.specs.Inputs.{AreMade, OfOne, OfTwo, StopsAt}
 use Rattle.pod_commands.specs.Making.{Makes, RefusesBy, ShowsAs, ShowsBegin}
 use Rattle.pod_commands.specs.Program.{program}
 use Rattle.pod_commands.specs.Requests.{Asks, AsksNothing, dash}
+use Rattle.pod_commands.specs.Streaming.{IsBroken, StreamsAs}
 use Rattle.pod_commands.specs.Working.{AreWorked}
 use Rattle.pod_commands.specs.declared.answer.Answer.{Answer}
 use Rattle.pod_commands.specs.declared.answer.Answer.TheVariants.{Done, Differs, Passed, Refused, Misused, Said}
 use Rattle.pod_commands.specs.declared.answer.Failure.{Failure}
-use Rattle.pod_commands.specs.declared.answer.Failure.TheVariants.{Pods, Texts, Compared, Pair, Lists, OutOfMemory, Unread, Unwritten}
+use Rattle.pod_commands.specs.declared.answer.Failure.TheVariants.{Pods, Texts, Compared, Pair, Lists, Stopped, OutOfMemory, Unread, Unwritten}
 use Rattle.pod_commands.specs.declared.request.Fate.{Fate}
 use Rattle.pod_commands.specs.declared.request.Fate.TheVariants.{Stops, GoesOn}
 use Rattle.pod_commands.specs.declared.request.Making.{Making}
 use Rattle.pod_commands.specs.declared.request.Request.{Request}
+use Rattle.pod_commands.specs.declared.request.Streaming.{Streaming}
 use Rattle.pod_commands.specs.declared.request.Word.{Word}
-use Rattle.pod_commands.specs.declared.request.Word.TheVariants.{Show, Make, Diff, Agree}
+use Rattle.pod_commands.specs.declared.request.Word.TheVariants.{Show, Make, Stream, Diff, Agree}
 
 -- ---- Where what is made goes
 
@@ -144,7 +147,11 @@ AreTwoApart work remaining holds n m why =
     IsUnread why ⊎ ((x : Bor (List ℕ)) × (y : Bor (List ℕ)) × (e : MeetFailure) × (why ≡ Lists x y e) × (x.now ≡ n) × (y.now ≡ m)
     × OfTwo remaining holds n m (AreListsRefused work e))
 
--- another number of inputs than the word takes
+-- pods that are read exactly and refused whole, and no file that is written
+abbrev pub IsPlain : Reading → Fate → Option (Bor (List ℕ)) → Type 0
+IsPlain reading fate target = (reading ≡ Exact) × (fate ≡ Stops) × (target ≡ None)
+
+-- another number of inputs than the word takes, or options that don't go together
 abbrev pub IsMisuse : Answer → Outlet → Type 0
 IsMisuse answer o = (answer ≡ Misused) × IsUntouched o
 
@@ -185,11 +192,20 @@ abbrev pub IsMadeBy : Reading → Fate → Making → Answer → (remaining : Op
 IsMadeBy reading Stops making answer remaining names o = IsMadeWhole reading making answer remaining names o
 IsMadeBy reading (GoesOn refused) making answer remaining names o = IsMadeInPart reading refused making answer remaining names o
 
+-- what it says of work that is written as inputs come, which only pods that are refused whole go with, and no file: all was written, or
+-- what was made till the work ended
+abbrev pub IsStreamed : Streaming → Reading → Fate → Answer → (remaining : Option (List ℕ)) → List (Bor (List ℕ)) → Outlet → Type 0
+IsStreamed streaming reading fate answer remaining names o =
+    (IsPlain reading fate o.target × OnAnswer answer (Gives (AreMade (StreamsAs streaming) remaining o.before names) o) ⊥
+    (λ why. IsBroken streaming remaining o.before names o.old o.new why × KeepsFiles o))
+    ⊎ (¬ (IsPlain reading fate o.target) × IsMisuse answer o)
+
 -- what it says of a word's work on inputs of these names, where this is left of the standard input
 abbrev pub IsDone : Word → Answer → (remaining : Option (List ℕ)) → List (Bor (List ℕ)) → Outlet → Type 0
 IsDone Show answer remaining names o =
     OnAnswer answer (Gives (AreMade ShowsAs remaining o.before names) o) ⊥ (IsNotShown remaining o.before names o)
 IsDone (Make making manner) answer remaining names o = IsMadeBy manner.reading manner.fate making answer remaining names o
+IsDone (Stream streaming manner) answer remaining names o = IsStreamed streaming manner.reading manner.fate answer remaining names o
 IsDone Diff answer remaining names o = IsCompared answer remaining names o
 IsDone (Agree work) answer remaining names o = IsAgreed work answer remaining names o
 
@@ -239,6 +255,7 @@ failure_text (Texts name why) = name_text name.now ++ (codes ": " ++ text.failur
 failure_text (Compared ours theirs why) = name_text ours.now ++ (codes ", " ++ (name_text theirs.now ++ (codes ": " ++ text.failure_text why)))
 failure_text (Pair name why) = name_text name.now ++ (codes ": " ++ meet.failure_text why)
 failure_text (Lists ours theirs why) = name_text ours.now ++ (codes ", " ++ (name_text theirs.now ++ (codes ": " ++ meet.failure_text why)))
+failure_text (Stopped name place kind) = name_text name.now ++ (codes ": byte " ++ (decimal place ++ (codes ": " ++ kind.now)))
 failure_text OutOfMemory = codes "out of memory"
 failure_text (Unread name) = name_text name.now ++ codes ": read failed"
 failure_text (Unwritten target) = target_text target ++ codes ": write failed"

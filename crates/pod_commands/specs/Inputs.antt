@@ -1,5 +1,5 @@
 -- The inputs that names stand for, and what is made of them one after another.
-use Rattle.std.specs.Prelude.{◌≡◌, ◌⊎◌, ℕ, List, [], ◌∷◌, ◌++◌, Option, None, if◌then◌else◌}
+use Rattle.std.specs.Prelude.{◌≡◌, ◌⊎◌, ℕ, List, [], ◌∷◌, ◌++◌, Option, None, Some, IfSome, if◌then◌else◌}
 use Rattle.std.specs.Borrow.{Bor}
 use Rattle.std.specs.Str.{bytes_eq}
 use Rattle.spa_device.specs.Whole.{IsAllOf}
@@ -9,6 +9,10 @@ use Rattle.pod_commands.specs.declared.answer.Failure.{Failure}
 -- what a name stands for, where it is known: `-` for what is left of the standard input, another one for a file's bytes
 abbrev pub content_of : (remaining : Option (List ℕ)) → (holds : List ℕ → Option (List ℕ)) → List ℕ → Option (List ℕ)
 content_of remaining holds name = if bytes_eq name dash then remaining else holds name
+
+-- a reader has all that is known of a file left
+abbrev pub IsOpened : (holds remaining : Option (List ℕ)) → Type 0
+IsOpened holds remaining = IfSome holds (λ bytes. remaining ≡ Some bytes)
 
 -- what is known to be left of the standard input behind a name: nothing is said of it once it was read
 abbrev pub left_behind : Option (List ℕ) → List ℕ → Option (List ℕ)

@@ -5,4 +5,5 @@ pub mod Program
 pub mod Requests
 pub mod Sending
 pub mod Showing
+pub mod Streaming
 pub mod Working

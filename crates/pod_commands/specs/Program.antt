@@ -15,7 +15,7 @@ output = record (new_rule (codes "output")) { short = Some 111; long = Some (cod
 abbrev pub pretty : Rule
 pretty = record (new_rule (codes "pretty")) { long = Some (codes "pretty"); action = Some SetTrue }
 
--- `--lenient`, `--keep-going` and `--keep-refused`
+-- `--lenient`, `--keep-going`, `--keep-refused` and `--stream`
 abbrev pub lenient : Rule
 lenient = record (new_rule (codes "lenient")) { long = Some (codes "lenient"); action = Some SetTrue }
 
@@ -24,6 +24,9 @@ keep_going = record (new_rule (codes "keep-going")) { long = Some (codes "keep-g
 
 abbrev pub keep_refused : Rule
 keep_refused = record (new_rule (codes "keep-refused")) { long = Some (codes "keep-refused"); action = Some SetTrue }
+
+abbrev pub stream : Rule
+stream = record (new_rule (codes "stream")) { long = Some (codes "stream"); action = Some SetTrue }
 
 -- a word that takes files
 abbrev pub word : Text → App
@@ -36,6 +39,10 @@ over_pods name = with_rule (with_rule (word name) lenient) keep_going
 -- one that writes pods for pods takes `--keep-refused` too
 abbrev pub to_pods : Text → App
 to_pods name = with_rule (over_pods name) keep_refused
+
+-- the word `rewrite` takes `--stream` too
+abbrev pub rewrite : App
+rewrite = with_rule (to_pods (codes "rewrite")) stream
 
 -- the word `json` takes `--pretty` too
 abbrev pub json : App
@@ -58,7 +65,7 @@ with_json app = with_word (with_subcommand app json.top) (codes "read")
 
 abbrev pub with_writers : App → App
 with_writers app =
-    with_subcommand (with_subcommand (with_subcommand app (to_pods (codes "rewrite")).top) (to_pods (codes "fixate")).top) (over_pods (codes "check")).top
+    with_subcommand (with_subcommand (with_subcommand app rewrite.top) (to_pods (codes "fixate")).top) (over_pods (codes "check")).top
 
 abbrev pub with_pairs : App → App
 with_pairs app = with_word (with_word (with_word app (codes "diff")) (codes "meet")) (codes "filter")

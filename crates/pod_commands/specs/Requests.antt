@@ -9,8 +9,9 @@ use Rattle.pod_commands.specs.Program.{program}
 use Rattle.pod_commands.specs.declared.request.Fate.{Fate}
 use Rattle.pod_commands.specs.declared.request.Fate.TheVariants.{Stops, GoesOn}
 use Rattle.pod_commands.specs.declared.request.Making.TheVariants.{Json, Read, Rewrite, Fixate, Check}
+use Rattle.pod_commands.specs.declared.request.Streaming.TheVariants as Streaming
 use Rattle.pod_commands.specs.declared.request.Word.{Word}
-use Rattle.pod_commands.specs.declared.request.Word.TheVariants.{Show, Make, Diff, Agree}
+use Rattle.pod_commands.specs.declared.request.Word.TheVariants.{Show, Make, Stream, Diff, Agree}
 use Rattle.pod_commands.specs.declared.request.Request.{Request}
 use Rattle.spa_recordings.specs.declared.going_on.Refused.TheVariants.{LeftOut, Kept}
 use Rattle.spa_recordings.specs.declared.reading.Reading.{Reading}
@@ -27,6 +28,7 @@ name_of (Make Read manner) = codes "read"
 name_of (Make Rewrite manner) = codes "rewrite"
 name_of (Make Fixate manner) = codes "fixate"
 name_of (Make Check manner) = codes "check"
+name_of (Stream Streaming.Rewrite manner) = codes "rewrite"
 name_of Diff = codes "diff"
 name_of (Agree Negotiate) = codes "meet"
 name_of (Agree Filter) = codes "filter"
@@ -68,7 +70,14 @@ fate_in rows = fate_by (is_given (codes "keep-going") rows) (is_given (codes "ke
 abbrev pub HasManner : Reading → Fate → Word → Type 0
 HasManner reading fate (Make Read manner) = (manner.reading ≡ Exact) × (manner.fate ≡ Stops)
 HasManner reading fate (Make making manner) = (manner.reading ≡ reading) × (manner.fate ≡ fate)
+HasManner reading fate (Stream streaming manner) = (manner.reading ≡ reading) × (manner.fate ≡ fate)
 HasManner reading fate _ = ⊤
+
+-- what is written as input comes is so where `--stream` is given, and else not
+abbrev pub HasStream : Bool → Word → Type 0
+HasStream streams (Make Rewrite manner) = streams ≡ false
+HasStream streams (Stream streaming manner) = streams ≡ true
+HasStream streams _ = ⊤
 
 -- the name that stands for the standard input, also where none is given
 abbrev pub dash : Text
@@ -88,6 +97,7 @@ pub record Asks (words : List (Bor (List ℕ))) (request : Request) : Type 0 whe
   pub word : subcommand_of program (texts words) ≡ Some (name_of request.word, rows)
   pub layout : HasLayout (layout_in rows) request.word
   pub manner : HasManner (reading_in rows) (fate_in rows) request.word
+  pub stream : HasStream (is_given (codes "stream") rows) request.word
   pub names : texts request.names.items ≡ names_in rows
   pub target : option_map (λ s. s.now) request.target ≡ first_of (codes "output") rows
 

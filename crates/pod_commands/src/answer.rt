@@ -20,7 +20,7 @@ pub enum Answer<'a> {
     Passed(Vec<RefusedPod<'a>>),
     /// The work was refused, for this reason.
     Refused(Failure<'a>),
-    /// The word takes another number of inputs.
+    /// The word takes another number of inputs, or other options beside those that are given.
     Misused,
     /// The words ask for help or the version, or are none of the program's.
     Said(Error),
@@ -56,6 +56,8 @@ pub enum Failure<'a> {
     Pair(&'a str, spa_meet_commands::answer::Failure),
     /// The objects of the inputs of these names don't agree.
     Lists(&'a str, &'a str, spa_meet_commands::answer::Failure),
+    /// The input of this name, which was written of as it came, isn't pods from this byte on, for a reason of this name.
+    Stopped(&'a str, usize, &'static str),
     /// A growth was refused.
     OutOfMemory,
     /// The input of this name couldn't be read.
@@ -101,6 +103,9 @@ impl fmt::Display for Failure<'_> {
             Failure::Lists(ours, theirs, why) => {
                 write!(f, "{}, {}: {why}", shown_name(*ours), shown_name(*theirs))
             }
+            Failure::Stopped(name, place, kind) => {
+                write!(f, "{}: byte {place}: {kind}", shown_name(*name))
+            }
             Failure::OutOfMemory => write!(f, "out of memory"),
             Failure::Unread(name) => write!(f, "{}: read failed", shown_name(*name)),
             Failure::Unwritten(target) => write!(f, "{}: write failed", shown_target(*target)),
@@ -119,8 +124,8 @@ impl From<AllocError> for Failure<'_> {
     }
 }
 
-/// What is said of a word with another number of inputs than it takes.
-const MISUSE: &str = "pod: diff takes two FILEs, meet and filter one or two; pod --help says more";
+/// What is said of a word with another number of inputs than it takes, or with options that don't go together.
+const MISUSE: &str = "pod: diff takes two FILEs, meet and filter one or two, --stream no other option but --pretty; pod --help says more";
 
 /// Writes what is said of this answer: help and the version to the output, a refusal or a misuse to the other writer, of work that was
 /// done nothing.

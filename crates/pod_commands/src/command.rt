@@ -15,7 +15,7 @@ const ABOUT: &str =
 
 /// What stands behind the help of the program.
 const EXAMPLES: &str =
-    "Without a FILE, and for a FILE named -, the standard input is read. But for show, nothing is written before all input is accepted, or with --keep-going and --keep-refused read.
+    "Without a FILE, and for a FILE named -, the standard input is read. But for show and --stream, nothing is written before all input is accepted, or with --keep-going and --keep-refused read.
 
 Status: 0 the work is done; 1 an input is refused, two differ, or something can't be read or written; 2 the words ask for nothing.
 
@@ -87,6 +87,17 @@ fn keep_refused<'a>(alloc: Global) -> Arg<'a>
         .help("Keeps refused pods as they are, and tells each; the status is 1 then")
 }
 
+/// `--stream`
+fn stream<'a>(alloc: Global) -> Arg<'a>
+    ensures rule { rule_of result ≡ spec.stream }
+    ensures local { result.global ≡ false }
+{
+    Arg::new(alloc, "stream")
+        .long("stream")
+        .action(ArgAction::SetTrue)
+        .help("Writes in blocks as input comes, in constant memory; what was written before a refusal stands")
+}
+
 /// A word of the program, with what help says of it and an example.
 fn word<'a>(
     alloc: Global,
@@ -129,6 +140,20 @@ fn to_pods<'a>(
 {
     let plain = over_pods(alloc, name, about, example)?;
     plain.arg(keep_refused(alloc))
+}
+
+/// The word `rewrite`.
+fn rewrite<'a>(alloc: Global) -> Result<Command<'a>, AllocError>
+    ensures app { IfOk result (λ it. app_of it ≡ spec.rewrite) }
+    ensures local { IfOk result (λ it. (out-Command it).has_globals ≡ false) }
+{
+    let plain = to_pods(
+        alloc,
+        "rewrite",
+        "Writes each pod in its one encoding: padding zeros, true 1, nothing that the value doesn't say",
+        "Example: pod rewrite --keep-going recording.pods -o clean.pods",
+    )?;
+    plain.arg(stream(alloc))
 }
 
 /// The word `json`.
@@ -207,13 +232,8 @@ fn with_json<'a>(alloc: Global, command: Command<'a>) -> Result<Command<'a>, All
 fn with_writers<'a>(alloc: Global, command: Command<'a>) -> Result<Command<'a>, AllocError>
     ensures { IfOk result (λ it. app_of it ≡ spec.with_writers (app_of command.entry)) }
 {
-    let rewrite = to_pods(
-        alloc,
-        "rewrite",
-        "Writes each pod in its one encoding: padding zeros, true 1, nothing that the value doesn't say",
-        "Example: pod rewrite --keep-going recording.pods -o clean.pods",
-    )?;
-    let first = command.subcommand(rewrite)?;
+    let one = rewrite(alloc)?;
+    let first = command.subcommand(one)?;
     let fixate = to_pods(
         alloc,
         "fixate",

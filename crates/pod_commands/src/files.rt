@@ -2,7 +2,7 @@
 ghost use Rattle.std.specs.Prelude.{ℕ, List, Option, IfErr, IfOk, OnOk};
 ghost use Rattle.spa_device.specs.Whole.{IsAllOf};
 ghost use Rattle.pod_commands.specs.Answers.{IsUnread};
-ghost use Rattle.pod_commands.specs.Inputs.{IsKnown, content_of, left_behind};
+ghost use Rattle.pod_commands.specs.Inputs.{IsKnown, IsOpened, content_of, left_behind};
 
 use crate::answer::Failure;
 use spa_device::{ReadError, read_whole};
@@ -12,12 +12,19 @@ use std::io::{self, ErrorKind, Read, Write};
 
 /// Files that have names.
 pub trait Files {
+    /// A file that is read piece by piece.
+    type Opened: Read + Drop;
+
     /// The bytes of the file of this name, where they are known.
     ghost holds: { Self → List ℕ → Option (List ℕ) };
 
     /// All bytes of the file of this name.
     fn read_file(&self, alloc: Global, name: &str) -> io::Result<Vec<u8>>
         ensures all { IfOk result (λ bytes. IsAllOf (holds self.now name.now) bytes.items) };
+
+    /// The file of this name, to be read from its beginning.
+    fn open_file(&self, alloc: Global, name: &str) -> io::Result<Self::Opened>
+        ensures opened { IfOk result (λ file. IsOpened (holds self.now name.now) (Self.Opened.remaining file)) };
 
     /// Makes these the bytes of the file of this name.
     fn write_file(&mut self, name: &str, bytes: &[u8]) -> io::Result<()>
@@ -31,6 +38,8 @@ pub struct SystemFiles<'a> {
 }
 
 impl Files for SystemFiles<'_> {
+    type Opened = File;
+
     ghost use Rattle.std.specs.Prelude.{None};
 
     ghost holds = { λ _ _. None };
@@ -39,9 +48,29 @@ impl Files for SystemFiles<'_> {
         fs::read(self.rt, name)
     }
 
+    fn open_file(&self, _alloc: Global, name: &str) -> io::Result<File> {
+        File::open(self.rt, name)
+    }
+
     fn write_file(&mut self, name: &str, bytes: &[u8]) -> io::Result<()> {
         let mut file = File::create(self.rt, name)?;
         file.write_all(bytes)
+    }
+}
+
+/// The file of this name, to be read from its beginning.
+pub(crate) fn open_named<'a, S: Files>(
+    alloc: Global,
+    name: &'a str,
+    files: &S,
+) -> Result<S::Opened, Failure<'a>>
+    ensures opened { IfOk result (λ file. IsOpened (S.holds files.now name.entry.now) (S.Opened.remaining file)) }
+    ensures cause { IfErr result IsUnread }
+{
+    match files.open_file(alloc, name) {
+        Ok(file) => Ok(file),
+        Err(error) if error.kind() == ErrorKind::OutOfMemory => Err(Failure::OutOfMemory),
+        Err(_) => Err(Failure::Unread(name)),
     }
 }
 

@@ -11,3 +11,4 @@ pub mod request;
 pub mod run;
 mod sending;
 mod showing;
+mod streaming;

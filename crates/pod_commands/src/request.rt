@@ -1,13 +1,14 @@
 //! What the program's words ask for.
-ghost use Rattle.std.specs.Prelude.{◌≡◌, IfErr, IfNone, IfOk, IfSome, option_map};
+ghost use Rattle.std.specs.Prelude.{◌≡◌, codes, IfErr, IfNone, IfOk, IfSome, option_map};
 ghost use Rattle.pod_commands.specs.Requests as spec;
 ghost use Rattle.clap.specs.Faults.{fault_of};
 ghost use Rattle.clap.specs.Kinds.{HasKind};
 ghost use Rattle.clap.specs.Walk.{rows_of, texts};
 ghost use Rattle.clap.specs.Matches.{found_of};
 ghost use Rattle.pod_commands.specs.Program.{program};
-ghost use Rattle.pod_commands.specs.Requests.{Asks, AsksNothing, HasLayout, HasManner, fate_in, is_given, is_true_text, layout_in, name_of, names_in, reading_in};
+ghost use Rattle.pod_commands.specs.Requests.{Asks, AsksNothing, HasLayout, HasManner, HasStream, fate_in, is_given, is_true_text, layout_in, name_of, names_in, reading_in};
 ghost use Rattle.pod_commands.specs.declared.request.Word.{Word};
+ghost use Rattle.spa_text_commands.specs.declared.printing.Layout.{Layout};
 
 use crate::command::program;
 use clap::{ArgMatches, Error};
@@ -48,6 +49,13 @@ pub struct Manner {
     pub fate: Fate,
 }
 
+/// What is written block by block, as input comes.
+#[derive(Clone, Copy)]
+pub enum Streaming {
+    /// The rewritings of its pods.
+    Rewrite,
+}
+
 /// What is done.
 #[derive(Clone, Copy)]
 pub enum Word {
@@ -55,6 +63,8 @@ pub enum Word {
     Show,
     /// This is made of each input, which is read so.
     Make(Making, Manner),
+    /// This is written of each input as it comes, which is read so: no manner but the plain one, and no file, goes with it.
+    Stream(Streaming, Manner),
     /// Two inputs are compared.
     Diff,
     /// The object is sought on which two of one input agree, or the first pair of two lists.
@@ -86,7 +96,7 @@ pub(crate) fn request_of<'a>(
     let Some((name, given)) = matches.subcommand() else {
         return Ok(None);
     };
-    let Some(word) = word_of(name, layout_of(given), manner_of(given)) else {
+    let Some(word) = word_of(name, layout_of(given), manner_of(given), is_set(given, "stream")) else {
         return Ok(None);
     };
     let names = names_of(alloc, given)?;
@@ -98,23 +108,38 @@ pub(crate) fn request_of<'a>(
 }
 
 /// The word of this name.
-fn word_of(name: &str, layout: Layout, manner: Manner) -> Option<Word>
+fn word_of(name: &str, layout: Layout, manner: Manner, streams: bool) -> Option<Word>
     ensures word { IfSome result (λ word. name.now ≡ name_of word) }
     ensures layout { IfSome result (HasLayout layout) }
     ensures manner { IfSome result (HasManner manner.reading manner.fate) }
+    ensures stream { IfSome result (HasStream streams) }
     ensures none { IfNone result ((word : Word) → ¬ (name.now ≡ name_of word)) }
 {
     match name {
         "show" => Some(Word::Show),
         "json" => Some(Word::Make(Making::Json(layout), manner)),
         "read" => Some(Word::Make(Making::Read, PLAIN)),
-        "rewrite" => Some(Word::Make(Making::Rewrite, manner)),
+        "rewrite" => Some(rewriting(manner, streams)),
         "fixate" => Some(Word::Make(Making::Fixate, manner)),
         "check" => Some(Word::Make(Making::Check, manner)),
         "diff" => Some(Word::Diff),
         "meet" => Some(Word::Agree(Work::Negotiate)),
         "filter" => Some(Word::Agree(Work::Filter)),
         _ => None,
+    }
+}
+
+/// The word `rewrite`, with `--stream` or without it.
+fn rewriting(manner: Manner, streams: bool) -> Word
+    ensures word { codes "rewrite" ≡ name_of result }
+    ensures layout { (layout : Layout) → HasLayout layout result }
+    ensures manner { HasManner manner.reading manner.fate result }
+    ensures stream { HasStream streams result }
+{
+    if streams {
+        Word::Stream(Streaming::Rewrite, manner)
+    } else {
+        Word::Make(Making::Rewrite, manner)
     }
 }
 

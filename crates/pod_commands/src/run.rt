@@ -1,6 +1,6 @@
 //! The program's work, over a reader, files and a writer.
-ghost use Rattle.std.specs.Prelude.{◌≡◌};
-ghost use Rattle.pod_commands.specs.Answers.{AreUnmade, Gives, IsAgreed, IsAnswer, IsCompared, IsDone, IsMadeBy, IsMadeInPart, IsNotShown, OnAnswer, Refuses, outlet};
+ghost use Rattle.std.specs.Prelude.{◌≡◌, false, true};
+ghost use Rattle.pod_commands.specs.Answers.{AreUnmade, Gives, IsAgreed, IsAnswer, IsCompared, IsDone, IsMadeBy, IsMadeInPart, IsNotShown, IsPlain, IsStreamed, OnAnswer, Refuses, outlet};
 ghost use Rattle.pod_commands.specs.Inputs.{AreMade};
 ghost use Rattle.pod_commands.specs.Making.{Makes, ShowsAs};
 
@@ -8,19 +8,21 @@ use crate::answer::{Answer, Failure};
 use crate::files::Files;
 use crate::making::{make_all, make_what_is_read};
 use crate::pairs::{agree, agree_of_lists, compare};
-use crate::request::{Fate, Making, Manner, Request, Word, request_of};
+use crate::request::{Fate, Making, Manner, Request, Streaming, Word, request_of};
 use crate::sending::answered;
 use crate::showing::show_all;
+use crate::streaming::stream_all;
 use clap::error::ErrorKind;
 use spa_meet_commands::pair::Work;
 use spa_recordings::going_on as recordings;
+use spa_recordings::reading::Reading;
 use std::alloc::Global;
 use std::io::{Read, Write};
 
 /// Does what the words ask for, the program's own name not among them.
 ///
-/// The words are settled before anything is read. But for `show`, nothing is written before all inputs are read and accepted; a file
-/// that is to be written is written at the end, by all words.
+/// The words are settled before anything is read. But for `show` and `--stream`, nothing is written before all inputs are read and accepted;
+/// a file that is to be written is written at the end, by all words.
 pub fn run<'a, R: Read, S: Files, W: Write + Drop>(
     alloc: Global,
     words: &'a [&'a str],
@@ -58,6 +60,9 @@ fn do_work<'a, R: Read, S: Files, W: Write + Drop>(
         Word::Show => show(alloc, names, target, input, files, device),
         Word::Make(making, manner) => {
             make(alloc, making, manner, names, target, input, files, device)
+        }
+        Word::Stream(streaming, manner) => {
+            stream(alloc, streaming, manner, names, target, input, files, device)
         }
         Word::Diff => diff(alloc, names, target, input, files, device),
         Word::Agree(work) => seek(alloc, work, names, target, input, files, device),
@@ -116,6 +121,42 @@ fn go_on<'a, R: Read, S: Files, W: Write + Drop>(
         return answered(files, target, device, Ok(out), Answer::Done);
     }
     answered(files, target, device, Ok(out), Answer::Passed(refused))
+}
+
+/// Whether pods are read exactly and refused whole, and no file is written.
+fn is_plain(manner: Manner, target: Option<&str>) -> bool
+    ensures plain { result ≡ true → IsPlain manner.reading manner.fate target.entry }
+    ensures other { result ≡ false → ¬ (IsPlain manner.reading manner.fate target.entry) }
+{
+    match (manner.reading, manner.fate, target) {
+        (Reading::Exact, Fate::Stops, None) => true,
+        _ => false,
+    }
+}
+
+/// Writes this of the inputs of these names as they come.
+#[tactic(auto, using(crate::proofs::Streamed::streamed_done, crate::proofs::Streamed::streamed_broken, crate::proofs::Streamed::misused))]
+fn stream<'a, R: Read, S: Files, W: Write + Drop>(
+    alloc: Global,
+    streaming: Streaming,
+    manner: Manner,
+    names: &[&'a str],
+    target: Option<&'a str>,
+    input: &mut R,
+    files: &mut S,
+    device: W,
+) -> (Answer<'a>, W)
+    ensures { IsStreamed streaming manner.reading manner.fate result.0 (R.remaining input.old) names.now
+        (outlet target.entry (W.contents device) (W.contents result.1) (S.holds files.old) (S.holds files.new)) }
+{
+    if !is_plain(manner, target) {
+        return (Answer::Misused, device);
+    }
+    let mut output = device;
+    match stream_all(alloc, streaming, names, input, files, &mut output) {
+        Ok(()) => (Answer::Done, output),
+        Err(why) => (Answer::Refused(why), output),
+    }
 }
 
 /// Shows the inputs of these names: as they come, or where a file is written, all of them at the end.

@@ -9,7 +9,7 @@ use pod_commands::files::Files;
 use pod_commands::run::run;
 use spa_spelling::{SpellingError, bytes_spelled};
 use std::alloc::Global;
-use std::io::{self, Error, ErrorKind, Write};
+use std::io::{self, Cursor, Error, ErrorKind, Write};
 use test_streams::{ALL, Device, OneLine, Source, Words};
 
 /// Files whose names spell their bytes, with commas between the words. Another name is none of a file. What is written is kept, but to
@@ -21,6 +21,8 @@ struct Spelt {
 }
 
 impl Files for Spelt {
+    type Opened = Cursor<Vec<u8>>;
+
     ghost use Rattle.std.specs.Prelude.{None};
 
     ghost holds = { λ _ _. None };
@@ -28,6 +30,10 @@ impl Files for Spelt {
     fn read_file(&self, alloc: Global, name: &str) -> io::Result<Vec<u8>> {
         let words = name.replace(alloc, ",", " ")?;
         bytes_of(alloc, words.as_str())
+    }
+
+    fn open_file(&self, alloc: Global, name: &str) -> io::Result<Cursor<Vec<u8>>> {
+        Ok(Cursor::new(self.read_file(alloc, name)?))
     }
 
     fn write_file(&mut self, name: &str, bytes: &[u8]) -> io::Result<()> {

@@ -5,4 +5,6 @@
 #[cfg(test)]
 mod shown;
 #[cfg(test)]
+mod streamed;
+#[cfg(test)]
 mod streams;

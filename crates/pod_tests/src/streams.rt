@@ -12,20 +12,31 @@ use test_streams::{Device, PIECE, Source};
 pub(crate) struct Broken;
 
 impl Files for Broken {
+    type Opened = &'static [u8];
+
     ghost use Rattle.std.specs.Prelude.{None};
 
     ghost holds = { λ _ _. None };
 
     fn read_file(&self, _alloc: Global, name: &str) -> io::Result<Vec<u8>> {
-        if name == "broken" {
-            return Err(Error::from(ErrorKind::OutOfMemory));
-        }
-        Err(Error::from(ErrorKind::NotFound))
+        Err(refused(name))
+    }
+
+    fn open_file(&self, _alloc: Global, name: &str) -> io::Result<&'static [u8]> {
+        Err(refused(name))
     }
 
     fn write_file(&mut self, _name: &str, _bytes: &[u8]) -> io::Result<()> {
         Err(Error::from(ErrorKind::NotFound))
     }
+}
+
+/// Why a file of this name isn't read.
+fn refused(name: &str) -> Error {
+    if name == "broken" {
+        return Error::from(ErrorKind::OutOfMemory);
+    }
+    Error::from(ErrorKind::NotFound)
 }
 
 /// What is said where memory is refused.

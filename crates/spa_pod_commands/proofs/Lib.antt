@@ -1,4 +1,4 @@
-mod Keeping
+pub mod Keeping
 mod Running
 mod Fixating
 mod Levels

@@ -4,6 +4,6 @@
 pub mod answer;
 mod listing;
 pub mod making;
-mod output;
+pub mod output;
 mod pods;
 pub mod run;

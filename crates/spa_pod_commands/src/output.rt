@@ -8,7 +8,7 @@ use std::io::{ErrorKind, Write};
 
 /// Writes these bytes; a write that is interrupted is made again. Where one fails, the device has taken a beginning of them.
 #[tactic(auto, using(crate::proofs::Running::begun_first, crate::proofs::Running::begun_more, crate::proofs::Running::begun_kept, crate::proofs::Running::begun_all, crate::proofs::Running::begun_part, crate::proofs::Running::begun_failed, crate::proofs::Running::begun_stopped))]
-pub(crate) fn write<W: Write>(device: &mut W, bytes: &[u8]) -> Result<(), Failure>
+pub fn write<W: Write>(device: &mut W, bytes: &[u8]) -> Result<(), Failure>
     ensures taken { OnOk result (Appends (W.contents device.old) (W.contents device.new) bytes.now) }
     ensures begun { OnErr result ((n : ℕ) × Appends (W.contents device.old) (W.contents device.new) (take n bytes.now)) }
     ensures cause { IfErr result (λ failure. failure ≡ Failure.WriteFailed) }

@@ -1,2 +1,4 @@
 mod Going
+mod Holding
+mod Streamed
 mod Unreading

@@ -1,2 +1,5 @@
+pub mod Blocks
 pub mod GoingOn
 pub mod Reading
+pub mod Rewritings
+pub mod Streaming

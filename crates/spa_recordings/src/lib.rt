@@ -1,5 +1,7 @@
 //! What is made of recordings: pods one after another, read exactly or leniently, of which some may be refused.
 #![tactic(auto)]
 
+mod blocks;
 pub mod going_on;
 pub mod reading;
+pub mod streaming;

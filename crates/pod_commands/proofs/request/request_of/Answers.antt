@@ -5,7 +5,7 @@ use Rattle.clap.specs.Walk.{rows_of, texts}
 use Rattle.clap.specs.Words.{app_of, found_of, subcommand_of}
 use Rattle.clap.proofs.WalkLemmas.{first_value-rows}
 use Rattle.pod_commands.specs.Program.{program}
-use Rattle.pod_commands.specs.Requests.{HasLayout, HasManner, reading_in}
+use Rattle.pod_commands.specs.Requests.{HasLayout, HasManner, HasStream, reading_in}
 use Rattle.pod_commands.proofs.Requested.{fault_is, found_is, no_fault, one_name, told}
 use Rattle.pod_commands.proofs.request.request_of.Goals as goal
 
@@ -41,6 +41,7 @@ returns-clause-asked c =
       layout = subst (λ layout. HasLayout layout c.in-Some-word_of.word) c.layout_of.ensures c.in-Some-word_of.ensures.layout;
       manner = subst (λ fate. HasManner (reading_in rows) fate c.in-Some-word_of.word) c.manner_of.ensures.fate
           (subst (λ reading. HasManner reading c.manner_of.result.fate c.in-Some-word_of.word) c.manner_of.ensures.reading c.in-Some-word_of.ensures.manner);
+      stream = subst (λ streams. HasStream streams c.in-Some-word_of.word) c.is_set.ensures c.in-Some-word_of.ensures.stream;
       names = c.in_ok-names.ensures;
       target = c.get_str.ensures ∙ first_value-rows (found_of c.in-Some.given.now) (codes "output");
     }

@@ -1,0 +1,23 @@
+use Rattle.std.proofs.Common.{ℕ, List, []}
+use Rattle.std.specs.Borrow.{Bor}
+use Rattle.pod_commands.proofs.Made.{next_left, none_left}
+use Rattle.pod_commands.proofs.Streamed.{begins, breaks, ends, goes_on}
+use Rattle.pod_commands.proofs.streaming.stream_all.Goals as goal
+
+pub loop-name-init : goal.loop-name-init
+loop-name-init g c = begins _ _ _ _ _
+
+pub loop-name-preserved : goal.loop-name-preserved
+loop-name-preserved g c =
+    let d : Bor (List ℕ) = record { ref_ptr = (0, 0); now = [] } in
+    goes_on _ _ _ _ _ _ _ _ _ _ _ _ (next_left c.args.names.now c.loop-name.name-index d c.loop-name-test.true) c.stream_named.ensures.left
+    c.in-Ok.ensures.streamed c.loop-name.invariant
+
+pub returns-in-Err-clause-broken : goal.returns-in-Err-clause-broken
+returns-in-Err-clause-broken g c =
+    let d : Bor (List ℕ) = record { ref_ptr = (0, 0); now = [] } in
+    breaks _ _ _ _ _ _ _ _ _ _ _ c.in-Err.why (next_left c.args.names.now c.loop-name.name-index d c.loop-name-test.true)
+    c.in-Err.ensures.broken c.loop-name.invariant
+
+pub returns-clause-streamed : goal.returns-clause-streamed
+returns-clause-streamed g c = ends _ _ _ _ _ _ _ _ (none_left c.args.names.now c.loop-name.name-index c.loop-name-test.false) c.loop-name.invariant

@@ -1,0 +1,185 @@
+-- Bytes that are read, held and passed.
+use Rattle.std.proofs.Common.{◌≡◌, ◌≢◌, ◌∙◌, ◌+◌, ◌-◌, ◌<◌, ◌≤◌, ℕ, List, [], ◌∷◌, ◌++◌, Option, Some, None, append_assoc, append-nil, ap, arith, drop, length, length-append, length-drop, length-take, refl, subst, sym, take, take-add}
+use Rattle.std.proofs.lemmas.List.{drop-append-le, drop-take, take-append-le, take_all, take_at}
+use Rattle.std.proofs.lemmas.List.Edits.{take-paste}
+use Rattle.std.proofs.Math.Seq.{paste}
+use Rattle.std.specs.Io.KnownBytes.{Consumes, IsAtEnd, Keeps}
+use Rattle.std.specs.Prelude.{IfSome}
+use Rattle.spa_device.specs.Whole.{IsAllOf}
+use Rattle.spa_format.specs.Front.{HasFront, front_of, rest_of}
+use Rattle.spa_format.specs.Pod.{AreMembers, IsPod}
+use Rattle.spa_format.specs.Front.{IsRefused}
+use Rattle.spa_format.specs.Tree.{Trees, no_trees, member}
+use Rattle.spa_format.specs.Words.{extent, word_at}
+use Rattle.spa_format.proofs.Fronts.{front_and_rest, front_of_whole, size_of_front}
+use Rattle.spa_format.proofs.WordLemmas.{word_at-append}
+use Rattle.spa_recordings.specs.Blocks.{AreWhole, ReadsOn, no_pods, one_more}
+
+-- ---- What a reader gives
+
+pub consumes_nothing : (a : Option (List ℕ)) → Consumes a a []
+consumes_nothing None = tt
+consumes_nothing (Some xs) = refl
+
+pub consumes_kept : (a b : Option (List ℕ)) → Keeps a b → Consumes a b []
+consumes_kept None b k = tt
+consumes_kept (Some xs) None k = absurd k
+consumes_kept (Some xs) (Some ys) k = sym k
+
+pub consumes_more : (a b c : Option (List ℕ)) (xs ys : List ℕ) → Consumes a b xs → Consumes b c ys → Consumes a c (xs ++ ys)
+consumes_more None b c xs ys h k = tt
+consumes_more (Some a) None c xs ys h k = absurd h
+consumes_more (Some a) (Some b) None xs ys h k = absurd k
+consumes_more (Some a) (Some b) (Some c) xs ys h k = h ∙ ap (λ l. xs ++ l) k ∙ sym (append_assoc xs ys c)
+
+pub reads_nothing : (a b : Option (List ℕ)) (held : List ℕ) → Keeps a b → ReadsOn a b held held
+reads_nothing a b held k = ([], consumes_kept a b k, sym (append-nil held))
+
+pub reads_more : (a b c : Option (List ℕ)) (first second third : List ℕ) → ReadsOn a b first second → ReadsOn b c second third → ReadsOn a c first third
+reads_more a b c first second third h k =
+    (h.0 ++ k.0, consumes_more a b c h.0 k.0 h.1 k.1, k.2 ∙ ap (λ l. l ++ k.0) h.2 ∙ append_assoc first h.0 k.0)
+
+-- what a reader has left, where that is known, and nothing else
+pub unread_of : Option (List ℕ) → List ℕ
+unread_of None = []
+unread_of (Some xs) = xs
+
+pub all_of : (a b : Option (List ℕ)) (read : List ℕ) → Consumes a b read → IsAllOf a (read ++ unread_of b)
+unfolding unread_of
+all_of None b read h = tt
+all_of (Some xs) None read h = absurd h
+all_of (Some xs) (Some ys) read h = sym h
+
+pub none_unread : (b : Option (List ℕ)) → IsAtEnd b → unread_of b ≡ []
+unfolding unread_of
+none_unread None h = refl
+none_unread (Some xs) h = h
+
+-- ---- The buffer
+
+-- what was read stands behind what was held
+pub held_more : (old new : List ℕ) (held count : ℕ) → take held new ≡ take held old → take (held + count) new ≡ take held old ++ take count (drop held new)
+held_more old new held count e = take-add held count new ∙ ap (λ l. l ++ take count (drop held new)) e
+
+-- what is held is moved to the front
+pub passed_over : (xs : List ℕ) (len held : ℕ) → len ≤ held → held ≤ length xs →
+    take (held - len) (paste xs 0 (drop len xs) (held - len)) ≡ drop len (take held xs)
+passed_over xs len held l h =
+    let n = held - len in
+    let d = length-drop len xs in
+    let zero : 0 + n ≡ n = omega arith in
+    let all : len + n ≡ held = omega (arith, l) in
+    ap (λ m. take m (paste xs 0 (drop len xs) n)) (sym zero) ∙ take-paste xs 0 (drop len xs) n (omega arith) (omega (arith, d, l, h))
+    ∙ sym (drop-take len n xs) ∙ ap (λ m. drop len (take m xs)) all
+
+-- what is held behind a block stays
+pub same_behind : (xs ys : List ℕ) (len held : ℕ) → len ≤ held → drop len ys ≡ drop len xs → drop len (take held ys) ≡ drop len (take held xs)
+same_behind xs ys len held l e =
+    let all : len + (held - len) ≡ held = omega (arith, l) in
+    ap (λ m. drop len (take m ys)) (sym all) ∙ drop-take len (held - len) ys ∙ ap (take (held - len)) e ∙ sym (drop-take len (held - len) xs)
+    ∙ ap (λ m. drop len (take m xs)) all
+
+-- a full buffer is longer
+pub kept_held : (old new : List ℕ) (held len : ℕ) → take len new ≡ old → held ≡ len → length old ≤ held → take held new ≡ take held old
+kept_held old new held len k e l = ap (λ m. take m new) e ∙ k ∙ sym (take_all held old l)
+
+-- ---- Whole pods
+
+same_size : (a b : List ℕ) → HasFront a → word_at (a ++ b) 0 ≡ word_at a 0
+same_size a b f = let h = f.header in word_at-append a b 0 (omega (arith, h))
+
+front_there : (a b : List ℕ) → HasFront a → HasFront (a ++ b)
+front_there a b f =
+    let s = ap extent (same_size a b f) in
+    let l = length-append a b in
+    let h = f.header in
+    let w = f.whole in
+    record { header = omega (arith, h, l); whole = omega (arith, s, w, l) }
+
+pub whole_joined : (a b : List ℕ) → AreWhole a → AreWhole b → AreWhole (a ++ b)
+whole_joined _ b no_pods k = k
+whole_joined _ b (one_more a f h) k =
+    let e = extent (word_at a 0) in
+    let behind : rest_of (a ++ b) ≡ rest_of a ++ b =
+    ap (λ m. drop (extent m) (a ++ b)) (same_size a b f) ∙ drop-append-le e a b f.whole in
+    one_more (a ++ b) (front_there a b f) (subst AreWhole (sym behind) (whole_joined (rest_of a) b h k))
+
+one_whole : (b : List ℕ) → HasFront b → AreWhole (front_of b)
+one_whole b f =
+    let p = front_of b in
+    let s = ap extent (size_of_front b) in
+    let l = length-take (extent (word_at b 0)) b in
+    let h = f.header in
+    let w = f.whole in
+    let d = length-drop (extent (word_at p 0)) p in
+    let none : rest_of p ≡ [] = nil (rest_of p) (omega (arith, s, l, h, w, d)) in
+    one_more p (record { header = omega (arith, s, l, h, w); whole = omega (arith, s, l, h, w) }) (subst AreWhole (sym none) no_pods)
+  where
+    nil : (xs : List ℕ) → length xs ≡ 0 → xs ≡ []
+    nil [] e = refl
+    nil (x ∷ xs) e = absurd (omega (arith, e))
+
+-- how far a walk over whole pods is
+pub record WholeSoFar (bytes left : List ℕ) : Type 0 where
+  pub before : List ℕ
+  pub parts : bytes ≡ before ++ left
+  pub whole : AreWhole before
+
+pub walk_begins : (bytes : List ℕ) → WholeSoFar bytes bytes
+walk_begins bytes = record { before = []; parts = refl; whole = no_pods }
+
+pub walk_goes_on : (bytes left rest : List ℕ) → HasFront left → rest ≡ rest_of left → WholeSoFar bytes left → WholeSoFar bytes rest
+walk_goes_on bytes left rest f r so = record {
+  before = so.before ++ front_of left;
+  parts =
+      so.parts ∙ ap (λ l. so.before ++ l) (front_and_rest left ∙ ap (λ l. front_of left ++ l) (sym r))
+      ∙ sym (append_assoc so.before (front_of left) rest);
+  whole = whole_joined so.before (front_of left) so.whole (one_whole left f);
+}
+
+pub rest_is_shorter : (left rest : List ℕ) → HasFront left → rest ≡ rest_of left → length rest < length left
+rest_is_shorter left rest f r =
+    let l = ap length r in
+    let d = length-drop (extent (word_at left 0)) left in
+    let h = f.header in
+    omega (arith, l, d, h)
+
+pub walk_ends : (bytes left : List ℕ) → WholeSoFar bytes left → AreWhole (take (length bytes - length left) bytes)
+walk_ends bytes left so =
+    let e = ap length so.parts in
+    let l = length-append so.before left in
+    subst AreWhole (sym (ap (take (length bytes - length left)) so.parts ∙ take_at so.before left (length bytes - length left) (omega (arith, e, l))))
+    so.whole
+
+pub none_whole : (bytes left : List ℕ) → WholeSoFar bytes left → ¬ (HasFront left) → length bytes - length left ≡ 0 → ¬ (HasFront bytes)
+none_whole bytes left so n z f =
+    let e = ap length so.parts in
+    let l = length-append so.before left in
+    n (subst HasFront (same so.before so.parts (omega (arith, e, l, z))) f)
+  where
+    same : (before : List ℕ) → bytes ≡ before ++ left → length before ≡ 0 → bytes ≡ left
+    same [] e z = e
+    same (x ∷ xs) e z = absurd (omega (arith, z))
+
+-- whole pods behind some that are accepted
+pub whole_behind : (vs : Trees) (b first left : List ℕ) → AreWhole b → b ≡ first ++ left → AreMembers vs first → AreWhole left
+whole_behind no_trees b first left w e m = subst AreWhole (e ∙ ap (λ l. l ++ left) m) w
+whole_behind (member v vs) b first left w e m =
+    let parts : b ≡ m.0 ++ (m.1 ++ left) = e ∙ ap (λ l. l ++ left) m.2 ∙ append_assoc m.0 m.1 left in
+    let f = front_of_whole b m.0 (m.1 ++ left) _ _ parts m.3 in
+    whole_behind vs (rest_of b) m.1 left (behind b w f.0) (sym f.2) m.4
+  where
+    behind : (b : List ℕ) → AreWhole b → HasFront b → AreWhole (rest_of b)
+    behind _ no_pods f = absurd (let h = f.header in omega (arith, h))
+    behind _ (one_more b g h) f = h
+
+pub whole_front : (b : List ℕ) → AreWhole b → b ≢ [] → HasFront b
+whole_front _ no_pods n = absurd (n refl)
+whole_front _ (one_more b f h) n = f
+
+-- what is refused is refused whatever follows it, where it has its front
+pub refused_longer : (b more : List ℕ) → HasFront b → IsRefused b → IsRefused (b ++ more)
+refused_longer b more f r = λ v h.
+    let same : front_of (b ++ more) ≡ front_of b =
+    ap (λ m. take (extent m) (b ++ more)) (same_size b more f) ∙ take-append-le (extent (word_at b 0)) b more f.whole in
+    r v (record { there = f; pod = subst (λ p. IsPod p v) same h.pod })

@@ -6,7 +6,7 @@ use Rattle.std.specs.Prelude.{Result, Ok, Err, IfOk, IfErr}
 use Rattle.std.specs.declared.vec.Vec.{Vec}
 use Rattle.std.specs.Global.{Global}
 use Rattle.spa_recordings.specs.declared.going_on.Refused.{Refused as OfRefused}
-use Rattle.spa_recordings.specs.declared.going_on.RefusedPod.{RefusedPod}
+use Rattle.spa_refusals.specs.declared.several.NamedRefusal.{NamedRefusal}
 use Rattle.spa_recordings.specs.declared.reading.Reading.{Reading}
 use Rattle.pod_commands.specs.Answers.{Gives, IsMadeInPart, IsUntouched, OnAnswer, Outlet, Refuses, outlet}
 use Rattle.pod_commands.specs.Sending.{IsSent}
@@ -42,7 +42,7 @@ answers (Err why) items IsSo IsRefused o answer so refused sent_ok kept =
 
 -- what was made of the pods that are read was sent: of all, or of those that aren't refused
 pub sent_in_part : (reading : Reading) (refused : OfRefused) (making : Making) (remaining : Option (List ℕ)) (names : List (Bor (List ℕ))) (o : Outlet)
-    (out : List ℕ) (pods : Vec RefusedPod Global) (done answer : Answer) → AreWorked reading refused making remaining o.before names out pods.items →
+    (out : List ℕ) (pods : Vec NamedRefusal Global) (done answer : Answer) → AreWorked reading refused making remaining o.before names out pods.items →
     (((pods.items ≡ []) × (done ≡ Done)) ⊎ ((pods.items ≢ []) × (done ≡ Passed pods))) → IsSent out done answer o →
     IsMadeInPart reading refused making answer remaining names o
 sent_in_part reading refused making remaining names o out pods done answer worked (inl e) (inl k) =

@@ -12,9 +12,9 @@ use Rattle.spa_text_commands.specs.declared.answer.Failure.{Failure as TextFailu
 use Rattle.spa_text_commands.specs.declared.answer.Failure.TheVariants.{Pod, Line, OutOfMemory as NoMemory, WriteFailed}
 use Rattle.pod_commands.specs.Inputs.{AreMade, IsKnown, content_of, left_behind}
 use Rattle.pod_commands.specs.Making.{ShowsAs, ShowsBegin}
-use Rattle.pod_commands.specs.Showing.{IsCut, IsCutAt, IsToldAs}
+use Rattle.pod_commands.specs.Showing.{IsCut, IsCutAt, IsCutOff, IsToldAs}
 use Rattle.pod_commands.specs.declared.answer.Failure.{Failure}
-use Rattle.pod_commands.specs.declared.answer.Failure.TheVariants.{Pods, Texts, Compared, Pair, Lists, Stopped, OutOfMemory, Unread, Unwritten}
+use Rattle.pod_commands.specs.declared.answer.Failure.TheVariants.{Pods, Texts, Pair, Lists, Stopped, OutOfMemory, Unread, Unwritten}
 use Rattle.pod_commands.specs.Answers.{Gets, Gives, IsNotShown, IsUnread, IsUnwritten, OnAnswer, Outlet, Streams, outlet}
 use Rattle.pod_commands.specs.Sending.{IsSent}
 use Rattle.pod_commands.specs.declared.answer.Answer.{Answer}
@@ -65,13 +65,12 @@ module _ (remaining : Option (List ℕ)) (holds : List ℕ → Option (List ℕ)
   cut now left behind name bytes old mid new OutOfMemory e all c so = tt
   cut now left behind name bytes old mid new (Unread n) e all c so = tt
   cut now left behind name bytes old mid new (Unwritten t) e all c so = tt
-  cut now left behind name bytes old mid new (Texts n w) e all c so = (
+  cut now left behind name bytes old mid new (Pods n w) e all c so = (
     so.out ++ c.0,
-    step.stopped _ _ remaining holds names now left behind name bytes so.out c.0 (Texts n w) e all c.1 so.made,
+    step.stopped _ _ remaining holds names now left behind name bytes so.out c.0 (Pods n w) e all c.1 so.made,
     appends_more old mid new so.out c.0 so.written c.2,
   )
-  cut now left behind name bytes old mid new (Pods n w) e all c so = absurd c.1
-  cut now left behind name bytes old mid new (Compared n m w) e all c so = absurd c.1
+  cut now left behind name bytes old mid new (Texts n w) e all c so = absurd c.1
   cut now left behind name bytes old mid new (Pair n w) e all c so = absurd c.1
   cut now left behind name bytes old mid new (Lists n m w) e all c so = absurd c.1
   cut now left behind name bytes old mid new (Stopped n p k) e all c so = absurd c.1
@@ -86,14 +85,22 @@ pub shown : (input : List ℕ) (old new : Option (List ℕ)) → text.ShowsAll i
 shown input old new s = (s.out, (sym s.behind, s.lines), s.written)
 
 -- or it isn't
-pub not_shown : (name input : List ℕ) (old new : Option (List ℕ)) (e : TextFailure) (why : Failure) → IsToldAs name e why →
+cut_off : (name input : List ℕ) (old new : Option (List ℕ)) (place : ℕ) (why : Failure) → IsCutOff name input why → text.ShowsTo input old new place →
+    IsCutAt name input old new why
+cut_off name input old new place OutOfMemory t to = tt
+cut_off name input old new place (Pods n w) t to = (to.out, (t.0, t.1, to.lines), to.written)
+cut_off name input old new place (Texts n w) t to = absurd t
+cut_off name input old new place (Pair n w) t to = absurd t
+cut_off name input old new place (Lists n m w) t to = absurd t
+cut_off name input old new place (Unread n) t to = absurd t
+cut_off name input old new place (Unwritten n) t to = absurd t
+
+pub not_shown : (name input : List ℕ) (old new : Option (List ℕ)) (e : TextFailure) (why : Failure) → IsToldAs name input e why →
     text.IsNotShown input old new e → IsCutAt name input old new why
 not_shown name input old new NoMemory why t s = subst (IsCutAt name input old new) (sym t) tt
 not_shown name input old new WriteFailed why t s = subst (IsCutAt name input old new) (sym t) tt
 not_shown name input old new (Line line column kind path) why t s = absurd s
-not_shown name input old new (Pod origin place kind) why t s =
-    let to = s.2 in
-    subst (IsCutAt name input old new) (sym t.2) (to.out, (t.1, s.0, to.behind, s.1, to.lines), to.written)
+not_shown name input old new (Pod origin place kind) why t s = cut_off name input old new place why t s.2
 
 -- ---- The run
 
@@ -116,7 +123,6 @@ shown_cut target remaining holds names old new (Unread n) e c = tt
 shown_cut target remaining holds names old new (Unwritten t) e c = tt
 shown_cut target remaining holds names old new (Texts n w) e c = (c.0, c.1, shown_part target old new holds c.0 e c.2)
 shown_cut target remaining holds names old new (Pods n w) e c = (c.0, c.1, shown_part target old new holds c.0 e c.2)
-shown_cut target remaining holds names old new (Compared n m w) e c = (c.0, c.1, shown_part target old new holds c.0 e c.2)
 shown_cut target remaining holds names old new (Pair n w) e c = (c.0, c.1, shown_part target old new holds c.0 e c.2)
 shown_cut target remaining holds names old new (Lists n m w) e c = (c.0, c.1, shown_part target old new holds c.0 e c.2)
 shown_cut target remaining holds names old new (Stopped n p k) e c = (c.0, c.1, shown_part target old new holds c.0 e c.2)
@@ -134,7 +140,6 @@ unsent target name remaining holds names old first last (Unread n) e c = tt
 unsent target name remaining holds names old first last (Unwritten t) e c = tt
 unsent target name remaining holds names old first last (Texts n w) e c = (c.0, c.1, unsent_part target name old holds c.0 e)
 unsent target name remaining holds names old first last (Pods n w) e c = (c.0, c.1, unsent_part target name old holds c.0 e)
-unsent target name remaining holds names old first last (Compared n m w) e c = (c.0, c.1, unsent_part target name old holds c.0 e)
 unsent target name remaining holds names old first last (Pair n w) e c = (c.0, c.1, unsent_part target name old holds c.0 e)
 unsent target name remaining holds names old first last (Lists n m w) e c = (c.0, c.1, unsent_part target name old holds c.0 e)
 unsent target name remaining holds names old first last (Stopped n p k) e c = (c.0, c.1, unsent_part target name old holds c.0 e)

@@ -14,7 +14,7 @@ use Rattle.pod_commands.specs.Answers.{Gets, IsPlain, IsStreamed, IsUnread, outl
 use Rattle.pod_commands.specs.Inputs.{AreMade, IsKnown, IsOpened, content_of, left_behind}
 use Rattle.pod_commands.specs.Streaming.{EndsIn, IsBroken, IsBrokenAt, IsToldAs, IsWritten, StreamsAs}
 use Rattle.pod_commands.specs.declared.answer.Failure.{Failure}
-use Rattle.pod_commands.specs.declared.answer.Failure.TheVariants.{Pods, Texts, Compared, Pair, Lists, Stopped, OutOfMemory, Unread, Unwritten}
+use Rattle.pod_commands.specs.declared.answer.Failure.TheVariants.{Pods, Texts, Pair, Lists, Stopped, OutOfMemory, Unread, Unwritten}
 use Rattle.pod_commands.specs.declared.answer.Answer.TheVariants.{Done, Misused, Refused}
 use Rattle.pod_commands.specs.declared.request.Fate.{Fate}
 use Rattle.pod_commands.specs.declared.request.Streaming.{Streaming}
@@ -42,7 +42,6 @@ written_more a b c xs ys (Unwritten t) h k =
     (length xs + k.0, subst (Appends a c) (sym (take_behind xs ys k.0)) (appends_more a b c xs (take k.0 ys) h k.1))
 written_more a b c xs ys (Pods n w) h k = appends_more a b c xs ys h k
 written_more a b c xs ys (Texts n w) h k = appends_more a b c xs ys h k
-written_more a b c xs ys (Compared n m w) h k = appends_more a b c xs ys h k
 written_more a b c xs ys (Pair n w) h k = appends_more a b c xs ys h k
 written_more a b c xs ys (Lists n m w) h k = appends_more a b c xs ys h k
 written_more a b c xs ys (Stopped n p w) h k = appends_more a b c xs ys h k

@@ -1,20 +1,20 @@
 -- Refused pods, told one after another.
 use Rattle.std.proofs.Common.{◌≡◌, ◌∙◌, ◌∷◌, ◌++◌, [], append_assoc, append-nil, ap, refl, subst, sym, List, ℕ, Option}
 use Rattle.std.specs.Io.KnownBytes.{Appends}
-use Rattle.spa_recordings.specs.declared.going_on.RefusedPod.{RefusedPod}
+use Rattle.spa_refusals.specs.declared.several.NamedRefusal.{NamedRefusal}
 use Rattle.pod_commands.specs.Answers.{line_of_pod, lines_of_pods}
 use Rattle.pod_commands.proofs.Shown.{appends_more, appends_nothing}
 
 -- lines were written, which with those of the pods that are left are the lines of all
-pub record ToldSoFar (old new : Option (List ℕ)) (pods left : List RefusedPod) : Type 0 where
+pub record ToldSoFar (old new : Option (List ℕ)) (pods left : List NamedRefusal) : Type 0 where
   pub told : List ℕ
   pub written : Appends old new told
   pub all : told ++ lines_of_pods left ≡ lines_of_pods pods
 
-pub begins : (old : Option (List ℕ)) (pods : List RefusedPod) → ToldSoFar old old pods pods
+pub begins : (old : Option (List ℕ)) (pods : List NamedRefusal) → ToldSoFar old old pods pods
 begins old pods = record { told = []; written = appends_nothing old; all = refl }
 
-pub further : (old mid new : Option (List ℕ)) (pods left behind : List RefusedPod) (pod : RefusedPod) → left ≡ pod ∷ behind →
+pub further : (old mid new : Option (List ℕ)) (pods left behind : List NamedRefusal) (pod : NamedRefusal) → left ≡ pod ∷ behind →
     Appends mid new (line_of_pod pod) → ToldSoFar old mid pods left → ToldSoFar old new pods behind
 further old mid new pods left behind pod e w so = record {
   told = so.told ++ line_of_pod pod;
@@ -22,7 +22,7 @@ further old mid new pods left behind pod e w so = record {
   all = append_assoc so.told (line_of_pod pod) (lines_of_pods behind) ∙ ap (λ z. so.told ++ lines_of_pods z) (sym e) ∙ so.all;
 }
 
-pub ends : (old mid new : Option (List ℕ)) (pods left : List RefusedPod) (more : List ℕ) → left ≡ [] → Appends mid new more →
+pub ends : (old mid new : Option (List ℕ)) (pods left : List NamedRefusal) (more : List ℕ) → left ≡ [] → Appends mid new more →
     ToldSoFar old mid pods left → Appends old new (lines_of_pods pods ++ more)
 ends old mid new pods left more e w so =
     subst (λ z. Appends old new (z ++ more)) (sym (append-nil so.told) ∙ ap (λ z. so.told ++ lines_of_pods z) (sym e) ∙ so.all)

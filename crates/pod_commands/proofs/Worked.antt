@@ -1,27 +1,63 @@
 -- What is made of inputs whose refused pods are left out or kept, name by name.
-use Rattle.std.proofs.Common.{◌≡◌, ◌∙◌, ◌∷◌, ◌++◌, [], append_assoc, append-nil, ap, inl, refl, sym, subst, List, ℕ, Option}
+use Rattle.std.proofs.Common.{◌≡◌, ◌∙◌, ◌∷◌, ◌++◌, ◌+◌, ◌≤◌, [], append_assoc, append-nil, ap, arith, drop, inl, length, length-append, refl, sym, subst, List, ℕ, Option}
+use Rattle.std.proofs.lemmas.List.{drop-drop, drop_at}
+use Rattle.spa_format.specs.Front.{front_of, rest_of}
+use Rattle.spa_format.proofs.Fronts.{front_and_rest}
 use Rattle.std.specs.Borrow.{Bor}
 use Rattle.spa_device.specs.Whole.{IsAllOf}
-use Rattle.spa_recordings.specs.GoingOn.{GoesOn}
+use Rattle.spa_recordings.specs.GoingOn.{GoesOn, ends, passes}
 use Rattle.spa_recordings.specs.declared.going_on.Refused.{Refused}
 use Rattle.spa_recordings.specs.declared.going_on.RefusedPod.{RefusedPod}
+use Rattle.spa_recordings.specs.Reading.{IsNoPod}
 use Rattle.spa_recordings.specs.declared.reading.Reading.{Reading}
+use Rattle.spa_recordings.specs.declared.reading.Reading.TheVariants.{Exact, Lenient}
+use Rattle.spa_refusals.specs.Refusals.{IsNothing}
+use Rattle.spa_refusals.specs.Several.{AreRefused, AreSaid}
+use Rattle.spa_refusals.specs.declared.several.NamedRefusal.{NamedRefusal}
 use Rattle.pod_commands.specs.Inputs.{IsKnown, content_of, left_behind}
 use Rattle.pod_commands.specs.Making.{Makes}
-use Rattle.pod_commands.specs.Working.{AreWorked}
+use Rattle.pod_commands.specs.Working.{AreWorked, WorksOn}
 use Rattle.pod_commands.specs.declared.request.Making.{Making}
 use Rattle.pod_commands.proofs.Known.{known_all, known_behind}
+
+no_pod : (reading : Reading) (left kind : List ℕ) → IsNoPod reading left kind → IsNothing reading left
+no_pod Exact left kind h = h.0
+no_pod Lenient left kind h = h.0
+
+-- the refused pods of what is left of an input aren't read
+left_refused : (name : List ℕ) (reading : Reading) (refused : Refused) (Makes : List ℕ → List ℕ → Type 0) (input : List ℕ) (place : ℕ)
+    (left out : List ℕ) (pods : List RefusedPod) → GoesOn name reading refused Makes place left out pods → drop place input ≡ left →
+    place + length left ≡ length input → AreRefused reading input pods
+left_refused name reading refused Makes input place left out pods (ends p i o m) e l = tt
+left_refused name reading refused Makes input place left out pods (passes p next first at made others pod more m some nothing is named behind on) e l =
+    let a = length-append first at in
+    let f = length-append (front_of at) (rest_of at) in
+    let w = ap length (front_and_rest at) in
+    let here : drop pod.place input ≡ at =
+    ap (λ z. drop z input) is ∙ sym (drop-drop (length first) place input) ∙ ap (drop (length first)) e ∙ drop_at first at (length first) refl in
+    let after : drop next input ≡ rest_of at =
+    ap (λ z. drop z input) behind ∙ sym (drop-drop (length (front_of at)) pod.place input)
+    ∙ ap (drop (length (front_of at))) (here ∙ front_and_rest at) ∙ drop_at (front_of at) (rest_of at) (length (front_of at)) refl in (
+      omega (arith, is, l, a),
+      subst (IsNothing reading) (sym here) (no_pod reading at pod.kind.now nothing),
+      left_refused name reading refused Makes input next (rest_of at) others more on after (omega (arith, is, l, a, f, w, behind)),
+    )
+
+-- nor are those of all of it
+pub all_refused : (name : List ℕ) (reading : Reading) (refused : Refused) (Makes : List ℕ → List ℕ → Type 0) (input out : List ℕ)
+    (pods : List RefusedPod) → GoesOn name reading refused Makes 0 input out pods → AreRefused reading input pods
+all_refused name reading refused Makes input out pods on = left_refused name reading refused Makes input 0 input out pods on refl (omega arith)
 
 module _ (reading : Reading) (refused : Refused) (making : Making) (remaining : Option (List ℕ)) (holds : List ℕ → Option (List ℕ))
     (names : List (Bor (List ℕ))) where
   -- How far the work on names is: something was made, and these pods refused; with what is made of those that are left it is made of all.
-  pub record WorkedSoFar (now : Option (List ℕ)) (left : List (Bor (List ℕ))) (out : List ℕ) (pods : List RefusedPod) : Type 0 where
+  pub record WorkedSoFar (now : Option (List ℕ)) (left : List (Bor (List ℕ))) (out : List ℕ) (pods : List NamedRefusal) : Type 0 where
     pub expected : Option (List ℕ)
     pub known : IsKnown expected now
-    pub made : (others : List ℕ) (those : List RefusedPod) → AreWorked reading refused making expected holds left others those →
+    pub made : (others : List ℕ) (those : List NamedRefusal) → AreWorked reading refused making expected holds left others those →
         AreWorked reading refused making remaining holds names (out ++ others) (pods ++ those)
 
-  pub begins : (out : List ℕ) (pods : List RefusedPod) → out ≡ [] → pods ≡ [] → WorkedSoFar remaining names out pods
+  pub begins : (out : List ℕ) (pods : List NamedRefusal) → out ≡ [] → pods ≡ [] → WorkedSoFar remaining names out pods
   begins out pods e p = record {
     expected = remaining;
     known = inl refl;
@@ -32,25 +68,24 @@ module _ (reading : Reading) (refused : Refused) (making : Making) (remaining : 
 
   -- one name more
   pub goes_on : (now after : Option (List ℕ)) (left behind : List (Bor (List ℕ))) (name : Bor (List ℕ)) (bytes old new : List ℕ)
-      (olds news : List RefusedPod) → left ≡ name ∷ behind → IsAllOf (content_of now holds name.now) bytes → IsKnown (left_behind now name.now) after →
-      ((out : List ℕ) × (pods : List RefusedPod) × GoesOn name.now reading refused (Makes making) 0 bytes out pods × (new ≡ old ++ out)
-      × (news ≡ olds ++ pods)) → WorkedSoFar now left old olds → WorkedSoFar after behind new news
+      (olds news : List NamedRefusal) → left ≡ name ∷ behind → IsAllOf (content_of now holds name.now) bytes → IsKnown (left_behind now name.now) after →
+      WorksOn reading refused making name.now bytes old new olds news → WorkedSoFar now left old olds → WorkedSoFar after behind new news
   goes_on now after left behind name bytes old new olds news e all k m so =
       let its = known_all so.expected now holds name.now bytes so.known all in
       record {
         expected = left_behind so.expected name.now;
         known = known_behind so.expected now after name.now so.known k;
         made = λ others those h.
-            subst (λ z. AreWorked reading refused making remaining holds names z (news ++ those)) (sym (ap (λ z. z ++ others) m.3 ∙ append_assoc old m.0 others))
-            (subst (λ z. AreWorked reading refused making remaining holds names (old ++ (m.0 ++ others)) z)
-            (sym (ap (λ z. z ++ those) m.4 ∙ append_assoc olds m.1 those))
-            (so.made (m.0 ++ others) (m.1 ++ those)
-            (subst (λ l. AreWorked reading refused making so.expected holds l (m.0 ++ others) (m.1 ++ those)) (sym e)
-            (bytes, m.0, others, m.1, those, its, m.2, refl, refl, h))));
+            subst (λ z. AreWorked reading refused making remaining holds names z (news ++ those)) (sym (ap (λ z. z ++ others) m.written ∙ append_assoc old m.made others))
+            (subst (λ z. AreWorked reading refused making remaining holds names (old ++ (m.made ++ others)) z)
+            (sym (ap (λ z. z ++ those) m.added ∙ append_assoc olds m.these those))
+            (so.made (m.made ++ others) (m.these ++ those)
+            (subst (λ l. AreWorked reading refused making so.expected holds l (m.made ++ others) (m.these ++ those)) (sym e)
+            (bytes, m.made, others, m.pods, m.these, those, its, m.goes_on, m.said, refl, refl, h))));
       }
 
   -- no name is left
-  pub finished : (now : Option (List ℕ)) (left : List (Bor (List ℕ))) (out : List ℕ) (pods : List RefusedPod) → left ≡ [] → WorkedSoFar now left out pods →
+  pub finished : (now : Option (List ℕ)) (left : List (Bor (List ℕ))) (out : List ℕ) (pods : List NamedRefusal) → left ≡ [] → WorkedSoFar now left out pods →
       AreWorked reading refused making remaining holds names out pods
   finished now left out pods e so =
       subst (λ z. AreWorked reading refused making remaining holds names z pods) (append-nil out)

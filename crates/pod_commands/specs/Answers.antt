@@ -12,21 +12,20 @@ use Rattle.clap.specs.declared.error.Error.{Error}
 use Rattle.clap.specs.declared.error.kind.ErrorKind.{ErrorKind}
 use Rattle.clap.specs.declared.error.kind.ErrorKind.TheVariants as kind
 use Rattle.spa_device.specs.Whole.{IsAllOf}
-use Rattle.spa_pod_commands.specs.Answers as pods
 use Rattle.spa_recordings.specs.GoingOn.{MakesOf}
 use Rattle.spa_recordings.specs.declared.going_on.Refused.{Refused as OfRefused}
-use Rattle.spa_recordings.specs.declared.going_on.RefusedPod.{RefusedPod}
 use Rattle.spa_recordings.specs.declared.reading.Reading.{Reading}
 use Rattle.spa_recordings.specs.declared.reading.Reading.TheVariants.{Exact}
+use Rattle.spa_refusals.specs.Refusals.{refusal_text}
+use Rattle.spa_refusals.specs.declared.several.NamedRefusal.{NamedRefusal}
 use Rattle.spa_text_commands.specs.Answers as text
-use Rattle.spa_text_commands.specs.Differences.{Differ, RefusesEither, SayTheSame}
-use Rattle.spa_text_commands.specs.declared.answer.Failure.{Failure as TextFailure}
+use Rattle.spa_text_commands.specs.Differences.{Differ, SayTheSame}
 use Rattle.spa_meet_commands.specs.Answers as meet
 use Rattle.spa_meet_commands.specs.Lists.{AreListsRefused, ListsGive}
 use Rattle.spa_meet_commands.specs.declared.answer.Failure.{Failure as MeetFailure}
 use Rattle.spa_meet_commands.specs.declared.pair.Work.{Work}
 use Rattle.pod_commands.specs.Inputs.{AreMade, OfOne, OfTwo, StopsAt}
-use Rattle.pod_commands.specs.Making.{Makes, RefusesBy, ShowsAs, ShowsBegin}
+use Rattle.pod_commands.specs.Making.{AreNoPods, Makes, RefusesBy, ShowsAs, ShowsBegin}
 use Rattle.pod_commands.specs.Program.{program}
 use Rattle.pod_commands.specs.Requests.{Asks, AsksNothing, dash}
 use Rattle.pod_commands.specs.Streaming.{IsBroken, StreamsAs}
@@ -34,7 +33,7 @@ use Rattle.pod_commands.specs.Working.{AreWorked}
 use Rattle.pod_commands.specs.declared.answer.Answer.{Answer}
 use Rattle.pod_commands.specs.declared.answer.Answer.TheVariants.{Done, Differs, Passed, Refused, Misused, Said}
 use Rattle.pod_commands.specs.declared.answer.Failure.{Failure}
-use Rattle.pod_commands.specs.declared.answer.Failure.TheVariants.{Pods, Texts, Compared, Pair, Lists, Stopped, OutOfMemory, Unread, Unwritten}
+use Rattle.pod_commands.specs.declared.answer.Failure.TheVariants.{Pods, Texts, Pair, Lists, Stopped, OutOfMemory, Unread, Unwritten}
 use Rattle.pod_commands.specs.declared.request.Fate.{Fate}
 use Rattle.pod_commands.specs.declared.request.Fate.TheVariants.{Stops, GoesOn}
 use Rattle.pod_commands.specs.declared.request.Making.{Making}
@@ -127,8 +126,7 @@ Compare out a b = ((out ≡ []) × SayTheSame a b) ⊎ Differ out a b
 -- two inputs aren't read, or one of them isn't pods
 abbrev pub AreNotCompared : (remaining : Option (List ℕ)) → (holds : List ℕ → Option (List ℕ)) → (n m : List ℕ) → Failure → Type 0
 AreNotCompared remaining holds n m why =
-    IsUnread why ⊎ ((x : Bor (List ℕ)) × (y : Bor (List ℕ)) × (e : TextFailure) × (why ≡ Compared x y e) × (x.now ≡ n) × (y.now ≡ m)
-    × OfTwo remaining holds n m (RefusesEither e))
+    IsUnread why ⊎ OfTwo remaining holds n m (λ first second. AreNoPods Exact n first why ⊎ AreNoPods Exact m second why)
 
 -- the object on which the two agree that an input consists of, or the first pair of two lists
 abbrev pub AgreesOne : Work → (remaining : Option (List ℕ)) → (holds : List ℕ → Option (List ℕ)) → (n out : List ℕ) → Type 0
@@ -185,7 +183,7 @@ IsMadeInPart reading refused making Done remaining names o = Gives (λ out. AreW
 IsMadeInPart reading refused making (Passed pods) remaining names o =
     (pods.items ≢ []) × Gives (λ out. AreWorked reading refused making remaining o.before names out pods.items) o
 IsMadeInPart reading refused making (Refused why) remaining names o =
-    Refuses (λ out. (pods : List RefusedPod) × AreWorked reading refused making remaining o.before names out pods) IsUnread o why
+    Refuses (λ out. (pods : List NamedRefusal) × AreWorked reading refused making remaining o.before names out pods) IsUnread o why
 IsMadeInPart reading refused making _ remaining names o = ⊥
 
 abbrev pub IsMadeBy : Reading → Fate → Making → Answer → (remaining : Option (List ℕ)) → List (Bor (List ℕ)) → Outlet → Type 0
@@ -250,9 +248,8 @@ target_text (Some name) = name.now
 
 -- what is said of a refusal
 abbrev pub failure_text : Failure → List ℕ
-failure_text (Pods name why) = name_text name.now ++ (codes ": " ++ pods.failure_text why)
+failure_text (Pods name why) = name_text name.now ++ (codes ": " ++ refusal_text why)
 failure_text (Texts name why) = name_text name.now ++ (codes ": " ++ text.failure_text why)
-failure_text (Compared ours theirs why) = name_text ours.now ++ (codes ", " ++ (name_text theirs.now ++ (codes ": " ++ text.failure_text why)))
 failure_text (Pair name why) = name_text name.now ++ (codes ": " ++ meet.failure_text why)
 failure_text (Lists ours theirs why) = name_text ours.now ++ (codes ", " ++ (name_text theirs.now ++ (codes ": " ++ meet.failure_text why)))
 failure_text (Stopped name place kind) = name_text name.now ++ (codes ": byte " ++ (decimal place ++ (codes ": " ++ kind.now)))
@@ -261,11 +258,11 @@ failure_text (Unread name) = name_text name.now ++ codes ": read failed"
 failure_text (Unwritten target) = target_text target ++ codes ": write failed"
 
 -- the line that is written of a refused pod
-abbrev pub line_of_pod : RefusedPod → List ℕ
-line_of_pod pod = codes "pod: " ++ (name_text pod.name.now ++ (codes ": byte " ++ (decimal pod.place ++ (codes ": " ++ (pod.kind.now ++ 10 ∷ [])))))
+abbrev pub line_of_pod : NamedRefusal → List ℕ
+line_of_pod pod = codes "pod: " ++ (name_text pod.name.now ++ (codes ": " ++ (refusal_text pod.refusal ++ 10 ∷ [])))
 
 -- a line of each, and one with their number
-abbrev pub lines_of_pods : List RefusedPod → List ℕ
+abbrev pub lines_of_pods : List NamedRefusal → List ℕ
 lines_of_pods [] = []
 lines_of_pods (pod ∷ pods) = line_of_pod pod ++ lines_of_pods pods
 

@@ -4,16 +4,23 @@ use Rattle.std.specs.Io.KnownBytes.{Appends}
 use Rattle.std.specs.Borrow.{Bor}
 use Rattle.spa_text_commands.specs.declared.answer.Failure.{Failure as TextFailure}
 use Rattle.spa_text_commands.specs.declared.answer.Failure.TheVariants as text
+use Rattle.spa_refusals.specs.Several.{IsRemainder}
 use Rattle.pod_commands.specs.Inputs.{StopsAt}
 use Rattle.pod_commands.specs.Making.{ShowsAs, ShowsBegin}
 use Rattle.pod_commands.specs.declared.answer.Failure.{Failure}
-use Rattle.pod_commands.specs.declared.answer.Failure.TheVariants.{Texts, OutOfMemory, Unread, Unwritten}
+use Rattle.pod_commands.specs.declared.answer.Failure.TheVariants.{Pods, OutOfMemory, Unread, Unwritten}
+
+-- unless memory runs out, something follows the whole pods of the input of this name
+abbrev pub IsCutOff : (name input : List ℕ) → Failure → Type 0
+IsCutOff name input (Pods n why) = (n.now ≡ name) × IsRemainder input why
+IsCutOff name input OutOfMemory = ⊤
+IsCutOff name input _ = ⊥
 
 -- the refusal of the input of this name is told so
-abbrev pub IsToldAs : List ℕ → TextFailure → Failure → Type 0
-IsToldAs name text.OutOfMemory why = why ≡ OutOfMemory
-IsToldAs name text.WriteFailed why = why ≡ Unwritten None
-IsToldAs name e why = (n : Bor (List ℕ)) × (n.now ≡ name) × (why ≡ Texts n e)
+abbrev pub IsToldAs : (name input : List ℕ) → TextFailure → Failure → Type 0
+IsToldAs name input text.OutOfMemory why = why ≡ OutOfMemory
+IsToldAs name input text.WriteFailed why = why ≡ Unwritten None
+IsToldAs name input e why = IsCutOff name input why
 
 -- why an input of this name isn't shown whole, and what was written
 abbrev pub IsCutAt : (name input : List ℕ) → (old new : Option (List ℕ)) → Failure → Type 0

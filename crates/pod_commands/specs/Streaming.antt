@@ -9,7 +9,7 @@ use Rattle.spa_pod_commands.specs.declared.answer.Failure.TheVariants as pods
 use Rattle.spa_recordings.specs.Streaming.{EndsBehind, MakesFirst}
 use Rattle.pod_commands.specs.Inputs.{StopsAt}
 use Rattle.pod_commands.specs.declared.answer.Failure.{Failure}
-use Rattle.pod_commands.specs.declared.answer.Failure.TheVariants.{Pods, Texts, Compared, Pair, Lists, Stopped, OutOfMemory, Unread, Unwritten}
+use Rattle.pod_commands.specs.declared.answer.Failure.TheVariants.{Pods, Texts, Pair, Lists, Stopped, OutOfMemory, Unread, Unwritten}
 use Rattle.pod_commands.specs.declared.request.Streaming.{Streaming}
 use Rattle.pod_commands.specs.declared.request.Streaming.TheVariants as streaming
 
@@ -30,7 +30,6 @@ abbrev pub IsWritten : Failure → (old new : Option (List ℕ)) → (out : List
 IsWritten (Unwritten target) old new out = (n : ℕ) × Appends old new (take n out)
 IsWritten (Pods n why) old new out = Appends old new out
 IsWritten (Texts n why) old new out = Appends old new out
-IsWritten (Compared n m why) old new out = Appends old new out
 IsWritten (Pair n why) old new out = Appends old new out
 IsWritten (Lists n m why) old new out = Appends old new out
 IsWritten (Stopped n p k) old new out = Appends old new out

@@ -6,15 +6,28 @@ use Rattle.spa_recordings.specs.GoingOn.{GoesOn}
 use Rattle.spa_recordings.specs.declared.going_on.Refused.{Refused}
 use Rattle.spa_recordings.specs.declared.going_on.RefusedPod.{RefusedPod}
 use Rattle.spa_recordings.specs.declared.reading.Reading.{Reading}
+use Rattle.spa_refusals.specs.Several.{AreSaid}
+use Rattle.spa_refusals.specs.declared.several.NamedRefusal.{NamedRefusal}
 use Rattle.pod_commands.specs.Inputs.{content_of, left_behind}
 use Rattle.pod_commands.specs.Making.{Makes}
 use Rattle.pod_commands.specs.declared.request.Making.{Making}
 
--- what is made of each input, one behind another, and the refused pods of all
+-- what is made of each input, one behind another, and what is said of the refused pods of all
 abbrev pub AreWorked : Reading → Refused → Making → (remaining : Option (List ℕ)) → (holds : List ℕ → Option (List ℕ)) → List (Bor (List ℕ)) →
-    (out : List ℕ) → List RefusedPod → Type 0
-AreWorked reading refused making remaining holds [] out pods = (out ≡ []) × (pods ≡ [])
-AreWorked reading refused making remaining holds (n ∷ ns) out pods =
-    (input : List ℕ) × (first : List ℕ) × (others : List ℕ) × (these : List RefusedPod) × (those : List RefusedPod)
-    × IsAllOf (content_of remaining holds n.now) input × GoesOn n.now reading refused (Makes making) 0 input first these × (out ≡ first ++ others)
-    × (pods ≡ these ++ those) × AreWorked reading refused making (left_behind remaining n.now) holds ns others those
+    (out : List ℕ) → List NamedRefusal → Type 0
+AreWorked reading refused making remaining holds [] out said = (out ≡ []) × (said ≡ [])
+AreWorked reading refused making remaining holds (n ∷ ns) out said =
+    (input : List ℕ) × (first : List ℕ) × (others : List ℕ) × (pods : List RefusedPod) × (these : List NamedRefusal) × (those : List NamedRefusal)
+    × IsAllOf (content_of remaining holds n.now) input × GoesOn n.now reading refused (Makes making) 0 input first pods
+    × AreSaid reading input pods these × (out ≡ first ++ others) × (said ≡ these ++ those)
+    × AreWorked reading refused making (left_behind remaining n.now) holds ns others those
+
+-- An input of this name was worked on: this was made of it and this said. Only private clauses cite it.
+pub record WorksOn (reading : Reading) (refused : Refused) (making : Making) (name input old new : List ℕ) (olds news : List NamedRefusal) : Type 0 where
+  pub made : List ℕ
+  pub pods : List RefusedPod
+  pub these : List NamedRefusal
+  pub goes_on : GoesOn name reading refused (Makes making) 0 input made pods
+  pub said : AreSaid reading input pods these
+  pub written : new ≡ old ++ made
+  pub added : news ≡ olds ++ these

@@ -4,7 +4,7 @@ ghost use Rattle.std.specs.Io.KnownBytes.{Appends};
 ghost use Rattle.pod_commands.specs.Answers.{count_line, line_of, line_of_pod, lines_of_pods, name_text, status_of, target_text};
 
 use clap::Error;
-use spa_recordings::going_on::RefusedPod;
+use spa_refusals::{NamedRefusal, Refusal};
 use std::alloc::AllocError;
 use std::fmt;
 use std::io::{self, Write};
@@ -17,7 +17,7 @@ pub enum Answer<'a> {
     /// The two inputs say other values, and the lines that differ were written.
     Differs,
     /// The work was done on what is read, and these pods, of which there are some, were refused.
-    Passed(Vec<RefusedPod<'a>>),
+    Passed(Vec<NamedRefusal<'a>>),
     /// The work was refused, for this reason.
     Refused(Failure<'a>),
     /// The word takes another number of inputs, or other options beside those that are given.
@@ -46,12 +46,10 @@ impl Answer<'_> {
 /// Why a run was refused.
 #[derive(Debug, Drop)]
 pub enum Failure<'a> {
-    /// The input of this name isn't pods.
-    Pods(&'a str, spa_pod_commands::answer::Failure),
-    /// The input of this name isn't texts, or has pods that aren't printed or shown.
+    /// The input of this name isn't pods, which is said of the first refused one, or of what follows those that are shown.
+    Pods(&'a str, Refusal),
+    /// The input of this name isn't texts.
     Texts(&'a str, spa_text_commands::answer::Failure),
-    /// One of the inputs of these names, which are compared, isn't pods.
-    Compared(&'a str, &'a str, spa_text_commands::answer::Failure),
     /// The two objects of the input of this name don't agree.
     Pair(&'a str, spa_meet_commands::answer::Failure),
     /// The objects of the inputs of these names don't agree.
@@ -96,9 +94,6 @@ impl fmt::Display for Failure<'_> {
         match self {
             Failure::Pods(name, why) => write!(f, "{}: {why}", shown_name(*name)),
             Failure::Texts(name, why) => write!(f, "{}: {why}", shown_name(*name)),
-            Failure::Compared(ours, theirs, why) => {
-                write!(f, "{}, {}: {why}", shown_name(*ours), shown_name(*theirs))
-            }
             Failure::Pair(name, why) => write!(f, "{}: {why}", shown_name(*name)),
             Failure::Lists(ours, theirs, why) => {
                 write!(f, "{}, {}: {why}", shown_name(*ours), shown_name(*theirs))
@@ -152,7 +147,7 @@ pub fn tell<W: Write, E: Write>(
 }
 
 /// Writes a line of each of these refused pods, and how many they are.
-pub fn tell_pods<E: Write>(faults: &mut E, pods: &[RefusedPod<'_>]) -> io::Result<()>
+pub fn tell_pods<E: Write>(faults: &mut E, pods: &[NamedRefusal<'_>]) -> io::Result<()>
     ensures told { OnOk result (Appends (E.contents faults.old) (E.contents faults.new) (lines_of_pods pods.now ++ count_line (length pods.now))) }
 {
     for pod in pods {
@@ -162,16 +157,10 @@ pub fn tell_pods<E: Write>(faults: &mut E, pods: &[RefusedPod<'_>]) -> io::Resul
 }
 
 /// Writes the line of a refused pod.
-fn tell_pod<E: Write>(faults: &mut E, pod: &RefusedPod<'_>) -> io::Result<()>
+fn tell_pod<E: Write>(faults: &mut E, pod: &NamedRefusal<'_>) -> io::Result<()>
     ensures told { OnOk result (Appends (E.contents faults.old) (E.contents faults.new) (line_of_pod pod.now)) }
 {
-    writeln!(
-        faults,
-        "pod: {}: byte {}: {}",
-        shown_name(pod.name),
-        pod.place,
-        pod.kind
-    )
+    writeln!(faults, "pod: {}: {}", shown_name(pod.name), pod.refusal)
 }
 
 /// Writes the line of a refusal.

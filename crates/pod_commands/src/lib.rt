@@ -7,6 +7,7 @@ mod command;
 pub mod files;
 mod making;
 mod pairs;
+mod refusing;
 pub mod request;
 pub mod run;
 mod sending;

@@ -2,17 +2,22 @@
 ghost use Rattle.std.specs.Prelude.{◌≡◌, ◌++◌, IfErr, IfOk, OnOk};
 ghost use Rattle.pod_commands.specs.Answers.{AreUnmade, IsUnread};
 ghost use Rattle.pod_commands.specs.Inputs.{AreMade};
-ghost use Rattle.pod_commands.specs.Making.{Makes, RefusesBy, RefusesIn};
-ghost use Rattle.pod_commands.specs.Working.{AreWorked};
+ghost use Rattle.pod_commands.specs.Making.{AreNoPods, Makes, RefusesBy, RefusesIn};
+ghost use Rattle.pod_commands.specs.Working.{AreWorked, WorksOn};
+ghost use Rattle.spa_pod_commands.specs.Answers.{Fixates, Rewrites};
 ghost use Rattle.spa_recordings.specs.GoingOn.{MakesOf};
 ghost use Rattle.spa_recordings.specs.declared.reading.Reading as Reading;
 
 use crate::answer::Failure;
 use crate::files::{Files, read_named};
+use crate::refusing::refused;
 use crate::request::Making;
-use spa_pod_commands::making::{check, fixated, rewritten};
+use spa_in_place::rewrite_in_place;
+use spa_lenient::rewrite_all_leniently;
+use spa_pod_commands::making::{check, fixated};
 use spa_recordings::going_on::{Made, Maker, Manner, make_each};
-use spa_recordings::reading::{Reading, read_as};
+use spa_recordings::reading::Reading;
+use spa_refusals::{NamedRefusal, add_refusals};
 use spa_text_commands::printing::print_all;
 use spa_text_commands::reading::read_all;
 use std::alloc::{AllocError, Global};
@@ -66,10 +71,10 @@ fn make_leniently<'a>(
     ensures made { IfOk result (λ out. MakesOf Reading.Lenient (Makes making) bytes.items out.items) }
     ensures refused { IfErr result (RefusesBy Reading.Lenient making name.entry.now bytes.items) }
 {
-    let pods = match read_as(alloc, Reading::Lenient, bytes) {
-        Ok(pods) => pods,
-        Err(why) => return Err(Failure::Pods(name, why)),
-    };
+    let mut pods = Vec::new(alloc);
+    if rewrite_all_leniently(bytes.as_slice(), &mut pods).is_err() {
+        return Err(refused(alloc, Reading::Lenient, name, bytes.as_slice()));
+    }
     // What was read is refused for lack of memory alone.
     match make(alloc, making, name, pods) {
         Ok(made) => Ok(made),
@@ -90,24 +95,47 @@ fn make<'a>(
     match making {
         Making::Json(layout) => match print_all(alloc, layout, bytes.as_slice()) {
             Ok(texts) => Ok(texts),
-            Err(why) => Err(Failure::Texts(name, why)),
+            Err(_) => Err(refused(alloc, Reading::Exact, name, bytes.as_slice())),
         },
         Making::Read => match read_all(alloc, bytes.as_slice()) {
             Ok(pods) => Ok(pods),
             Err(why) => Err(Failure::Texts(name, why)),
         },
-        Making::Rewrite => match rewritten(alloc, bytes) {
-            Ok(pods) => Ok(pods),
-            Err(why) => Err(Failure::Pods(name, why)),
-        },
-        Making::Fixate => match fixated(alloc, bytes) {
-            Ok(pods) => Ok(pods),
-            Err(why) => Err(Failure::Pods(name, why)),
-        },
+        Making::Rewrite => rewrite(alloc, name, bytes),
+        Making::Fixate => fixate(alloc, name, bytes),
         Making::Check => match check(alloc, bytes.as_slice()) {
             Ok(()) => Ok(Vec::new(alloc)),
-            Err(why) => Err(Failure::Pods(name, why)),
+            Err(_) => Err(refused(alloc, Reading::Exact, name, bytes.as_slice())),
         },
+    }
+}
+
+/// The rewritings of the pods that these bytes consist of, made in place.
+fn rewrite<'a>(alloc: Global, name: &'a str, mut bytes: Vec<u8>) -> Result<Vec<u8>, Failure<'a>>
+    ensures made { IfOk result (λ out. Rewrites bytes.items out.items) }
+    ensures refused { IfErr result (AreNoPods Reading.Exact name.entry.now bytes.items) }
+{
+    match rewrite_in_place(alloc, bytes.as_mut_slice()) {
+        Ok(len) => {
+            bytes.truncate(len);
+            Ok(bytes)
+        }
+        Err(_) => Err(refused(alloc, Reading::Exact, name, bytes.as_slice())),
+    }
+}
+
+/// These bytes with each top-level object fixated in place.
+fn fixate<'a>(alloc: Global, name: &'a str, bytes: Vec<u8>) -> Result<Vec<u8>, Failure<'a>>
+    ensures made { IfOk result (λ out. Fixates bytes.items out.items) }
+    ensures refused { IfErr result (AreNoPods Reading.Exact name.entry.now bytes.items) }
+{
+    if check(alloc, bytes.as_slice()).is_err() {
+        return Err(refused(alloc, Reading::Exact, name, bytes.as_slice()));
+    }
+    // What is accepted is refused for want of memory alone.
+    match fixated(alloc, bytes) {
+        Ok(pods) => Ok(pods),
+        Err(_) => Err(Failure::OutOfMemory),
     }
 }
 
@@ -133,6 +161,13 @@ impl Maker for Making {
     }
 }
 
+/// What was made of inputs, and what is said of their refused pods.
+#[derive(Drop)]
+pub(crate) struct Worked<'a> {
+    pub(crate) out: Vec<u8>,
+    pub(crate) refused: Vec<NamedRefusal<'a>>,
+}
+
 /// What is made of each of the inputs of these names, whose refused pods are left out or kept, one behind another.
 pub(crate) fn make_what_is_read<'a, R: Read, S: Files>(
     alloc: Global,
@@ -141,18 +176,45 @@ pub(crate) fn make_what_is_read<'a, R: Read, S: Files>(
     names: &[&'a str],
     input: &mut R,
     files: &S,
-) -> Result<Made<'a>, Failure<'a>>
-    ensures made { IfOk result (λ made. AreWorked manner.reading manner.refused making (R.remaining input.old) (S.holds files.now) names.now
-        made.out.items made.refused.items) }
+) -> Result<Worked<'a>, Failure<'a>>
+    ensures made { IfOk result (λ worked. AreWorked manner.reading manner.refused making (R.remaining input.old) (S.holds files.now) names.now
+        worked.out.items worked.refused.items) }
     ensures refused { IfErr result IsUnread }
 {
-    let mut made = Made {
+    let mut worked = Worked {
         out: Vec::new(alloc),
         refused: Vec::new(alloc),
     };
     for name in names {
         let bytes = read_named(alloc, *name, input, files)?;
-        make_each(alloc, &making, manner, *name, bytes.as_slice(), &mut made)?;
+        let more = work_on(alloc, making, manner, *name, bytes.as_slice(), worked)?;
+        worked = more;
     }
-    Ok(made)
+    Ok(worked)
+}
+
+/// Adds what is made of these bytes, which are those of the input of this name, and what is said of its refused pods.
+fn work_on<'a>(
+    alloc: Global,
+    making: Making,
+    manner: Manner,
+    name: &'a str,
+    bytes: &[u8],
+    worked: Worked<'a>,
+) -> Result<Worked<'a>, AllocError>
+    ensures { IfOk result (λ more. WorksOn manner.reading manner.refused making name.entry.now bytes.now worked.entry.out.items more.out.items
+        worked.entry.refused.items more.refused.items) }
+{
+    let mut said = worked.refused;
+    let mut made = Made {
+        out: worked.out,
+        refused: Vec::new(alloc),
+    };
+    make_each(alloc, &making, manner, name, bytes, &mut made)?;
+    let pods = made.refused.as_slice();
+    add_refusals(alloc, manner.reading, bytes, pods, &mut said)?;
+    Ok(Worked {
+        out: made.out,
+        refused: said,
+    })
 }

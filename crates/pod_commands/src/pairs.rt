@@ -6,6 +6,7 @@ ghost use Rattle.pod_commands.specs.Inputs.{AreBoth, OfTwo, content_of};
 
 use crate::answer::Failure;
 use crate::files::{Files, read_named};
+use crate::refusing::either_refused;
 use spa_meet_commands::lists::of_lists;
 use spa_meet_commands::pair::{Work, of_pair};
 use spa_text_commands::comparing::differences;
@@ -32,7 +33,7 @@ pub(crate) fn compare<'a, R: Read, S: Files>(
     };
     match differences(alloc, first.as_slice(), second.as_slice()) {
         Ok(lines) => Ok(lines),
-        Err(why) => Err(Failure::Compared(ours, theirs, why)),
+        Err(_) => Err(either_refused(alloc, ours, theirs, first.as_slice(), second.as_slice())),
     }
 }
 

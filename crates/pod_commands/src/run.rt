@@ -6,7 +6,7 @@ ghost use Rattle.pod_commands.specs.Making.{Makes, ShowsAs};
 
 use crate::answer::{Answer, Failure};
 use crate::files::Files;
-use crate::making::{make_all, make_what_is_read};
+use crate::making::{Worked, make_all, make_what_is_read};
 use crate::pairs::{agree, agree_of_lists, compare};
 use crate::request::{Fate, Making, Manner, Request, Streaming, Word, request_of};
 use crate::sending::answered;
@@ -116,7 +116,7 @@ fn go_on<'a, R: Read, S: Files, W: Write + Drop>(
         Ok(made) => made,
         Err(why) => return (Answer::Refused(why), device),
     };
-    let recordings::Made { out, refused } = made;
+    let Worked { out, refused } = made;
     if refused.is_empty() {
         return answered(files, target, device, Ok(out), Answer::Done);
     }

@@ -7,6 +7,7 @@ ghost use Rattle.pod_commands.specs.Showing.{IsCut, IsCutAt, IsToldAs};
 
 use crate::answer::Failure;
 use crate::files::{Files, read_named};
+use spa_refusals::remainder;
 use spa_text_commands::showing::show_pods;
 use std::alloc::Global;
 use std::io::{Read, Write};
@@ -52,17 +53,26 @@ fn show<'a, W: Write + Drop>(
     let (shown, device) = show_pods(alloc, bytes, device);
     match shown {
         Ok(()) => (Ok(()), device),
-        Err(why) => (Err(failure_of(name, why)), device),
+        Err(why) => (Err(failure_of(alloc, name, bytes, why)), device),
     }
 }
 
-/// The refusal of the input of this name.
-fn failure_of<'a>(name: &'a str, why: spa_text_commands::answer::Failure) -> Failure<'a>
-    ensures { IsToldAs name.entry.now why result }
+/// The refusal of these bytes, which are those of the input of this name.
+fn failure_of<'a>(
+    alloc: Global,
+    name: &'a str,
+    bytes: &[u8],
+    why: spa_text_commands::answer::Failure,
+) -> Failure<'a>
+    ensures { IsToldAs name.entry.now bytes.now why result }
 {
     match why {
         spa_text_commands::answer::Failure::OutOfMemory => Failure::OutOfMemory,
         spa_text_commands::answer::Failure::WriteFailed => Failure::Unwritten(None),
-        why => Failure::Texts(name, why),
+        _ => match remainder(alloc, bytes) {
+            Ok(Some(why)) => Failure::Pods(name, why),
+            // The pods that whole inputs consist of are shown, unless memory runs out.
+            _ => Failure::OutOfMemory,
+        },
     }
 }

@@ -1,9 +1,7 @@
-use Rattle.std.proofs.Common.{◌≡◌, ◌++◌, ℕ, List, [], get_or, inl, refl, subst}
+use Rattle.std.proofs.Common.{◌≡◌, ℕ, List, [], get_or, inl, refl, subst}
 use Rattle.std.specs.Borrow.{Bor}
-use Rattle.spa_recordings.specs.GoingOn.{GoesOn}
-use Rattle.spa_recordings.specs.declared.going_on.RefusedPod.{RefusedPod}
 use Rattle.pod_commands.specs.Answers.{IsUnread}
-use Rattle.pod_commands.specs.Making.{Makes}
+use Rattle.pod_commands.specs.Working.{WorksOn}
 use Rattle.pod_commands.proofs.Made.{next_left, none_left}
 use Rattle.pod_commands.proofs.Requested.{told}
 use Rattle.pod_commands.proofs.Worked.{begins, finished, goes_on}
@@ -16,15 +14,12 @@ pub loop-name-preserved : goal.loop-name-preserved
 loop-name-preserved g c =
     let d : Bor (List ℕ) = record { ref_ptr = (0, 0); now = [] } in
     let name = (get_or c.args.names.now c.loop-name.name-index d).now in
-    let old = c.loop-name.made in
-    let new = c.make_each.new.made in
+    let old = c.loop-name.worked in
+    let new = c.in_ok-more.more in
     goes_on _ _ _ _ _ _ _ _ _ _ _ c.in_ok-bytes.bytes.items old.out.items new.out.items old.refused.items new.refused.items
     (next_left c.args.names.now c.loop-name.name-index d c.loop-name-test.true) c.in_ok-bytes.ensures.all c.read_named.ensures.left
-    (subst
-    (λ bytes.
-    (out : List ℕ) × (pods : List RefusedPod) × GoesOn name c.args.manner.reading c.args.manner.refused (Makes c.args.making) 0 bytes out pods
-    × (new.out.items ≡ old.out.items ++ out) × (new.refused.items ≡ old.refused.items ++ pods))
-    c.as_slice.ensures.value c.in_ok-make_each.ensures)
+    (subst (λ bytes. WorksOn c.args.manner.reading c.args.manner.refused c.args.making name bytes old.out.items new.out.items old.refused.items new.refused.items)
+    c.as_slice.ensures.value c.in_ok-more.ensures)
     c.loop-name.invariant
 
 pub returns-clause-made : goal.returns-clause-made
@@ -34,6 +29,6 @@ returns-clause-made g c =
 pub returns-in_err-bytes-clause-refused : goal.returns-in_err-bytes-clause-refused
 returns-in_err-bytes-clause-refused g c = told IsUnread c.from_residual.result _ c.from_residual.ensures.1 c.in_err-bytes.ensures.cause
 
-pub returns-in_err-make_each-clause-refused : goal.returns-in_err-make_each-clause-refused
-returns-in_err-make_each-clause-refused g c =
-    told IsUnread c.from_residual-in_err-make_each.result _ c.from_residual-in_err-make_each.ensures.1 (inl refl)
+pub returns-in_err-more-clause-refused : goal.returns-in_err-more-clause-refused
+returns-in_err-more-clause-refused g c =
+    told IsUnread c.from_residual-in_err-more.result _ c.from_residual-in_err-more.ensures.1 (inl refl)

@@ -1,0 +1,6 @@
+mod Counts
+mod Numbering
+mod Passing
+mod Saying
+mod Stepping
+mod Unreading

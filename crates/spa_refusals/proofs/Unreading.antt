@@ -1,0 +1,146 @@
+-- Why a pod isn't read.
+use Rattle.std.proofs.Common.{◌≡◌, ◌≢◌, ◌≤◌, ◌+◌, ◌-◌, ◌∙◌, ℕ, List, ◌++◌, length, take, drop, ap, arith, length-append, refl, sym, subst}
+use Rattle.std.proofs.lemmas.List.{drop_at}
+use Rattle.std.specs.Borrow.{Bor}
+use Rattle.std.specs.Prelude.{Option, Some, None, Result, Ok, Err, IfNone, IfOk, IfSome, codes, string_bytes}
+use Rattle.spa_fixed.specs.Faults.{fault_kind_text, kind_text}
+use Rattle.spa_fixed.specs.declared.fault.DeserializeError.{DeserializeError}
+use Rattle.spa_fixed.specs.declared.fault.DeserializeError.TheVariants as error
+use Rattle.spa_format.specs.Faults.{Stands}
+use Rattle.spa_format.specs.Front.{HasFront, IsRefused}
+use Rattle.spa_leaf.specs.Reading.{IsShortAt, Names, OnFault, OnMemory}
+use Rattle.spa_read.specs.Reading.{ConveysNothing}
+use Rattle.spa_recordings.specs.Reading.{IsAccepted, IsLeftOf, RefusesList}
+use Rattle.spa_recordings.specs.declared.reading.Reading.{Reading}
+use Rattle.spa_recordings.specs.declared.reading.Reading.TheVariants.{Exact, Lenient}
+use Rattle.spa_lenient.specs.Rewriting as lenient
+use Rattle.spa_rewrite.specs.Rewriting as exact
+use Rattle.spa_refusals.specs.Paths.{LeadsTo, itself, further, member, property}
+use Rattle.spa_refusals.specs.Refusals.{IsFirstRefusal, IsNothing, IsRefusalAt, IsUnreadFor}
+use Rattle.spa_refusals.specs.Several.{Counts, IsRemainder}
+use Rattle.spa_refusals.proofs.Numbering.{all_counted}
+use Rattle.spa_refusals.specs.declared.refusal.Refusal.{Refusal}
+
+not_memory : {I : Type 0} (e : DeserializeError I) → e ≢ error.OutOfMemory → OnMemory ⊥ e
+not_memory error.OutOfMemory n = absurd (n refl)
+not_memory _ n = tt
+
+fault_of : {I : Type 0} (Fact : Type 0) (e : DeserializeError I) → e ≢ error.OutOfMemory → OnFault Fact e → Fact
+fault_of Fact error.OutOfMemory n h = absurd (n refl)
+fault_of Fact (error.Nom f) n h = h
+fault_of Fact (error.PropertyWrongKey k) n h = h
+fault_of Fact error.UnsupportedType n h = h
+fault_of Fact error.InvalidType n h = h
+fault_of Fact error.PropertyMissing n h = h
+fault_of Fact error.InvalidChoiceType n h = h
+fault_of Fact error.MissingChoiceValues n h = h
+fault_of Fact error.WrongSize n h = h
+fault_of Fact error.UnreadMembers n h = h
+fault_of Fact error.NoElementLeft n h = h
+fault_of Fact error.FailedReader n h = h
+
+-- as a read of one pod says
+pub unread : (pod : List ℕ) (e : DeserializeError (Bor (List ℕ))) → e ≢ error.OutOfMemory → OnFault (IsRefused pod) e →
+    Names (λ fault place. Stands fault place pod) e → (¬ (HasFront pod) → IsShortAt pod e) → IsUnreadFor Exact pod e
+unread pod e n refused named short =
+    record { nothing = fault_of (IsRefused pod) e n refused; fault = not_memory e n; named = named; short_first = short }
+
+-- as one of the front of a list does
+pub unread_first : (input left : List ℕ) (e : DeserializeError (Bor (List ℕ))) → exact.RefusesList input left e → e ≢ error.OutOfMemory →
+    IsUnreadFor Exact left e
+unread_first input left e r n = unread left e n r.front.refused r.front.named r.front.short_first
+
+-- as a lenient one of a pod does
+pub unread_leniently : (pod : List ℕ) (e : DeserializeError (Bor (List ℕ))) → e ≢ error.OutOfMemory → lenient.RefusesFront pod e →
+    IsUnreadFor Lenient pod e
+unread_leniently pod e n r = record {
+  nothing = fault_of (ConveysNothing pod) e n r.refused;
+  fault = not_memory e n;
+  named = r.named;
+  short_first = r.short_first;
+}
+
+-- no pod is read at the front of what is left
+pub nothing_left : (reading : Reading) (input left : List ℕ) (e : DeserializeError (Bor (List ℕ))) → RefusesList reading input left e →
+    e ≢ error.OutOfMemory → IsNothing reading left
+nothing_left Exact input left e r n = fault_of (IsRefused left) e n r.front.refused
+nothing_left Lenient input left e r n = fault_of (ConveysNothing left) e n r.front.refused
+
+-- what is left of an input is what follows the byte where it begins
+parts : (reading : Reading) (input left : List ℕ) → IsLeftOf reading input left → (first : List ℕ) × (input ≡ first ++ left)
+parts Exact input left h = (h.1, h.2)
+parts Lenient input left h = (h.1, h.2)
+
+pub behind : (reading : Reading) (input left : List ℕ) (place : ℕ) → IsLeftOf reading input left → place ≡ length input - length left →
+    drop place input ≡ left
+behind reading input left place h is =
+    let p = parts reading input left h in
+    let l = ap length p.1 ∙ length-append p.0 left in
+    ap (drop place) p.1 ∙ drop_at p.0 left place (omega (arith, is, l))
+
+pub its_list : (reading : Reading) (input left : List ℕ) (e : DeserializeError (Bor (List ℕ))) → RefusesList reading input left e → IsLeftOf reading input left
+its_list Exact input left e r = r.behind
+its_list Lenient input left e r = r.behind
+
+-- and not all of it is read
+pub not_accepted : (reading : Reading) (input left : List ℕ) (e : DeserializeError (Bor (List ℕ))) → RefusesList reading input left e →
+    e ≢ error.OutOfMemory → ¬ (IsAccepted reading input)
+not_accepted Exact input left e r n h = fault_of _ e n r.refused h.0 h.1
+not_accepted Lenient input left e r n h = fault_of _ e n r.refused h.0 h.1
+
+-- bytes that are no whole pod have nothing inside
+leads_nowhere : (pod : List ℕ) → ¬ (HasFront pod) → (n : ℕ) (path inner : List ℕ) → LeadsTo pod n path inner → inner ≡ pod
+leads_nowhere pod none n path inner itself = refl
+leads_nowhere pod none n path inner (further m before new next last leads (member there type holds)) =
+    absurd (none (subst HasFront (leads_nowhere pod none m before next leads) there))
+leads_nowhere pod none n path inner (further m before new next last leads (property there type holds)) =
+    absurd (none (subst HasFront (leads_nowhere pod none m before next leads) there))
+
+short_kind : (pod kind : List ℕ) (e : DeserializeError (Bor (List ℕ))) → IsShortAt pod e → kind ≡ kind_text e → kind ≡ codes "Short"
+short_kind pod kind (error.Nom f) h e = e ∙ ap fault_kind_text h.0
+short_kind pod kind _ h e = absurd h
+
+-- and are short
+pub cut_short : (input : List ℕ) (r : Refusal) → IsRefusalAt Exact input r → ¬ (HasFront (drop r.place input)) → r.kind.now ≡ codes "Short"
+cut_short input r h none =
+    let same = leads_nowhere (drop r.place input) none h.path.steps (string_bytes r.path) h.inner h.path.leads in
+    short_kind h.inner r.kind.now h.cause (h.its.short_first (subst (λ z. ¬ (HasFront z)) (sym same) none)) h.kind
+
+pub no_front : (pod : List ℕ) → ¬ (HasFront pod) → IsRefused pod
+no_front pod none v begun = none begun.there
+
+-- what is found implies more
+pub some_more : {A E : Type 0} (r : Result (Option A) E) (P Q : A → Type 0) → ((x : A) → P x → Q x) → IfOk r (λ f. IfSome f P) → IfOk r (λ f. IfSome f Q)
+some_more (Ok (Some x)) P Q more h = more x h
+some_more (Ok None) P Q more h = tt
+some_more (Err e) P Q more h = tt
+
+pub none_more : {A E : Type 0} (r : Result (Option A) E) (P Q : Type 0) → (P → Q) → IfOk r (λ f. IfNone f P) → IfOk r (λ f. IfNone f Q)
+none_more (Ok (Some x)) P Q more h = tt
+none_more (Ok None) P Q more h = more h
+none_more (Err e) P Q more h = tt
+
+-- the first refused pod of an input
+pub first_said : (reading : Reading) (input left : List ℕ) (e : DeserializeError (Bor (List ℕ))) (r : Refusal) (place : ℕ) →
+    RefusesList reading input left e → e ≢ error.OutOfMemory → r.place ≡ place → place ≡ length input - length left → IsRefusalAt reading input r →
+    IsFirstRefusal reading input r
+first_said reading input left e r place h n same is its =
+    let list = its_list reading input left e h in
+    let at : drop r.place input ≡ left = ap (λ z. drop z input) same ∙ behind reading input left place list is in
+    (not_accepted reading input left e h n, subst (IsLeftOf reading input) (sym at) list, its)
+
+pub nothing_at : (reading : Reading) (input left : List ℕ) (e : DeserializeError (Bor (List ℕ))) (place : ℕ) → RefusesList reading input left e →
+    e ≢ error.OutOfMemory → place ≡ length input - length left → IsNothing reading (drop place input)
+nothing_at reading input left e place h n is =
+    subst (IsNothing reading) (sym (behind reading input left place (its_list reading input left e h) is)) (nothing_left reading input left e h n)
+
+-- what follows the whole pods of an input
+pub remains : (input : List ℕ) (r : Refusal) (at count : ℕ) → at ≤ length input → Counts input at count →
+    ¬ (HasFront (drop at (take (length input) input))) → ¬ (at ≡ length input) → r.place ≡ at → IsRefusalAt Exact input r → IsRemainder input r
+remains input r at count w c none more same its =
+    let a = all_counted input at count w c none in (
+      same ∙ a.0,
+      omega (arith, same, w, more),
+      cut_short input r its (subst (λ z. ¬ (HasFront (drop z input))) (sym same) a.1),
+      its,
+    )

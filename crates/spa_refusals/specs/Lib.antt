@@ -1,0 +1,3 @@
+pub mod Paths
+pub mod Refusals
+pub mod Several

@@ -1,0 +1,103 @@
+-- The path from a refused pod to the malformed one inside it: docs/TEXT.md, "What is said of a refused pod".
+use Rattle.std.specs.Prelude.{◌≡◌, ◌≢◌, ◌≤◌, ◌<◌, ◌+◌, ◌⊎◌, ◌&&◌, if◌then◌else◌, ℕ, codes, List, [], ◌++◌, Option, Some, None, length, drop, nat_eq, nat_le, nat_lt}
+use Rattle.std.specs.Fmt.{decimal}
+use Rattle.spa_format.specs.Front.{Begins, HasFront}
+use Rattle.spa_format.specs.Pod.{AreMembers, AreProperties}
+use Rattle.spa_format.specs.Tree.{Tree, Trees, Properties, object_type, struct_type}
+use Rattle.spa_format.specs.Walk.{walk}
+use Rattle.spa_format.specs.Words.{body_of, header_size, word_at}
+use Rattle.spa_names.specs.Lookup.{keys_of, name_of}
+use Rattle.spa_names.specs.declared.table.Table.TheVariants.{Types}
+
+-- ---- Names
+
+-- where the type of an object ends, behind the header of its pod
+abbrev pub object_type_end : ℕ
+object_type_end = 12
+
+-- the number of the type of the pod at the front, of an object that of the object's type
+abbrev pub type_number : List ℕ → ℕ
+type_number pod = if nat_eq (word_at pod 4) object_type && nat_le object_type_end (length pod) then word_at pod 8 else word_at pod 4
+
+-- the name of that type, where the bytes are long enough to have one
+unfoldable pub type_name : List ℕ → Option (List ℕ)
+type_name pod = if nat_lt (length pod) header_size then None else name_of Types (type_number pod)
+
+-- the name of a key of objects of this type
+unfoldable pub key_name : (type key : ℕ) → Option (List ℕ)
+key_name type key = name_of (keys_of (record { 0 = type })) key
+
+-- ---- Steps
+
+-- the step to the value of a property: the key's name, or its number where it has none
+abbrev pub named_step : Option (List ℕ) → ℕ → List ℕ
+named_step None key = codes "." ++ decimal key
+named_step (Some name) key = codes "." ++ name
+
+abbrev pub key_step : (type key : ℕ) → List ℕ
+key_step type key = named_step (key_name type key) key
+
+-- the step to a member, behind so many others
+abbrev pub member_step : ℕ → List ℕ
+member_step n = codes "[" ++ (decimal n ++ codes "]")
+
+-- Bytes that should be members: behind some first ones begins another one, to which this step is added.
+pub record HoldsMember (members path inner new : List ℕ) : Type 0 where
+  pub values : Trees
+  pub first : List ℕ
+  pub whole : members ≡ first ++ inner
+  pub read : AreMembers values first
+  pub some : inner ≢ []
+  pub step : new ≡ path ++ member_step (length (walk first))
+
+-- Bytes that should be properties, in an object of this type: behind some first ones begins the value of another one.
+pub record HoldsProperty (type : ℕ) (properties path inner new : List ℕ) : Type 0 where
+  pub values : Properties
+  pub first : List ℕ
+  pub left : List ℕ
+  pub whole : properties ≡ first ++ left
+  pub read : AreProperties values first
+  pub long : header_size ≤ length left
+  pub value : inner ≡ drop header_size left
+  pub step : new ≡ path ++ key_step type (word_at left 0)
+
+-- the same in the body of an object
+abbrev pub HoldsValue : (body path inner new : List ℕ) → Type 0
+HoldsValue body path inner new = (header_size ≤ length body) × HoldsProperty (word_at body 0) (drop header_size body) path inner new
+
+-- a step from the struct or the object at the front to a pod inside
+pub data StepsTo (pod path inner new : List ℕ) : Type 0 where
+  member : HasFront pod → word_at pod 4 ≡ struct_type → HoldsMember (body_of pod) path inner new → StepsTo pod path inner new
+  property : HasFront pod → word_at pod 4 ≡ object_type → HoldsValue (body_of pod) path inner new → StepsTo pod path inner new
+
+-- so many steps lead by this path to a pod inside
+pub data LeadsTo (pod : List ℕ) : ℕ → (path inner : List ℕ) → Type 0 where
+  itself : LeadsTo pod 0 [] pod
+  further : (n : ℕ) (path new next inner : List ℕ) → LeadsTo pod n path next → StepsTo next path inner new → LeadsTo pod (n + 1) new inner
+
+-- all properties are read, and too few bytes for another one follow
+abbrev pub HaveRead : List ℕ → Type 0
+HaveRead properties =
+    (ps : Properties) × (first : List ℕ) × (left : List ℕ) × (properties ≡ first ++ left) × AreProperties ps first × (length left < header_size)
+
+-- a pod is read at the front
+abbrev pub BeginsPod : List ℕ → Type 0
+BeginsPod bytes = (v : Tree) × Begins bytes v
+
+-- no pod inside the one at the front is refused
+pub data IsInnermost (pod : List ℕ) : Type 0 where
+  cut_off : ¬ (HasFront pod) → IsInnermost pod
+  holds_none : word_at pod 4 ≢ struct_type → word_at pod 4 ≢ object_type → IsInnermost pod
+  members_read : word_at pod 4 ≡ struct_type → (vs : Trees) → AreMembers vs (body_of pod) → IsInnermost pod
+  short_object : word_at pod 4 ≡ object_type → length (body_of pod) < header_size → IsInnermost pod
+  properties_read : word_at pod 4 ≡ object_type → HaveRead (drop header_size (body_of pod)) → IsInnermost pod
+
+-- how many steps a path has at most
+abbrev pub step_limit : ℕ
+step_limit = 32
+
+-- the path to the innermost refused pod, or to the one so many steps deep
+pub record IsPath (pod path inner : List ℕ) : Type 0 where
+  pub steps : ℕ
+  pub leads : LeadsTo pod steps path inner
+  pub ends : (steps ≡ step_limit) ⊎ IsInnermost inner

@@ -1,0 +1,75 @@
+-- What is said of a refused pod: docs/TEXT.md, "What is said of a refused pod".
+use Rattle.std.specs.Prelude.{◌≡◌, ◌≤◌, ◌+◌, ℕ, codes, List, [], ◌∷◌, ◌++◌, Option, Some, None, length, drop, take, option_map, string_bytes}
+use Rattle.std.specs.Borrow.{Bor}
+use Rattle.std.specs.Fmt.{decimal}
+use Rattle.spa_fixed.specs.Faults.{error_text, kind_text}
+use Rattle.spa_fixed.specs.declared.fault.DeserializeError.{DeserializeError}
+use Rattle.spa_format.specs.Faults.{Fault, Stands}
+use Rattle.spa_format.specs.Front.{HasFront, IsRefused}
+use Rattle.spa_format.specs.Walk.{walk}
+use Rattle.spa_leaf.specs.Reading.{IsShortAt, Names, OnMemory}
+use Rattle.spa_read.specs.Reading.{ConveysNothing, StandsLeniently}
+use Rattle.spa_recordings.specs.Reading.{IsAccepted, IsLeftOf}
+use Rattle.spa_recordings.specs.declared.reading.Reading.{Reading}
+use Rattle.spa_recordings.specs.declared.reading.Reading.TheVariants.{Exact, Lenient}
+use Rattle.spa_refusals.specs.Paths.{IsPath, type_name}
+use Rattle.spa_refusals.specs.declared.refusal.Refusal.{Refusal}
+
+-- no pod is read at the front
+abbrev pub IsNothing : Reading → List ℕ → Type 0
+IsNothing Exact pod = IsRefused pod
+IsNothing Lenient pod = ConveysNothing pod
+
+-- a fault is in the pod at the front, at this place
+abbrev pub StandsBy : Reading → Fault → (place pod : List ℕ) → Type 0
+StandsBy Exact fault place pod = Stands fault place pod
+StandsBy Lenient fault place pod = StandsLeniently fault place pod
+
+-- Why no pod is read at the front: for a fault that is in it, and for want of bytes where it isn't whole.
+pub record IsUnreadFor (reading : Reading) (pod : List ℕ) (e : DeserializeError (Bor (List ℕ))) : Type 0 where
+  pub nothing : IsNothing reading pod
+  pub fault : OnMemory ⊥ e
+  pub named : Names (λ fault place. StandsBy reading fault place pod) e
+  pub short_first : ¬ (HasFront pod) → IsShortAt pod e
+
+-- the path to the pod that the cause is about; leniently that is the refused pod itself
+abbrev pub LeadsBy : Reading → (pod path inner : List ℕ) → Type 0
+LeadsBy Exact pod path inner = IsPath pod path inner
+LeadsBy Lenient pod path inner = (path ≡ []) × (inner ≡ pod)
+
+-- what is said of the pod at the front of what follows `place`
+pub record IsRefusalAt (reading : Reading) (input : List ℕ) (refusal : Refusal) : Type 0 where
+  pub within : refusal.place ≤ length input
+  pub number : refusal.number ≡ length (walk (take refusal.place input)) + 1
+  pub type : option_map (λ name. name.now) refusal.type_ ≡ type_name (drop refusal.place input)
+  pub nothing : IsNothing reading (drop refusal.place input)
+  pub inner : List ℕ
+  pub path : LeadsBy reading (drop refusal.place input) (string_bytes refusal.path) inner
+  pub inner_type : option_map (λ name. name.now) refusal.inner_type ≡ type_name inner
+  pub cause : DeserializeError (Bor (List ℕ))
+  pub its : IsUnreadFor reading inner cause
+  pub kind : refusal.kind.now ≡ kind_text cause
+  pub words : string_bytes refusal.words ≡ error_text cause
+
+-- not all of the input is read: the pods before are, and this is said of the one behind them
+abbrev pub IsFirstRefusal : Reading → List ℕ → Refusal → Type 0
+IsFirstRefusal reading input refusal =
+    ¬ (IsAccepted reading input) × IsLeftOf reading input (drop refusal.place input) × IsRefusalAt reading input refusal
+
+-- ---- The text
+
+-- a type in brackets, where it has a name
+abbrev pub title_text : Option (Bor (List ℕ)) → List ℕ
+title_text None = []
+title_text (Some name) = codes " (" ++ (name.now ++ codes ")")
+
+-- the path, where there is one, and the type of the pod that it leads to
+abbrev pub inner_text : (path : List ℕ) → Option (Bor (List ℕ)) → List ℕ
+inner_text [] type = []
+inner_text (x ∷ path) type = codes ", at " ++ (x ∷ path ++ title_text type)
+
+-- the refusal
+abbrev pub refusal_text : Refusal → List ℕ
+refusal_text r =
+    codes "pod " ++ (decimal r.number ++ (title_text r.type_ ++ (codes ", byte " ++ (decimal r.place ++ (inner_text (string_bytes r.path) r.inner_type
+    ++ (codes ": " ++ (string_bytes r.words ++ (codes " (" ++ (r.kind.now ++ codes ")")))))))))

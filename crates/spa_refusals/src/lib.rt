@@ -1,0 +1,11 @@
+//! The refused pod of an input in words: its number, its type's name, the path to the malformed pod inside, and the cause.
+#![tactic(auto)]
+
+mod counting;
+mod inside;
+mod names;
+mod refusal;
+mod several;
+
+pub use refusal::{Refusal, first_refusal};
+pub use several::{NamedRefusal, add_refusals, remainder};

@@ -1,0 +1,58 @@
+//! The names of types and keys.
+ghost use Rattle.std.specs.Prelude.{◌≡◌, ◌≤◌, ◌++◌, OnOk, length, option_map, string_bytes};
+ghost use Rattle.spa_format.specs.Words.{header_size};
+ghost use Rattle.spa_refusals.specs.Paths as spec;
+ghost use Rattle.spa_refusals.specs.Paths.{key_step, type_number};
+
+use spa_bytes::{HEADER_LEN, SECOND_WORD, u32_at};
+use spa_names::{Table, keys_of, name_of};
+use spa_utils::SpaTypes;
+use std::alloc::AllocError;
+use std::fmt::Write;
+
+/// Where the type of an object ends.
+const OBJECT_TYPE_END: usize = 12;
+
+/// The name of the type of the pod at the front, of an object that of the object's type.
+#[tactic(auto, unfolding(crate::specs::Paths::type_name))]
+pub(crate) fn type_name(pod: &[u8]) -> Option<&'static str>
+    ensures { option_map (λ name. name.now) result ≡ spec.type_name pod.now }
+{
+    if pod.len() < HEADER_LEN {
+        return None;
+    }
+    name_of(Table::Types, type_number(pod))
+}
+
+/// The number of that type.
+fn type_number(pod: &[u8]) -> u32
+    requires { header_size ≤ length pod.now }
+    ensures { result ≡ type_number pod.now }
+{
+    let type_ = u32_at(pod, SECOND_WORD);
+    if type_ == SpaTypes::Object.0 && pod.len() >= OBJECT_TYPE_END {
+        return u32_at(pod, HEADER_LEN);
+    }
+    type_
+}
+
+/// The name of a key of objects of this type.
+#[tactic(auto, unfolding(crate::specs::Paths::key_name))]
+fn key_name(type_: u32, key: u32) -> Option<&'static str>
+    ensures { option_map (λ name. name.now) result ≡ spec.key_name type_ key }
+{
+    name_of(keys_of(SpaTypes(type_)), key)
+}
+
+/// Adds a key of objects of this type to a path: its name, or its number where it has none.
+pub(crate) fn push_key(path: &mut String, type_: u32, key: u32) -> Result<(), AllocError>
+    ensures { OnOk result (string_bytes path.new ≡ string_bytes path.old ++ key_step type_ key) }
+{
+    match key_name(type_, key) {
+        Some(name) => {
+            path.push_str(".")?;
+            path.push_str(name)
+        }
+        None => write!(path, ".{key}"),
+    }
+}

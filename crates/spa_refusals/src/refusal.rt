@@ -1,0 +1,164 @@
+//! What is said of a refused pod.
+ghost use Rattle.std.specs.Prelude.{◌≡◌, ◌+◌, ◌≤◌, IfErr, IfNone, IfOk, IfSome, OnOk, drop, length, take};
+ghost use Rattle.spa_format.specs.Walk.{walk};
+ghost use Rattle.spa_recordings.specs.Reading.{IsAccepted, RefusesList};
+ghost use Rattle.spa_refusals.specs.Refusals.{IsFirstRefusal, IsNothing, IsRefusalAt};
+
+use crate::counting::count;
+use crate::inside::malformed;
+use crate::names::type_name;
+use spa_fixed::DeserializeError;
+use spa_lenient::rewrite_all_leniently;
+use spa_recordings::reading::Reading;
+use spa_rewrite::accept_all;
+use std::alloc::{AllocError, Global};
+use std::fmt;
+use std::fmt::Write;
+
+/// A pod of an input that is refused. It prints all of that: `pod 17 (Format), byte 5504, at .position (Choice): a choice has no such shape
+/// (InvalidChoiceType)`.
+#[derive(Debug, Drop)]
+pub struct Refusal {
+    /// Which pod of the input it is, the first being 1. Each takes as many bytes as its size word says.
+    pub number: usize,
+    /// The byte of the input where it begins.
+    pub place: usize,
+    /// The name of its type, of an object that of the object's type, where there is one.
+    pub type_: Option<&'static str>,
+    /// The path to the pod inside it that is malformed: keys as `.rate`, places of members as `[2]`, the first being 0. It is empty where that
+    /// is the pod itself, and in the lenient reading. After 32 steps it may end before that pod.
+    pub path: String,
+    /// The name of the type of that one.
+    pub inner_type: Option<&'static str>,
+    /// The name of the cause, as `DeserializeError::kind` gives it.
+    pub kind: &'static str,
+    /// The cause in words, as `DeserializeError` prints.
+    pub words: String,
+}
+
+/// The refusal of the first pod of the input that isn't read; None where all of it is read.
+pub fn first_refusal(
+    alloc: Global,
+    reading: Reading,
+    input: &[u8],
+) -> Result<Option<Refusal>, AllocError>
+    ensures read { IfOk result (λ found. IfNone found (IsAccepted reading input.now)) }
+    ensures refused { IfOk result (λ found. IfSome found (IsFirstRefusal reading input.now)) }
+{
+    let Err((left, error)) = accept(alloc, reading, input) else {
+        return Ok(None);
+    };
+    match error {
+        DeserializeError::OutOfMemory => Err(AllocError),
+        _ => {
+            let place = input.len() - left.len();
+            let (before, _) = input.split_at(place);
+            let refusal = refusal_at(alloc, reading, input, place, count(before) + 1)?;
+            Ok(Some(refusal))
+        }
+    }
+}
+
+/// Passes where the input is read whole. A refusal gives what is left of it from the first pod on that isn't read.
+fn accept(
+    alloc: Global,
+    reading: Reading,
+    input: &[u8],
+) -> Result<(), (&[u8], DeserializeError<&[u8]>)>
+    ensures accepted { OnOk result (IsAccepted reading input.now) }
+    ensures refused { IfErr result (λ refusal. RefusesList reading input.now refusal.0.now refusal.1) }
+{
+    match reading {
+        Reading::Exact => accept_all(alloc, input),
+        Reading::Lenient => rewrite_all_leniently(input, &mut Vec::new(alloc)),
+    }
+}
+
+/// The refusal of the pod of this number that begins at this byte of the input, and isn't read.
+pub(crate) fn refusal_at(
+    alloc: Global,
+    reading: Reading,
+    input: &[u8],
+    place: usize,
+    number: usize,
+) -> Result<Refusal, AllocError>
+    requires within { place ≤ length input.now }
+    requires number { number ≡ length (walk (take place input.now)) + 1 }
+    requires nothing { IsNothing reading (drop place input.now) }
+    ensures place { IfOk result (λ refusal. refusal.place ≡ place) }
+    ensures refusal { IfOk result (IsRefusalAt reading input.now) }
+{
+    let (_, pod) = input.split_at(place);
+    let (path, inner) = malformed(alloc, reading, pod)?;
+    let mut words = String::new(alloc);
+    write!(words, "{}", inner.error)?;
+    Ok(Refusal {
+        number,
+        place,
+        type_: type_name(pod),
+        path,
+        inner_type: type_name(inner.pod),
+        kind: inner.error.kind(),
+        words,
+    })
+}
+
+/// The name of a type in brackets, where there is one.
+#[derive(Clone, Copy)]
+struct Title(Option<&'static str>);
+
+impl fmt::Display for Title {
+    ghost use Rattle.std.specs.Prelude.{Some};
+    ghost use Rattle.spa_refusals.specs.Refusals.{title_text};
+
+    ghost output = { λ title. Some (title_text title.0) };
+
+    fn fmt<W: fmt::Write>(&self, f: &mut fmt::Formatter<W>) -> fmt::Result {
+        match self.0 {
+            Some(name) => write!(f, " ({name})"),
+            None => Ok(()),
+        }
+    }
+}
+
+/// The path to a pod, and its type, where the path isn't empty.
+#[derive(Clone, Copy)]
+struct Inner<'a> {
+    path: &'a str,
+    type_: Option<&'static str>,
+}
+
+impl fmt::Display for Inner<'_> {
+    ghost use Rattle.std.specs.Prelude.{Some};
+    ghost use Rattle.spa_refusals.specs.Refusals.{inner_text};
+
+    ghost output = { λ inner. Some (inner_text inner.path.now inner.type_) };
+
+    #[tactic(auto, using(crate::proofs::Saying::no_inner, crate::proofs::Saying::some_inner))]
+    fn fmt<W: fmt::Write>(&self, f: &mut fmt::Formatter<W>) -> fmt::Result {
+        if self.path.is_empty() {
+            return Ok(());
+        }
+        write!(f, ", at {}{}", self.path, Title(self.type_))
+    }
+}
+
+impl fmt::Display for Refusal {
+    ghost use Rattle.std.specs.Prelude.{Some};
+    ghost use Rattle.spa_refusals.specs.Refusals.{refusal_text};
+
+    ghost output = { λ refusal. Some (refusal_text refusal) };
+
+    fn fmt<W: fmt::Write>(&self, f: &mut fmt::Formatter<W>) -> fmt::Result {
+        let title = Title(self.type_);
+        let inner = Inner {
+            path: self.path.as_str(),
+            type_: self.inner_type,
+        };
+        write!(
+            f,
+            "pod {}{title}, byte {}{inner}: {} ({})",
+            self.number, self.place, self.words, self.kind
+        )
+    }
+}

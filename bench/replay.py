@@ -30,7 +30,7 @@ MOVED = {
     "crates/libspa_tests/src/negotiation": ("negotiation_rows", "negotiation_tests"),
     "crates/libspa_tests/src/builder": ("spa_builder_tests",),
     "crates/libspa_tests/src/parser": ("spa_parser_tests",),
-    "crates/spa_part_tests/src/values": ("spa_fixed_tests", "spa_value_tests"),
+    "crates/spa_part_tests/src/values": ("spa_fixed_sized_tests", "spa_value_tests"),
     "crates/spa_part_tests/src/viewing": ("spa_view_tests",),
     "crates/spa_part_tests": ("reading_rows", "spa_write_tests"),
     "crates/spa_read_tests/src/reading": ("reading_rows",),

@@ -3,7 +3,7 @@ use crate::compare::{assert_prints, assert_refused, assert_words};
 use arrayvec::ArrayVec;
 use bitflags::Flags;
 use spa_dict::{DictRef, Flags as DictFlags};
-use spa_fixed::CanonicalFixedSizedPod;
+use spa_fixed_sized::CanonicalFixedSizedPod;
 use spa_result::SpaResult;
 use spa_sink::PodSink;
 use spa_text_read::{Cause, TextError};

@@ -10,13 +10,13 @@ pub use Rattle.spa_format.specs.Typed
 pub use Rattle.spa_format.specs.Faults
 pub use Rattle.spa_format.specs.Walk
 pub use Rattle.spa_format.specs.Fixation
-pub use Rattle.spa_fixed.specs.Choices
+pub use Rattle.spa_fixed_sized.specs.Choices
 pub use Rattle.spa_sink.specs.Writing
 pub use Rattle.spa_device.specs.Counting
 pub use Rattle.spa_value.specs.View
 pub use Rattle.spa_value.specs.Views
 pub use Rattle.spa_value.specs.Equality
-pub use Rattle.spa_leaf.specs.Reading
+pub use Rattle.spa_bodies.specs.Reading
 pub use Rattle.spa_typed_read.specs.Asking
 pub use Rattle.spa_typed_read.specs.Visiting
 pub use Rattle.spa_typed_read.specs.Members
@@ -24,7 +24,7 @@ pub use Rattle.spa_typed_read.specs.Exactly
 pub use Rattle.spa_typed_read.specs.ExactlyLaws
 pub use Rattle.spa_typed_read.specs.Lookup
 pub use Rattle.spa_visitors.specs.Declining
-pub use Rattle.spa_leaf.specs.Written
+pub use Rattle.spa_bodies.specs.Written
 pub use Rattle.spa_typed_write.specs.Success
 pub use Rattle.spa_typed_write.specs.Unfinished
 pub use Rattle.spa_typed_write.specs.Listed
@@ -53,8 +53,8 @@ pub use Rattle.spa_utils.specs.declared.rectangle.Rectangle
 pub use Rattle.spa_utils.specs.declared.fraction.Fraction
 pub use Rattle.spa_sink.specs.declared.gen_error.GenError
 pub use Rattle.spa_sink.specs.declared.gen_error.GenError.TheVariants as GenErrors
-pub use Rattle.spa_fixed.specs.declared.fault.DeserializeError
-pub use Rattle.spa_fixed.specs.declared.fault.DeserializeError.TheVariants as DeserializeErrors
+pub use Rattle.spa_fixed_sized.specs.declared.fault.DeserializeError
+pub use Rattle.spa_fixed_sized.specs.declared.fault.DeserializeError.TheVariants as DeserializeErrors
 pub use Rattle.spa_value.specs.declared.object.Object
 pub use Rattle.spa_value.specs.declared.object.Property
 pub use Rattle.spa_value.specs.declared.value.Value

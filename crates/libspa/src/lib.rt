@@ -30,7 +30,7 @@ pub mod utils {
 
 /// Pods: values and their rewriting, and borrowed views.
 pub mod pod {
-    pub use spa_fixed::{CanonicalFixedSizedPod, ChoiceElement, FixedSizedPod};
+    pub use spa_fixed_sized::{CanonicalFixedSizedPod, ChoiceElement, FixedSizedPod};
     pub use spa_format::{laws, view_laws};
     pub use spa_in_place::rewrite_in_place;
     pub use spa_lenient::{
@@ -69,7 +69,7 @@ pub mod pod {
 
     /// Reading values.
     pub mod deserialize {
-        pub use spa_fixed::{DeserializeError, Fault, FaultKind};
+        pub use spa_fixed_sized::{DeserializeError, Fault, FaultKind};
         pub use spa_typed_read::{
             ArrayPodDeserializer, DeserializeAs, DeserializeMembers, DeserializeProperties,
             DeserializeSuccess, ExactDeserialize, Never, ObjectOf, ObjectPodDeserializer, Optional,

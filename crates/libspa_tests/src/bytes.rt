@@ -1,8 +1,8 @@
 //! What the tests assert of bytes and numbers: each assertion is proved here, once.
-use spa_spelling::bytes_spelled;
 use std::alloc::Global;
 use std::process::Abort;
 use std::test::Fail;
+use test_bytes::bytes_spelled;
 
 /// Compares bytes with those that the words spell.
 pub(crate) fn assert_spelt(

@@ -1,8 +1,8 @@
 //! What docs/CALLING.md shows of the parser, word for word, and what it answers.
 use crate::bytes::assert_holds;
 use crate::calling::taking_apart::sample_rate;
-use spa_spelling::bytes_of;
 use std::test::Fail;
+use test_bytes::bytes_of;
 
 mod taking_apart {
     use libspa::pod::Pod;

@@ -8,10 +8,10 @@ use crate::readme::read::count;
 use crate::readme::result_codes::told;
 use crate::readme::rewrite::{all_rewritten, say_the_same};
 use crate::readme::write::{encoded_int, encoded_pair};
-use spa_spelling::{bytes_spelled, nested_structs};
 use std::alloc::{AllocError, Global};
 use std::process::Abort;
 use std::test::Fail;
+use test_bytes::{bytes_spelled, nested_structs};
 
 mod read {
     use libspa::pod::deserialize::{DeserializeError, PodDeserializer};

@@ -7,18 +7,18 @@
 //! - `format`: behind the rows, each such pod is filtered with each, and what comes is settled.
 #![tactic(auto)]
 
-use spa_callers::negotiate_by_values;
+use example_calls::negotiate_by_values;
 use spa_filter::{Side, filter, settle};
 use spa_filter_pods::{FilterError, filter_pods};
-use spa_fixed::Refusal;
+use spa_fixed_sized::Refusal;
 use spa_negotiate::{NegotiateError, negotiate_pods};
 use spa_read::read_value;
 use spa_sink::GenError;
-use spa_spelling::{SpellingError, bytes_spelled, push_spelling};
 use spa_value::{Object, Value};
 use spa_write::write_value;
 use std::alloc::{AllocError, Global};
 use std::io::{self, Error, ErrorKind};
+use test_bytes::{SpellingError, bytes_spelled, push_spelling};
 
 /// Answers all rows, and then prints the answers.
 fn main(rt: HostRuntime) -> io::Result<()> {

@@ -1,5 +1,5 @@
 //! What two pods meet in, by `negotiate_pods` and by way of values.
-use spa_callers::negotiate_by_values;
+use example_calls::negotiate_by_values;
 use spa_negotiate::{NegotiateError, negotiate_pods};
 use std::alloc::{AllocError, Global};
 use std::process::Abort;

@@ -1,9 +1,9 @@
 //! Objects of many keys, of Enums of many alternatives, and of deeply nested values.
 use crate::answers::assert_meet;
-use spa_spelling::{bytes_of, push_words};
 use std::alloc::{AllocError, Global};
 use std::process::Abort;
 use std::test::Fail;
+use test_bytes::{bytes_of, push_words};
 
 /// How many keys an object has beside key 0, and how many alternatives an Enum beside the last one.
 const COUNT: u32 = 2000;

@@ -91,6 +91,7 @@ unread s name content old why u = of (known content) u
     known : (content : Option (List ℕ)) → (input : List ℕ) × IsAllOf content input
     known None = ([], tt)
     known (Some xs) = (xs, refl)
+
     of : (input : List ℕ) × IsAllOf content input → IsUnread why → IsBrokenAt s name content old old why
     of k (inl e) = subst (IsBrokenAt s name content old old) (sym e) (k.0, [], k.1, (k.0, none_of s k.0), appends_nothing old)
     of k (inr e) = subst (IsBrokenAt s name content old old) (sym e.1) (k.0, [], k.1, (k.0, none_of s k.0), appends_nothing old)

@@ -120,7 +120,8 @@ impl From<AllocError> for Failure<'_> {
 }
 
 /// What is said of a word with another number of inputs than it takes, or with options that don't go together.
-const MISUSE: &str = "pod: diff takes two FILEs, meet and filter one or two, --stream no other option but --pretty; pod --help says more";
+const MISUSE: &str =
+    "pod: diff takes two FILEs, meet and filter one or two, --stream no other option but --pretty; pod --help says more";
 
 /// Writes what is said of this answer: help and the version to the output, a refusal or a misuse to the other writer, of work that was
 /// done nothing.

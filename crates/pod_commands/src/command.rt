@@ -95,7 +95,9 @@ fn stream<'a>(alloc: Global) -> Arg<'a>
     Arg::new(alloc, "stream")
         .long("stream")
         .action(ArgAction::SetTrue)
-        .help("Writes in blocks as input comes, in constant memory; what was written before a refusal stands")
+        .help(
+            "Writes in blocks as input comes, in constant memory; what was written before a refusal stands",
+        )
 }
 
 /// A word of the program, with what help says of it and an example.

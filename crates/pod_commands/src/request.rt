@@ -96,7 +96,12 @@ pub(crate) fn request_of<'a>(
     let Some((name, given)) = matches.subcommand() else {
         return Ok(None);
     };
-    let Some(word) = word_of(name, layout_of(given), manner_of(given), is_set(given, "stream")) else {
+    let Some(word) = word_of(
+        name,
+        layout_of(given),
+        manner_of(given),
+        is_set(given, "stream"),
+    ) else {
         return Ok(None);
     };
     let names = names_of(alloc, given)?;

@@ -62,7 +62,9 @@ fn do_work<'a, R: Read, S: Files, W: Write + Drop>(
             make(alloc, making, manner, names, target, input, files, device)
         }
         Word::Stream(streaming, manner) => {
-            stream(alloc, streaming, manner, names, target, input, files, device)
+            stream(
+                alloc, streaming, manner, names, target, input, files, device,
+            )
         }
         Word::Diff => diff(alloc, names, target, input, files, device),
         Word::Agree(work) => seek(alloc, work, names, target, input, files, device),

@@ -7,9 +7,9 @@
 use pod_commands::answer::tell;
 use pod_commands::files::Files;
 use pod_commands::run::run;
-use spa_spelling::{SpellingError, bytes_spelled};
 use std::alloc::Global;
 use std::io::{self, Cursor, Error, ErrorKind, Write};
+use test_bytes::{SpellingError, bytes_spelled};
 use test_streams::{ALL, Device, OneLine, Source, Words};
 
 /// Files whose names spell their bytes, with commas between the words. Another name is none of a file. What is written is kept, but to

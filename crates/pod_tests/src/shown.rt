@@ -2,9 +2,9 @@
 use crate::streams::{Broken, WANTING};
 use pod_commands::answer::tell;
 use pod_commands::run::run;
-use spa_spelling::nested_structs;
 use std::alloc::{AllocError, Global};
 use std::io::ErrorKind;
+use test_bytes::nested_structs;
 use test_streams::{ALL, Device, PIECE, Source};
 
 /// What is wanted of a run: the end of what it writes, what it says, and its status.

@@ -7,9 +7,13 @@ use test_streams::{ALL, Device, PIECE, Source};
 
 /// A struct of a Bool of 7 with padding that is no zeros, which is rewritten as `CLEAN`. A block ends within one of them,
 /// since 24 doesn't divide 65536.
-const PADDED: [u8; 24] = [16, 0, 0, 0, 14, 0, 0, 0, 4, 0, 0, 0, 2, 0, 0, 0, 7, 0, 0, 0, 9, 9, 9, 9];
+const PADDED: [u8; 24] = [
+    16, 0, 0, 0, 14, 0, 0, 0, 4, 0, 0, 0, 2, 0, 0, 0, 7, 0, 0, 0, 9, 9, 9, 9,
+];
 
-const CLEAN: [u8; 24] = [16, 0, 0, 0, 14, 0, 0, 0, 4, 0, 0, 0, 2, 0, 0, 0, 1, 0, 0, 0, 0, 0, 0, 0];
+const CLEAN: [u8; 24] = [
+    16, 0, 0, 0, 14, 0, 0, 0, 4, 0, 0, 0, 2, 0, 0, 0, 1, 0, 0, 0, 0, 0, 0, 0,
+];
 
 /// An Int of eight bytes, which is no pod.
 const WRONG: [u8; 16] = [8, 0, 0, 0, 4, 0, 0, 0, 3, 0, 0, 0, 0, 0, 0, 0];

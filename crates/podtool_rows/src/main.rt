@@ -5,9 +5,9 @@
 #![tactic(auto)]
 
 use spa_pod_commands::run::run;
-use spa_spelling::{SpellingError, bytes_spelled};
 use std::alloc::{AllocError, Global};
 use std::io::{self, Error, ErrorKind};
+use test_bytes::{SpellingError, bytes_spelled};
 use test_streams::{Device, OneLine, PIECE, Source, Words};
 
 /// Prints the answer of each row.

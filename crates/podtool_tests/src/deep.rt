@@ -1,8 +1,8 @@
 //! Deeply nested pods.
 use crate::streams::{Wanted, assert_run};
-use spa_spelling::nested_pods;
 use std::alloc::{AllocError, Global};
 use std::process::Abort;
+use test_bytes::nested_pods;
 use test_streams::{ALL, Device, Source};
 
 /// How many structs or objects are nested in one another: a stack that grows with each level doesn't suffice for them.

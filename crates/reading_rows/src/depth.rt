@@ -4,8 +4,8 @@ use crate::front::push_front;
 use crate::headers::answer_headers;
 use spa_rewrite::{is_canonical, look_at_pod};
 use spa_scan::nests_within;
-use spa_spelling::{nested_pods, nested_structs, push_words};
 use std::alloc::{AllocError, Global};
+use test_bytes::{nested_pods, nested_structs, push_words};
 
 /// The levels of the deep pods: past those that a look without memory goes into.
 const DEEP: u32 = 2000;

@@ -1,13 +1,13 @@
 //! What the reader finds at the front of an input.
 use crate::views::shows;
-use spa_fixed::DeserializeError;
+use spa_fixed_sized::DeserializeError;
 use spa_sink::GenError;
-use spa_spelling::push_spelling;
 use spa_typed_read::{DeserializeSuccess, PodDeserialize, PodDeserializer};
 use spa_typed_write::PodSerializer;
 use spa_value::{Held, Value, same};
 use spa_view::Pod;
 use std::alloc::{AllocError, Global};
+use test_bytes::push_spelling;
 
 /// What the front of an input is read as.
 #[derive(Drop)]

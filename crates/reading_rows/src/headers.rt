@@ -1,10 +1,10 @@
 //! How many pod headers a read opens, and values that stand deep in one another, copied and compared.
 use crate::lenient::answer_leniently;
-use spa_fixed::DeserializeError;
-use spa_spelling::{nested_pods, push_words};
+use spa_fixed_sized::DeserializeError;
 use spa_typed_read::PodDeserializer;
 use spa_value::{Held, Value, same};
 use std::alloc::{AllocError, Global};
+use test_bytes::{nested_pods, push_words};
 
 /// More levels than a stack of 8 MB holds of a drop that calls itself for each of them.
 const DEPTH: u32 = 100_000;

@@ -2,14 +2,14 @@
 use crate::depth::words_of;
 use crate::front::encoding;
 use crate::lists::{Answer, BEFORE, answer_of, is_left_so, push_appended};
-use spa_fixed::DeserializeError;
+use spa_fixed_sized::DeserializeError;
 use spa_lenient::{
     rewrite_all_leniently, rewrite_in_place_leniently, rewrite_into_leniently, rewrite_leniently,
 };
-use spa_spelling::{bytes_of, nested_structs, push_spelling, push_words};
 use spa_typed_read::PodDeserializer;
 use spa_value::Held;
 use std::alloc::{AllocError, Global};
+use test_bytes::{bytes_of, nested_structs, push_spelling, push_words};
 
 /// A pod that is accepted exactly, of 16 bytes.
 const EXACT: &[u32] = &[4, 2, 7, 9];

@@ -1,11 +1,11 @@
 //! Rewriting lists of pods, by the calls that take a list.
 use crate::rewritten::is_rewritten_in_parts;
-use spa_fixed::DeserializeError;
+use spa_bodies::error_at;
+use spa_fixed_sized::DeserializeError;
 use spa_in_place::rewrite_in_place;
-use spa_leaf::error_at;
 use spa_rewrite::{Rejected, accept_all, look_at_pods, rewrite_all, rewrite_in_parts};
-use spa_spelling::push_spelling;
 use std::alloc::{AllocError, Global};
+use test_bytes::push_spelling;
 
 /// What a call answers to a list: nothing, or the fault for which it is refused, and how many bytes are left there.
 pub(crate) type Answer = Result<(), (&'static str, usize)>;

@@ -22,9 +22,9 @@ mod oracle;
 mod rewritten;
 mod views;
 
-use spa_spelling::{SpellingError, bytes_spelled};
 use std::alloc::Global;
 use std::io::{self, Error, ErrorKind};
+use test_bytes::{SpellingError, bytes_spelled};
 
 /// Answers all rows, and then prints the answers.
 fn main(rt: HostRuntime) -> io::Result<()> {

@@ -1,6 +1,6 @@
 //! Rewritings of the front of an input.
 use crate::front::{Front, before, front_of};
-use spa_fixed::DeserializeError;
+use spa_fixed_sized::DeserializeError;
 use spa_rewrite::{is_canonical, rewrite, rewrite_in_parts};
 use std::alloc::{AllocError, Global};
 

@@ -1,10 +1,10 @@
 //! Views: on accepted pods they show what the reader reads; on any bytes they end.
 use bitflags::Flags;
-use spa_spelling::push_spelling;
 use spa_utils::{Errno, Id};
 use spa_value::{Object, Property, Value};
 use spa_view::{Pod, PodObject, PodProp, PodStruct};
 use std::alloc::AllocError;
+use test_bytes::push_spelling;
 
 /// Does the view show the value?
 #[cycle(shows)]

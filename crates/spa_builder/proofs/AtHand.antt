@@ -18,8 +18,8 @@ use Rattle.spa_format.proofs.Origin.{writable}
 use Rattle.spa_format.proofs.Refused.{refused}
 use Rattle.spa_format.proofs.Shapes.{fixed_only}
 use Rattle.spa_format.proofs.Unique.{one_value}
-use Rattle.spa_fixed.specs.declared.fault.Refusal.{Refusal}
-use Rattle.spa_fixed.specs.declared.fault.Refusal.TheVariants as R
+use Rattle.spa_fixed_sized.specs.declared.fault.Refusal.{Refusal}
+use Rattle.spa_fixed_sized.specs.declared.fault.Refusal.TheVariants as R
 use Rattle.spa_scan.specs.Canonical.{BeginsCanonical}
 use Rattle.spa_scan.specs.Depth.{depth_of, levels_looked_into}
 use Rattle.spa_read.specs.Nesting.{RefusesAt}

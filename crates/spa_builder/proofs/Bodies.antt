@@ -4,7 +4,7 @@ use Rattle.std.specs.Prelude.{OnErr, OnOk, Result}
 use Rattle.std.specs.Simd.{first_chunks}
 use Rattle.std.proofs.Math.Nat.{mul-mod_left}
 use Rattle.std.proofs.lemmas.List.{append-nil, nil_from_length, take_at}
-use Rattle.spa_fixed.specs.Reading.{AreWhole}
+use Rattle.spa_fixed_sized.specs.Reading.{AreWhole}
 use Rattle.spa_format.specs.Encoding.{array_body, fixed_bodies, framed}
 use Rattle.spa_format.specs.Tree.{array_type}
 use Rattle.spa_format.specs.Words.{padding, word_bytes}

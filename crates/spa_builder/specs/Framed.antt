@@ -1,7 +1,7 @@
 -- How the frames are stored: the outer ones in a list, the innermost by itself, and beside them the offset of the outermost.
 use Rattle.std.specs.Prelude.{◌≡◌, ◌+◌, ◌-◌, ◌<◌, ℕ, List, [], ◌∷◌, ◌++◌, Bool, true, false, cond}
 use Rattle.spa_format.specs.Words.{header_size, size_limit}
-use Rattle.spa_room.specs.Limits.{vector_limit}
+use Rattle.spa_spare_capacity.specs.Limits.{vector_limit}
 use Rattle.spa_builder.specs.Innermost.{most_padding}
 use Rattle.spa_builder.specs.declared.begun.BegunPod.{BegunPod}
 use Rattle.spa_builder.specs.declared.begun.What.{What}

@@ -1,7 +1,7 @@
 //! What a builder stores of each open pod.
 
 /// The kind of an open pod, and of an object whether a key waits for its value.
-#[derive(Clone, Copy, Debug)]
+#[derive(Clone, Copy)]
 pub(crate) enum Stage {
     /// No pod.
     Nothing,
@@ -18,7 +18,7 @@ pub(crate) enum Stage {
 }
 
 /// What a builder stores of the elements of an open array, or of the values of an open choice.
-#[derive(Clone, Copy, Debug)]
+#[derive(Clone, Copy)]
 pub(crate) struct Elements {
     /// The shape of a choice; 0 for an array.
     pub(crate) shape: u32,
@@ -29,7 +29,7 @@ pub(crate) struct Elements {
 }
 
 /// An open pod's stage and elements. The stage is a field of its own, so that a key and its value change one byte.
-#[derive(Clone, Copy, Debug)]
+#[derive(Clone, Copy)]
 pub(crate) struct What {
     /// The kind of the pod.
     pub(crate) stage: Stage,
@@ -38,7 +38,7 @@ pub(crate) struct What {
 }
 
 /// An open pod, and where it begins.
-#[derive(Clone, Copy, Debug)]
+#[derive(Clone, Copy)]
 pub(crate) struct BegunPod {
     /// The offset of its header in the vector.
     pub(crate) start: usize,

@@ -1,6 +1,6 @@
 //! The builder.
 ghost use Rattle.std.specs.Prelude.{◌≡◌, ◌≢◌, ◌+◌, [], IfErr, IfOk, IsErrAnd, IsOkAnd, List, length, map};
-ghost use Rattle.spa_fixed.specs.Reading.{AreWhole};
+ghost use Rattle.spa_fixed_sized.specs.Reading.{AreWhole};
 ghost use Rattle.spa_format.specs.Kind.{Fixed, bool, double, fd, float, fraction, id, int, long, none, rectangle};
 ghost use Rattle.spa_format.specs.Encoding.{encoding_of, member_encodings};
 ghost use Rattle.spa_format.specs.Pod.{AreElements};
@@ -25,8 +25,8 @@ use crate::heads::{array_head, choice_head, object_head, struct_head};
 use crate::pods::add_seen;
 use crate::values::add_any;
 use spa_bytes::POINTER_LEN;
-use spa_fixed::{CanonicalFixedSizedPod, FLAGS_SHAPE};
-use spa_room::Written;
+use spa_fixed_sized::{CanonicalFixedSizedPod, FLAGS_SHAPE};
+use spa_spare_capacity::Written;
 use spa_utils::{Errno, Fd, Float32, Float64, Fraction, Frame, Id, Rectangle, SpaTypes};
 use spa_value::{Value, ValueArray};
 use spa_view::Pod;

@@ -1,7 +1,7 @@
 //! The calls of a builder, over its bytes and its frames.
 ghost use Rattle.std.specs.Prelude.{◌≡◌, ◌+◌, ◌*◌, ◌<◌, ◌≤◌, ◌∷◌, ◌++◌, [], List, ℕ, None, IsTrue, false, length, map, nat_lt, Decides, IfOk, true};
 ghost use Rattle.spa_format.specs.Kind.{Fixed, kind_of, type_number, fixed_body};
-ghost use Rattle.spa_fixed.specs.Reading.{AreWhole};
+ghost use Rattle.spa_fixed_sized.specs.Reading.{AreWhole};
 ghost use Rattle.spa_format.specs.Pod.{AreElements};
 ghost use Rattle.spa_format.specs.Tree.{Tree, array, fixed, type_of};
 ghost use Rattle.spa_format.specs.Encoding.{encoded_body, encoding_of};
@@ -19,8 +19,8 @@ use crate::bytes::{put_bodies, put_fixed_pod, put_padding, put_pod};
 use crate::elements::{is_finished, is_first, takes_element, takes_elements, with_element};
 use crate::frames::{Frames, admit, fill, takes_key, takes_trees};
 use spa_bytes::{HEADER_LEN, two_words};
-use spa_fixed::{CanonicalFixedSizedPod, put_array};
-use spa_room::Written;
+use spa_fixed_sized::{CanonicalFixedSizedPod, put_array};
+use spa_spare_capacity::Written;
 use spa_utils::{Errno, Frame};
 use spa_value::ValueArray;
 

@@ -1,7 +1,7 @@
 //! Appends bytes to the vector, and overwrites words in it. Each call makes room first: a refused call changes nothing,
 //! but where its doc says so.
 ghost use Rattle.std.specs.Prelude.{◌≡◌, ◌+◌, ◌<◌, ◌≤◌, ◌*◌, ◌++◌, List, ℕ, length, replicate, take, drop, IfErr, OnErr, OnOk};
-ghost use Rattle.spa_fixed.specs.Reading.{AreWhole};
+ghost use Rattle.spa_fixed_sized.specs.Reading.{AreWhole};
 ghost use Rattle.spa_format.specs.Encoding.{array_body, encoding_of, fixed_bodies, framed};
 ghost use Rattle.spa_format.specs.Kind.{Fixed, fixed_body};
 ghost use Rattle.spa_format.specs.Pod.{AreElements};
@@ -11,8 +11,8 @@ ghost use Rattle.spa_builder.specs.Framed.{IsGrown};
 ghost use Rattle.spa_utils.specs.declared.errno.TheConstants.Errno.{NOMEM};
 
 use spa_bytes::{HEADER_LEN, POINTER_LEN, extent_of, joined, two_words};
-use spa_fixed::{CanonicalFixedSizedPod, next_element, pod_bytes};
-use spa_room::Written;
+use spa_fixed_sized::{CanonicalFixedSizedPod, next_element, pod_bytes};
+use spa_spare_capacity::Written;
 use spa_utils::{Errno, SpaTypes};
 
 /// The length in bytes of a pointer's pod.

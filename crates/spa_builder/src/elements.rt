@@ -9,7 +9,7 @@ ghost use Rattle.spa_builder.specs.Framed.{is_nothing};
 ghost use Rattle.spa_builder.specs.Innermost.{innermost_of, is_first, takes_element, takes_elements, with_element};
 
 use crate::begun::{BegunPod, Elements, Stage, What};
-use spa_fixed::{NONE_SHAPE, RANGE_SHAPE, STEP_SHAPE};
+use spa_fixed_sized::{NONE_SHAPE, RANGE_SHAPE, STEP_SHAPE};
 use spa_utils::SpaTypes;
 
 /// The least numbers of values of a Range and of a Step; of the others it is one.

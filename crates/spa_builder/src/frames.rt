@@ -2,7 +2,7 @@
 ghost use Rattle.std.specs.Prelude.{◌≡◌, ◌+◌, ◌<◌, ◌≤◌, ◌*◌, ◌∷◌, ◌++◌, [], List, ℕ, IfErr, IfSome, IsTrue, OnErr, OnOk, false, length, vec_capacity};
 ghost use Rattle.spa_format.specs.Tree.{Tree};
 ghost use Rattle.spa_format.specs.Words.{size_limit};
-ghost use Rattle.spa_room.specs.Limits.{longest_piece, vector_limit};
+ghost use Rattle.spa_spare_capacity.specs.Limits.{longest_piece, vector_limit};
 ghost use Rattle.spa_builder.specs.State.{Partial};
 ghost use Rattle.spa_builder.specs.Step.{takes_trees};
 ghost use Rattle.spa_builder.specs.Held.{all_so_far, frames_of, what_of};
@@ -13,7 +13,7 @@ ghost use Rattle.spa_utils.specs.declared.errno.TheConstants.Errno.{NOMEM};
 
 use crate::begun::{BegunPod, NO_ELEMENTS, Stage, What};
 use spa_bytes::HEADER_LEN;
-use spa_room::Written;
+use spa_spare_capacity::Written;
 use spa_utils::Errno;
 use std::alloc::Global;
 use std::marker::Model;

@@ -19,4 +19,4 @@ pub use build_call::BuildCall;
 pub use builder::Builder;
 pub use calls::replay;
 /// The shape words that `builder_add!` names.
-pub use spa_fixed::{ENUM_SHAPE, FLAGS_SHAPE, RANGE_SHAPE, STEP_SHAPE};
+pub use spa_fixed_sized::{ENUM_SHAPE, FLAGS_SHAPE, RANGE_SHAPE, STEP_SHAPE};

@@ -11,8 +11,8 @@ ghost use Rattle.spa_builder.specs.Answers.{MakesValue, RefusesValue, errno_of};
 
 use crate::building::{add_elements, add_fixed};
 use crate::frames::{Frames, fill, takes_trees};
-use spa_room::Written;
 use spa_sink::GenError;
+use spa_spare_capacity::Written;
 use spa_utils::Errno;
 use spa_value::Value;
 use spa_value::laws::trees_have_their_types;

@@ -1,11 +1,11 @@
 //! Pods and values added whole: the rows, and what is refused.
 use crate::bytes::{assert_holds, assert_holds_at};
 use spa_builder::{Builder, builder_add};
-use spa_spelling::bytes_of;
 use spa_utils::Errno;
 use spa_value::{Held, Value};
 use spa_view::Pod;
 use std::alloc::{AllocError, Global};
+use test_bytes::bytes_of;
 
 /// The words of a pod; whether an array takes what it says, as a struct does; and the words of what is built where it is added
 /// to a struct and to an array in that; by the rules of the format.

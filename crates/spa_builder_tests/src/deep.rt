@@ -1,9 +1,9 @@
 //! Builds deeply nested structs call by call.
 use crate::bytes::assert_holds;
 use spa_builder::Builder;
-use spa_spelling::nested_structs;
 use spa_utils::{Errno, Frame};
 use std::alloc::{AllocError, Global};
+use test_bytes::nested_structs;
 
 /// Few levels, and more than a stack of 8 MB holds of a function that calls itself for each.
 const DEPTHS: &[u32] = &[300, 100_000];

@@ -7,14 +7,14 @@ use crate::rows::{ACCEPTED, Answer, EVERY_ADD, INVAL, Row, all_rows, call_of, ev
 use bitflags::Flags;
 use spa_builder::BuildCall::{Pop, PushArray, PushStruct};
 use spa_builder::{BuildCall, Builder};
-use spa_fixed::DeserializeError;
-use spa_spelling::bytes_of;
+use spa_fixed_sized::DeserializeError;
 use spa_typed_read::PodDeserializer;
 use spa_utils::{Choice, ChoiceEnum, ChoiceFlags, Errno, Frame};
 use spa_value::{ChoiceValue, Held, Value, ValueArray};
 use spa_view::Pod;
 use std::alloc::{AllocError, Global};
 use std::process::Abort;
+use test_bytes::bytes_of;
 
 /// A call: one that lists have, or one that adds a value, a pod or an array of Ints whole, or an array over the bodies of Bools or Longs.
 #[derive(Clone, Copy)]

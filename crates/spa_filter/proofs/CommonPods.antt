@@ -10,12 +10,12 @@ use Rattle.spa_format.proofs.Back.{encoding_is_pod}
 use Rattle.spa_format.proofs.Shapes.{choice_only, fixed_only}
 use Rattle.spa_format.proofs.Unique.{one_value, same_body}
 use Rattle.spa_bytes.specs.Opening.{Opens}
-use Rattle.spa_fixed.specs.Choices.{choice_enum_tree}
+use Rattle.spa_fixed_sized.specs.Choices.{choice_enum_tree}
 use Rattle.spa_utils.specs.declared.choice.ChoiceEnum.{ChoiceEnum}
 use Rattle.spa_utils.specs.declared.choice.ChoiceEnum.TheVariants as E
-use Rattle.spa_offers.specs.Admits.{Admits, AreSupported, HasCommon, IsCommon, IsMeeting, IsPlain, IsSupported, choice_flags_of, plain_of}
-use Rattle.spa_offers.specs.Offers.{IsContent}
-use Rattle.spa_offers.proofs.Offering.{kind_of-admitted, only_contents}
+use Rattle.spa_filter_offers.specs.Admits.{Admits, AreSupported, HasCommon, IsCommon, IsMeeting, IsPlain, IsSupported, choice_flags_of, plain_of}
+use Rattle.spa_filter_offers.specs.Offers.{IsContent}
+use Rattle.spa_filter_offers.proofs.Offering.{kind_of-admitted, only_contents}
 use Rattle.spa_filter.specs.CommonPods.{HasBody, IsAppended, IsCommonAppended, IsCommonRefused, IsOffered, IsUnwritten, IsWritten}
 use Rattle.spa_filter.specs.declared.refused.Refused.{Refused}
 use Rattle.spa_filter.specs.declared.refused.Refused.TheVariants.{Apart, TooLarge, OutOfMemory}

@@ -8,15 +8,15 @@ use Rattle.spa_format.specs.Tree.{Tree, choice, enum_choice, choice_type}
 use Rattle.spa_format.specs.Pod.{AreElements, IsArray, IsBody}
 use Rattle.spa_format.specs.Writable.{IsTooLarge}
 use Rattle.spa_format.proofs.Unique.{same_body}
-use Rattle.spa_offers.specs.Admits.{HasCommon, IsMeeting}
-use Rattle.spa_offers.specs.Offers.{IsDefault, IsOffer, IsKept}
+use Rattle.spa_filter_offers.specs.Admits.{HasCommon, IsMeeting}
+use Rattle.spa_filter_offers.specs.Offers.{IsDefault, IsOffer, IsKept}
 use Rattle.spa_filter.specs.CommonPods.{AreEnumValues, HasBody, IsAppended, IsCommonAppended, IsCommonRefused, IsCommonTooLarge, IsUnwritten}
 use Rattle.spa_filter.specs.declared.refused.Refused.{Refused}
 use Rattle.spa_filter.specs.declared.refused.Refused.TheVariants.{Apart, TooLarge, OutOfMemory}
 use Rattle.spa_filter.proofs.CommonPods.{appended_over, none_over}
-use Rattle.spa_offers.proofs.Contents.{Contains-first, not_among}
-use Rattle.spa_offers.proofs.Meetings.{MeetsIn-among}
-use Rattle.spa_offers.proofs.Offering.{only_by}
+use Rattle.spa_filter_offers.proofs.Contents.{Contains-first, not_among}
+use Rattle.spa_filter_offers.proofs.Meetings.{MeetsIn-among}
+use Rattle.spa_filter_offers.proofs.Offering.{only_by}
 use Rattle.spa_filter.proofs.Outcomes.{IsMeeting-offers, ValuesMeet-offers}
 
 -- the body of an Enum, from its values

@@ -4,9 +4,9 @@ use Rattle.spa_format.specs.Kind.{Fixed}
 use Rattle.spa_format.specs.Tree.{Tree, fixed}
 use Rattle.spa_value.specs.declared.value.Value.{Value}
 use Rattle.spa_value.specs.View.{view}
-use Rattle.spa_offers.specs.Admits.{plain_of}
-use Rattle.spa_offers.specs.Admits.{Admits, IsCommon, IsMeeting}
-use Rattle.spa_offers.specs.Offers.{IsOffer, MeetsIn, Outcome}
+use Rattle.spa_filter_offers.specs.Admits.{plain_of}
+use Rattle.spa_filter_offers.specs.Admits.{Admits, IsCommon, IsMeeting}
+use Rattle.spa_filter_offers.specs.Offers.{IsOffer, MeetsIn, Outcome}
 use Rattle.spa_filter.specs.Values.{ValuesMeet}
 
 module _ (v w : Tree) (P Q : Fixed → Type 0) (d e : Fixed) (i : IsOffer v P d) (j : IsOffer w Q e) where

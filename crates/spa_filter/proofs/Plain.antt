@@ -7,8 +7,8 @@ use Rattle.spa_value.specs.declared.object.Object.{Object'}
 use Rattle.spa_value.specs.declared.value.Value.{Value}
 use Rattle.spa_value.specs.declared.value.Value.TheVariants as V
 use Rattle.spa_value.specs.View.{view, array_view}
-use Rattle.spa_offers.specs.Admits.{plain_of, choice_flags_of}
-use Rattle.spa_offers.specs.Admits.{Admits, IsSupported, HasCommon, IsMeeting, is_flags, is_bounded}
+use Rattle.spa_filter_offers.specs.Admits.{plain_of, choice_flags_of}
+use Rattle.spa_filter_offers.specs.Admits.{Admits, IsSupported, HasCommon, IsMeeting, is_flags, is_bounded}
 use Rattle.spa_filter.specs.Values.{IsPlainView}
 
 -- a value of another variant than a choice

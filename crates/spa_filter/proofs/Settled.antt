@@ -1,7 +1,7 @@
 -- What is settled, and laws of what two values filter to.
 use Rattle.std.proofs.Common.{◌≡◌, ◌∷◌, ℕ, refl, ap, ◌∙◌, Option, Some, None}
 use Rattle.spa_format.specs.Tree.{Tree, object, choice, Properties, no_properties, property, join_properties}
-use Rattle.spa_offers.specs.Admits.{plain_of, IsPlain}
+use Rattle.spa_filter_offers.specs.Admits.{plain_of, IsPlain}
 use Rattle.spa_keyed_objects.specs.Keys.{Offered, key_list, offered_at}
 use Rattle.spa_filter.specs.Filtering.{Filters, FiltersEach}
 use Rattle.spa_filter.specs.Settling.{settled_properties, Settles, SettlesEach, FiltersSettle}

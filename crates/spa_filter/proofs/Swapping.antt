@@ -3,8 +3,8 @@ use Rattle.std.proofs.Common.{◌≡◌, sym, ◌∙◌, Option, Some, None}
 use Rattle.spa_format.specs.Tree.{Tree}
 use Rattle.spa_value.specs.declared.value.Value.{Value}
 use Rattle.spa_value.specs.View.{view}
-use Rattle.spa_offers.specs.Admits.{plain_of}
-use Rattle.spa_offers.specs.Admits.{Admits, IsCommon, IsMeeting}
+use Rattle.spa_filter_offers.specs.Admits.{plain_of}
+use Rattle.spa_filter_offers.specs.Admits.{Admits, IsCommon, IsMeeting}
 use Rattle.spa_filter.specs.Values.{ValuesMeet}
 
 -- w admits itself alone

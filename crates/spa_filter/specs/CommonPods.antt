@@ -6,7 +6,7 @@ use Rattle.spa_format.specs.Tree.{Tree, choice, choice_type, enum_choice, type_o
 use Rattle.spa_format.specs.Pod.{IsBody, IsPod}
 use Rattle.spa_format.specs.Encoding.{encoding_of}
 use Rattle.spa_format.specs.Writable.{IsTooLarge}
-use Rattle.spa_offers.specs.Admits.{Admits, AreSupported, HasCommon, IsMeeting, IsPlain, IsSupported}
+use Rattle.spa_filter_offers.specs.Admits.{Admits, AreSupported, HasCommon, IsMeeting, IsPlain, IsSupported}
 use Rattle.spa_filter.specs.Refusals.{IsValueRefusal}
 use Rattle.spa_filter.specs.declared.error.FilterError.{FilterError}
 use Rattle.spa_filter.specs.declared.error.FilterError.TheVariants as error

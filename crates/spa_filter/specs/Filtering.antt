@@ -3,7 +3,7 @@ use Rattle.std.specs.Prelude.{⊤, ◌≡◌, ℕ, Option, Some, None, bit_and}
 use Rattle.std.specs.List.{All}
 use Rattle.spa_format.specs.Tree.{Tree, object, Properties, no_properties, property, join_properties}
 use Rattle.spa_keyed_objects.specs.Keys.{Offered, key_list, keys_of, offered_at}
-use Rattle.spa_offers.specs.Admits.{AreSupported, HasCommon, IsMeeting}
+use Rattle.spa_filter_offers.specs.Admits.{AreSupported, HasCommon, IsMeeting}
 use Rattle.spa_filter.specs.Keys.{IsMandatory}
 
 -- The flags and the value x are those to which the two sides filter under one key: where both have it, the flags that

@@ -1,7 +1,7 @@
 -- Laws of the values to which two values filter: docs/NEGOTIATION.md, "To filter".
 use Rattle.std.specs.Prelude.{◌↔◌}
 use Rattle.spa_format.specs.Tree.{Tree}
-use Rattle.spa_offers.specs.Admits.{Admits, IsMeeting}
+use Rattle.spa_filter_offers.specs.Admits.{Admits, IsMeeting}
 
 -- the two values admit the same
 abbrev pub AdmitTheSame : Tree → Tree → Type 0

@@ -3,7 +3,7 @@ use Rattle.std.specs.Prelude.{⊤, ◌≡◌, ℕ, List, ◌∷◌, ◌++◌, Op
 use Rattle.std.specs.List.{All}
 use Rattle.spa_format.specs.Tree.{Tree, object, Properties, join_properties}
 use Rattle.spa_keyed_objects.specs.Keys.{Offered, keys_of, offered_at}
-use Rattle.spa_offers.specs.Admits.{AreSupported, HasCommon}
+use Rattle.spa_filter_offers.specs.Admits.{AreSupported, HasCommon}
 use Rattle.spa_filter.specs.Keys.{IsMandatory}
 use Rattle.spa_filter.specs.Filtering.{AgreeAt}
 use Rattle.spa_filter.specs.declared.error.FilterError.{FilterError}

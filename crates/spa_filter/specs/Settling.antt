@@ -1,7 +1,7 @@
 -- An object with each choice at its default, and how that settles a filter: docs/NEGOTIATION.md, "To filter".
 use Rattle.std.specs.Prelude.{⊤, ◌≡◌, Option, Some, None}
 use Rattle.spa_format.specs.Tree.{Tree, object, Properties, no_properties, property, join_properties}
-use Rattle.spa_offers.specs.Admits.{plain_of, IsCommon, IsPlain}
+use Rattle.spa_filter_offers.specs.Admits.{plain_of, IsCommon, IsPlain}
 use Rattle.spa_keyed_objects.specs.Keys.{Offered, key_list, keys_of, offered_at}
 use Rattle.spa_filter.specs.Filtering.{IsFilter}
 

@@ -4,7 +4,7 @@ use Rattle.spa_format.specs.Tree.{Tree}
 use Rattle.spa_value.specs.View.{view}
 use Rattle.spa_value.specs.declared.value.Value.{Value}
 use Rattle.spa_value.specs.declared.value.Value.TheVariants as V
-use Rattle.spa_offers.specs.Admits.{HasCommon, IsMeeting}
+use Rattle.spa_filter_offers.specs.Admits.{HasCommon, IsMeeting}
 
 -- None answers that no value is admitted by both; a value that is answered admits exactly what both admit
 abbrev pub ValuesMeet : Tree → Tree → Option Value → Type 0

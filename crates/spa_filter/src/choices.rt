@@ -1,19 +1,19 @@
 //! Reads two choices over one type from the borrowed bodies of their pods, and writes what they filter to.
 ghost use Rattle.std.specs.Prelude.{◌≡◌, IfErr, IfOk, OnOk};
-ghost use Rattle.spa_fixed.specs.Choices.{choice_tree};
+ghost use Rattle.spa_fixed_sized.specs.Choices.{choice_tree};
 ghost use Rattle.spa_format.specs.Kind.{Fixed, kind_of};
 ghost use Rattle.spa_format.specs.Pod.{IsBody};
 ghost use Rattle.spa_format.specs.Tree.{Tree, choice_type, fixed};
 ghost use Rattle.spa_format.specs.Words.{word_at};
 ghost use Rattle.spa_value.specs.View.{view};
-ghost use Rattle.spa_offers.specs.Admits.{Admits, choice_flags_of};
+ghost use Rattle.spa_filter_offers.specs.Admits.{Admits, choice_flags_of};
 ghost use Rattle.spa_filter.specs.CommonPods.{HasBody, IsAppended, IsCommonAppended, IsCommonRefused, IsOfOtherType, IsUnwritten};
 
 use crate::refused::Refused;
 use crate::values::are_meetable;
 use spa_bytes::{HEADER_LEN, SECOND_WORD, u32_at};
-use spa_fixed::{put_choice, put_fixed, read_choice};
-use spa_offers::{Element, meet, offer_of};
+use spa_filter_offers::{Element, meet, offer_of};
+use spa_fixed_sized::{put_choice, put_fixed, read_choice};
 use spa_sink::GenError;
 use spa_utils::Choice;
 use spa_value::Value;

@@ -13,7 +13,7 @@ use crate::support::are_supported;
 use crate::types::{BOOL, DOUBLE, FD, FLOAT, FRACTION, ID, INT, LONG, RECTANGLE};
 use crate::values::is_shape_supported;
 use spa_bytes::{HEADER_LEN, SECOND_WORD, open, u32_at};
-use spa_offers::{Element, admits, offer_of};
+use spa_filter_offers::{Element, admits, offer_of};
 use spa_utils::{Fd, Float32, Float64, Fraction, Id, Rectangle, SpaTypes};
 use std::alloc::Global;
 

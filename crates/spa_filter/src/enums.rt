@@ -4,14 +4,14 @@ ghost use Rattle.spa_format.specs.Kind.{content};
 ghost use Rattle.spa_format.specs.Tree.{Tree, choice_type};
 ghost use Rattle.spa_format.specs.Words.{word_at};
 ghost use Rattle.spa_filter.specs.CommonPods.{AreEnumValues, HasBody, IsCommonAppended, IsCommonRefused};
-ghost use Rattle.spa_offers.specs.Offers.{IsDefault, IsKept, IsOneMoreKept};
+ghost use Rattle.spa_filter_offers.specs.Offers.{IsDefault, IsKept, IsOneMoreKept};
 
 use crate::choices::{put_choice_of, put_read};
 use crate::refused::Refused;
 use bitflags::Flags;
 use spa_bytes::{HEADER_LEN, SECOND_WORD, u32_at};
-use spa_fixed::{ENUM_SHAPE, open_array};
-use spa_offers::{Element, is_among, is_same};
+use spa_filter_offers::{Element, is_among, is_same};
+use spa_fixed_sized::{ENUM_SHAPE, open_array};
 use spa_utils::{Choice, ChoiceEnum, ChoiceFlags};
 use std::alloc::{AllocError, Global};
 

@@ -1,13 +1,13 @@
 //! Settles an object: each choice at its default.
 ghost use Rattle.std.specs.Prelude.{◌≡◌, IfOk, OnOk};
-ghost use Rattle.spa_fixed.specs.Choices.{choice_tree};
+ghost use Rattle.spa_fixed_sized.specs.Choices.{choice_tree};
 ghost use Rattle.spa_value.specs.View.{choice_view, object_view, view};
 ghost use Rattle.spa_value.specs.Views.{property_views};
-ghost use Rattle.spa_offers.specs.Admits.{plain_of};
+ghost use Rattle.spa_filter_offers.specs.Admits.{plain_of};
 ghost use Rattle.spa_filter.specs.Settling.{settled_of, settled_properties};
 
+use spa_filter_offers::{Element, default_of, offer_of};
 use spa_keyed_objects::{Met, push};
-use spa_offers::{Element, default_of, offer_of};
 use spa_utils::Choice;
 use spa_value::laws::{objects_are_their_fields, property_lists_are_in_order};
 use spa_value::{ChoiceValue, Object, Property, Value};

@@ -3,15 +3,15 @@ ghost use Rattle.std.specs.Prelude.{◌≡◌, ◌↔◌, IsTrue, List, ℕ};
 ghost use Rattle.spa_format.specs.Kind.{Fixed, Kind, type_number};
 ghost use Rattle.spa_format.specs.Pod.{IsPod};
 ghost use Rattle.spa_format.specs.Tree.{Shape, Tree, choice, shape_number};
-ghost use Rattle.spa_offers.specs.Admits.{AreSupported, IsSupported, is_bounded, is_flags};
-ghost use Rattle.spa_orders.specs.Flags.{IsFlagKind};
-ghost use Rattle.spa_orders.specs.Order.{IsOrderedKind};
-ghost use Rattle.spa_steps.specs.Steps.{IsStepKind};
+ghost use Rattle.spa_filter_offers.specs.Admits.{AreSupported, IsSupported, is_bounded, is_flags};
+ghost use Rattle.spa_filter_order.specs.Flags.{IsFlagKind};
+ghost use Rattle.spa_filter_order.specs.Order.{IsOrderedKind};
+ghost use Rattle.spa_filter_steps.specs.Steps.{IsStepKind};
 
 use crate::choices::VALUES_AT;
 use crate::values::are_both;
 use spa_bytes::{HEADER_LEN, SECOND_WORD, open, u32_at};
-use spa_fixed::{FLAGS_SHAPE, RANGE_SHAPE, STEP_SHAPE};
+use spa_fixed_sized::{FLAGS_SHAPE, RANGE_SHAPE, STEP_SHAPE};
 use spa_utils::SpaTypes;
 
 /// What decides whether a common value is sought for a value and another.

@@ -1,14 +1,14 @@
 //! Two values meet.
 ghost use Rattle.std.specs.Prelude.{◌&&◌, ◌≡◌, ◌↔◌, IfErr, IfOk, IsTrue, OnOk, true};
 ghost use Rattle.spa_format.specs.Tree.{fixed};
-ghost use Rattle.spa_fixed.specs.Choices.{choice_enum_tree, choice_tree};
+ghost use Rattle.spa_fixed_sized.specs.Choices.{choice_enum_tree, choice_tree};
 ghost use Rattle.spa_value.specs.View.{choice_view, view};
-ghost use Rattle.spa_offers.specs.Admits.{AreSayable, AreSupported, IsMeeting, IsSupported, is_bounded, is_flags};
+ghost use Rattle.spa_filter_offers.specs.Admits.{AreSayable, AreSupported, IsMeeting, IsSupported, is_bounded, is_flags};
 ghost use Rattle.spa_filter.specs.Values.{IsPlainView, ValuesMeet};
 ghost use Rattle.spa_filter.specs.Refusals.{IsValueRefusal};
 
 use crate::error::FilterError;
-use spa_offers::{Element, Offer, meet, meet_only, offer_of};
+use spa_filter_offers::{Element, Offer, meet, meet_only, offer_of};
 use spa_utils::{Choice, ChoiceEnum};
 use spa_value::laws::{equal_trees_are_the_same, trees_have_their_types};
 use spa_value::{ChoiceValue, Value, same};

@@ -9,8 +9,8 @@ use Rattle.spa_keyed_objects.specs.declared.side.Side.TheVariants.{First, Second
 use Rattle.spa_filter.specs.declared.error.FilterError.{FilterError}
 use Rattle.spa_filter.specs.declared.error.FilterError.TheVariants.{TypeMismatch, Missing, Unsupported, Disjoint, Unread, NotObject, TooLarge, OutOfMemory}
 use Rattle.spa_filter.proofs.Agreeing.{cannot_filter}
-use Rattle.spa_fronts.specs.Fronts.{BeginBoth, BeginsObject, IsObject}
-use Rattle.spa_fronts.proofs.Both.{never_both, other_first, other_second}
+use Rattle.spa_object_view.specs.Fronts.{BeginBoth, BeginsObject, IsObject}
+use Rattle.spa_object_view.proofs.Both.{never_both, other_first, other_second}
 use Rattle.spa_filter_pods.specs.Fronts.{AreFrontsRefused, IsFrontRefused, OnNoFilter}
 use Rattle.spa_filter_pods.specs.Written.{AreViewsRefused}
 

@@ -3,7 +3,7 @@ use Rattle.std.proofs.Common.{◌≡◌, ℕ, Bool, true, false, ◌==◌, if◌
 use Rattle.std.specs.Cmp.{unsigned_Decides}
 use Rattle.spa_format.specs.Tree.{Tree, Properties, no_properties, property, join_properties}
 use Rattle.spa_keyed_objects.specs.Keys.{Offered, contains, key_list, offered_at}
-use Rattle.spa_fronts.specs.Written.{Found, found_at, has_key}
+use Rattle.spa_object_view.specs.Written.{Found, found_at, has_key}
 use Rattle.spa_filter_pods.specs.Written.{offered}
 
 -- a key that isn't among those of the properties has no value

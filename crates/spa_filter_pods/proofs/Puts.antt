@@ -4,9 +4,9 @@ use Rattle.std.specs.Prelude.{MatchBool, bit_and}
 use Rattle.spa_format.specs.Words.{word_bytes}
 use Rattle.spa_format.specs.Tree.{Tree}
 use Rattle.spa_format.specs.Writable.{IsTooLarge}
-use Rattle.spa_fronts.specs.Written.{IsWritten}
+use Rattle.spa_object_view.specs.Written.{IsWritten}
 use Rattle.spa_filter.specs.CommonPods as common
-use Rattle.spa_offers.specs.Admits.{plain_of}
+use Rattle.spa_filter_offers.specs.Admits.{plain_of}
 use Rattle.spa_keyed_objects.specs.Keys.{Offered}
 use Rattle.spa_filter.specs.Keys.{IsMandatory}
 use Rattle.spa_filter.specs.Refusals.{IsKeyRefusal}

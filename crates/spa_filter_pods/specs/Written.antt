@@ -4,13 +4,13 @@ use Rattle.std.specs.List.{All}
 use Rattle.spa_format.specs.Words.{size_limit, word_bytes}
 use Rattle.spa_format.specs.Tree.{Tree, Properties}
 use Rattle.spa_format.specs.Writable.{IsTooLarge, SomeValueTooLarge}
-use Rattle.spa_fronts.specs.Written.{AreBehind, IsWritten}
+use Rattle.spa_object_view.specs.Written.{AreBehind, IsWritten}
 use Rattle.spa_keyed_objects.specs.Keys.{Offered, key_list}
 use Rattle.spa_filter.specs.Filtering.{Agree, AgreeAt, Filters, FiltersKeys}
 use Rattle.spa_filter.specs.Refusals.{AreRefused}
 use Rattle.spa_filter.specs.declared.error.FilterError.{FilterError}
 use Rattle.spa_filter.specs.declared.error.FilterError.TheVariants.{TooLarge}
-use Rattle.spa_fronts.specs.Fronts.{BeginBoth}
+use Rattle.spa_object_view.specs.Fronts.{BeginBoth}
 use Rattle.spa_filter_pods.specs.Fronts.{FilterTooLarge}
 use Rattle.spa_filter_pods.specs.declared.answer.Answer.{Answer}
 

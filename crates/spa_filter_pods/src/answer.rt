@@ -4,11 +4,11 @@ ghost use Rattle.spa_format.specs.Tree.{Tree};
 ghost use Rattle.spa_filter.specs.Refusals.{IsKeyRefusal};
 ghost use Rattle.spa_filter.specs.declared.error.FilterError.TheVariants.{OutOfMemory};
 ghost use Rattle.spa_filter_pods.specs.Written.{IsEnded, IsPutBy, IsUnended, offered};
-ghost use Rattle.spa_fronts.specs.Written.{IsWritten, open_header};
+ghost use Rattle.spa_object_view.specs.Written.{IsWritten, open_header};
 
 use crate::common_pods::put_met;
 use spa_filter::FilterError;
-use spa_fronts::{ObjectView, PropertyView, finish, put_header, put_key, put_pod};
+use spa_object_view::{ObjectView, PropertyView, finish, put_header, put_key, put_pod};
 use std::alloc::Global;
 
 /// The offset in an object's pod at which its properties begin: behind its header, its type and its id.

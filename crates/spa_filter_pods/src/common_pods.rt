@@ -4,7 +4,7 @@ ghost use Rattle.spa_format.specs.Tree.{Tree};
 ghost use Rattle.spa_filter.specs.CommonPods.{IsCommonAppended, IsPodRefusal, IsWritten};
 
 use spa_filter::{FilterError, put_common};
-use spa_fronts::{are_same, is_plain, put_pod};
+use spa_object_view::{are_same, is_plain, put_pod};
 use std::alloc::Global;
 
 /// Appends the canonical pod of a value that admits exactly what the values of two canonical pods admit, which two objects have under this key.

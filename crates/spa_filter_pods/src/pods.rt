@@ -2,12 +2,12 @@
 ghost use Rattle.std.specs.Prelude.{IfErr, IfOk, OnOk};
 ghost use Rattle.spa_filter.specs.Filtering.{CanFilter};
 ghost use Rattle.spa_filter_pods.specs.Fronts.{AreFrontsRefused, FilterIn, IsFrontRefused, OnNoFilter};
-ghost use Rattle.spa_fronts.specs.Fronts.{BeginBoth, BeginsObjectIn, bytes_of};
+ghost use Rattle.spa_object_view.specs.Fronts.{BeginBoth, BeginsObjectIn, bytes_of};
 
 use crate::views::filter_objects;
 use spa_filter::{FilterError, Side};
 use spa_format::laws::pods_have_one_value;
-use spa_fronts::{NoObject, ObjectPod, object_in, object_pod};
+use spa_object_view::{NoObject, ObjectPod, object_in, object_pod};
 use std::alloc::Global;
 
 /// Filters the objects at the fronts of two inputs by the rules of `filter`, and answers the encoding of the outcome. The bytes

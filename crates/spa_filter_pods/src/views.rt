@@ -7,13 +7,13 @@ ghost use Rattle.spa_keyed_objects.specs.Keys.{offered_at};
 ghost use Rattle.spa_filter.specs.Refusals.{IsKeyRefusal, IsRefusal};
 ghost use Rattle.spa_filter_pods.specs.Fronts.{FilterIn};
 ghost use Rattle.spa_filter_pods.specs.Written.{AreViewsRefused, IsFilteredBehind, IsPutBy, offered};
-ghost use Rattle.spa_fronts.specs.Fronts.{BeginBoth, BeginsView};
-ghost use Rattle.spa_fronts.specs.KeyOrder.{IsKeyed};
-ghost use Rattle.spa_fronts.specs.Written.{AreWritten, IsWritten};
+ghost use Rattle.spa_object_view.specs.Fronts.{BeginBoth, BeginsView};
+ghost use Rattle.spa_object_view.specs.KeyOrder.{IsKeyed};
+ghost use Rattle.spa_object_view.specs.Written.{AreWritten, IsWritten};
 
 use crate::answer::{Answer, begun, ended, put_alone, put_both};
 use spa_filter::FilterError;
-use spa_fronts::{Keyed, ObjectView, PropertyView, first_property, raised};
+use spa_object_view::{Keyed, ObjectView, PropertyView, first_property, raised};
 use std::alloc::Global;
 
 /// The encoding of the object to which two objects are filtered.

@@ -4,13 +4,13 @@ use Rattle.std.specs.Borrow.{Bor}
 use Rattle.std.specs.Prelude.{⊤, false}
 use Rattle.std.proofs.lemmas.List.{drop-drop, drop_at, nil_from_length, take_at}
 use Rattle.spa_format.proofs.Short.{short_members}
-use Rattle.spa_fixed.specs.declared.fault.DeserializeError.{DeserializeError}
-use Rattle.spa_fixed.specs.declared.fault.DeserializeError.TheVariants as error
-use Rattle.spa_fixed.specs.declared.fault.Refusal.{Refusal}
-use Rattle.spa_fixed.specs.declared.fault.Refusal.TheVariants as refusal
+use Rattle.spa_fixed_sized.specs.declared.fault.DeserializeError.{DeserializeError}
+use Rattle.spa_fixed_sized.specs.declared.fault.DeserializeError.TheVariants as error
+use Rattle.spa_fixed_sized.specs.declared.fault.Refusal.{Refusal}
+use Rattle.spa_fixed_sized.specs.declared.fault.Refusal.TheVariants as refusal
 use Rattle.spa_format.specs.Faults.{Fault}
-use Rattle.spa_leaf.specs.Reading.{OnFault, OnMemory}
-use Rattle.spa_leaf.specs.Refusing.{Says, error_of}
+use Rattle.spa_bodies.specs.Reading.{OnFault, OnMemory}
+use Rattle.spa_bodies.specs.Refusing.{Says, error_of}
 use Rattle.spa_in_place.specs.InPlace.{AsksMemory, IsFaultOf, RefusesListAt}
 use Rattle.std.proofs.lemmas.Slice.{drop-put_mid, take-put_mid}
 use borrow.Rule.Slice.PartMut.{put_mid}

@@ -1,11 +1,11 @@
 -- Refusals of a rewriting where the input lies: docs/FORMAT.md, "Faults".
 use Rattle.std.specs.Prelude.{⊤, ◌≡◌, ◌⊎◌, ℕ, List, drop}
 use Rattle.std.specs.Borrow.{Bor}
-use Rattle.spa_fixed.specs.declared.fault.DeserializeError.{DeserializeError}
-use Rattle.spa_fixed.specs.Faults.{kind_text}
+use Rattle.spa_fixed_sized.specs.declared.fault.DeserializeError.{DeserializeError}
+use Rattle.spa_fixed_sized.specs.Faults.{kind_text}
 use Rattle.spa_format.specs.Tree.{Trees}
 use Rattle.spa_format.specs.Pod.{AreMembers}
-use Rattle.spa_leaf.specs.Reading.{OnFault}
+use Rattle.spa_bodies.specs.Reading.{OnFault}
 use Rattle.spa_rewrite.specs.Look.{IsTooDeep}
 use Rattle.spa_rewrite.specs.Rewriting.{IsLeft, RefusesFront}
 

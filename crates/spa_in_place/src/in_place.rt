@@ -1,16 +1,16 @@
 //! Rewriting where the input lies.
 ghost use Rattle.std.specs.Prelude.{◌≡◌, ◌-◌, ◌≤◌, [], IfErr, IfNone, IfOk, IfSome, OnErr, drop, false, length, take, true};
-ghost use Rattle.spa_fixed.specs.declared.fault.DeserializeError.TheVariants as refused;
+ghost use Rattle.spa_fixed_sized.specs.declared.fault.DeserializeError.TheVariants as refused;
 ghost use Rattle.spa_in_place.specs.InPlace.{AsksMemory, IsFaultOf, RefusesListAt};
-ghost use Rattle.spa_leaf.specs.Reading.{OnMemory};
+ghost use Rattle.spa_bodies.specs.Reading.{OnMemory};
 ghost use Rattle.spa_rewrite.specs.Rewriting.{AreRewritten, RefusesList};
 ghost use Rattle.spa_rewrite.specs.Shorter.{ArePodsWithin, AreShorter};
 ghost use Rattle.spa_rewrite.specs.Steady.{AreSteadyWithin};
 ghost use Rattle.spa_scan.specs.Depth.{levels_looked_into};
 
 use crate::place::place_all;
-use spa_fixed::{DeserializeError, Fault};
-use spa_leaf::error_at;
+use spa_bodies::error_at;
+use spa_fixed_sized::{DeserializeError, Fault};
 use spa_rewrite::{
     Rejected, canonical_stretch, look_at_pods, patch_all, rewrite_in_parts, steady_stretch,
     surplus_of_all,

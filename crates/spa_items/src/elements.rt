@@ -7,7 +7,7 @@ ghost use Rattle.spa_items.specs.Puts.{AreElements, ArePut};
 use crate::contents::{fixed_content, word_or};
 use crate::item::Item;
 use spa_bytes::{HEADER_LEN, SECOND_WORD};
-use spa_fixed::{NONE_SHAPE, RANGE_SHAPE, STEP_SHAPE};
+use spa_fixed_sized::{NONE_SHAPE, RANGE_SHAPE, STEP_SHAPE};
 use spa_utils::SpaTypes;
 
 /// Values of one type and size, one after another.

@@ -1,11 +1,11 @@
 -- Causes of refusals, and their names.
 use Rattle.std.proofs.Common.{◌≡◌, ◌≢◌, ℕ, List, refl, ap, arith}
 use Rattle.std.specs.Prelude.{codes, slice_index}
-use Rattle.spa_fixed.specs.declared.fault.DeserializeError.{DeserializeError}
-use Rattle.spa_fixed.specs.declared.fault.DeserializeError.TheVariants as error
-use Rattle.spa_fixed.specs.declared.fault.FaultKind.{FaultKind}
-use Rattle.spa_fixed.specs.declared.fault.FaultKind.TheVariants as fault_kind
-use Rattle.spa_fixed.specs.Faults.{fault_kind_text, kind_text}
+use Rattle.spa_fixed_sized.specs.declared.fault.DeserializeError.{DeserializeError}
+use Rattle.spa_fixed_sized.specs.declared.fault.DeserializeError.TheVariants as error
+use Rattle.spa_fixed_sized.specs.declared.fault.FaultKind.{FaultKind}
+use Rattle.spa_fixed_sized.specs.declared.fault.FaultKind.TheVariants as fault_kind
+use Rattle.spa_fixed_sized.specs.Faults.{fault_kind_text, kind_text}
 
 -- a text that begins otherwise is another
 other : (text : List ℕ) → slice_index text 0 ≢ slice_index (codes "OutOfMemory") 0 → text ≡ codes "OutOfMemory" → ⊥

@@ -1,13 +1,13 @@
 -- The front of an input, rewritten leniently.
 use Rattle.std.proofs.Common.{◌≡◌, ℕ, List, ap, subst, sym}
 use Rattle.std.specs.Borrow.{Bor}
-use Rattle.spa_fixed.specs.declared.fault.DeserializeError.{DeserializeError}
-use Rattle.spa_fixed.specs.declared.fault.DeserializeError.TheVariants as error
-use Rattle.spa_fixed.specs.declared.fault.Refusal.{Refusal}
-use Rattle.spa_fixed.specs.declared.fault.Refusal.TheVariants as refusal
+use Rattle.spa_fixed_sized.specs.declared.fault.DeserializeError.{DeserializeError}
+use Rattle.spa_fixed_sized.specs.declared.fault.DeserializeError.TheVariants as error
+use Rattle.spa_fixed_sized.specs.declared.fault.Refusal.{Refusal}
+use Rattle.spa_fixed_sized.specs.declared.fault.Refusal.TheVariants as refusal
 use Rattle.spa_format.specs.Front.{HasFront}
-use Rattle.spa_leaf.specs.Reading.{MayLackMemory, OnMemory}
-use Rattle.spa_leaf.specs.Refusing.{error_of}
+use Rattle.spa_bodies.specs.Reading.{MayLackMemory, OnMemory}
+use Rattle.spa_bodies.specs.Refusing.{error_of}
 use Rattle.spa_read.specs.Reading.{RefusesInput}
 use Rattle.spa_read.proofs.Conveying.{conveys_pod}
 use Rattle.spa_rewrite.specs.Rewriting.{IsRewriting}

@@ -3,8 +3,8 @@ use Rattle.std.proofs.Common.{◌≡◌, ℕ, ◌+◌, ◌-◌, ◌≤◌, List,
 use Rattle.std.specs.Prelude.{⊤}
 use Rattle.std.proofs.lemmas.List.{drop_at}
 use Rattle.std.specs.Borrow.{Bor}
-use Rattle.spa_fixed.specs.declared.fault.DeserializeError.{DeserializeError}
-use Rattle.spa_fixed.specs.declared.fault.DeserializeError.TheVariants as error
+use Rattle.spa_fixed_sized.specs.declared.fault.DeserializeError.{DeserializeError}
+use Rattle.spa_fixed_sized.specs.declared.fault.DeserializeError.TheVariants as error
 use Rattle.spa_format.specs.Tree.{Trees, no_trees, member}
 use Rattle.spa_format.specs.Encoding.{encoding_of, member_encodings}
 use Rattle.spa_format.specs.Front.{HasFront}
@@ -12,7 +12,7 @@ use Rattle.spa_format.specs.Lenient.{ConveyMembers}
 use Rattle.spa_format.specs.Typed.{IsBytes}
 use Rattle.spa_format.proofs.Exacted.{no_longer_conveyed}
 use Rattle.spa_format.proofs.Origin.{IsBytes-first, IsBytes-others}
-use Rattle.spa_leaf.specs.Reading.{OnMemory}
+use Rattle.spa_bodies.specs.Reading.{OnMemory}
 use Rattle.spa_in_place.specs.InPlace.{IsFaultOf}
 use Rattle.spa_in_place.specs.InPlace as exact
 use Rattle.spa_rewrite.specs.Rewriting.{AreRewritten}

@@ -2,8 +2,8 @@
 use Rattle.std.proofs.Common.{◌≡◌, ◌≢◌, ℕ, ◌-◌, List, [], ◌∷◌, ◌++◌, length, take, refl, sym, ap, ◌∙◌, subst, arith, length-append, append_assoc}
 use Rattle.std.proofs.lemmas.List.{append-nil, take_at}
 use Rattle.std.specs.Borrow.{Bor}
-use Rattle.spa_fixed.specs.declared.fault.DeserializeError.{DeserializeError}
-use Rattle.spa_fixed.specs.declared.fault.DeserializeError.TheVariants as error
+use Rattle.spa_fixed_sized.specs.declared.fault.DeserializeError.{DeserializeError}
+use Rattle.spa_fixed_sized.specs.declared.fault.DeserializeError.TheVariants as error
 use Rattle.spa_format.specs.Tree.{Trees, no_trees, member, join_members}
 use Rattle.spa_format.specs.Pod.{AreMembers}
 use Rattle.spa_format.specs.Encoding.{encoding_of, member_encodings}
@@ -11,7 +11,7 @@ use Rattle.spa_format.specs.Front.{HasFront, front_of}
 use Rattle.spa_format.specs.Lenient.{ConveyMembers}
 use Rattle.spa_format.proofs.Conveyed.{pod_conveys}
 use Rattle.spa_format.proofs.Fronts.{front_and_rest, front_of_whole}
-use Rattle.spa_leaf.specs.Reading.{OnFault}
+use Rattle.spa_bodies.specs.Reading.{OnFault}
 use Rattle.spa_read.specs.Reading.{ConveysNothing}
 use Rattle.spa_read.proofs.Conveying.{members_joined, none_behind}
 use Rattle.spa_rewrite.specs.Rewriting.{AreRewritten, IsLeft}

@@ -1,13 +1,13 @@
 -- The lenient rewriting: docs/FORMAT.md, "The lenient reading".
 use Rattle.std.specs.Prelude.{⊤, ◌≡◌, ◌≢◌, ◌++◌, List, [], ℕ, drop, length}
 use Rattle.std.specs.Borrow.{Bor}
-use Rattle.spa_fixed.specs.declared.fault.DeserializeError.{DeserializeError}
+use Rattle.spa_fixed_sized.specs.declared.fault.DeserializeError.{DeserializeError}
 use Rattle.spa_format.specs.Tree.{Tree, Trees, struct}
 use Rattle.spa_format.specs.Encoding.{encoding_of, member_encodings}
 use Rattle.spa_format.specs.Front.{HasFront}
 use Rattle.spa_format.specs.Lenient.{ConveyMembers}
 use Rattle.spa_in_place.specs.InPlace.{IsFaultOf}
-use Rattle.spa_leaf.specs.Reading.{IsShortAt, Names, OnFault, OnMemory}
+use Rattle.spa_bodies.specs.Reading.{IsShortAt, Names, OnFault, OnMemory}
 use Rattle.spa_rewrite.specs.Rewriting.{AreRewritten}
 use Rattle.spa_read.specs.Reading.{ConveysAtFront, ConveysNothing, ConveysWith, StandsLeniently}
 

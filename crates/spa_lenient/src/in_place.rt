@@ -2,13 +2,13 @@
 ghost use Rattle.std.specs.Prelude.{◌≡◌, ◌<◌, ◌≤◌, ◌++◌, [], List, ℕ, IfErr, IfOk, OnErr, drop, length, take};
 ghost use Rattle.std.specs.Borrow.{Bor};
 ghost use Rattle.spa_in_place.specs.InPlace.{IsFaultOf};
-ghost use Rattle.spa_leaf.specs.Refusing.{error_of};
+ghost use Rattle.spa_bodies.specs.Refusing.{error_of};
 ghost use Rattle.spa_lenient.specs.Rewriting.{AreRewrittenLeniently, AreRewrittenLenientlyAs, RefusesList, RefusesListAt};
 ghost use Rattle.spa_rewrite.specs.Shorter.{ArePodsWithin};
 ghost use Rattle.spa_scan.specs.Depth.{levels_looked_into};
 
 use crate::rewriting::{append_all, rewrite_all_leniently};
-use spa_fixed::{DeserializeError, Fault, FaultKind, Refusal};
+use spa_fixed_sized::{DeserializeError, Fault, FaultKind, Refusal};
 use spa_in_place::{rewrite_in_place, rewrite_into};
 use std::alloc::Global;
 

@@ -1,22 +1,22 @@
 //! Rewrites pods leniently: to the encoding of the value that the bytes convey.
 ghost use Rattle.std.specs.Prelude.{◌≡◌, ◌+◌, ◌<◌, ◌≤◌, ◌++◌, IfErr, IfNone, IfOk, IfSome, OnErr, OnOk, length, true};
-ghost use Rattle.spa_fixed.specs.declared.fault.Refusal.TheVariants as refusal;
+ghost use Rattle.spa_fixed_sized.specs.declared.fault.Refusal.TheVariants as refusal;
 ghost use Rattle.spa_format.specs.Encoding.{encoding_of};
 ghost use Rattle.spa_format.specs.Front.{HasFront, rest_of};
 ghost use Rattle.spa_format.specs.Lenient.{ConveyMembers};
 ghost use Rattle.spa_format.specs.Tree.{Trees};
 ghost use Rattle.spa_format.specs.Words.{size_limit};
 ghost use Rattle.spa_format.specs.Writable.{IsWritable};
-ghost use Rattle.spa_leaf.specs.Reading.{IsShortAt, Names, OnFault, OnMemory};
-ghost use Rattle.spa_leaf.specs.Refusing.{error_of};
+ghost use Rattle.spa_bodies.specs.Reading.{IsShortAt, Names, OnFault, OnMemory};
+ghost use Rattle.spa_bodies.specs.Refusing.{error_of};
 ghost use Rattle.spa_lenient.specs.Rewriting.{AppendsFirst, AppendsFront, AppendsStruct, AreRewrittenLeniently, Grows, IsLeftLeniently, IsLenientRewriting, RefusesFront, RefusesList};
 ghost use Rattle.spa_read.specs.Reading.{ConveysNothing, RefusesLeniently, StandsLeniently};
 ghost use Rattle.spa_rewrite.specs.Rewriting.{AreRewritten, IsLeft};
 ghost use Rattle.spa_value.specs.View.{view};
 
+use spa_bodies::{close, error_at};
 use spa_bytes::{open, two_words};
-use spa_fixed::{DeserializeError, Refusal};
-use spa_leaf::{close, error_at};
+use spa_fixed_sized::{DeserializeError, Refusal};
 use spa_read::{Refused, read_value_leniently};
 use spa_rewrite::{rewrite, rewrite_all};
 use spa_sink::GenError;

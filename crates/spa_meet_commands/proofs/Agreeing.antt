@@ -13,7 +13,7 @@ use Rattle.spa_filter.specs.Settling.{FiltersSettle, settled_of}
 use Rattle.spa_filter.specs.declared.error.FilterError.{FilterError}
 use Rattle.spa_filter.specs.declared.error.FilterError.TheVariants.{TypeMismatch, Missing, Unsupported, Disjoint, Unread, NotObject, TooLarge, OutOfMemory}
 use Rattle.spa_filter_pods.specs.Fronts.{AreFrontsRefused, BeginBoth, FilterIn, OnNoFilter}
-use Rattle.spa_fronts.specs.Fronts.{IsObject}
+use Rattle.spa_object_view.specs.Fronts.{IsObject}
 use Rattle.spa_meet_commands.specs.Agreeing.{AreFiltered, ArentAgreed, IsUnsettled, SettleIn, SettleTooLarge, no_memory, unfiltered, unsettled}
 use Rattle.spa_meet_commands.specs.declared.pair.Work.{Work}
 use Rattle.spa_meet_commands.specs.declared.pair.Work.TheVariants.{Negotiate}

@@ -11,7 +11,7 @@ use Rattle.spa_format.proofs.WalkLemmas.{walk-end, walk-there}
 use Rattle.spa_filter.specs.declared.error.FilterError.{FilterError}
 use Rattle.spa_filter.specs.declared.error.FilterError.TheVariants as cause
 use Rattle.spa_keyed_objects.specs.declared.side.Side.{Side}
-use Rattle.spa_fronts.specs.Fronts.{BeginsObject, BeginsOther}
+use Rattle.spa_object_view.specs.Fronts.{BeginsObject, BeginsOther}
 use Rattle.spa_meet_commands.specs.Agreeing.{Agree, AgreeIn, ArentAgreed}
 use Rattle.spa_meet_commands.specs.Lists.{AgreesWithNone, AreOfObjects, FirstGives, FirstPairGives, Gives, IsBehindObjects, IsList, IsNoList, IsOfDisagreement, NoneAgree, StopsAt}
 use Rattle.spa_meet_commands.specs.declared.pair.Work.{Work}

@@ -5,7 +5,7 @@ use Rattle.spa_format.specs.Pod.{IsPod}
 use Rattle.spa_format.specs.Front.{IsRefused, rest_of}
 use Rattle.spa_format.specs.Walk.{walk}
 use Rattle.spa_format.specs.Fixation.{walk_size}
-use Rattle.spa_fronts.specs.Fronts.{BeginsOther, IsObject}
+use Rattle.spa_object_view.specs.Fronts.{BeginsOther, IsObject}
 use Rattle.spa_filter.specs.declared.error.FilterError.{FilterError}
 use Rattle.spa_filter.specs.declared.error.FilterError.TheVariants.{TypeMismatch, Missing, Unsupported, Disjoint}
 use Rattle.spa_keyed_objects.specs.declared.side.Side.{Side}

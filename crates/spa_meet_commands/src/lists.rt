@@ -2,14 +2,14 @@
 ghost use Rattle.std.specs.Prelude.{◌≡◌, ◌↔◌, ◌∷◌, ◌+◌, ◌<◌, Err, IfErr, IfNone, IfOk, IfSome, IsTrue, Ok, OnOk, [], length};
 ghost use Rattle.spa_format.specs.Front.{rest_of};
 ghost use Rattle.spa_format.specs.Walk.{walk};
-ghost use Rattle.spa_fronts.specs.Fronts.{BeginsObject, IsObject};
+ghost use Rattle.spa_object_view.specs.Fronts.{BeginsObject, IsObject};
 ghost use Rattle.spa_value.specs.View.{view};
 ghost use Rattle.spa_meet_commands.specs.Lists.{AgreesWithNone, AreApart, AreListsRefused, FirstGives, FirstPairGives, IsList, IsNoList, IsOfDisagreement, ListsGive, NoneAgree, StopsAt};
 
 use crate::answer::Failure;
 use crate::pair::{Work, agreed, behind_front, type_at};
 use spa_filter_pods::{FilterError, Side};
-use spa_fixed::DeserializeError;
+use spa_fixed_sized::DeserializeError;
 use spa_typed_read::PodDeserializer;
 use spa_value::laws::trees_have_their_types;
 use spa_value::{Held, Value};

@@ -5,7 +5,7 @@ ghost use Rattle.spa_format.specs.Front.{rest_of};
 ghost use Rattle.spa_format.specs.Pod.{IsPod};
 ghost use Rattle.spa_format.specs.Tree.{Tree};
 ghost use Rattle.spa_filter.specs.Settling.{settled_of};
-ghost use Rattle.spa_fronts.specs.Fronts.{IsObject};
+ghost use Rattle.spa_object_view.specs.Fronts.{IsObject};
 ghost use Rattle.spa_value.specs.View.{object_view};
 ghost use Rattle.spa_meet_commands.specs.Agreeing.{AgreeIn, ArentAgreed, IsUnsettled, IsUnwritten};
 ghost use Rattle.spa_meet_commands.specs.Answers.{HasType, IsPairRefused, PairIn};

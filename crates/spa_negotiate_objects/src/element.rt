@@ -7,7 +7,7 @@ ghost use Rattle.spa_negotiate_objects.specs.Offers.{range_rule};
 
 use crate::numbers::Numbers;
 use crate::offer::Rule;
-use spa_fixed::CanonicalFixedSizedPod;
+use spa_fixed_sized::CanonicalFixedSizedPod;
 use spa_utils::{Fd, Float32, Float64, Fraction, Id, Rectangle};
 use spa_value::Value;
 

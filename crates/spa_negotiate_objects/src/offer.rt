@@ -2,7 +2,7 @@
 ghost use Rattle.std.specs.Prelude.{◌≡◌, ◌↔◌, IfOk, IsTrue, [], ◌∷◌, map};
 ghost use Rattle.spa_format.specs.Tree.{fixed};
 ghost use Rattle.spa_value.specs.View.{choice_view, view};
-ghost use Rattle.spa_fixed.specs.Choices.{choice_enum_tree};
+ghost use Rattle.spa_fixed_sized.specs.Choices.{choice_enum_tree};
 ghost use Rattle.spa_negotiate_objects.specs.Admits.{IsPlain, IsSupported, plain_of};
 ghost use Rattle.spa_negotiate_objects.specs.Numbering.{HasAll};
 ghost use Rattle.spa_negotiate_objects.specs.Offers.{IsIndexed, IsOfferOf, further_values_of, indexed_of, rule_of};

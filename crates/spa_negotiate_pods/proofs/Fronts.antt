@@ -13,8 +13,8 @@ use Rattle.spa_negotiate_pods.specs.Fronts.{MeetIn, OnNoMeeting, IsFrontRefused,
 use Rattle.spa_negotiate_objects.specs.Meeting.{CanMeet, Meet}
 use Rattle.spa_negotiate_objects.specs.Refusals.{AreRefused, OnDisagreement}
 use Rattle.spa_negotiate_objects.proofs.Refusing.{cannot_meet}
-use Rattle.spa_fronts.specs.Fronts.{BeginBoth, BeginsObject, IsObject}
-use Rattle.spa_fronts.proofs.Both.{never_both, other_first, other_second}
+use Rattle.spa_object_view.specs.Fronts.{BeginBoth, BeginsObject, IsObject}
+use Rattle.spa_object_view.proofs.Both.{never_both, other_first, other_second}
 
 -- the second side's refusal, behind a first side that is an object
 pub second_refused : (a b : List ℕ) → BeginsObject a → (e : NegotiateError) →

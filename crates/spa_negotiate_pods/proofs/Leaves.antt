@@ -4,7 +4,7 @@ use Rattle.spa_format.specs.Pod.{IsBody, IsPod}
 use Rattle.spa_format.specs.Tree.{Tree, struct, object, struct_type, object_type, type_of}
 use Rattle.spa_format.proofs.Shapes.{object_only, struct_only}
 use Rattle.spa_bytes.specs.Opening.{Opens}
-use Rattle.spa_leaf.specs.Written.{IsLeaf}
+use Rattle.spa_bodies.specs.Written.{IsLeaf}
 use Rattle.spa_negotiate_objects.specs.Admits.{IsSupported}
 use Rattle.spa_negotiate_objects.specs.Refusals.{IsKeyRefusal}
 use Rattle.spa_negotiate_objects.specs.declared.error.NegotiateError.TheVariants.{Disjoint}

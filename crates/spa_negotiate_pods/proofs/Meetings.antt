@@ -3,11 +3,11 @@ use Rattle.std.proofs.Common.{◌≡◌, ℕ, ◌-◌, ◌<◌, ◌≤◌, ◌^�
 use Rattle.std.specs.List.{All}
 use Rattle.spa_format.specs.Words.{size_limit, word_bytes}
 use Rattle.spa_format.specs.Tree.{Tree, object, Properties, no_properties, property, join_properties}
-use Rattle.spa_fronts.specs.Fronts.{BeginBoth}
-use Rattle.spa_fronts.specs.Written.{AreBehind, AreWritten, BeginsWritten, has_key, open_header}
-use Rattle.spa_fronts.proofs.Both.{begin_both}
-use Rattle.spa_fronts.proofs.Joined.{behind_none, behind_on, object_large, object_written}
-use Rattle.spa_fronts.proofs.Sides.{IsNext}
+use Rattle.spa_object_view.specs.Fronts.{BeginBoth}
+use Rattle.spa_object_view.specs.Written.{AreBehind, AreWritten, BeginsWritten, has_key, open_header}
+use Rattle.spa_object_view.proofs.Both.{begin_both}
+use Rattle.spa_object_view.proofs.Joined.{behind_none, behind_on, object_large, object_written}
+use Rattle.spa_object_view.proofs.Sides.{IsNext}
 use Rattle.spa_negotiate_objects.specs.Admits.{plain_of}
 use Rattle.spa_keyed_objects.specs.Keys.{contains, key_list, keys_of}
 use Rattle.spa_negotiate_objects.specs.Keys.{value_at}

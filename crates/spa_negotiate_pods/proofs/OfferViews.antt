@@ -12,7 +12,7 @@ use Rattle.spa_format.proofs.FixedKinds.{same_kind}
 use Rattle.spa_format.proofs.Shapes.{choice_only, fixed_only}
 use Rattle.spa_format.proofs.WordLemmas.{IsBytes-take, word_at-take, word_at-drop}
 use Rattle.spa_bytes.specs.Opening.{Opens}
-use Rattle.spa_fronts.proofs.KeyOrders.{contains_later}
+use Rattle.spa_object_view.proofs.KeyOrders.{contains_later}
 use Rattle.spa_scan.proofs.Words.{word_there, wide_back, wide_of_take}
 use Rattle.spa_negotiate_objects.specs.Admits.{Admits, IsAtMostFixed, IsOrderedKind, plain_of}
 use Rattle.spa_negotiate_pods.specs.Offering.{AdmitsBy, AreAdmitting, IsElementType, IsOffer, IsShared, value_of}

@@ -22,8 +22,8 @@ use Rattle.spa_negotiate_objects.specs.declared.error.NegotiateError.TheVariants
 use Rattle.spa_negotiate_objects.proofs.Agreeing.{IsSupported-plain}
 use Rattle.spa_negotiate_objects.specs.Keys.{value_at}
 use Rattle.spa_negotiate_pods.specs.Offering.{IsOffer, IsShared, value_of}
-use Rattle.spa_leaf.specs.Written.{IsLeaf}
-use Rattle.spa_fronts.specs.Written.{Found, IsFound, IsWritten, found_at}
+use Rattle.spa_bodies.specs.Written.{IsLeaf}
+use Rattle.spa_object_view.specs.Written.{Found, IsFound, IsWritten, found_at}
 use Rattle.spa_negotiate_pods.specs.Written.{IsCommonPut, IsPut, IsSettledBy}
 use Rattle.spa_negotiate_pods.specs.declared.offer_view.OfferView.{OfferView}
 

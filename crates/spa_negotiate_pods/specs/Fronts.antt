@@ -5,8 +5,8 @@ use Rattle.spa_format.specs.Front.{IsRefused}
 use Rattle.spa_format.specs.Encoding.{encoding_of}
 use Rattle.spa_format.specs.Pod.{IsPod}
 use Rattle.spa_format.specs.Writable.{IsTooLarge}
-use Rattle.spa_leaf.specs.Reading.{MayLackMemory}
-pub use Rattle.spa_fronts.specs.Fronts.{BeginBoth, BeginsObject, BeginsOther, IsObject}
+use Rattle.spa_bodies.specs.Reading.{MayLackMemory}
+pub use Rattle.spa_object_view.specs.Fronts.{BeginBoth, BeginsObject, BeginsOther, IsObject}
 use Rattle.spa_negotiate_objects.specs.Meeting.{Meet}
 use Rattle.spa_negotiate_objects.specs.Refusals.{AreRefused}
 use Rattle.spa_keyed_objects.specs.declared.side.Side.{Side}

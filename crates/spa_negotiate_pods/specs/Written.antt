@@ -5,7 +5,7 @@ use Rattle.spa_format.specs.Typed.{IsTyped}
 use Rattle.spa_format.specs.Words.{word_bytes}
 use Rattle.spa_format.specs.Writable.{IsWritable}
 use Rattle.spa_format.specs.Tree.{Tree, Properties}
-use Rattle.spa_fronts.specs.Written.{AreBehind, IsWritten}
+use Rattle.spa_object_view.specs.Written.{AreBehind, IsWritten}
 use Rattle.spa_negotiate_objects.specs.Admits.{IsCommon, IsPlain}
 use Rattle.spa_negotiate_objects.specs.Meeting.{Settles, SettlesKeys}
 

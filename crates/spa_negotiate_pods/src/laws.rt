@@ -2,7 +2,7 @@
 ghost use Rattle.std.specs.Prelude.{ℕ, List, IsTrue};
 ghost use Rattle.spa_format.specs.Fixation.{all_settled};
 ghost use Rattle.spa_format.specs.Walk.{properties_of, property_walk};
-ghost use Rattle.spa_fronts.specs.Fronts.{BeginBoth};
+ghost use Rattle.spa_object_view.specs.Fronts.{BeginBoth};
 ghost use Rattle.spa_negotiate_objects.specs.Meeting.{CanMeet};
 ghost use Rattle.spa_negotiate_objects.specs.declared.error.NegotiateError.{NegotiateError};
 ghost use Rattle.spa_negotiate_pods.specs.Fronts.{AreFrontsRefused, MeetIn, OnNoMeeting};

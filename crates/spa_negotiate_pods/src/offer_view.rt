@@ -8,9 +8,9 @@ ghost use Rattle.spa_negotiate_objects.specs.Admits.{Admits, IsAtMostFixed};
 ghost use Rattle.spa_negotiate_pods.specs.Offering.{AreAdmitting, HasValues, IsElementType, IsOffer, IsShared, value_of};
 ghost use Rattle.spa_negotiate_pods.specs.declared.offer_view.Rule.TheVariants.{Among, Between, Only};
 
+use spa_bodies::{CHOICE_HEADER_LEN, VALUE_TYPE_AT};
 use spa_bytes::{HEADER_LEN, open, u32_at, u64_at};
-use spa_fixed::{ENUM_SHAPE, NONE_SHAPE, RANGE_SHAPE};
-use spa_leaf::{CHOICE_HEADER_LEN, VALUE_TYPE_AT};
+use spa_fixed_sized::{ENUM_SHAPE, NONE_SHAPE, RANGE_SHAPE};
 use spa_utils::SpaTypes;
 use std::alloc::{AllocError, Global};
 

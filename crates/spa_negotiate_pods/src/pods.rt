@@ -2,14 +2,14 @@
 ghost use Rattle.std.specs.Prelude.{IfErr, IfOk, IsTrue, OnOk};
 ghost use Rattle.spa_format.specs.Fixation.{all_settled};
 ghost use Rattle.spa_format.specs.Walk.{properties_of, property_walk};
-ghost use Rattle.spa_fronts.specs.Fronts.{BeginBoth, BeginsObjectIn, bytes_of};
+ghost use Rattle.spa_object_view.specs.Fronts.{BeginBoth, BeginsObjectIn, bytes_of};
 ghost use Rattle.spa_negotiate_objects.specs.Meeting.{CanMeet};
 ghost use Rattle.spa_negotiate_pods.specs.Fronts.{AreFrontsRefused, IsFrontRefused, MeetIn, OnNoMeeting};
 
 use crate::laws::{meetings_need_no_fixation, refused_fronts_cannot_meet};
 use crate::views::meet_objects;
-use spa_fronts::{NoObject, ObjectPod, object_in, object_pod};
 use spa_negotiate_objects::{NegotiateError, Side};
+use spa_object_view::{NoObject, ObjectPod, object_in, object_pod};
 use std::alloc::Global;
 
 /// Negotiates the objects at the fronts of two inputs by the rules of `negotiate`, and answers the encoding of the object in

@@ -2,9 +2,9 @@
 ghost use Rattle.std.specs.Prelude.{◌≡◌, ◌<◌, IfErr, IfOk, List, OnOk, Some, true, ℕ};
 ghost use Rattle.spa_format.specs.Tree.{Properties, Tree, join_properties};
 ghost use Rattle.spa_format.specs.Words.{size_limit};
-ghost use Rattle.spa_fronts.specs.Fronts.{BeginBoth, BeginsView};
-ghost use Rattle.spa_fronts.specs.KeyOrder.{IsKeyed};
-ghost use Rattle.spa_fronts.specs.Written.{AreWritten, IsWritten, open_header};
+ghost use Rattle.spa_object_view.specs.Fronts.{BeginBoth, BeginsView};
+ghost use Rattle.spa_object_view.specs.KeyOrder.{IsKeyed};
+ghost use Rattle.spa_object_view.specs.Written.{AreWritten, IsWritten, open_header};
 ghost use Rattle.spa_negotiate_objects.specs.Keys.{value_at};
 ghost use Rattle.spa_negotiate_objects.specs.Meeting.{CanMeet};
 ghost use Rattle.spa_negotiate_objects.specs.Refusals.{IsKeyRefusal, IsRefusal};
@@ -13,8 +13,10 @@ ghost use Rattle.spa_negotiate_pods.specs.Fronts.{AreViewsRefused, MeetIn};
 ghost use Rattle.spa_negotiate_pods.specs.Written.{IsMetBehind, IsSettledBy};
 
 use crate::settling::{put_common, put_default};
-use spa_fronts::{Keyed, ObjectView, PropertyView, finish, first_property, put_header, raised};
 use spa_negotiate_objects::NegotiateError;
+use spa_object_view::{
+    Keyed, ObjectView, PropertyView, finish, first_property, put_header, raised,
+};
 use std::alloc::Global;
 
 /// The offset in an object's pod at which its properties begin: behind its header, its type and its id.

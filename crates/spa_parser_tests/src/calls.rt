@@ -1,13 +1,13 @@
 //! Calls of a parser in order, and what each answers. A table is a text with a row a line, so that it is data.
 use crate::compare::assert_same;
 use spa_parser::Parser;
-use spa_spelling::{bytes_of, bytes_spelled};
 use spa_utils::{Errno, Frame, Id};
 use spa_view::Pod;
 use std::alloc::{AllocError, Global};
 use std::fmt::Debug;
 use std::process::Abort;
 use std::test::Fail;
+use test_bytes::{bytes_of, bytes_spelled};
 
 /// Words of an input; calls, each with its number where it takes one; and what each answers: a pod by its type and its
 /// size. The words 6422625 and 1684234849 are the bytes `a`, NUL, `b`, NUL and the bytes `abcd`.

@@ -1,11 +1,11 @@
 //! Each form of `parser_get!`: the crate's own tests, floats as their bits, and what these leave out.
 use crate::compare::{assert_holds, assert_same};
 use spa_parser::{Parser, parser_get};
-use spa_spelling::bytes_of;
 use spa_utils::{Errno, Float32, Float64, Fraction, Frame, Id, Rectangle};
 use spa_view::Pod;
 use std::alloc::{AllocError, Global};
 use std::test::Fail;
+use test_bytes::bytes_of;
 
 fn bool_at(alloc: Global, input: &[u8]) -> Result<bool, Errno> {
     let mut value = false;

@@ -1,10 +1,10 @@
 //! Forms of `parser_get!` with texts, with an object, and with a None in place of a value.
 use crate::compare::{assert_holds, assert_same};
 use spa_parser::{Parser, parser_get};
-use spa_spelling::bytes_of;
 use spa_utils::{Errno, Fraction, Id, Rectangle};
 use std::alloc::AllocError;
 use std::process::Abort;
+use test_bytes::bytes_of;
 
 /// The values of a format's properties.
 #[derive(Clone, Copy)]

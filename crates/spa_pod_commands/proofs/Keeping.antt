@@ -7,10 +7,10 @@ use Rattle.std.proofs.lemmas.Bool.{cases_lt}
 use Rattle.std.proofs.lemmas.List.{nil_from_length, take_all}
 use Rattle.spa_format.specs.Tree.{Trees}
 use Rattle.spa_format.specs.Pod.{AreMembers}
-use Rattle.spa_leaf.specs.Reading.{OnFault}
-use Rattle.spa_fixed.specs.Faults.{kind_text}
-use Rattle.spa_fixed.specs.declared.fault.DeserializeError.{DeserializeError}
-use Rattle.spa_fixed.specs.declared.fault.DeserializeError.TheVariants as error
+use Rattle.spa_bodies.specs.Reading.{OnFault}
+use Rattle.spa_fixed_sized.specs.Faults.{kind_text}
+use Rattle.spa_fixed_sized.specs.declared.fault.DeserializeError.{DeserializeError}
+use Rattle.spa_fixed_sized.specs.declared.fault.DeserializeError.TheVariants as error
 use Rattle.spa_rewrite.specs.Rewriting.{IsLeft, RefusesFront}
 use Rattle.spa_device.specs.Whole.{IsAllOf}
 use Rattle.spa_pod_commands.specs.Answers.{Answers, BeginsToWrite, IsCutOff, IsNotListed, IsRefusalAt, IsTold, IsUndone, IsUnmade, OnAnswer, Writes}

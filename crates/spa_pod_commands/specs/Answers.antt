@@ -9,9 +9,9 @@ use Rattle.spa_format.specs.Pod.{AreMembers}
 use Rattle.spa_format.specs.Walk.{HasObject, walk}
 use Rattle.spa_format.specs.Fixation.{fixated_bytes, walk_size}
 use Rattle.spa_rewrite.specs.Rewriting.{AreRewritten, IsLeft, RefusesFront}
-use Rattle.spa_fixed.specs.Faults.{kind_text}
-use Rattle.spa_fixed.specs.declared.fault.DeserializeError.{DeserializeError}
-use Rattle.spa_fixed.specs.declared.fault.DeserializeError.TheVariants as error
+use Rattle.spa_fixed_sized.specs.Faults.{kind_text}
+use Rattle.spa_fixed_sized.specs.declared.fault.DeserializeError.{DeserializeError}
+use Rattle.spa_fixed_sized.specs.declared.fault.DeserializeError.TheVariants as error
 use Rattle.spa_pod_commands.specs.declared.answer.Answer.{Answer}
 use Rattle.spa_pod_commands.specs.declared.answer.Answer.TheVariants.{Done, Refused, Misused}
 use Rattle.spa_pod_commands.specs.declared.answer.Failure.{Failure}

@@ -6,7 +6,7 @@ ghost use Rattle.spa_pod_commands.specs.Answers.{Fixates, IsTold, IsUnmade, Rewr
 
 use crate::answer::Failure;
 use crate::pods::fixate_all;
-use spa_fixed::DeserializeError;
+use spa_fixed_sized::DeserializeError;
 use spa_in_place::rewrite_in_place;
 use spa_rewrite::accept_all;
 use std::alloc::Global;

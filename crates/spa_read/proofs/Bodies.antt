@@ -8,16 +8,16 @@ use Rattle.spa_format.specs.Faults as fault
 use Rattle.spa_format.specs.Front.{IsRefused, front_of}
 use Rattle.spa_format.specs.Opened as headers
 use Rattle.spa_format.proofs.Refused as format
-use Rattle.spa_fixed.specs.declared.fault.Refusal.{Refusal}
-use Rattle.spa_fixed.specs.declared.fault.Refusal.TheVariants as refusal
+use Rattle.spa_fixed_sized.specs.declared.fault.Refusal.{Refusal}
+use Rattle.spa_fixed_sized.specs.declared.fault.Refusal.TheVariants as refusal
 use Rattle.spa_value.specs.View.{view}
 use Rattle.spa_value.proofs.ViewLaws.{property_views-push}
 use Rattle.spa_value.specs.Views.{property_views, views}
 use Rattle.spa_value.specs.declared.object.Property.{Property}
 use Rattle.spa_value.specs.declared.value.Value.{Value}
 use Rattle.spa_read.specs.Opening.{CountsShort}
-use Rattle.spa_leaf.specs.Reading.{MayLackMemory, TakesMemory}
-use Rattle.spa_leaf.specs.Refusing.{RefusesBody}
+use Rattle.spa_bodies.specs.Reading.{MayLackMemory, TakesMemory}
+use Rattle.spa_bodies.specs.Refusing.{RefusesBody}
 use Rattle.spa_read.specs.Nesting.{IsAlike, IsReadUpTo, LacksKey, Reaches, Reads, RefusesBehind, RefusesIn, so_far, with_child}
 use Rattle.spa_read.specs.Reading.{OpensIn, StandsLeniently}
 use Rattle.spa_read.specs.Reading as lenient
@@ -28,7 +28,7 @@ use Rattle.spa_read.proofs.Counting.{count_with, is_one, leaf_at, short_at}
 use Rattle.spa_read.proofs.Replaced.{takes_as}
 use Rattle.spa_read.proofs.Readings.{leaf_in, members_grown, opened_shorter, parted, pod_read, properties_joined}
 use Rattle.spa_read.proofs.Remainders.{HasKey, first_in}
-use Rattle.spa_leaf.proofs.Refusals.{says_through}
+use Rattle.spa_bodies.proofs.Refusals.{says_through}
 
 pub type_with : (i : Inside) (v : Tree) → type_of (with_child i v) ≡ type_of (so_far i)
 type_with (inside.Struct vs) v = refl

@@ -16,10 +16,10 @@ use Rattle.spa_format.proofs.Refused.{enough_values, right_size, right_type}
 use Rattle.spa_format.proofs.Shapes.{choice_only, object_only, string_only, struct_only}
 use Rattle.spa_format.proofs.WordLemmas.{word_at-append}
 use Rattle.std.specs.Borrow.{Bor}
-use Rattle.spa_fixed.specs.declared.fault.Refusal.{Refusal}
-use Rattle.spa_fixed.specs.declared.fault.Refusal.TheVariants as refusal
-use Rattle.spa_leaf.specs.Reading.{IsShortAt, MayLackMemory, Names, OnFault, OnMemory}
-use Rattle.spa_leaf.specs.Refusing.{StandsInBody, error_of}
+use Rattle.spa_fixed_sized.specs.declared.fault.Refusal.{Refusal}
+use Rattle.spa_fixed_sized.specs.declared.fault.Refusal.TheVariants as refusal
+use Rattle.spa_bodies.specs.Reading.{IsShortAt, MayLackMemory, Names, OnFault, OnMemory}
+use Rattle.spa_bodies.specs.Refusing.{StandsInBody, error_of}
 use Rattle.spa_read.specs.Reading.{ConveysAtFront, ConveysNothing, ConveysWith, IsBodyIn, OpensLeniently, RefusesInput, RefusesLeniently, StandsLeniently, no_front, in_body, in_member, in_key, in_property}
 use Rattle.spa_read.proofs.Replaced.{ConveysAs, as_conveyed, conveyed_as}
 

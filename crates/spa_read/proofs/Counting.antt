@@ -7,17 +7,17 @@ use Rattle.spa_format.specs.Pod.{IsBody}
 use Rattle.spa_format.specs.Faults.{Stands, at_front, short_object}
 use Rattle.spa_format.specs.Front.{HasFront}
 use Rattle.spa_format.specs.Opened as headers
-use Rattle.spa_fixed.specs.declared.fault.Refusal.{Refusal}
-use Rattle.spa_fixed.specs.declared.fault.Refusal.TheVariants as refusal
+use Rattle.spa_fixed_sized.specs.declared.fault.Refusal.{Refusal}
+use Rattle.spa_fixed_sized.specs.declared.fault.Refusal.TheVariants as refusal
 use Rattle.spa_value.specs.Views.{property_views, views}
 use Rattle.spa_read.specs.Opening.{CountsShort}
-use Rattle.spa_leaf.specs.Reading.{MayLackMemory, TakesMemory}
-use Rattle.spa_leaf.specs.Refusing.{RefusesBody, RefusesPod, StandsInBody}
+use Rattle.spa_bodies.specs.Reading.{MayLackMemory, TakesMemory}
+use Rattle.spa_bodies.specs.Refusing.{RefusesBody, RefusesPod, StandsInBody}
 use Rattle.spa_read.specs.Nesting.{IsReadIn, RefusesAt, RefusesIn, so_far, with_child}
 use Rattle.spa_read.specs.Reading.{OpensIn, OpensLeniently, RefusesLeniently, StandsLeniently, no_front, in_body}
 use Rattle.spa_read.specs.declared.inside.Inside.{Inside}
 use Rattle.spa_read.specs.declared.inside.Inside.TheVariants as inside
-use Rattle.spa_leaf.proofs.Refusals.{body_refused, says_through, short_object_refused}
+use Rattle.spa_bodies.proofs.Refusals.{body_refused, says_through, short_object_refused}
 use Rattle.spa_read.proofs.Replaced.{takes_as}
 use Rattle.spa_read.proofs.Readings.{leaf_in, pod_read}
 

@@ -6,8 +6,8 @@ use Rattle.spa_format.specs.Pod.{IsBody}
 use Rattle.spa_format.specs.Front.{front_of}
 use Rattle.spa_format.proofs.Fronts.{front_and_rest, length-body_of}
 use Rattle.spa_format.proofs.Sequences as exact
-use Rattle.spa_leaf.proofs.Steps as steps
-use Rattle.spa_leaf.specs.Reading.{MayLackMemory, TakesMemory}
+use Rattle.spa_bodies.proofs.Steps as steps
+use Rattle.spa_bodies.specs.Reading.{MayLackMemory, TakesMemory}
 use Rattle.spa_bytes.specs.Opening.{Opens}
 use Rattle.std.proofs.lemmas.Bool.{ne_eqb}
 use Rattle.spa_read.specs.Reading.{BeginsIn, IsBodyIn, MembersIn, OpensIn, OpensLeniently, PropertiesIn, ReadsAs}

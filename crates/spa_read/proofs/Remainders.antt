@@ -8,7 +8,7 @@ use Rattle.spa_format.specs.Pod.{IsPod}
 use Rattle.spa_format.specs.Lenient.{Conveys}
 use Rattle.spa_format.specs.Front.{front_of}
 use Rattle.spa_format.proofs.WordLemmas.{word_at-append}
-use Rattle.spa_leaf.specs.Reading.{BeginsWith}
+use Rattle.spa_bodies.specs.Reading.{BeginsWith}
 use Rattle.spa_read.specs.Reading.{BeginsIn, PropertiesIn}
 use Rattle.spa_read.proofs.Readings.{parted}
 

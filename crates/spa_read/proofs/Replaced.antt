@@ -12,7 +12,7 @@ use Rattle.spa_format.proofs.Shapes.{fixed_only, choice_only}
 use Rattle.spa_format.proofs.FixedKinds.{number_is}
 use Rattle.spa_format.proofs.Conveyed.{by_shape, choice_conveyed, same_child, same_text}
 use Rattle.spa_format.proofs.WordLemmas.{word_at-drop, word_at-take}
-use Rattle.spa_leaf.specs.Reading.{TakesMemory}
+use Rattle.spa_bodies.specs.Reading.{TakesMemory}
 use Rattle.spa_read.specs.Reading.{IsNoneChoice, StaysChoice, ReadsText, all, first, ReadsBody, of_text, of_other, ReadsAs, same_type, stays, of_child, no_child, IsBodyIn}
 
 -- what a body of this type conveys: as it is, or by a child

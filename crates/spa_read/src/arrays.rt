@@ -2,18 +2,18 @@
 ghost use Rattle.std.specs.Prelude.{◌≡◌, IfErr, IfOk};
 ghost use Rattle.spa_format.specs.Pod.{IsBody};
 ghost use Rattle.spa_format.specs.Tree.{array_type, type_of};
-ghost use Rattle.spa_leaf.specs.Refusing.{RefusesBody};
+ghost use Rattle.spa_bodies.specs.Refusing.{RefusesBody};
 ghost use Rattle.spa_value.specs.View.{array_view};
 
 use spa_bytes::{HEADER_LEN, SECOND_WORD, u32_at};
-use spa_fixed::{Refusal, read_array};
+use spa_fixed_sized::{Refusal, read_array};
 use spa_utils::{Fd, Float32, Float64, Fraction, Id, Rectangle, SpaTypes};
 use spa_value::ValueArray;
 use std::alloc::Global;
 
 /// Reads the array, over any of the ten types, with this body. Refused as `InvalidType` and `WrongSize`, each where that fault stands, and as
 /// `OutOfMemory`.
-#[tactic(auto, using(spa_leaf::proofs::Refusals::array_refused))]
+#[tactic(auto, using(spa_bodies::proofs::Refusals::array_refused))]
 #[inline(always)]
 pub(crate) fn read_any_array(alloc: Global, body: &[u8]) -> Result<ValueArray, Refusal>
     ensures its_type { IfOk result (λ array. type_of (array_view array) ≡ array_type) }

@@ -2,19 +2,19 @@
 ghost use Rattle.std.specs.Prelude.{◌≡◌, IfErr, IfOk};
 ghost use Rattle.spa_format.specs.Pod.{IsBody};
 ghost use Rattle.spa_format.specs.Tree.{choice_type, type_of};
-ghost use Rattle.spa_leaf.specs.Refusing.{RefusesBody};
+ghost use Rattle.spa_bodies.specs.Refusing.{RefusesBody};
 ghost use Rattle.spa_value.specs.View.{choice_view};
 
+use spa_bodies::{CHOICE_HEADER_LEN, VALUE_TYPE_AT};
 use spa_bytes::u32_at;
-use spa_fixed::{Refusal, read_choice};
-use spa_leaf::{CHOICE_HEADER_LEN, VALUE_TYPE_AT};
+use spa_fixed_sized::{Refusal, read_choice};
 use spa_utils::{Fd, Float32, Float64, Fraction, Id, Rectangle, SpaTypes};
 use spa_value::ChoiceValue;
 use std::alloc::Global;
 
 /// Reads the choice, over any of the nine types, with this body. Refused as `InvalidType`, `InvalidChoiceType`, `MissingChoiceValues` and
 /// `WrongSize`, each where that fault stands, and as `OutOfMemory`.
-#[tactic(auto, using(spa_leaf::proofs::Refusals::choice_refused, spa_leaf::proofs::Steps::type_of_choice))]
+#[tactic(auto, using(spa_bodies::proofs::Refusals::choice_refused, spa_bodies::proofs::Steps::type_of_choice))]
 #[inline(always)]
 pub fn read_any_choice(alloc: Global, body: &[u8]) -> Result<ChoiceValue, Refusal>
     ensures its_type { IfOk result (λ choice. type_of (choice_view choice) ≡ choice_type) }

@@ -12,7 +12,7 @@ use crate::leaves::read_leaf_into;
 use crate::refused::Refused;
 use bitflags::Flags;
 use spa_bytes::{Front, HEADER_LEN, SECOND_WORD, extent_of, u32_at};
-use spa_fixed::Refusal;
+use spa_fixed_sized::Refusal;
 use spa_utils::SpaTypes;
 use spa_value::{Object, Property, PropertyFlags, Takes, Value};
 use std::alloc::{AllocError, Global};

@@ -3,8 +3,8 @@ ghost use Rattle.std.specs.Prelude.{◌≡◌, ◌+◌, ◌==◌, ◌≤◌, Dec
 ghost use Rattle.spa_format.specs.Tree.{choice_type};
 ghost use Rattle.spa_read.specs.Reading.{EndsInNul, IsNoneChoice, ReadsAs, ReadsBody, ReadsText, StaysChoice};
 
+use spa_bodies::{CHOICE_HEADER_LEN, VALUE_TYPE_AT};
 use spa_bytes::{Front, HEADER_LEN, u32_at};
-use spa_leaf::{CHOICE_HEADER_LEN, VALUE_TYPE_AT};
 use spa_utils::SpaTypes;
 
 /// The shape word of a None choice.

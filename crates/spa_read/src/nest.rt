@@ -1,6 +1,6 @@
 //! The reader's explicit stack: the containers whose bodies are being read, each inside the next one.
 ghost use Rattle.std.specs.Prelude.{◌≡◌, ◌⊎◌, ◌+◌, ◌*◌, ◌<◌, ◌≤◌, ◌^◌, ◌++◌, ◌∷◌, [], ℕ, List, true, IfErr, IfNone, IfOk, IfSome, OnOk, length, reverse};
-ghost use Rattle.spa_fixed.specs.declared.fault.Refusal.TheVariants as refusal;
+ghost use Rattle.spa_fixed_sized.specs.declared.fault.Refusal.TheVariants as refusal;
 ghost use Rattle.spa_format.specs.Tree.{object_type, struct_type};
 ghost use Rattle.spa_format.specs.Words.{header_size};
 ghost use Rattle.spa_read.specs.Nesting.{EndsInner, IsBegunAs, IsUnderWay, RefusesIn, Steps, ahead, around, so_far};
@@ -10,7 +10,7 @@ use crate::inside::{Inside, OpenObject};
 use crate::refused::Refused;
 use bitflags::Flags;
 use spa_bytes::{Front, HEADER_LEN, SECOND_WORD, u32_at};
-use spa_fixed::Refusal;
+use spa_fixed_sized::Refusal;
 use spa_utils::SpaTypes;
 use spa_value::{PropertyFlags, Value, discard};
 use std::alloc::{AllocError, Global};

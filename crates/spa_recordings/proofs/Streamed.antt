@@ -6,8 +6,8 @@ use Rattle.std.specs.Borrow.{Bor}
 use Rattle.std.specs.Io.KnownBytes.{Appends, Consumes, IsAtEnd, Keeps}
 use Rattle.spa_device.specs.CountingLaws.{known_more}
 use Rattle.spa_device.specs.Whole.{IsAllOf}
-use Rattle.spa_fixed.specs.declared.fault.DeserializeError.TheVariants as error
-use Rattle.spa_fixed.specs.declared.fault.FaultKind.TheVariants as fault_kind
+use Rattle.spa_fixed_sized.specs.declared.fault.DeserializeError.TheVariants as error
+use Rattle.spa_fixed_sized.specs.declared.fault.FaultKind.TheVariants as fault_kind
 use Rattle.spa_format.specs.Faults.{Stands, at_front}
 use Rattle.spa_format.specs.Front.{HasFront, IsRefused}
 use Rattle.spa_pod_commands.proofs.Keeping.{appends_keeps, appends_nothing}

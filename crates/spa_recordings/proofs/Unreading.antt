@@ -1,11 +1,11 @@
 -- Why bytes aren't read.
 use Rattle.std.proofs.Common.{◌≡◌, ℕ, List, refl}
 use Rattle.std.specs.Borrow.{Bor}
-use Rattle.spa_fixed.specs.declared.fault.DeserializeError.{DeserializeError}
-use Rattle.spa_fixed.specs.declared.fault.DeserializeError.TheVariants as error
-use Rattle.spa_fixed.specs.Faults.{kind_text}
+use Rattle.spa_fixed_sized.specs.declared.fault.DeserializeError.{DeserializeError}
+use Rattle.spa_fixed_sized.specs.declared.fault.DeserializeError.TheVariants as error
+use Rattle.spa_fixed_sized.specs.Faults.{kind_text}
 use Rattle.spa_format.specs.Front.{IsRefused}
-use Rattle.spa_leaf.specs.Reading.{OnFault, OnMemory}
+use Rattle.spa_bodies.specs.Reading.{OnFault, OnMemory}
 use Rattle.spa_read.specs.Reading.{ConveysNothing}
 use Rattle.spa_recordings.specs.Reading.{IsUnreadAt, RefusesList}
 use Rattle.spa_recordings.specs.declared.reading.Reading.{Reading}

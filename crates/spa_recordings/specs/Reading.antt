@@ -1,14 +1,14 @@
 -- How bytes are read as pods: docs/PROVED.md, "The programs".
 use Rattle.std.specs.Prelude.{⊤, ◌≡◌, ◌+◌, ℕ, List, [], length}
 use Rattle.std.specs.Borrow.{Bor}
-use Rattle.spa_fixed.specs.Faults.{kind_text}
-use Rattle.spa_fixed.specs.declared.fault.DeserializeError.{DeserializeError}
+use Rattle.spa_fixed_sized.specs.Faults.{kind_text}
+use Rattle.spa_fixed_sized.specs.declared.fault.DeserializeError.{DeserializeError}
 use Rattle.spa_format.specs.Faults.{Fault, Stands}
 use Rattle.spa_format.specs.Front.{IsRefused}
 use Rattle.spa_format.specs.Lenient.{ConveyMembers}
 use Rattle.spa_format.specs.Pod.{AreMembers}
 use Rattle.spa_format.specs.Tree.{Trees}
-use Rattle.spa_leaf.specs.Reading.{Names, OnMemory}
+use Rattle.spa_bodies.specs.Reading.{Names, OnMemory}
 use Rattle.spa_lenient.specs.Rewriting.{AreRewrittenLeniently, IsLeftLeniently}
 use Rattle.spa_lenient.specs.Rewriting as lenient
 use Rattle.spa_pod_commands.specs.declared.answer.Failure.{Failure}

@@ -2,7 +2,7 @@
 ghost use Rattle.std.specs.Prelude.{◌≡◌, IfErr, IfNone, IfOk, IfSome, OnOk};
 ghost use Rattle.spa_recordings.specs.Reading.{IsAccepted, IsUnreadAt, ReadsAs, RefusesList, RefusesReading};
 
-use spa_fixed::DeserializeError;
+use spa_fixed_sized::DeserializeError;
 use spa_lenient::rewrite_all_leniently;
 use spa_pod_commands::answer::Failure;
 use spa_rewrite::accept_all;

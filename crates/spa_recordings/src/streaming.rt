@@ -106,7 +106,14 @@ pub fn stream<B: BlockWriter, R: Read, W: Write>(
         let Some(behind) = place.checked_add(len) else {
             return Err(Failure::ReadFailed);
         };
-        match write_front(alloc, writer, place, len, blocks.buffer.as_mut_slice(), output) {
+        match write_front(
+            alloc,
+            writer,
+            place,
+            len,
+            blocks.buffer.as_mut_slice(),
+            output,
+        ) {
             Ok(()) => {}
             Err(why) => return Err(why),
         }

@@ -3,12 +3,12 @@ use Rattle.std.proofs.Common.{◌≡◌, ◌≢◌, ◌≤◌, ◌+◌, ◌-◌,
 use Rattle.std.proofs.lemmas.List.{drop_at}
 use Rattle.std.specs.Borrow.{Bor}
 use Rattle.std.specs.Prelude.{Option, Some, None, Result, Ok, Err, IfNone, IfOk, IfSome, codes, string_bytes}
-use Rattle.spa_fixed.specs.Faults.{fault_kind_text, kind_text}
-use Rattle.spa_fixed.specs.declared.fault.DeserializeError.{DeserializeError}
-use Rattle.spa_fixed.specs.declared.fault.DeserializeError.TheVariants as error
+use Rattle.spa_fixed_sized.specs.Faults.{fault_kind_text, kind_text}
+use Rattle.spa_fixed_sized.specs.declared.fault.DeserializeError.{DeserializeError}
+use Rattle.spa_fixed_sized.specs.declared.fault.DeserializeError.TheVariants as error
 use Rattle.spa_format.specs.Faults.{Stands}
 use Rattle.spa_format.specs.Front.{HasFront, IsRefused}
-use Rattle.spa_leaf.specs.Reading.{IsShortAt, Names, OnFault, OnMemory}
+use Rattle.spa_bodies.specs.Reading.{IsShortAt, Names, OnFault, OnMemory}
 use Rattle.spa_read.specs.Reading.{ConveysNothing}
 use Rattle.spa_recordings.specs.Reading.{IsAccepted, IsLeftOf, RefusesList}
 use Rattle.spa_recordings.specs.declared.reading.Reading.{Reading}

@@ -2,12 +2,12 @@
 use Rattle.std.specs.Prelude.{◌≡◌, ◌≤◌, ◌+◌, ℕ, codes, List, [], ◌∷◌, ◌++◌, Option, Some, None, length, drop, take, option_map, string_bytes}
 use Rattle.std.specs.Borrow.{Bor}
 use Rattle.std.specs.Fmt.{decimal}
-use Rattle.spa_fixed.specs.Faults.{error_text, kind_text}
-use Rattle.spa_fixed.specs.declared.fault.DeserializeError.{DeserializeError}
+use Rattle.spa_fixed_sized.specs.Faults.{error_text, kind_text}
+use Rattle.spa_fixed_sized.specs.declared.fault.DeserializeError.{DeserializeError}
 use Rattle.spa_format.specs.Faults.{Fault, Stands}
 use Rattle.spa_format.specs.Front.{HasFront, IsRefused}
 use Rattle.spa_format.specs.Walk.{walk}
-use Rattle.spa_leaf.specs.Reading.{IsShortAt, Names, OnMemory}
+use Rattle.spa_bodies.specs.Reading.{IsShortAt, Names, OnMemory}
 use Rattle.spa_read.specs.Reading.{ConveysNothing, StandsLeniently}
 use Rattle.spa_recordings.specs.Reading.{IsAccepted, IsLeftOf}
 use Rattle.spa_recordings.specs.declared.reading.Reading.{Reading}

@@ -12,7 +12,7 @@ ghost use Rattle.spa_refusals.specs.Refusals.{IsNothing, IsUnreadFor, LeadsBy};
 use crate::counting::{behind_front, count};
 use crate::names::push_key;
 use spa_bytes::{HEADER_LEN, open, u32_at};
-use spa_fixed::DeserializeError;
+use spa_fixed_sized::DeserializeError;
 use spa_lenient::rewrite_leniently;
 use spa_recordings::reading::Reading;
 use spa_rewrite::accept_all;

@@ -7,7 +7,7 @@ ghost use Rattle.spa_refusals.specs.Refusals.{IsFirstRefusal, IsNothing, IsRefus
 use crate::counting::count;
 use crate::inside::malformed;
 use crate::names::type_name;
-use spa_fixed::DeserializeError;
+use spa_fixed_sized::DeserializeError;
 use spa_lenient::rewrite_all_leniently;
 use spa_recordings::reading::Reading;
 use spa_rewrite::accept_all;

@@ -15,12 +15,12 @@ use Rattle.spa_format.proofs.Refused.{begun}
 use Rattle.spa_format.proofs.Refused as format
 use Rattle.spa_format.proofs.Sequences.{members_push}
 use Rattle.spa_bytes.specs.Opening.{Opens}
-use Rattle.spa_fixed.specs.declared.fault.DeserializeError.{DeserializeError}
-use Rattle.spa_fixed.specs.declared.fault.Refusal.{Refusal}
-use Rattle.spa_fixed.specs.declared.fault.Refusal.TheVariants as refusal
-use Rattle.spa_leaf.specs.Reading.{BeginsWith}
-use Rattle.spa_leaf.specs.Refusing.{Says, error_of}
-use Rattle.spa_leaf.proofs.Refusals.{says_through}
+use Rattle.spa_fixed_sized.specs.declared.fault.DeserializeError.{DeserializeError}
+use Rattle.spa_fixed_sized.specs.declared.fault.Refusal.{Refusal}
+use Rattle.spa_fixed_sized.specs.declared.fault.Refusal.TheVariants as refusal
+use Rattle.spa_bodies.specs.Reading.{BeginsWith}
+use Rattle.spa_bodies.specs.Refusing.{Says, error_of}
+use Rattle.spa_bodies.proofs.Refusals.{says_through}
 use Rattle.spa_scan.specs.Canonical.{AreCanonical, BeginsCanonical, IsStretch}
 use Rattle.spa_scan.specs.Depth.{depth_of, levels_looked_into}
 use Rattle.spa_scan.proofs.Frames.{no_stretch, stretch_parts}

@@ -16,9 +16,9 @@ use Rattle.spa_format.proofs.Choices.{same_shape}
 use Rattle.spa_format.proofs.Elements.{array_length, elements_length, length_of_elements, same_array_length, same_elements}
 use Rattle.spa_format.proofs.FixedKinds.{same_kind}
 use Rattle.spa_format.proofs.WordLemmas.{length-word_bytes, word_at-drop}
-use Rattle.spa_fixed.specs.Reading.{AreWhole}
-use Rattle.spa_fixed.specs.declared.fault.Refusal.{Refusal}
-use Rattle.spa_fixed.specs.declared.fault.Refusal.TheVariants as refusal
+use Rattle.spa_fixed_sized.specs.Reading.{AreWhole}
+use Rattle.spa_fixed_sized.specs.declared.fault.Refusal.{Refusal}
+use Rattle.spa_fixed_sized.specs.declared.fault.Refusal.TheVariants as refusal
 use Rattle.spa_sink.specs.declared.gen_error.GenError.{GenError}
 use Rattle.spa_sink.specs.declared.gen_error.GenError.TheVariants.{OutOfMemory}
 use Rattle.std.proofs.lemmas.Bool.{cases_lt}

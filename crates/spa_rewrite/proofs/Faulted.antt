@@ -16,11 +16,11 @@ use Rattle.spa_format.proofs.FixedKinds.{kind_of_content, size_fits}
 use Rattle.spa_format.proofs.Refused.{begun}
 use Rattle.spa_format.proofs.WordLemmas.{word_at-drop}
 use Rattle.spa_bytes.specs.Opening.{Opens}
-use Rattle.spa_fixed.specs.Reading.{AreWhole}
-use Rattle.spa_fixed.specs.declared.fault.Refusal.{Refusal}
-use Rattle.spa_leaf.specs.Refusing.{Says, StandsInBody}
-use Rattle.spa_leaf.proofs.Refusals.{at_front_of, says_through}
-use Rattle.spa_leaf.proofs.Steps.{pod_read}
+use Rattle.spa_fixed_sized.specs.Reading.{AreWhole}
+use Rattle.spa_fixed_sized.specs.declared.fault.Refusal.{Refusal}
+use Rattle.spa_bodies.specs.Refusing.{Says, StandsInBody}
+use Rattle.spa_bodies.proofs.Refusals.{at_front_of, says_through}
+use Rattle.spa_bodies.proofs.Steps.{pod_read}
 use Rattle.spa_scan.specs.Depth.{depth_of}
 use Rattle.spa_rewrite.specs.Look.{StandsInside, StopsAt}
 use Rattle.spa_rewrite.specs.Steady.{AreSteadyInside, IsBehindKey}

@@ -6,11 +6,11 @@ use Rattle.spa_format.specs.Front.{Begins, HasFront}
 use Rattle.spa_format.specs.Pod.{AreMembers, IsBody, IsPod}
 use Rattle.spa_format.specs.Tree.{Tree, Trees, no_trees, member, type_of}
 use Rattle.spa_format.proofs.Fronts.{front_of_whole}
-use Rattle.spa_fixed.specs.declared.fault.DeserializeError.{DeserializeError}
-use Rattle.spa_fixed.specs.declared.fault.Refusal.{Refusal}
-use Rattle.spa_fixed.specs.declared.fault.Refusal.TheVariants as refusal
-use Rattle.spa_leaf.specs.Reading.{OnMemory}
-use Rattle.spa_leaf.specs.Refusing.{Says, error_of}
+use Rattle.spa_fixed_sized.specs.declared.fault.DeserializeError.{DeserializeError}
+use Rattle.spa_fixed_sized.specs.declared.fault.Refusal.{Refusal}
+use Rattle.spa_fixed_sized.specs.declared.fault.Refusal.TheVariants as refusal
+use Rattle.spa_bodies.specs.Reading.{OnMemory}
+use Rattle.spa_bodies.specs.Refusing.{Says, error_of}
 use Rattle.spa_rewrite.specs.Look.{IsRejected, IsTooDeep}
 use Rattle.spa_rewrite.specs.Memory.{FrontAsksMemory}
 use Rattle.spa_rewrite.specs.Rewriting.{RefusesFront, RefusesFrontAt}

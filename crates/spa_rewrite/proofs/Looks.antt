@@ -12,8 +12,8 @@ use Rattle.spa_format.proofs.Fronts.{length-body_of}
 use Rattle.spa_format.proofs.Sequences.{props_joined}
 use Rattle.spa_format.proofs.WordLemmas.{IsBytes-drop, word_at-append}
 use Rattle.spa_bytes.specs.Opening.{Opens}
-use Rattle.spa_leaf.specs.Reading.{BeginsWith}
-use Rattle.spa_leaf.specs.Refusing.{StandsInMembers}
+use Rattle.spa_bodies.specs.Reading.{BeginsWith}
+use Rattle.spa_bodies.specs.Refusing.{StandsInMembers}
 use Rattle.spa_scan.specs.Canonical.{AreCanonical, AreCanonicalProperties, BeginsCanonical, HasZeros, IsCanonicalBody}
 use Rattle.spa_scan.proofs.Frames.{body_bytes, canonical_front, none_left, none_left_either, object_of, one_more, one_more_property, padded_of}
 use Rattle.spa_scan.proofs.Made.{made_body, made_members, made_properties}

@@ -7,10 +7,10 @@ use Rattle.spa_format.specs.Pod.{AreProperties}
 use Rattle.spa_format.specs.Encoding.{encoding_of, property_encodings}
 use Rattle.spa_format.specs.Faults.{Fault}
 use Rattle.spa_format.proofs.Sequences.{members_joined, props_joined}
-use Rattle.spa_fixed.specs.declared.fault.Refusal.{Refusal}
-use Rattle.spa_fixed.specs.declared.fault.Refusal.TheVariants as refusal
-use Rattle.spa_leaf.specs.Refusing.{StandsInMembers, StandsInProperties}
-use Rattle.spa_leaf.proofs.Refusals.{says_through}
+use Rattle.spa_fixed_sized.specs.declared.fault.Refusal.{Refusal}
+use Rattle.spa_fixed_sized.specs.declared.fault.Refusal.TheVariants as refusal
+use Rattle.spa_bodies.specs.Refusing.{StandsInMembers, StandsInProperties}
+use Rattle.spa_bodies.proofs.Refusals.{says_through}
 use Rattle.spa_scan.specs.Canonical.{AreCanonical, AreCanonicalProperties}
 use Rattle.spa_rewrite.specs.Nesting.{AreCanonicalInside, AreOpen, LeavesInside, PassesOver, body_end}
 use Rattle.spa_rewrite.specs.Rewriting.{LeavesMembers, LeavesProperties, TakesProperties}

@@ -17,7 +17,7 @@ use Rattle.spa_format.proofs.Fronts.{front_of_whole, length-body_of}
 use Rattle.spa_format.proofs.Shapes.{object_only, struct_only}
 use Rattle.spa_format.proofs.Short.{length-framed}
 use Rattle.spa_bytes.specs.Opening.{Opens}
-use Rattle.spa_leaf.proofs.Steps.{pod_read}
+use Rattle.spa_bodies.proofs.Steps.{pod_read}
 use Rattle.spa_scan.specs.Canonical.{AreCanonical}
 use Rattle.spa_scan.specs.Depth.{depth_of, member_depth, property_depth}
 use Rattle.spa_rewrite.specs.Elements.{HasValues}

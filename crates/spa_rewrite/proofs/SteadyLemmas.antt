@@ -18,7 +18,7 @@ use Rattle.spa_format.proofs.Fronts.{length-body_of}
 use Rattle.spa_format.proofs.Sequences.{members_push}
 use Rattle.spa_format.proofs.Short.{length-framed}
 use Rattle.spa_bytes.specs.Opening.{Opens}
-use Rattle.spa_leaf.proofs.Steps.{pod_read}
+use Rattle.spa_bodies.proofs.Steps.{pod_read}
 use Rattle.spa_scan.specs.Canonical.{IsCanonicalText, IsFixedLen}
 use Rattle.spa_rewrite.specs.Elements.{HasElements, HasValues}
 use Rattle.spa_rewrite.specs.Steady.{AreSteady, AreSteadyInside, BeginsSteady, IsBehindKey, IsInside, IsSteadyBody}

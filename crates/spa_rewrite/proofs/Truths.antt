@@ -9,7 +9,7 @@ use Rattle.spa_format.specs.Kind.{Fixed, bool_kind, content, fixed_body}
 use Rattle.spa_format.specs.Pod.{AreElements}
 use Rattle.spa_format.specs.Encoding.{fixed_bodies}
 use Rattle.spa_format.proofs.Elements.{bodies_push, elements_joined, elements_push, fixed_bodies-append}
-use Rattle.spa_fixed.specs.Reading.{AreWhole}
+use Rattle.spa_fixed_sized.specs.Reading.{AreWhole}
 use Rattle.spa_rewrite.specs.Elements.{AreTruths, TakesTruths}
 use Rattle.spa_rewrite.specs.Tails.{TailAppends, appends_both}
 use Rattle.spa_rewrite.specs.declared.tail.Tail.{Tail}

@@ -1,6 +1,6 @@
 -- The bodies of arrays and choices, and what of them is written.
 use Rattle.std.specs.Prelude.{◌≡◌, ◌<◌, ◌≤◌, ◌+◌, ◌++◌, ◌∷◌, ℕ, List, length, drop, take}
-use Rattle.spa_fixed.specs.Reading.{AreWhole}
+use Rattle.spa_fixed_sized.specs.Reading.{AreWhole}
 use Rattle.spa_format.specs.Words.{header_size, padding, word_at}
 use Rattle.spa_format.specs.Kind.{Kind, Fixed, body_size, bool_kind, type_number}
 use Rattle.spa_format.specs.Tree.{Shape}

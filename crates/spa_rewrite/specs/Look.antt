@@ -5,7 +5,7 @@ use Rattle.spa_format.specs.Faults.{Fault, Stands, StandsAtFront}
 use Rattle.spa_format.specs.Opened.{OpensHeaderAlone}
 use Rattle.spa_format.specs.Typed.{IsBytes}
 use Rattle.spa_bytes.specs.Opening.{Opens}
-use Rattle.spa_leaf.specs.Refusing.{Says, StandsInMembers, StandsInProperties}
+use Rattle.spa_bodies.specs.Refusing.{Says, StandsInMembers, StandsInProperties}
 use Rattle.spa_scan.specs.Canonical.{AreCanonical, BeginsCanonical}
 use Rattle.spa_scan.specs.Depth.{NestsDeeper, levels_looked_into}
 use Rattle.spa_rewrite.specs.Nesting.{AreCanonicalInside}

@@ -5,7 +5,7 @@ use Rattle.spa_format.specs.Tree.{Tree, Trees, Properties, type_of}
 use Rattle.spa_format.specs.Pod.{AreMembers, AreProperties, IsBody}
 use Rattle.spa_format.specs.Encoding.{encoded_body, encoding_of, member_encodings, property_encodings}
 use Rattle.spa_format.specs.Front.{front_of}
-use Rattle.spa_leaf.specs.Reading.{BeginsWith}
+use Rattle.spa_bodies.specs.Reading.{BeginsWith}
 use Rattle.spa_scan.specs.Depth.{depth_of, member_depth, property_depth}
 
 -- pods one after another whose rewritings are together so many bytes shorter

@@ -7,7 +7,7 @@ use Rattle.spa_format.specs.Pod.{AreElements, AreMembers, AreProperties, IsBody,
 use Rattle.spa_format.specs.Encoding.{encoded_body, encoding_of, fixed_bodies, member_encodings, property_encodings}
 use Rattle.spa_format.specs.Front.{front_of}
 use Rattle.spa_format.specs.Typed.{IsBytes}
-use Rattle.spa_leaf.specs.Reading.{BeginsWith}
+use Rattle.spa_bodies.specs.Reading.{BeginsWith}
 use Rattle.spa_scan.specs.Depth.{member_depth}
 use Rattle.spa_rewrite.specs.Tails.{TailAppends}
 use Rattle.spa_rewrite.specs.declared.tail.Tail.{Tail}

@@ -7,7 +7,7 @@ ghost use Rattle.spa_scan.specs.Depth.{NestsDeeper, depth_of, levels_looked_into
 
 use crate::look::{Rejected, look_at_pod};
 use crate::rewriting::rewrite;
-use spa_fixed::DeserializeError;
+use spa_fixed_sized::DeserializeError;
 use std::alloc::{AllocError, Global};
 
 /// Whether the pod at the front of the input is canonical: all of it is there, and `rewrite` would give the same bytes.

@@ -1,7 +1,7 @@
 //! The bodies of arrays and choices, rewritten as they lie: only truth values, surplus values and the flags of a choice without
 //! alternatives change in them.
 ghost use Rattle.std.specs.Prelude.{◌≡◌, ◌%◌, ◌*◌, ◌<◌, ◌≤◌, ◌++◌, IfErr, IfNone, IfSome, List, OnOk, length, take, true, ℕ};
-ghost use Rattle.spa_fixed.specs.Reading.{AreWhole};
+ghost use Rattle.spa_fixed_sized.specs.Reading.{AreWhole};
 ghost use Rattle.spa_format.specs.Kind.{Fixed, Kind};
 ghost use Rattle.spa_format.specs.Normal.{kept_flags};
 ghost use Rattle.spa_format.specs.Pod.{IsArray, IsChoice};
@@ -13,7 +13,7 @@ ghost use Rattle.spa_scan.specs.Canonical.{IsFixedLen};
 
 use crate::tail::Tail;
 use spa_bytes::{HEADER_LEN, SECOND_WORD, joined, two_words, u32_at};
-use spa_fixed::{
+use spa_fixed_sized::{
     CanonicalFixedSizedPod, ENUM_SHAPE, FLAGS_SHAPE, NONE_SHAPE, RANGE_SHAPE, STEP_SHAPE,
 };
 use spa_scan::fixed_len;

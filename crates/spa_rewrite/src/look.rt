@@ -7,7 +7,7 @@ ghost use Rattle.spa_format.specs.Opened.{OpensHeaderAlone};
 ghost use Rattle.spa_format.specs.Pod.{IsBody};
 ghost use Rattle.spa_format.specs.Tree.{Tree, array_type, choice_type, object_type, struct_type, type_of};
 ghost use Rattle.spa_format.specs.Words.{header_size};
-ghost use Rattle.spa_leaf.specs.Refusing.{Says, StandsInBody};
+ghost use Rattle.spa_bodies.specs.Refusing.{Says, StandsInBody};
 ghost use Rattle.spa_rewrite.specs.Look.{AreAccepted, IsAccepted, IsAcceptedAsked, IsFound, IsMet, IsRejected, Passes};
 ghost use Rattle.spa_rewrite.specs.Rewriting.{IsLeft};
 ghost use Rattle.spa_rewrite.specs.Shorter.{ArePodsWithin, AreShorter, BeginsShorter};
@@ -17,9 +17,9 @@ ghost use Rattle.spa_scan.specs.Depth.{depth_of, levels_looked_into};
 
 use crate::steady::{CHOICE_HEADER, Inside, behind_key, inside_of, is_steady_leaf, short_front};
 use crate::surplus::leaf_surplus;
+use spa_bodies::VALUE_TYPE_AT;
 use spa_bytes::{HEADER_LEN, SECOND_WORD, open, u32_at};
-use spa_fixed::{FLAGS_SHAPE, Refusal};
-use spa_leaf::VALUE_TYPE_AT;
+use spa_fixed_sized::{FLAGS_SHAPE, Refusal};
 use spa_scan::{LEVELS, fixed_len, leaf_front, nests_within};
 use spa_utils::SpaTypes;
 
@@ -512,7 +512,7 @@ fn canonical_leaf(keyed: bool, left: &[u8]) -> Option<&[u8]>
 }
 
 /// What follows the first pods that hold no others and are as long as their encodings: of properties by one loop, and of members by another.
-#[inline(always)]
+#[inline(never)]
 fn behind_as_long(keyed: bool, pods: &[u8]) -> &[u8]
     ensures { Passes keyed false pods.now result.now 0 }
 {
@@ -527,23 +527,43 @@ fn behind_as_long(keyed: bool, pods: &[u8]) -> &[u8]
 fn behind_steady(keyed: bool, pods: &[u8]) -> &[u8]
     ensures { Passes keyed false pods.now result.now 0 }
 {
-    let mut left = pods;
+    let mut left = behind_short(keyed, pods);
     loop {
         let Some(here) = behind_key(keyed, left) else {
             return left;
         };
-        if let Some(rest) = short_front(here) {
-            left = rest;
-            continue;
-        }
         let Some(front) = open(here) else {
             return left;
         };
         if !is_steady_leaf(front.type_, front.body) {
             return left;
         }
-        left = front.rest;
+        left = behind_short(keyed, front.rest);
     }
+}
+
+/// What follows the first pods whose bodies are one or two words and of a kind of fixed size.
+#[inline(always)]
+fn behind_short(keyed: bool, pods: &[u8]) -> &[u8]
+    ensures { Passes keyed false pods.now result.now 0 }
+{
+    let mut left = pods;
+    while let Some(rest) = short_leaf(keyed, left) {
+        left = rest;
+    }
+    left
+}
+
+/// What follows the first member or property, where its body is one or two words and of a kind of fixed size.
+#[inline(always)]
+fn short_leaf(keyed: bool, left: &[u8]) -> Option<&[u8]>
+    ensures passed { IfSome result (λ rest. Passes keyed false left.now rest.now 0) }
+    ensures shorter { IfSome result (λ rest. length rest.now + 8 ≤ length left.now) }
+{
+    let Some(here) = behind_key(keyed, left) else {
+        return None;
+    };
+    short_front(here)
 }
 
 /// What follows the first accepted pods that hold no others, and by how many bytes their encodings are shorter.

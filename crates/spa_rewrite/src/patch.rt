@@ -1,6 +1,6 @@
 //! Pods canonicalized in place whose encodings are as long as they are: only padding and words that mean nothing change.
 ghost use Rattle.std.specs.Prelude.{Bool, List, false, true, ℕ, ◌≡◌, ◌≢◌, ◌+◌, ◌-◌, ◌^◌, ◌<◌, ◌≤◌, ◌++◌, ◌*◌, IfNone, IfSome, drop, length, replicate, take};
-ghost use Rattle.spa_fixed.specs.Reading.{AreWhole};
+ghost use Rattle.spa_fixed_sized.specs.Reading.{AreWhole};
 ghost use Rattle.spa_format.specs.Pod.{IsPointer};
 ghost use Rattle.spa_format.specs.Tree.{Shape, array_type, choice_type, object_type, pointer_type, shape_number, struct_type};
 ghost use Rattle.spa_format.specs.Kind.{bool_kind, type_number};
@@ -13,7 +13,7 @@ use spa_bytes::{
     HEADER_LEN, POINTER_LEN, SECOND_WORD, SHORT_POINTER_LEN, joined, open, two_words, u32_at,
     u64_at, wide_body,
 };
-use spa_fixed::{CanonicalFixedSizedPod, NONE_SHAPE, RANGE_SHAPE, STEP_SHAPE};
+use spa_fixed_sized::{CanonicalFixedSizedPod, NONE_SHAPE, RANGE_SHAPE, STEP_SHAPE};
 use spa_utils::SpaTypes;
 
 /// The length in bytes of a word.

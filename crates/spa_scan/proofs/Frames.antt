@@ -11,8 +11,8 @@ use Rattle.spa_format.specs.Front.{HasFront, front_of}
 use Rattle.spa_format.proofs.Fronts.{front_of_whole, length-body_of, front_and_rest}
 use Rattle.spa_format.proofs.Short.{padded_above}
 use Rattle.spa_bytes.specs.Opening.{Opens}
-use Rattle.spa_leaf.specs.Reading.{BeginsWith}
-use Rattle.spa_leaf.proofs.Steps.{pod_read}
+use Rattle.spa_bodies.specs.Reading.{BeginsWith}
+use Rattle.spa_bodies.proofs.Steps.{pod_read}
 use Rattle.spa_scan.specs.Canonical.{AreCanonical, AreCanonicalProperties, BeginsCanonical, HasZeros, IsCanonicalBody, IsStretch, OpensPadded}
 use Rattle.spa_format.proofs.WordLemmas.{IsBytes-drop, IsBytes-take, wide_at-drop, word_at-drop, word_at-take}
 use Rattle.spa_format.specs.Kind.{none, Kind, bool_kind, IsFixedBody, type_number, body_size, content}

@@ -6,7 +6,7 @@ ghost use Rattle.spa_scan.specs.Canonical.{AreCanonicalElements, IsCanonicalArra
 
 use crate::front::{ONE_WORD, TWO_WORDS, fixed_len, is_word_type};
 use spa_bytes::{HEADER_LEN, SECOND_WORD, u32_at};
-use spa_fixed::{FLAGS_SHAPE, RANGE_SHAPE, STEP_SHAPE};
+use spa_fixed_sized::{FLAGS_SHAPE, RANGE_SHAPE, STEP_SHAPE};
 use spa_utils::SpaTypes;
 
 /// The length in bytes of the four words before the values of a choice.

@@ -2,7 +2,7 @@
 ghost use Rattle.std.specs.Prelude.{◌≡◌, ◌≤◌, ◌<◌, length, true};
 ghost use Rattle.spa_scan.specs.Canonical.{IsCanonicalText, IsAsciiByte, IsAsciiFor};
 
-use spa_leaf::text_of;
+use spa_bodies::text_of;
 
 /// Whether the body of a string is a text without NUL, and one NUL behind it.
 #[inline(always)]

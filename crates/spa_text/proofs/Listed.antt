@@ -7,7 +7,7 @@ use Rattle.json.specs.Token.{Token}
 use Rattle.json.specs.Json.{after_end_array}
 use Rattle.spa_format.specs.Kind.{Kind, Fixed, body_size, kind_of, type_number, none_kind, bool_kind, id_kind, int_kind, long_kind, float_kind, double_kind, rectangle_kind, fraction_kind, fd_kind}
 use Rattle.spa_format.specs.Tree.{Shape, fixed, array, choice, none_choice, range_choice, step_choice, enum_choice, flags_choice}
-use Rattle.spa_fixed.specs.Choices.{choice_enum_tree}
+use Rattle.spa_fixed_sized.specs.Choices.{choice_enum_tree}
 use Rattle.spa_utils.specs.declared.choice.ChoiceEnum.{ChoiceEnum}
 use Rattle.spa_utils.specs.declared.choice.ChoiceEnum.TheVariants as E
 use Rattle.spa_value.specs.Equality.{kind_eq}

@@ -1,7 +1,7 @@
 //! Values without members, printed.
 ghost use Rattle.std.specs.Prelude.{◌≡◌, ◌∷◌, ◌++◌, [], IfOk, OnOk, Some, map};
 ghost use Rattle.json.specs.Token as token;
-ghost use Rattle.spa_fixed.specs.Choices.{choice_tree};
+ghost use Rattle.spa_fixed_sized.specs.Choices.{choice_tree};
 ghost use Rattle.spa_format.specs.Kind.{Kind, type_number};
 ghost use Rattle.spa_format.specs.Tree.{array, bitmap, bytes, pointer, string};
 ghost use Rattle.spa_text_read.specs.Grammar.{a_choice, an_array, element, type_kind};
@@ -13,7 +13,7 @@ ghost use Rattle.spa_value.specs.View.{array_view, choice_view};
 use crate::out::Out;
 use crate::printed::{Printed, begin_keyed_object, print_bits, print_name};
 use bitflags::Flags;
-use spa_fixed::ChoiceElement;
+use spa_fixed_sized::ChoiceElement;
 use spa_names::{Expected, Table};
 use spa_text_read::shape::Shape;
 use spa_text_read::tag::takes_text;

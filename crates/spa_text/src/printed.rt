@@ -9,7 +9,7 @@ ghost use Rattle.spa_text.specs.Printed.{scalar_text, two_tokens};
 ghost use Rattle.spa_text.specs.Written.{BeginsNumber, Prints, Puts, PutsName, closing};
 
 use crate::out::Out;
-use spa_fixed::CanonicalFixedSizedPod;
+use spa_fixed_sized::CanonicalFixedSizedPod;
 use spa_names::{Expected, Table};
 use spa_text_read::names::name_of;
 use spa_text_read::tag::{Scalar, bare};

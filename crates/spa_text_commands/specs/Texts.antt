@@ -9,9 +9,9 @@ use Rattle.spa_format.specs.Pod.{AreMembers}
 use Rattle.spa_format.specs.Encoding.{member_encodings}
 use Rattle.spa_format.specs.Faults.{Stands}
 use Rattle.spa_format.specs.Writable.{HasNul, IsTooLarge}
-use Rattle.spa_fixed.specs.Faults.{kind_text}
-use Rattle.spa_fixed.specs.declared.fault.DeserializeError.{DeserializeError}
-use Rattle.spa_leaf.specs.Reading.{Names}
+use Rattle.spa_fixed_sized.specs.Faults.{kind_text}
+use Rattle.spa_fixed_sized.specs.declared.fault.DeserializeError.{DeserializeError}
+use Rattle.spa_bodies.specs.Reading.{Names}
 use Rattle.spa_rewrite.specs.Rewriting.{IsLeft}
 use Rattle.spa_text_read.specs.Grammar.{ReadsAs, nothing}
 use Rattle.spa_text.specs.Line.{HasNoEnd}

@@ -1,6 +1,6 @@
 //! Choices, made of their values.
 ghost use Rattle.std.specs.Prelude.{◌≡◌, ℕ, [], ◌∷◌, MatchOption, MatchResult, None, Some, map};
-ghost use Rattle.spa_fixed.specs.Choices.{choice_enum_tree, choice_tree};
+ghost use Rattle.spa_fixed_sized.specs.Choices.{choice_enum_tree, choice_tree};
 ghost use Rattle.spa_format.specs.Tree.{none_choice, range_choice, step_choice};
 ghost use Rattle.spa_text_read.specs.Grammar as grammar;
 ghost use Rattle.spa_text_read.specs.Seen.{items_in, kind_in};
@@ -10,7 +10,7 @@ ghost use Rattle.spa_value.specs.View.{choice_view, view};
 use crate::cause::Cause;
 use crate::shape::Shape;
 use bitflags::Flags;
-use spa_fixed::CanonicalFixedSizedPod;
+use spa_fixed_sized::CanonicalFixedSizedPod;
 use spa_utils::{Choice, ChoiceEnum, ChoiceFlags};
 use spa_value::{ChoiceValue, Value, ValueArray};
 

@@ -9,17 +9,17 @@ use Rattle.spa_format.specs.Front.{HasFront, Begins, front_of}
 use Rattle.spa_format.specs.Faults.{Fault, IsWrongSize, Text, InvalidType, InvalidChoiceType, MissingChoiceValues, WrongSize, at_front}
 use Rattle.spa_format.proofs.Refused as format
 use Rattle.spa_format.proofs.Unique.{one_value}
-use Rattle.spa_fixed.specs.declared.fault.FaultKind.{FaultKind}
-use Rattle.spa_fixed.specs.declared.fault.FaultKind.TheVariants as fault_kind
-use Rattle.spa_fixed.specs.declared.fault.DeserializeError.{DeserializeError}
-use Rattle.spa_fixed.specs.declared.fault.DeserializeError.TheVariants as error
-use Rattle.spa_fixed.specs.declared.fault.Refusal.{Refusal}
-use Rattle.spa_fixed.specs.declared.fault.Refusal.TheVariants as refusal
+use Rattle.spa_fixed_sized.specs.declared.fault.FaultKind.{FaultKind}
+use Rattle.spa_fixed_sized.specs.declared.fault.FaultKind.TheVariants as fault_kind
+use Rattle.spa_fixed_sized.specs.declared.fault.DeserializeError.{DeserializeError}
+use Rattle.spa_fixed_sized.specs.declared.fault.DeserializeError.TheVariants as error
+use Rattle.spa_fixed_sized.specs.declared.fault.Refusal.{Refusal}
+use Rattle.spa_fixed_sized.specs.declared.fault.Refusal.TheVariants as refusal
 use Rattle.spa_bytes.specs.Opening.{Opens}
-use Rattle.spa_leaf.specs.Reading.{IsRead, IsShortAt, OnFault, OnMemory}
-use Rattle.spa_leaf.specs.Refusing.{RefusesBody, StandsInBody, error_of}
+use Rattle.spa_bodies.specs.Reading.{IsRead, IsShortAt, OnFault, OnMemory}
+use Rattle.spa_bodies.specs.Refusing.{RefusesBody, StandsInBody, error_of}
 use Rattle.spa_typed_read.specs.Asking.{Asked, of_type, array_of, choice_of, asked_type, BeginsOther, HasOtherType, IsAsked, LacksBytes, LacksFront, NamesAsked, NamesBytes, RefusesAsked, StandsAsked}
-use Rattle.spa_leaf.proofs.Refusals.{at_front_of}
+use Rattle.spa_bodies.proofs.Refusals.{at_front_of}
 
 -- what is asked for has the type that is asked for
 type_asked : (a : Asked) (v : Tree) → IsAsked a v → type_of v ≡ asked_type a

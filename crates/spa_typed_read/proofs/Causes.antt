@@ -2,11 +2,11 @@
 use Rattle.std.proofs.Common.{ℕ, List, sym, subst}
 use Rattle.std.specs.Borrow.{Bor}
 use Rattle.spa_format.specs.Faults.{Fault, Short, Text, InvalidType, InvalidChoiceType, MissingChoiceValues, WrongSize}
-use Rattle.spa_fixed.specs.declared.fault.FaultKind.{FaultKind}
-use Rattle.spa_fixed.specs.declared.fault.FaultKind.TheVariants as fault_kind
-use Rattle.spa_fixed.specs.declared.fault.DeserializeError.{DeserializeError}
-use Rattle.spa_fixed.specs.declared.fault.DeserializeError.TheVariants as error
-use Rattle.spa_leaf.specs.Reading.{IsShortAt, Names, NamesFaultKind, OnMemory}
+use Rattle.spa_fixed_sized.specs.declared.fault.FaultKind.{FaultKind}
+use Rattle.spa_fixed_sized.specs.declared.fault.FaultKind.TheVariants as fault_kind
+use Rattle.spa_fixed_sized.specs.declared.fault.DeserializeError.{DeserializeError}
+use Rattle.spa_fixed_sized.specs.declared.fault.DeserializeError.TheVariants as error
+use Rattle.spa_bodies.specs.Reading.{IsShortAt, Names, NamesFaultKind, OnMemory}
 
 -- the fault that is named stands in what is around it, too
 pub names_to : (P Q : Fault → List ℕ → Type 0) (e : DeserializeError (Bor (List ℕ))) →

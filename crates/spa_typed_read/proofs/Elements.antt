@@ -12,8 +12,8 @@ use Rattle.spa_format.specs.Writable.{IsWritable}
 use Rattle.spa_format.proofs.Back.{encoding_begins}
 use Rattle.spa_format.proofs.Unique.{one_value}
 use Rattle.spa_typed_read.specs.Members.{ArrayReader, HasElements, IsMadeOf, OpensArray, TakesElement, TakesElements, list_tree, single_tree}
-use Rattle.spa_leaf.specs.Reading.{IsRead}
-use Rattle.spa_leaf.proofs.Steps.{pod_read}
+use Rattle.spa_bodies.specs.Reading.{IsRead}
+use Rattle.spa_bodies.proofs.Steps.{pod_read}
 
 -- where one is taken, its bodies have bytes
 sized : {C X : Type 0} (k : Kind) (fixed : C → Fixed) (made_of : C → X) (a b : ArrayReader) (x : X) →

@@ -6,17 +6,17 @@ use Rattle.spa_format.specs.Tree.{Tree, Trees, Properties, member, no_trees, obj
 use Rattle.spa_format.specs.Pod.{AreMembers, AreProperties, IsBody, IsPod}
 use Rattle.spa_format.specs.Front.{HasFront, Begins, rest_of}
 use Rattle.spa_format.proofs.Refused as format
-use Rattle.spa_fixed.specs.declared.fault.FaultKind.{FaultKind}
-use Rattle.spa_fixed.specs.declared.fault.FaultKind.TheVariants as fault_kind
-use Rattle.spa_fixed.specs.declared.fault.DeserializeError.{DeserializeError}
-use Rattle.spa_fixed.specs.declared.fault.DeserializeError.TheVariants as error
+use Rattle.spa_fixed_sized.specs.declared.fault.FaultKind.{FaultKind}
+use Rattle.spa_fixed_sized.specs.declared.fault.FaultKind.TheVariants as fault_kind
+use Rattle.spa_fixed_sized.specs.declared.fault.DeserializeError.{DeserializeError}
+use Rattle.spa_fixed_sized.specs.declared.fault.DeserializeError.TheVariants as error
 use Rattle.spa_format.proofs.Fronts.{front_of_whole}
 use Rattle.spa_typed_read.specs.Asking.{LacksBytes, LacksFront, LacksObject, of_type}
 use Rattle.spa_typed_read.specs.Exactly.{AreUnread, IsUnread, ReadsFirst, ReadsStruct, RefusesExactly, RefusesStructOf, its_members}
 use Rattle.spa_typed_read.specs.ExactlyLaws.{asked_exactly, fault_to, memory_to}
 use Rattle.spa_typed_read.specs.Lookup.{HoldsDeep, ReadsObject, TakesIn}
 use Rattle.spa_typed_read.specs.Members.{ObjectReader, OpensObject, OpensStruct, Reader}
-use Rattle.spa_leaf.specs.Reading.{IsShortAt, OnFault, OnMemory}
+use Rattle.spa_bodies.specs.Reading.{IsShortAt, OnFault, OnMemory}
 use Rattle.spa_typed_read.proofs.Asking.{front_refused}
 
 -- where nothing is left, there is no member

@@ -7,16 +7,16 @@ use Rattle.spa_format.specs.Tree.{Tree, Trees, Properties, struct, object, choic
 use Rattle.spa_format.specs.Pod.{AreProperties, IsBody}
 use Rattle.spa_format.specs.Faults.{short_array, short_choice, of_array, choice_header_size, IsWrongArray}
 use Rattle.spa_format.proofs.WordLemmas.{word_at-drop}
-use Rattle.spa_fixed.specs.declared.fault.FaultKind.TheVariants as fault_kind
-use Rattle.spa_fixed.specs.declared.fault.DeserializeError.{DeserializeError}
-use Rattle.spa_fixed.specs.declared.fault.DeserializeError.TheVariants as error
+use Rattle.spa_fixed_sized.specs.declared.fault.FaultKind.TheVariants as fault_kind
+use Rattle.spa_fixed_sized.specs.declared.fault.DeserializeError.{DeserializeError}
+use Rattle.spa_fixed_sized.specs.declared.fault.DeserializeError.TheVariants as error
 use Rattle.spa_bytes.specs.Opening.{Opens}
-use Rattle.spa_leaf.specs.Reading.{IsRead}
+use Rattle.spa_bodies.specs.Reading.{IsRead}
 use Rattle.spa_typed_read.specs.Asking.{array_of, choice_of, IsAsked, RefusesAsked}
 use Rattle.spa_typed_read.specs.Members.{AllMembers, AllProperties, AtEnd, Further, FurtherIn, ObjectReader, OpensObject, OpensStruct, Reader, RefusesEnd}
 use Rattle.spa_typed_read.specs.Visiting.{RefusesObject, RefusesStruct, failed_object, failed_struct, unread_object, unread_struct}
 use Rattle.spa_typed_read.proofs.Asking.{asked_refused, size_refused}
-use Rattle.spa_leaf.proofs.Steps.{pod_read}
+use Rattle.spa_bodies.proofs.Steps.{pod_read}
 
 -- the front and its body are read
 pub read_as : (input body rest : List ℕ) (t : ℕ) (v : Tree) → Opens input t body rest → type_of v ≡ t → IsBody v body →

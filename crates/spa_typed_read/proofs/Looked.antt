@@ -6,10 +6,10 @@ use Rattle.spa_format.proofs.Sequences.{props_left}
 use Rattle.spa_scan.specs.Depth.{depth_of, levels_looked_into, property_depth}
 use Rattle.std.specs.Borrow.{Bor}
 use Rattle.spa_format.specs.Faults.{Fault, Stands}
-use Rattle.spa_fixed.specs.declared.fault.Refusal.{Refusal}
-use Rattle.spa_fixed.specs.declared.fault.Refusal.TheVariants as refusal
-use Rattle.spa_leaf.specs.Reading.{MayLackMemory, OnMemory, RefusesInput}
-use Rattle.spa_leaf.specs.Refusing.{Says, error_of}
+use Rattle.spa_fixed_sized.specs.declared.fault.Refusal.{Refusal}
+use Rattle.spa_fixed_sized.specs.declared.fault.Refusal.TheVariants as refusal
+use Rattle.spa_bodies.specs.Reading.{MayLackMemory, OnMemory, RefusesInput}
+use Rattle.spa_bodies.specs.Refusing.{Says, error_of}
 use Rattle.spa_rewrite.specs.Look.{IsTooDeep}
 use Rattle.spa_rewrite.proofs.Accepted.{fault_front}
 use Rattle.spa_rewrite.proofs.Levels.{deep_begun}

@@ -12,13 +12,13 @@ use Rattle.spa_format.specs.Front.{HasFront, Begins, IsRefused, front_of, rest_o
 use Rattle.spa_format.proofs.Fronts.{front_of_whole}
 use Rattle.spa_format.proofs.Sequences.{props_left}
 use Rattle.spa_format.proofs.Unique.{one_value}
-use Rattle.spa_fixed.specs.declared.fault.DeserializeError.{DeserializeError}
+use Rattle.spa_fixed_sized.specs.declared.fault.DeserializeError.{DeserializeError}
 use Rattle.spa_typed_read.specs.ExactlyLaws.{fault_there, fault_to, memory_to}
 use Rattle.spa_typed_read.proofs.Causes.{short_no_memory}
 use Rattle.spa_typed_read.specs.Exactly.{IsUnread, RefusesExactly}
 use Rattle.spa_typed_read.specs.Lookup.{AreNoProperties, FindsFirst, FindsIn, HasFirst, IsUnder, LacksProperty, LeadsTo, LeadsToAll, NoneRead, RefusesUnder, arrived, behind_another, place_or, short_key, short_pod, under_key, value_under}
 use Rattle.spa_typed_read.specs.Members.{FurtherIn, ObjectReader}
-use Rattle.spa_leaf.specs.Reading.{IsRead, OnFault, OnMemory, RefusesInput}
+use Rattle.spa_bodies.specs.Reading.{IsRead, OnFault, OnMemory, RefusesInput}
 
 -- The first one is under the key, or another is.
 

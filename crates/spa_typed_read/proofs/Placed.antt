@@ -3,12 +3,12 @@ use Rattle.std.proofs.Common.{ℕ, List}
 use Rattle.std.specs.Borrow.{Bor}
 use Rattle.spa_format.specs.Faults.{Stands}
 use Rattle.spa_format.specs.Opened as headers
-use Rattle.spa_fixed.specs.declared.fault.Refusal.{Refusal}
-use Rattle.spa_fixed.specs.declared.fault.Refusal.TheVariants as refusal
-use Rattle.spa_leaf.specs.Reading.{MayLackMemory, OnFault}
-use Rattle.spa_leaf.specs.Refusing.{RefusesPod, error_of}
+use Rattle.spa_fixed_sized.specs.declared.fault.Refusal.{Refusal}
+use Rattle.spa_fixed_sized.specs.declared.fault.Refusal.TheVariants as refusal
+use Rattle.spa_bodies.specs.Reading.{MayLackMemory, OnFault}
+use Rattle.spa_bodies.specs.Refusing.{RefusesPod, error_of}
 use Rattle.spa_read.specs.Nesting.{RefusesAt}
-use Rattle.spa_leaf.proofs.Refusals.{says_through}
+use Rattle.spa_bodies.proofs.Refusals.{says_through}
 
 -- without the headers opened
 pub without_count : (input place : List ℕ) (n : ℕ) (why : Refusal) →

@@ -4,14 +4,14 @@ use Rattle.std.specs.Borrow.{Bor}
 use Rattle.spa_format.specs.Words.{word_at}
 use Rattle.spa_format.specs.Kind.{Kind}
 use Rattle.spa_format.specs.Faults.{Stands}
-use Rattle.spa_fixed.specs.declared.fault.Refusal.{Refusal}
+use Rattle.spa_fixed_sized.specs.declared.fault.Refusal.{Refusal}
 use Rattle.spa_format.specs.Tree.{Tree}
 use Rattle.spa_format.specs.Pod.{IsPod}
 use Rattle.spa_format.specs.Front.{Begins, front_of}
 use Rattle.spa_format.proofs.Conveyed.{one_value, pod_conveys}
 use Rattle.spa_rewrite.specs.Look.{IsTooDeep, OpensInside}
-use Rattle.spa_leaf.specs.Refusing as refusing
-use Rattle.spa_leaf.specs.Refusing.{error_of}
+use Rattle.spa_bodies.specs.Refusing as refusing
+use Rattle.spa_bodies.specs.Refusing.{error_of}
 use Rattle.spa_typed_read.specs.Exactly.{BeginsChoice, RefusesSettled, malformed}
 use Rattle.spa_typed_read.specs.ExactlyLaws.{memory_to}
 use Rattle.spa_typed_read.proofs.Looked.{fault_refused}

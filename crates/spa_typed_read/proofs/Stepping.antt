@@ -10,11 +10,11 @@ use Rattle.spa_format.specs.Pod.{AreMembers, AreProperties, IsPod}
 use Rattle.spa_format.specs.Front.{IsRefused, front_of}
 use Rattle.spa_format.proofs.Refused.{refused_behind_members}
 use Rattle.spa_format.proofs.Sequences.{members_joined, members_push, props_joined}
-use Rattle.spa_fixed.specs.declared.fault.DeserializeError.{DeserializeError}
-use Rattle.spa_leaf.specs.Reading.{BeginsWith, IsRead, IsShortAt, OnMemory, RefusesInput}
+use Rattle.spa_fixed_sized.specs.declared.fault.DeserializeError.{DeserializeError}
+use Rattle.spa_bodies.specs.Reading.{BeginsWith, IsRead, IsShortAt, OnMemory, RefusesInput}
 use Rattle.spa_format.specs.Faults.{Stands}
-use Rattle.spa_fixed.specs.declared.fault.DeserializeError.TheVariants as error
-use Rattle.spa_leaf.specs.Refusing.{StandsInMembers, StandsInProperties}
+use Rattle.spa_fixed_sized.specs.declared.fault.DeserializeError.TheVariants as error
+use Rattle.spa_bodies.specs.Refusing.{StandsInMembers, StandsInProperties}
 use Rattle.spa_typed_read.specs.Exactly.{AreNoMembers, RefusesMembers}
 use Rattle.spa_rewrite.specs.Look.{IsTooDeep}
 use Rattle.spa_typed_read.specs.Lookup.{HoldsDeep, RefusesProperties}
@@ -25,7 +25,7 @@ use Rattle.spa_typed_read.specs.Members.{AllMembers, AllProperties, AtEnd, Furth
 use Rattle.spa_typed_read.specs.declared.visitor.Visit.{Visit}
 use Rattle.spa_typed_read.specs.Visiting.{IsVisited}
 use Rattle.spa_read.proofs.Remainders.{HasKey, first_property}
-use Rattle.spa_leaf.proofs.Steps.{parted}
+use Rattle.spa_bodies.proofs.Steps.{parted}
 
 -- what was read begins the input, and the rest follows
 begun_with : (input rest : List ℕ) (P : Tree → Type 0) → (r : IsRead input rest P) → BeginsWith input r.value rest

@@ -6,9 +6,9 @@ use Rattle.spa_format.specs.Tree.{Tree, Trees, Properties, member, object, prope
 use Rattle.spa_format.specs.Pod.{AreMembers, AreProperties, IsPod}
 use Rattle.spa_format.specs.Front.{HasFront, Begins, front_of, rest_of}
 use Rattle.spa_format.proofs.Fronts.{front_of_whole}
-use Rattle.spa_fixed.specs.declared.fault.DeserializeError.{DeserializeError}
-use Rattle.spa_leaf.specs.Reading.{OnFault, OnMemory}
-use Rattle.spa_leaf.proofs.Steps.{parted}
+use Rattle.spa_fixed_sized.specs.declared.fault.DeserializeError.{DeserializeError}
+use Rattle.spa_bodies.specs.Reading.{OnFault, OnMemory}
+use Rattle.spa_bodies.proofs.Steps.{parted}
 use Rattle.spa_typed_read.specs.Asking.{LacksObject}
 use Rattle.spa_typed_read.specs.Exactly.{AreUnread, IsUnread, ReadsStruct, RefusesExactly}
 use Rattle.spa_typed_read.specs.ExactlyLaws.{fault_there, fault_to, memory_to}

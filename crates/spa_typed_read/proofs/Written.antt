@@ -11,11 +11,11 @@ use Rattle.spa_format.specs.Writable.{IsWritable}
 use Rattle.spa_format.specs.Front.{HasFront, front_of, rest_of}
 use Rattle.spa_format.proofs.Back.{encoding_begins}
 use Rattle.spa_format.proofs.Unique.{one_value}
-use Rattle.spa_fixed.specs.declared.fault.DeserializeError.{DeserializeError}
-use Rattle.spa_fixed.specs.declared.fault.DeserializeError.TheVariants as error
+use Rattle.spa_fixed_sized.specs.declared.fault.DeserializeError.{DeserializeError}
+use Rattle.spa_fixed_sized.specs.declared.fault.DeserializeError.TheVariants as error
 use Rattle.spa_typed_read.specs.Exactly.{IsUnread, RefusesExactly}
 use Rattle.spa_typed_read.specs.ExactlyLaws.{fault_to}
-use Rattle.spa_leaf.specs.Reading.{IsRead, OnFault, OnMemory}
+use Rattle.spa_bodies.specs.Reading.{IsRead, OnFault, OnMemory}
 
 rest_behind : (v : Tree) (rest : List ℕ) → IsTyped v → IsWritable v → rest_of (encoding_of v ++ rest) ≡ rest
 rest_behind v rest t w =

@@ -7,11 +7,11 @@ use Rattle.spa_format.specs.Tree.{Tree, array, choice, Shape, type_of, array_typ
 use Rattle.spa_format.specs.Front.{HasFront, Begins}
 use Rattle.spa_format.specs.Faults.{Fault, StandsAtFront}
 use Rattle.spa_format.specs.Faults as fault
-use Rattle.spa_fixed.specs.declared.fault.FaultKind.{FaultKind}
-use Rattle.spa_fixed.specs.declared.fault.FaultKind.TheVariants as fault_kind
-use Rattle.spa_fixed.specs.declared.fault.DeserializeError.{DeserializeError}
-use Rattle.spa_fixed.specs.declared.fault.DeserializeError.TheVariants as error
-use Rattle.spa_leaf.specs.Reading.{OnFault, OnMemory, IsShortAt}
+use Rattle.spa_fixed_sized.specs.declared.fault.FaultKind.{FaultKind}
+use Rattle.spa_fixed_sized.specs.declared.fault.FaultKind.TheVariants as fault_kind
+use Rattle.spa_fixed_sized.specs.declared.fault.DeserializeError.{DeserializeError}
+use Rattle.spa_fixed_sized.specs.declared.fault.DeserializeError.TheVariants as error
+use Rattle.spa_bodies.specs.Reading.{OnFault, OnMemory, IsShortAt}
 
 -- the fault of an input whose front isn't there, or has another type number than the one asked for
 abbrev pub LacksBytes : ℕ → List ℕ → FaultKind → Type 0

@@ -7,10 +7,10 @@ use Rattle.spa_format.specs.Front.{HasFront, Begins}
 use Rattle.spa_format.specs.Kind.{Kind, type_number}
 use Rattle.spa_format.specs.Tree.{choice_type, struct_type}
 use Rattle.spa_format.specs.Words.{body_of, word_at}
-use Rattle.spa_fixed.specs.declared.fault.DeserializeError.{DeserializeError}
-use Rattle.spa_fixed.specs.declared.fault.DeserializeError.TheVariants as error
-use Rattle.spa_leaf.specs.Reading.{IsRead, IsShortAt, Names, OnFault, OnMemory, RefusesInput}
-use Rattle.spa_leaf.specs.Refusing.{StandsInMembers}
+use Rattle.spa_fixed_sized.specs.declared.fault.DeserializeError.{DeserializeError}
+use Rattle.spa_fixed_sized.specs.declared.fault.DeserializeError.TheVariants as error
+use Rattle.spa_bodies.specs.Reading.{IsRead, IsShortAt, Names, OnFault, OnMemory, RefusesInput}
+use Rattle.spa_bodies.specs.Refusing.{StandsInMembers}
 use Rattle.spa_typed_read.specs.Asking.{LacksFront, RefusesAsked, of_type}
 
 -- the input begins with no value that is read as one of the type `X`

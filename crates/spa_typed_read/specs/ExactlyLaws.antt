@@ -6,17 +6,17 @@ use Rattle.spa_format.specs.Tree.{Tree, fixed, string, bytes, bitmap, array, cho
 use Rattle.spa_format.specs.Front.{Begins, HasFront, IsRefused}
 use Rattle.spa_format.proofs.Refused as format
 use Rattle.spa_format.specs.Words.{word_at}
-use Rattle.spa_fixed.specs.declared.fault.DeserializeError.{DeserializeError}
-use Rattle.spa_fixed.specs.declared.fault.DeserializeError.TheVariants as error
+use Rattle.spa_fixed_sized.specs.declared.fault.DeserializeError.{DeserializeError}
+use Rattle.spa_fixed_sized.specs.declared.fault.DeserializeError.TheVariants as error
 use Rattle.spa_format.specs.Kind.{Kind, Fixed, kind_of, type_number}
 use Rattle.spa_utils.specs.declared.choice.ChoiceEnum.{ChoiceEnum}
 use Rattle.spa_utils.specs.declared.choice.ChoiceEnum.TheVariants as E
 use Rattle.spa_utils.specs.declared.choice.Choice.{Choice}
-use Rattle.spa_fixed.specs.Choices.{choice_enum_tree, choice_tree}
+use Rattle.spa_fixed_sized.specs.Choices.{choice_enum_tree, choice_tree}
 use Rattle.spa_typed_read.specs.Asking.{Asked, choice_of, IsAsked, RefusesAsked, asked_type}
 use Rattle.spa_typed_read.specs.Exactly.{BeginsChoice, IsUnread, RefusesExactly, RefusesSettled, malformed, no_choice, other_choice}
 use Rattle.spa_view.specs.Settled.{settled_of}
-use Rattle.spa_leaf.specs.Reading.{MayLackMemory, OnFault, OnMemory, RefusesInput}
+use Rattle.spa_bodies.specs.Reading.{MayLackMemory, OnFault, OnMemory, RefusesInput}
 
 -- a weaker fact than the one that a refusal says
 pub fault_to : {I : Type 0} (A B : Type 0) (e : DeserializeError I) → (A → B) → OnFault A e → OnFault B e

@@ -5,11 +5,11 @@ use Rattle.spa_format.specs.Tree.{Tree, Properties, no_properties, property, obj
 use Rattle.spa_format.specs.Pod.{AreProperties}
 use Rattle.spa_format.specs.Words.{body_of, header_size, word_at}
 use Rattle.spa_format.specs.Front.{HasFront, rest_of}
-use Rattle.spa_fixed.specs.declared.fault.DeserializeError.{DeserializeError}
-use Rattle.spa_leaf.specs.Reading.{IsRead, IsShortAt, Names, OnFault, OnMemory}
-use Rattle.spa_leaf.specs.Refusing.{StandsInProperties}
+use Rattle.spa_fixed_sized.specs.declared.fault.DeserializeError.{DeserializeError}
+use Rattle.spa_bodies.specs.Reading.{IsRead, IsShortAt, Names, OnFault, OnMemory}
+use Rattle.spa_bodies.specs.Refusing.{StandsInProperties}
 use Rattle.spa_rewrite.specs.Look.{IsTooDeep}
-use Rattle.spa_fixed.specs.declared.fault.DeserializeError.TheVariants as error
+use Rattle.spa_fixed_sized.specs.declared.fault.DeserializeError.TheVariants as error
 use Rattle.spa_typed_read.specs.Asking.{LacksObject}
 use Rattle.spa_typed_read.specs.Members.{ObjectReader, OpensObject}
 

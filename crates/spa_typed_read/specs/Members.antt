@@ -7,9 +7,9 @@ use Rattle.spa_format.specs.Tree as tree
 use Rattle.spa_format.specs.Pod.{AreMembers, AreProperties}
 use Rattle.spa_bytes.specs.Opening.{Opens}
 use Rattle.std.specs.Borrow.{Bor}
-use Rattle.spa_fixed.specs.declared.fault.DeserializeError.{DeserializeError}
-use Rattle.spa_fixed.specs.declared.fault.DeserializeError.TheVariants as error
-use Rattle.spa_leaf.specs.Reading.{IsRead, IsShortAt}
+use Rattle.spa_fixed_sized.specs.declared.fault.DeserializeError.{DeserializeError}
+use Rattle.spa_fixed_sized.specs.declared.fault.DeserializeError.TheVariants as error
+use Rattle.spa_bodies.specs.Reading.{IsRead, IsShortAt}
 
 -- a reader: the remaining bytes of the body, the bytes that follow the pod, and whether the reader has failed
 pub record Reader : Type 0 where

@@ -6,10 +6,10 @@ use Rattle.spa_format.specs.Kind.{Kind, Fixed, none, bool, id, int, long, float,
 use Rattle.spa_format.specs.Tree.{Tree, Trees, Properties, fixed, string, bytes, bitmap, array, pointer, type_of, choice_type, struct_type}
 use Rattle.spa_format.specs.Pod.{IsBody}
 use Rattle.spa_format.specs.Front.{Begins, rest_of}
-use Rattle.spa_fixed.specs.declared.fault.DeserializeError.{DeserializeError}
-use Rattle.spa_fixed.specs.declared.fault.DeserializeError.TheVariants as error
+use Rattle.spa_fixed_sized.specs.declared.fault.DeserializeError.{DeserializeError}
+use Rattle.spa_fixed_sized.specs.declared.fault.DeserializeError.TheVariants as error
 use Rattle.spa_value.specs.View.{choice_view}
-use Rattle.spa_leaf.specs.Reading.{OnFault, OnMemory}
+use Rattle.spa_bodies.specs.Reading.{OnFault, OnMemory}
 use Rattle.spa_typed_read.specs.Exactly.{AreUnread}
 use Rattle.spa_typed_read.specs.Lookup.{NoneRead}
 use Rattle.spa_typed_read.specs.Asking.{LacksFront, LacksObject, array_of, of_type, RefusesAsked}

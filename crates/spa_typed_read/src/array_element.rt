@@ -1,5 +1,5 @@
 //! The types over which arrays are read.
-use spa_fixed::CanonicalFixedSizedPod;
+use spa_fixed_sized::CanonicalFixedSizedPod;
 use spa_utils::{Fd, Float32, Float64, Fraction, Id, Rectangle};
 
 /// One of the ten types of fixed size: a `Vec` of it is read as an array. `u8` is none of them: a `Vec` of it is read as

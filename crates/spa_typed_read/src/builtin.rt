@@ -1,6 +1,6 @@
 //! The built-in types that are read from a pod: what each reads, and how it refuses an input.
 ghost use Rattle.std.specs.Prelude.{⊤, ◌≡◌, map, string_bytes};
-ghost use Rattle.spa_fixed.specs.Choices.{choice_tree};
+ghost use Rattle.spa_fixed_sized.specs.Choices.{choice_tree};
 ghost use Rattle.spa_format.specs.Kind as k;
 ghost use Rattle.spa_format.specs.Kind.{type_number};
 ghost use Rattle.spa_format.specs.Tree.{array, bitmap, bitmap_type, bytes, bytes_type, fixed, pointer, pointer_type, string, string_type};
@@ -8,7 +8,7 @@ ghost use Rattle.spa_typed_read.specs.Asking.{RefusesAsked, array_of, choice_of,
 
 use crate::array_element::ArrayElement;
 use crate::deserializer::{DeserializeSuccess, PodDeserialize, PodDeserializer};
-use spa_fixed::{ChoiceElement, DeserializeError};
+use spa_fixed_sized::{ChoiceElement, DeserializeError};
 use spa_utils::{Choice, Fd, Float32, Float64, Fraction, Id, Rectangle};
 use spa_value::Bitmap;
 

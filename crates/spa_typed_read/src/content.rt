@@ -1,19 +1,19 @@
 //! Types that are made of a content that is read: of a struct's members, or of any other readable type.
 ghost use Rattle.std.specs.Prelude.{◌≡◌, ◌⊎◌, ℕ, List, false, IfErr, IfOk};
 ghost use Rattle.std.specs.Borrow.{Bor};
-ghost use Rattle.spa_fixed.specs.declared.fault.DeserializeError.{DeserializeError};
+ghost use Rattle.spa_fixed_sized.specs.declared.fault.DeserializeError.{DeserializeError};
 ghost use Rattle.spa_format.specs.Front.{rest_of};
 ghost use Rattle.spa_format.specs.Tree.{Tree, Trees, no_trees};
 ghost use Rattle.spa_format.specs.Words.{body_of};
 ghost use Rattle.spa_typed_read.specs.Exactly.{AreUnread, ReadsFirst, ReadsStruct, RefusesExactly, RefusesFirst, RefusesMore, RefusesStructOf};
 ghost use Rattle.spa_typed_read.specs.ExactlyLaws.{made_exactly};
 ghost use Rattle.spa_typed_read.specs.Members.{AllMembers, AtEnd, Further};
-ghost use Rattle.spa_leaf.specs.Reading.{OnFault, OnMemory};
+ghost use Rattle.spa_bodies.specs.Reading.{OnFault, OnMemory};
 
 use crate::deserializer::{DeserializeSuccess, PodDeserialize, PodDeserializer};
 use crate::exact::ExactDeserialize;
 use crate::members::StructPodDeserializer;
-use spa_fixed::DeserializeError;
+use spa_fixed_sized::DeserializeError;
 use spa_value::{Held, Value};
 
 /// A type of a program's own that is made of another type, its content, which is what is read. So, unless memory runs out, it is read exactly

@@ -1,18 +1,18 @@
 //! The deserializer, which reads one pod from the front of an input.
 ghost use Rattle.std.specs.Prelude.{⊤, ◌≡◌, ℕ, ◌*◌, ◌<◌, ◌≤◌, List, IfErr, IfOk, IsErrAnd, length};
 ghost use Rattle.std.specs.Borrow.{Bor};
-ghost use Rattle.spa_fixed.specs.declared.fault.DeserializeError.{DeserializeError};
+ghost use Rattle.spa_fixed_sized.specs.declared.fault.DeserializeError.{DeserializeError};
 ghost use Rattle.spa_format.specs.Faults.{Stands};
 ghost use Rattle.spa_format.specs.Front.{Begins, HasFront, IsRefused, rest_of};
 ghost use Rattle.spa_format.specs.Opened.{OpensHeaders};
 ghost use Rattle.spa_format.specs.Tree.{Tree, node_count};
 ghost use Rattle.spa_format.specs.Words.{header_size};
-ghost use Rattle.spa_leaf.specs.Reading.{IsRead, IsShortAt, MayLackMemory, Names, OnFault, OnMemory, RefusesInput};
+ghost use Rattle.spa_bodies.specs.Reading.{IsRead, IsShortAt, MayLackMemory, Names, OnFault, OnMemory, RefusesInput};
 ghost use Rattle.spa_read.specs.Reading.{ConveysAtFront, ConveysNothing, StandsLeniently};
 ghost use Rattle.spa_value.specs.View.{view};
 
-use spa_fixed::DeserializeError;
-use spa_leaf::error_at;
+use spa_bodies::error_at;
+use spa_fixed_sized::DeserializeError;
 use spa_read::{read_value, read_value_leniently};
 use spa_value::Value;
 use std::alloc::Global;

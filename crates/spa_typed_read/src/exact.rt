@@ -2,7 +2,7 @@
 ghost use Rattle.std.specs.Prelude.{⊤, ◌≡◌, ℕ, List, map};
 ghost use Rattle.std.specs.Borrow.{Bor};
 ghost use Rattle.std.proofs.Common.{ap, ◌∙◌};
-ghost use Rattle.spa_fixed.specs.declared.fault.DeserializeError.{DeserializeError};
+ghost use Rattle.spa_fixed_sized.specs.declared.fault.DeserializeError.{DeserializeError};
 ghost use Rattle.spa_format.specs.Kind as k;
 ghost use Rattle.spa_format.specs.Kind.{type_number};
 ghost use Rattle.spa_format.specs.Tree.{bitmap_type, bytes_type, pointer_type, string_type, type_of};
@@ -12,7 +12,7 @@ ghost use Rattle.spa_typed_read.specs.ExactlyLaws.{any_exactly, asked_exactly, c
 
 use crate::array_element::ArrayElement;
 use crate::deserializer::PodDeserialize;
-use spa_fixed::ChoiceElement;
+use spa_fixed_sized::ChoiceElement;
 use spa_utils::{Choice, Fd, Float32, Float64, Fraction, Id, Rectangle};
 use spa_value::{Bitmap, Value};
 

@@ -1,17 +1,17 @@
 //! Reads the elements of an array one by one.
 ghost use Rattle.std.specs.Prelude.{◌≡◌, ◌≢◌, ◌<◌, ◌≤◌, ◌⊎◌, false, length, true, IfErr, IfOk, IsErrAnd, IsOk, OnErr};
 ghost use Rattle.spa_bytes.specs.Opening.{Opens};
-ghost use Rattle.spa_fixed.specs.declared.fault.DeserializeError.TheVariants as error;
+ghost use Rattle.spa_fixed_sized.specs.declared.fault.DeserializeError.TheVariants as error;
 ghost use Rattle.spa_format.specs.Tree.{array_type};
 ghost use Rattle.spa_format.specs.Words.{header_size, word_at};
 ghost use Rattle.spa_typed_read.specs.Asking.{RefusesAsked, array_of};
 ghost use Rattle.spa_typed_read.specs.Members.{HasElements, OpensArray, TakesElement};
-ghost use Rattle.spa_leaf.specs.Reading.{IsShortAt};
+ghost use Rattle.spa_bodies.specs.Reading.{IsShortAt};
 
 use crate::deserializer::{DeserializeSuccess, PodDeserializer};
 use crate::typed::open_as;
 use spa_bytes::{Front, HEADER_LEN, SECOND_WORD, u32_at};
-use spa_fixed::{
+use spa_fixed_sized::{
     CanonicalFixedSizedPod, DeserializeError, Fault, FaultKind, FixedSizedPod, open_array,
 };
 use spa_utils::SpaTypes;

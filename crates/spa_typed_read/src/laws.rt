@@ -2,8 +2,8 @@
 //! function does nothing: its contract is the law.
 ghost use Rattle.std.specs.Prelude.{◌≡◌, ◌<◌, ◌≤◌, ◌++◌, [], List, drop, length, ℕ};
 ghost use Rattle.std.specs.Borrow.{Bor};
-ghost use Rattle.spa_fixed.specs.declared.fault.DeserializeError.{DeserializeError};
-ghost use Rattle.spa_fixed.specs.declared.fault.DeserializeError.TheVariants as error;
+ghost use Rattle.spa_fixed_sized.specs.declared.fault.DeserializeError.{DeserializeError};
+ghost use Rattle.spa_fixed_sized.specs.declared.fault.DeserializeError.TheVariants as error;
 ghost use Rattle.spa_format.specs.Encoding.{encoding_of};
 ghost use Rattle.spa_format.specs.Normal.{normal_of};
 ghost use Rattle.spa_format.specs.Front.{Begins, rest_of};
@@ -16,11 +16,11 @@ ghost use Rattle.spa_scan.specs.Depth.{levels_looked_into, property_depth};
 ghost use Rattle.spa_typed_read.specs.Exactly.{RefusesExactly};
 ghost use Rattle.spa_typed_read.specs.Lookup.{TakesIn};
 ghost use Rattle.spa_typed_read.specs.Members.{ArrayReader, Further, FurtherIn, IsMadeOf, ObjectReader, OpensArray, Reader, TakesElements, list_tree, single_tree};
-ghost use Rattle.spa_leaf.specs.Reading.{IsRead};
+ghost use Rattle.spa_bodies.specs.Reading.{IsRead};
 
 use crate::exact::ExactDeserialize;
 use crate::object_content::DeserializeProperties;
-use spa_fixed::{CanonicalFixedSizedPod, FixedSizedPod};
+use spa_fixed_sized::{CanonicalFixedSizedPod, FixedSizedPod};
 
 /// The elements that an array's reader gives, up to where no element is left, are all elements of the array, in order.
 pub fn elements_are_the_arrays<E: FixedSizedPod>()

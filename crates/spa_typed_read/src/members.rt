@@ -1,13 +1,13 @@
 //! Reads the members of a struct one by one.
 ghost use Rattle.std.specs.Prelude.{◌≡◌, ◌≢◌, [], false, true, IfErr, IfOk, IsErrAnd, IsOk, MatchOption, OnErr, OnOk};
-ghost use Rattle.spa_fixed.specs.declared.fault.DeserializeError.TheVariants as error;
+ghost use Rattle.spa_fixed_sized.specs.declared.fault.DeserializeError.TheVariants as error;
 ghost use Rattle.spa_format.specs.Tree.{struct_type};
 ghost use Rattle.spa_typed_read.specs.Asking.{LacksFront};
 ghost use Rattle.spa_typed_read.specs.Members.{AtEnd, Further, OpensStruct, RefusesEnd, TakesField};
 
 use crate::deserializer::{DeserializeSuccess, PodDeserialize, PodDeserializer};
 use crate::typed::open_as;
-use spa_fixed::DeserializeError;
+use spa_fixed_sized::DeserializeError;
 use spa_utils::SpaTypes;
 use std::alloc::Global;
 use std::marker::Model;

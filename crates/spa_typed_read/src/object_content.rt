@@ -1,18 +1,18 @@
 //! Objects whose properties are found by their keys, in any order.
 ghost use Rattle.std.specs.Prelude.{◌≡◌, ◌⊎◌, ℕ, List, MatchOption, false, true, ⊤, IfErr, IfOk};
 ghost use Rattle.std.specs.Borrow.{Bor};
-ghost use Rattle.spa_fixed.specs.declared.fault.DeserializeError.{DeserializeError};
+ghost use Rattle.spa_fixed_sized.specs.declared.fault.DeserializeError.{DeserializeError};
 ghost use Rattle.spa_format.specs.Pod.{AreProperties};
 ghost use Rattle.spa_format.specs.Tree.{Properties, Tree};
 ghost use Rattle.spa_typed_read.specs.Exactly.{RefusesExactly};
 ghost use Rattle.spa_typed_read.specs.ExactlyLaws.{made_exactly};
 ghost use Rattle.spa_typed_read.specs.Lookup.{HasFirst, IsUnder, LacksProperty, LeadsToAll, NoneRead, ReadsObject, RefusesObjectOf, RefusesRequired, RefusesUnder, TakesIn};
-ghost use Rattle.spa_leaf.specs.Reading.{OnFault, OnMemory};
+ghost use Rattle.spa_bodies.specs.Reading.{OnFault, OnMemory};
 
 use crate::deserializer::{DeserializeSuccess, PodDeserialize, PodDeserializer};
 use crate::exact::ExactDeserialize;
 use crate::properties::ObjectPodDeserializer;
-use spa_fixed::DeserializeError;
+use spa_fixed_sized::DeserializeError;
 
 /// A property that has to be there: the value of the first property with the key `KEY`.
 #[derive(Drop)]

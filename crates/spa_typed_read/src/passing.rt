@@ -1,13 +1,13 @@
 //! Values that are checked in the input and skipped.
 ghost use Rattle.std.specs.Prelude.{⊤};
-ghost use Rattle.spa_leaf.specs.Reading.{OnMemory, RefusesInput};
+ghost use Rattle.spa_bodies.specs.Reading.{OnMemory, RefusesInput};
 ghost use Rattle.spa_rewrite.specs.Look.{IsTooDeep};
 ghost use Rattle.spa_typed_read.specs.ExactlyLaws.{passed_exactly};
 
 use crate::deserializer::{DeserializeSuccess, PodDeserialize, PodDeserializer};
 use crate::exact::ExactDeserialize;
-use spa_fixed::DeserializeError;
-use spa_leaf::error_at;
+use spa_bodies::error_at;
+use spa_fixed_sized::DeserializeError;
 use spa_rewrite::{Rejected, look_at_pod};
 use spa_value::discard;
 

@@ -1,20 +1,20 @@
 //! Reads the pod of one type at the front, for the built-in types.
 ghost use Rattle.std.specs.Prelude.{⊤, ◌≡◌, ◌≢◌, IfErr, IfOk, map};
-ghost use Rattle.spa_fixed.specs.Choices.{choice_tree};
+ghost use Rattle.spa_fixed_sized.specs.Choices.{choice_tree};
 ghost use Rattle.spa_format.specs.Kind.{type_number};
 ghost use Rattle.spa_format.specs.Tree.{array, bitmap, bitmap_type, bytes, bytes_type, fixed, pointer, pointer_type, string, string_type};
 ghost use Rattle.spa_typed_read.specs.Asking.{RefusesAsked, array_of, choice_of, of_type};
-ghost use Rattle.spa_leaf.specs.Reading.{IsRead};
+ghost use Rattle.spa_bodies.specs.Reading.{IsRead};
 
 use crate::deserializer::{DeserializeSuccess, PodDeserializer};
 use crate::items::open_array_of;
 use crate::typed::open_as;
-use spa_bytes::u32_at;
-use spa_fixed::{
-    CanonicalFixedSizedPod, ChoiceElement, DeserializeError, Refusal, read_array, read_choice,
-};
-use spa_leaf::{
+use spa_bodies::{
     CHOICE_HEADER_LEN, VALUE_TYPE_AT, check_choice, error_at, read_fixed, read_pointer, text_of,
+};
+use spa_bytes::u32_at;
+use spa_fixed_sized::{
+    CanonicalFixedSizedPod, ChoiceElement, DeserializeError, Refusal, read_array, read_choice,
 };
 use spa_utils::{Choice, SpaTypes};
 

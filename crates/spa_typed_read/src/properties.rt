@@ -1,13 +1,13 @@
 //! Reads the properties of an object one by one, or finds them by their keys.
 ghost use Rattle.std.specs.Prelude.{◌≡◌, ◌≢◌, ℕ, ◌<◌, ◌≤◌, ◌⊎◌, [], drop, false, length, true, IfErr, IfNone, IfOk, IsErrAnd, IsOk, MatchOption, OnErr, OnOk};
-ghost use Rattle.spa_fixed.specs.declared.fault.DeserializeError.TheVariants as error;
+ghost use Rattle.spa_fixed_sized.specs.declared.fault.DeserializeError.TheVariants as error;
 ghost use Rattle.spa_format.specs.Pod.{AreProperties};
 ghost use Rattle.spa_format.specs.Tree.{Properties};
 ghost use Rattle.spa_format.specs.Words.{header_size};
 ghost use Rattle.spa_typed_read.specs.Asking.{LacksObject};
 ghost use Rattle.spa_typed_read.specs.Lookup.{FindsFirst, FindsIn, HoldsDeep, LeadsToAll, NoneRead, RefusesProperties, RefusesUnder, place_or};
 ghost use Rattle.spa_typed_read.specs.Members.{AtEnd, FurtherIn, OpensObject, RefusesEnd, RefusesKey, RefusesNext, TakesProperty};
-ghost use Rattle.spa_leaf.specs.Reading.{IsShortAt, OnFault, OnMemory};
+ghost use Rattle.spa_bodies.specs.Reading.{IsShortAt, OnFault, OnMemory};
 
 use crate::deserializer::{DeserializeSuccess, PodDeserialize, PodDeserializer};
 use crate::object_content::DeserializeProperties;
@@ -15,7 +15,7 @@ use crate::passing::Skipped;
 use crate::typed::open_as;
 use bitflags::Flags;
 use spa_bytes::{HEADER_LEN, SECOND_WORD, open, u32_at};
-use spa_fixed::{DeserializeError, Fault, FaultKind};
+use spa_fixed_sized::{DeserializeError, Fault, FaultKind};
 use spa_utils::SpaTypes;
 use spa_value::PropertyFlags;
 use std::alloc::Global;

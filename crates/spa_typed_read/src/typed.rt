@@ -1,14 +1,14 @@
 //! Typed reads: reads a pod of one type at the front, and hands its content to a visitor.
 ghost use Rattle.std.specs.Prelude.{◌≡◌, ◌≢◌, ℕ, IfErr, IfOk, map};
 ghost use Rattle.spa_bytes.specs.Opening.{Opens};
-ghost use Rattle.spa_fixed.specs.declared.fault.Refusal.TheVariants as refusal;
+ghost use Rattle.spa_fixed_sized.specs.declared.fault.Refusal.TheVariants as refusal;
 ghost use Rattle.spa_format.specs.Kind as k;
 ghost use Rattle.spa_format.specs.Kind.{type_number};
 ghost use Rattle.spa_format.specs.Tree.{Properties, Trees, array, array_type, bitmap_type, bytes_type, choice_type, object, object_type, pointer_type, string_type, struct, struct_type};
 ghost use Rattle.spa_typed_read.specs.Asking.{LacksFront, RefusesAsked, array_of};
 ghost use Rattle.spa_typed_read.specs.Members.{OpensArray};
-ghost use Rattle.spa_leaf.specs.Reading.{IsRead};
-ghost use Rattle.spa_leaf.specs.Refusing.{RefusesBody};
+ghost use Rattle.spa_bodies.specs.Reading.{IsRead};
+ghost use Rattle.spa_bodies.specs.Refusing.{RefusesBody};
 ghost use Rattle.spa_typed_read.specs.Visiting.{IsVisited, RefusesArrayVisit, RefusesObject, RefusesStruct, RefusesVisit, SaysBody};
 ghost use Rattle.spa_typed_read.specs.declared.visitor.Visit.TheVariants as visit;
 
@@ -17,11 +17,11 @@ use crate::items::ArrayPodDeserializer;
 use crate::members::StructPodDeserializer;
 use crate::properties::ObjectPodDeserializer;
 use crate::visitor::{Visit, Visitor};
+use spa_bodies::{error_at, read_fixed, read_pointer, text_of};
 use spa_bytes::{Front, open};
-use spa_fixed::{
+use spa_fixed_sized::{
     CanonicalFixedSizedPod, DeserializeError, Fault, FaultKind, FixedSizedPod, Refusal,
 };
-use spa_leaf::{error_at, read_fixed, read_pointer, text_of};
 use spa_read::read_any_choice;
 use spa_utils::{Fd, Float32, Float64, Fraction, Id, Rectangle, SpaTypes};
 use std::alloc::Global;

@@ -1,14 +1,14 @@
 //! Visitors, which make a value of the pod that a typed read finds.
 ghost use Rattle.std.specs.Prelude.{⊤, ℕ, IfErr, IfOk, List, OnOk};
 ghost use Rattle.std.specs.Borrow.{Bor};
-ghost use Rattle.spa_fixed.specs.declared.fault.DeserializeError.{DeserializeError};
+ghost use Rattle.spa_fixed_sized.specs.declared.fault.DeserializeError.{DeserializeError};
 ghost use Rattle.spa_format.specs.Tree.{Properties, Trees};
 ghost use Rattle.spa_typed_read.specs.Members.{AllMembers, AllProperties, AtEnd, Further, FurtherIn, ObjectReader, Reader};
 ghost use Rattle.spa_typed_read.specs.declared.visitor.Visit.{Visit};
 
 use crate::members::StructPodDeserializer;
 use crate::properties::ObjectPodDeserializer;
-use spa_fixed::DeserializeError;
+use spa_fixed_sized::DeserializeError;
 use spa_utils::{Fd, Float32, Float64, Fraction, Id, Rectangle};
 use spa_value::ChoiceValue;
 

@@ -1,9 +1,9 @@
 //! Comparisons of what was written with what is wanted.
 use libspa::pod::serialize::{GenError, PodSerialize, PodSerializer};
-use spa_spelling::bytes_spelled;
 use std::alloc::Global;
 use std::process::Abort;
 use std::test::Fail;
+use test_bytes::bytes_spelled;
 
 /// The pod behind what the output holds. It is refused as `Io` where the answer isn't the pod's length.
 pub(crate) fn put<P: PodSerialize>(out: Vec<u8>, pod: &P) -> Result<Vec<u8>, GenError> {

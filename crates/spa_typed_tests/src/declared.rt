@@ -1,14 +1,14 @@
 //! Types that are declared by what they are made of: written, read back, cut short, and written where they don't fit.
 use crate::compare::{assert_refused, assert_words, assert_written, put};
 use arrayvec::ArrayVec;
+use example_types::{AudioFormat, Curve, put_curve, put_format};
 use libspa::pod::deserialize::{DeserializeError, PodDeserialize, PodDeserializer};
 use libspa::pod::serialize::{GenError, PodSerialize};
 use libspa::utils::{Float32, Id};
-use spa_spelling::bytes_spelled;
-use spa_uses::{AudioFormat, Curve, put_curve, put_format};
 use std::alloc::{AllocError, Global};
 use std::process::Abort;
 use std::test::Fail;
+use test_bytes::bytes_spelled;
 
 /// A curve, in words: `up`, -2, the id 7 and three points.
 const CURVE: &str =

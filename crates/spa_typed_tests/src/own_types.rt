@@ -6,10 +6,12 @@ ghost use Rattle.libspa.specs.Tree.{array, fixed, member, no_properties, no_tree
 use crate::compare::{assert_refused, assert_words, assert_written};
 use arrayvec::ArrayVec;
 use bitflags::Flags;
+use example_types::{
+    Cover, Device, Level, Mode, Pair, Screen, Size, Song, put_mode, tagged_number,
+};
 use libspa::pod::serialize::{GenError, PodOutput, PodSerialize, PodSerializer, SerializeSuccess};
 use libspa::pod::{FixedSizedPod, PropertyFlags};
 use libspa::utils::{Float32, Id, Rectangle};
-use spa_uses::{Cover, Device, Level, Mode, Pair, Screen, Size, Song, put_mode, tagged_number};
 use std::test::Fail;
 
 /// A type of one's own that says nothing.

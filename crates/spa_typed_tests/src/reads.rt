@@ -1,15 +1,15 @@
 //! What types of a program's own are read as.
 use crate::compare::{assert_holds, assert_said, assert_words};
-use libspa::pod::deserialize::{DeserializeError, PodDeserialize, PodDeserializer};
-use libspa::utils::Float32;
-use spa_spelling::bytes_spelled;
-use spa_uses::{
+use example_types::{
     Capture, Device, Gain, Level, Mode, Screen, Size, Song, Tagged, is_number, read_mode, sent,
     with_volume,
 };
+use libspa::pod::deserialize::{DeserializeError, PodDeserialize, PodDeserializer};
+use libspa::utils::Float32;
 use std::alloc::{AllocError, Global};
 use std::process::Abort;
 use std::test::Fail;
+use test_bytes::bytes_spelled;
 
 /// What a test compares.
 trait Told {

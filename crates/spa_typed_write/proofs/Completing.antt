@@ -11,8 +11,8 @@ use Rattle.spa_format.specs.Writable.{HasNul, IsTooLarge, SomeHasNul, SomeTooLar
 use Rattle.spa_format.proofs.Encodings.{key_words, length-framed, length-property_encoding, property_encoding, two_words_length, whole_members, whole_properties}
 use Rattle.spa_sink.proofs.Sending.{RefusesAfter, RefusesLonger}
 use Rattle.spa_typed_write.specs.Complete.{AreWritten, ArePropertiesWritten, IsWritten, RefusesBytes, RefusesMembers, RefusesProperties, RefusesValue}
-use Rattle.spa_leaf.specs.Written.{Appending, IsClosed, IsExtended, IsPut, RefusesLeaf, Refusing, begun_length}
-use Rattle.spa_leaf.proofs.Frames.{begun_size, closed_encoding}
+use Rattle.spa_bodies.specs.Written.{Appending, IsClosed, IsExtended, IsPut, RefusesLeaf, Refusing, begun_length}
+use Rattle.spa_bodies.proofs.Frames.{begun_size, closed_encoding}
 
 -- The law of an output, as its trait has it.
 

@@ -4,10 +4,10 @@ use Rattle.std.proofs.lemmas.List.{append-nil, drop-append-le, drop_all, length-
 use Rattle.spa_format.specs.Words.{header_size, word_bytes}
 use Rattle.spa_format.specs.Encoding.{encoded_body, encoding_of, framed}
 use Rattle.spa_format.specs.Tree.{Tree, type_of}
-use Rattle.spa_leaf.specs.Written.{IsWholeSize, begun_length}
+use Rattle.spa_bodies.specs.Written.{IsWholeSize, begun_length}
 use Rattle.spa_typed_write.specs.Unfinished.{IsUnfinished, Unfinished, held, unfinished_at}
 use Rattle.spa_format.proofs.Encodings.{length-framed, two_words_length}
-use Rattle.spa_leaf.proofs.Frames.{sized_encoding}
+use Rattle.spa_bodies.proofs.Frames.{sized_encoding}
 
 -- bytes behind others
 pub behind_length : (a b t : List ℕ) → b ≡ a ++ t → length b ≡ length a + length t

@@ -7,7 +7,7 @@ use Rattle.spa_format.specs.Tree.{Tree, Trees, Properties}
 use Rattle.spa_format.specs.Encoding.{encoding_of, member_encodings, property_encodings}
 use Rattle.spa_format.specs.Typed.{AllPropertiesTyped, AllTyped, IsTyped}
 use Rattle.spa_format.specs.Writable.{HasNul, IsTooLarge, IsWritable, SomeHasNul, SomeTooLarge, SomeValueHasNul, SomeValueTooLarge}
-use Rattle.spa_leaf.specs.Written.{IsExtended, Refusing}
+use Rattle.spa_bodies.specs.Written.{IsExtended, Refusing}
 
 -- why a value can't be written: a text in it holds NUL, or a size doesn't fit a word of 32 bits
 abbrev pub Unwritable : Tree → GenError → Type 0

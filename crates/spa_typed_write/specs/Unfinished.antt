@@ -4,7 +4,7 @@ use Rattle.spa_sink.specs.declared.gen_error.GenError.{GenError}
 use Rattle.spa_sink.specs.Writing.{MayRefuse}
 use Rattle.spa_format.specs.Words.{header_size, size_limit, word_bytes}
 use Rattle.spa_format.specs.Tree.{array_type}
-use Rattle.spa_leaf.specs.Written.{IsWholeSize, Refusing}
+use Rattle.spa_bodies.specs.Written.{IsWholeSize, Refusing}
 
 -- A struct or an object that is open: the type of its pod, the bytes of the output before it, and its body so far. Its size word is 0.
 pub record Unfinished : Type 0 where

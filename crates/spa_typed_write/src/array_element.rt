@@ -3,7 +3,7 @@ ghost use Rattle.std.specs.Prelude.{map};
 ghost use Rattle.spa_format.specs.Tree as tree;
 
 use crate::exact::{SerializeAs, write_elements, write_number};
-use spa_fixed::CanonicalFixedSizedPod;
+use spa_fixed_sized::CanonicalFixedSizedPod;
 use spa_sink::{GenError, PodOutput};
 use spa_utils::{Fd, Float32, Float64, Fraction, Id, Rectangle};
 

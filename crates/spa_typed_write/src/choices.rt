@@ -1,8 +1,8 @@
 //! Writes choices over one of the nine types of fixed size that have bytes.
-ghost use Rattle.spa_fixed.specs.Choices.{choice_tree};
+ghost use Rattle.spa_fixed_sized.specs.Choices.{choice_tree};
 
 use crate::exact::{SerializeAs, write_alternatives};
-use spa_fixed::ChoiceElement;
+use spa_fixed_sized::ChoiceElement;
 use spa_sink::{GenError, PodOutput};
 use spa_utils::Choice;
 

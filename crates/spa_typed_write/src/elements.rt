@@ -11,7 +11,7 @@ ghost use Rattle.spa_typed_write.specs.Unfinished.{GrowsByElement, MayRefuseBehi
 
 use crate::serializer::{PodSerializer, SerializeSuccess};
 use spa_bytes::{HEADER_LEN, joined, two_words};
-use spa_fixed::{CanonicalFixedSizedPod, FixedSizedPod};
+use spa_fixed_sized::{CanonicalFixedSizedPod, FixedSizedPod};
 use spa_sink::{GenError, PodOutput, put_padding};
 use spa_utils::SpaTypes;
 use std::marker::{Model, PhantomData};

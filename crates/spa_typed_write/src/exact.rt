@@ -1,6 +1,6 @@
 //! Types whose write is refused only where their value can't be written or the output refuses it.
 ghost use Rattle.std.specs.Prelude.{◌≡◌, ◌≤◌, IfErr, OnOk, length, map};
-ghost use Rattle.spa_fixed.specs.Choices.{choice_tree};
+ghost use Rattle.spa_fixed_sized.specs.Choices.{choice_tree};
 ghost use Rattle.spa_format.specs.Tree as tree;
 ghost use Rattle.spa_format.specs.Tree.{Tree};
 ghost use Rattle.spa_value.specs.View.{view};
@@ -8,10 +8,10 @@ ghost use Rattle.spa_typed_write.specs.Complete.{IsWritten, RefusesValue, Unwrit
 
 use crate::serializer::{PodSerialize, PodSerializer, SerializeSuccess};
 use crate::whole::written_since;
-use spa_fixed::{CanonicalFixedSizedPod, ChoiceElement};
-use spa_leaf::{
+use spa_bodies::{
     put_alternatives, put_bitmap, put_bytes, put_elements, put_number, put_pointer, put_text,
 };
+use spa_fixed_sized::{CanonicalFixedSizedPod, ChoiceElement};
 use spa_sink::{GenError, PodOutput};
 use spa_utils::Choice;
 use spa_value::Value;

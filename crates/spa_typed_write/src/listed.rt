@@ -11,7 +11,7 @@ ghost use Rattle.spa_typed_write.specs.Listed.{optional_property};
 use crate::exact::ExactSerialize;
 use crate::serializer::{PodSerializer, SerializeSuccess};
 use crate::whole::written_since;
-use spa_leaf::{begin, close};
+use spa_bodies::{begin, close};
 use spa_sink::{GenError, PodOutput, put_two};
 use spa_utils::SpaTypes;
 

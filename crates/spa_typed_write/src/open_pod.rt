@@ -9,7 +9,7 @@ ghost use Rattle.spa_format.specs.Writable.{IsWritable};
 ghost use Rattle.spa_typed_write.specs.Unfinished.{Grows, MayRefuseBehind, held};
 
 use crate::serializer::{PodSerialize, PodSerializer, SerializeSuccess};
-use spa_leaf::{begin, close};
+use spa_bodies::{begin, close};
 use spa_sink::{GenError, PodOutput, put_two};
 use std::marker::Model;
 

@@ -1,6 +1,6 @@
 //! Writes pods at once.
 ghost use Rattle.std.specs.Prelude.{◌≡◌, ◌-◌, ◌≤◌, ◌++◌, ◌⊎◌, IfErr, IfOk, OnOk, length};
-ghost use Rattle.spa_fixed.specs.Choices.{choice_tree};
+ghost use Rattle.spa_fixed_sized.specs.Choices.{choice_tree};
 ghost use Rattle.spa_sink.specs.Writing.{MayRefuse, RefusedFor};
 ghost use Rattle.spa_format.specs.Encoding.{encoding_of};
 ghost use Rattle.spa_format.specs.Tree as tree;
@@ -8,8 +8,8 @@ ghost use Rattle.spa_format.specs.Typed.{IsTyped};
 ghost use Rattle.spa_format.specs.Writable.{HasNul, IsTooLarge, IsWritable};
 
 use crate::serializer::{PodSerializer, SerializeSuccess};
-use spa_fixed::{CanonicalFixedSizedPod, ChoiceElement, FixedSizedPod};
-use spa_leaf::{put_alternatives, put_bitmap, put_bytes, put_number, put_pointer, put_text};
+use spa_bodies::{put_alternatives, put_bitmap, put_bytes, put_number, put_pointer, put_text};
+use spa_fixed_sized::{CanonicalFixedSizedPod, ChoiceElement, FixedSizedPod};
 use spa_sink::{GenError, PodOutput};
 use spa_utils::Choice;
 

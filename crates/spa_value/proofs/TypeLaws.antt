@@ -2,7 +2,7 @@
 use Rattle.std.proofs.Common.{◌≡◌, ℕ, refl}
 use Rattle.spa_format.specs.Kind.{Kind, Fixed}
 use Rattle.spa_format.specs.Tree.{type_of, array_type, choice_type, object_type}
-use Rattle.spa_fixed.specs.Choices.{choice_enum_tree}
+use Rattle.spa_fixed_sized.specs.Choices.{choice_enum_tree}
 use Rattle.spa_utils.specs.declared.choice.ChoiceEnum.{ChoiceEnum}
 use Rattle.spa_utils.specs.declared.choice.ChoiceEnum.TheVariants as E
 use Rattle.spa_value.specs.declared.array.ValueArray.{ValueArray}

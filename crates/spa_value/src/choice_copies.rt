@@ -1,6 +1,6 @@
 //! Copies choices, each into the place where it will stay.
 ghost use Rattle.std.specs.Prelude.{◌≡◌, OnOk, map};
-ghost use Rattle.spa_fixed.specs.Choices.{choice_enum_tree, choice_tree};
+ghost use Rattle.spa_fixed_sized.specs.Choices.{choice_enum_tree, choice_tree};
 ghost use Rattle.spa_format.specs.Tree.{choice, enum_choice, flags_choice};
 ghost use Rattle.spa_value.specs.View.{choice_view};
 ghost use Rattle.spa_value.specs.declared.choice_value.ChoiceValue.TheVariants as variant;
@@ -9,7 +9,7 @@ use crate::choice_value::ChoiceValue;
 use crate::copies::copy_elements;
 use crate::taking::Takes;
 use crate::value::Value;
-use spa_fixed::ChoiceElement;
+use spa_fixed_sized::ChoiceElement;
 use spa_utils::{Choice, ChoiceEnum, ChoiceFlags, Fd, Float32, Float64, Fraction, Id, Rectangle};
 use std::alloc::AllocError;
 

@@ -11,7 +11,7 @@ ghost use Rattle.spa_view.specs.Tests as t;
 use crate::pod::Pod;
 use bitflags::Flags;
 use spa_bytes::{HEADER_LEN, SECOND_WORD, u32_at};
-use spa_fixed::{CanonicalFixedSizedPod, NONE_SHAPE, RANGE_SHAPE, STEP_SHAPE, next_element};
+use spa_fixed_sized::{CanonicalFixedSizedPod, NONE_SHAPE, RANGE_SHAPE, STEP_SHAPE, next_element};
 use spa_utils::{ChoiceFlags, Errno, SpaTypes};
 use std::marker::PhantomData;
 

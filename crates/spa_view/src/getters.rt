@@ -9,7 +9,7 @@ use crate::fields::PodStruct;
 use crate::pod::Pod;
 use crate::props::PodObject;
 use spa_bytes::{HEADER_LEN, SHORT_POINTER_LEN, u32_at, u64_at};
-use spa_fixed::CanonicalFixedSizedPod;
+use spa_fixed_sized::CanonicalFixedSizedPod;
 use spa_utils::{Errno, Fd, Float32, Float64, Fraction, Id, Rectangle};
 
 /// The byte behind a text.

@@ -7,7 +7,7 @@ ghost use Rattle.spa_view.specs.View.{pod_bytes};
 
 use crate::pod::Pod;
 use crate::props::PodObject;
-use spa_fixed::CanonicalFixedSizedPod;
+use spa_fixed_sized::CanonicalFixedSizedPod;
 use spa_utils::{Fd, Float32, Float64, Fraction, Id, Rectangle};
 use std::str;
 

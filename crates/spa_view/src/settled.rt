@@ -9,7 +9,7 @@ ghost use Rattle.spa_view.specs.Settled.{child_place, holds_value, settled_bytes
 use crate::pod::{Pod, SIZE_AT};
 use crate::type_tests::{CHOICE_SHAPE_AT, FOUR_WORDS};
 use spa_bytes::{extent_of, u32_at};
-use spa_fixed::NONE_SHAPE;
+use spa_fixed_sized::NONE_SHAPE;
 
 /// The offset of the child header in a choice's pod: behind its own header, its shape and its flags.
 const CHILD_AT: usize = 16;

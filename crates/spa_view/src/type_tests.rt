@@ -5,7 +5,7 @@ ghost use Rattle.spa_view.specs.Tests as t;
 
 use crate::pod::Pod;
 use spa_bytes::{POINTER_LEN, SHORT_POINTER_LEN, u32_at};
-use spa_fixed::{CanonicalFixedSizedPod, NONE_SHAPE};
+use spa_fixed_sized::{CanonicalFixedSizedPod, NONE_SHAPE};
 use spa_utils::{Fd, Float32, Float64, Fraction, Id, Rectangle, SpaTypes};
 
 /// The least size in bytes of a string's body, which has a NUL.

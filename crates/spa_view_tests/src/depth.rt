@@ -1,8 +1,8 @@
 //! Looks into deeply nested structs.
 use crate::compare::assert_holds;
-use spa_spelling::nested_structs;
 use spa_view::Pod;
 use std::alloc::{AllocError, Global};
+use test_bytes::nested_structs;
 
 /// Few levels, and more than a stack of 8 MB holds of a function that calls itself for each.
 const DEPTHS: &[u32] = &[300, 100_000];

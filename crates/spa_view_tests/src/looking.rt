@@ -1,13 +1,13 @@
 //! The values of None choices, of arrays and of choices. A table is a text with a row a line.
 use crate::compare::{assert_bytes, assert_holds, assert_said};
 use bitflags::Flags;
-use spa_spelling::bytes_spelled;
 use spa_utils::{Errno, Fd, Float32, Float64, Fraction, Id, Rectangle};
 use spa_view::{FromPod, Pod, PodArray, PodChoice, PodElements, PodObject, whole_bytes};
 use std::alloc::{AllocError, Global};
 use std::fmt::Debug;
 use std::process::Abort;
 use std::test::Fail;
+use test_bytes::bytes_spelled;
 
 /// Words of a pod, and those of the pod that it is settled.
 const SETTLED: &str = r#"4 4 3 0 | 4 4 3 0

@@ -1,13 +1,13 @@
 //! The worked rows of views and fixation, and each public call. A table is a text with a row a line, so that it is data.
 use crate::compare::{assert_bytes, assert_holds, assert_said};
 use bitflags::Flags;
-use spa_spelling::bytes_spelled;
 use spa_utils::{Errno, Id};
 use spa_view::{Pod, PodObject, PodObjectIter, PodProp, PodPropFlags, PodStruct, PodStructIter};
 use std::alloc::{AllocError, Global};
 use std::fmt::Debug;
 use std::process::Abort;
 use std::test::Fail;
+use test_bytes::bytes_spelled;
 
 /// Words of a pod; the types whose tests it passes; and the types whose getters read it, with what they give. The words
 /// 6422625, 6513249 and 1684234849 are the bytes `a`, NUL, `b`, NUL, the bytes `abc`, NUL, and the bytes `abcd`.

@@ -1,8 +1,8 @@
 -- The contents that visitors decline.
 use Rattle.std.specs.Prelude.{◌≡◌, ◌≢◌, List, ℕ, false, true}
 use Rattle.std.specs.Borrow.{Bor}
-use Rattle.spa_fixed.specs.declared.fault.DeserializeError.{DeserializeError}
-use Rattle.spa_fixed.specs.declared.fault.DeserializeError.TheVariants as error
+use Rattle.spa_fixed_sized.specs.declared.fault.DeserializeError.{DeserializeError}
+use Rattle.spa_fixed_sized.specs.declared.fault.DeserializeError.TheVariants as error
 use Rattle.spa_typed_read.specs.Exactly.{RefusesMembers}
 use Rattle.spa_typed_read.specs.Lookup.{RefusesProperties}
 use Rattle.spa_typed_read.specs.Members.{ObjectReader, Reader}

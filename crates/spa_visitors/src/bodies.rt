@@ -3,7 +3,7 @@ ghost use Rattle.std.specs.Prelude.{◌≡◌, ℕ, IfErr, IfOk};
 ghost use Rattle.spa_typed_read.specs.declared.visitor.Visit.TheVariants as visit;
 ghost use Rattle.spa_visitors.specs.Declining.{DeclinesAll, DeclinesOthers};
 
-use spa_fixed::DeserializeError;
+use spa_fixed_sized::DeserializeError;
 use spa_typed_read::{Never, ObjectPodDeserializer, StructPodDeserializer, Visit, Visitor};
 
 /// Answers the text that it is given, borrowed from the input.

@@ -4,7 +4,7 @@ ghost use Rattle.spa_typed_read.specs.declared.visitor.Never.{Never};
 ghost use Rattle.spa_typed_read.specs.declared.visitor.Visit.{Visit};
 ghost use Rattle.spa_visitors.specs.Declining.{DeclinesAll, DeclinesOthers};
 
-use spa_fixed::DeserializeError;
+use spa_fixed_sized::DeserializeError;
 use spa_typed_read::{Never, ObjectPodDeserializer, StructPodDeserializer, Visit, Visitor};
 use std::marker::PhantomData;
 

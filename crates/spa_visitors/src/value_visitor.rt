@@ -7,7 +7,7 @@ ghost use Rattle.spa_value.specs.View.{view};
 ghost use Rattle.spa_visitors.specs.Declining.{DeclinesMembers, DeclinesProperties, DeclinesValue};
 ghost use Rattle.spa_value.specs.Views.{property_views, views};
 
-use spa_fixed::DeserializeError;
+use spa_fixed_sized::DeserializeError;
 use spa_typed_read::{Never, ObjectPodDeserializer, StructPodDeserializer, Visit, Visitor};
 use spa_value::{Object, Property, Value, discard};
 use std::alloc::Global;

@@ -11,9 +11,9 @@ use Rattle.spa_format.specs.Encoding.{encoding_of, member_encodings}
 use Rattle.spa_format.specs.Typed.{AllTyped}
 use Rattle.spa_format.specs.Writable.{HasNul, IsTooLarge, IsWritable, SomeHasNul}
 use Rattle.spa_format.proofs.Encodings.{length-framed, whole_members}
-use Rattle.spa_leaf.specs.Written.{Appending, Refusing, Stops}
-use Rattle.spa_leaf.proofs.Frames.{size_refused}
-use Rattle.spa_leaf.proofs.Parts.{TakesParts, stop_as, stop_behind, stop_first}
+use Rattle.spa_bodies.specs.Written.{Appending, Refusing, Stops}
+use Rattle.spa_bodies.proofs.Frames.{size_refused}
+use Rattle.spa_bodies.proofs.Parts.{TakesParts, stop_as, stop_behind, stop_first}
 use Rattle.spa_write.specs.Measured.{ArePut}
 use Rattle.spa_write.proofs.Stopping.{struct_parts}
 

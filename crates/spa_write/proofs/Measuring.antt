@@ -9,7 +9,7 @@ use Rattle.spa_format.specs.Writable.{HasNul, IsTooLarge}
 use Rattle.spa_format.proofs.Encodings.{length-framed, pointer_encoding_length}
 use Rattle.spa_utils.specs.declared.choice.ChoiceEnum.{ChoiceEnum}
 use Rattle.spa_utils.specs.declared.choice.ChoiceEnum.TheVariants as E
-use Rattle.spa_fixed.specs.Choices.{choice_enum_tree}
+use Rattle.spa_fixed_sized.specs.Choices.{choice_enum_tree}
 use Rattle.spa_write.specs.Measured.{IsMeasured}
 
 -- from the size of its body

@@ -15,8 +15,8 @@ use Rattle.spa_value.specs.Views.{views}
 use Rattle.spa_value.proofs.ViewLaws.{views-at, views-take_more}
 use Rattle.spa_write.specs.Measured.{AreMeasured, IsMeasured}
 use Rattle.spa_format.proofs.Encodings.{length-framed, whole_members}
-use Rattle.spa_leaf.proofs.Frames.{size_refused}
-use Rattle.spa_leaf.proofs.SinkRefusals.{unwritable_through}
+use Rattle.spa_bodies.proofs.Frames.{size_refused}
+use Rattle.spa_bodies.proofs.SinkRefusals.{unwritable_through}
 
 -- Two lists behind one another.
 

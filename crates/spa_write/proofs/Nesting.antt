@@ -16,12 +16,12 @@ use Rattle.spa_value.specs.declared.object.Property.{Property}
 use Rattle.spa_value.specs.View.{view}
 use Rattle.spa_value.specs.Views.{views, property_views}
 use Rattle.spa_format.proofs.Encodings.{key_words, length-framed, property_encoding, two_words_length, whole_members, whole_properties}
-use Rattle.spa_leaf.specs.Written.{IsWholeSize, begun_length}
+use Rattle.spa_bodies.specs.Written.{IsWholeSize, begun_length}
 use Rattle.spa_write.specs.Nesting.{AwaitsAllClosing, AwaitsClosing, Begins, IsAppended, LeftHasNul, LeftIsWritable, LeftTooLarge, LeftTyped, PutsAll, StopsAt, bytes_left, closed_at, left_encodings}
 use Rattle.spa_write.specs.declared.left.Left.{Left}
 use Rattle.spa_write.specs.declared.left.Left.TheVariants as left
 use Rattle.spa_write.specs.declared.left.Begun.{Begun}
-use Rattle.spa_leaf.proofs.Frames.{sized_encoding, size_refused}
+use Rattle.spa_bodies.proofs.Frames.{sized_encoding, size_refused}
 
 -- Refusals.
 

@@ -15,8 +15,8 @@ use Rattle.spa_value.specs.Views.{property_view, property_views}
 use Rattle.spa_value.proofs.ViewLaws.{property_views-at, property_views-take_more}
 use Rattle.spa_write.specs.Measured.{IsMeasured, PropertiesAreMeasured, PropertiesAreWritable}
 use Rattle.spa_format.proofs.Encodings.{key_words, length-framed, property_encoding, two_words_length, whole_properties}
-use Rattle.spa_leaf.proofs.Frames.{size_refused}
-use Rattle.spa_leaf.proofs.SinkRefusals.{unwritable_through}
+use Rattle.spa_bodies.proofs.Frames.{size_refused}
+use Rattle.spa_bodies.proofs.SinkRefusals.{unwritable_through}
 
 -- Two lists behind one another.
 

@@ -8,7 +8,7 @@ use Rattle.spa_format.specs.Typed.{AllTyped, AllPropertiesTyped}
 use Rattle.spa_format.specs.Writable.{IsWritable, SomeValueHasNul, SomeValueTooLarge}
 use Rattle.spa_value.specs.declared.value.Value.{Value}
 use Rattle.spa_value.specs.View.{view}
-use Rattle.spa_leaf.specs.Written.{Appending}
+use Rattle.spa_bodies.specs.Written.{Appending}
 
 -- the value can be written, and its encoding has `n` bytes
 pub record IsMeasured (v : Tree) (n : ℕ) : Type 0 where

@@ -7,7 +7,7 @@ use Rattle.spa_format.specs.Typed.{IsTyped, AllTyped, AllPropertiesTyped}
 use Rattle.spa_format.specs.Writable.{HasNul, IsTooLarge, IsWritable, SomeHasNul, SomeTooLarge, SomeValueHasNul, SomeValueTooLarge}
 use Rattle.spa_value.specs.View.{object_view}
 use Rattle.spa_value.specs.Views.{views, property_views}
-use Rattle.spa_leaf.specs.Written.{begun_length}
+use Rattle.spa_bodies.specs.Written.{begun_length}
 use Rattle.spa_write.specs.declared.left.Left.{Left}
 use Rattle.spa_write.specs.declared.left.Left.TheVariants as left
 use Rattle.spa_write.specs.declared.left.Nested.{Nested}

@@ -3,7 +3,7 @@ ghost use Rattle.std.specs.Prelude.{◌≡◌, length};
 ghost use Rattle.spa_format.specs.Encoding.{encoding_of, member_encodings, property_encodings};
 ghost use Rattle.spa_format.specs.Tree as tree;
 ghost use Rattle.spa_format.specs.Writable.{IsWritable};
-ghost use Rattle.spa_leaf.specs.Written.{IsLeaf};
+ghost use Rattle.spa_bodies.specs.Written.{IsLeaf};
 ghost use Rattle.spa_value.specs.View.{view};
 ghost use Rattle.spa_value.specs.Views.{property_views, views};
 ghost use Rattle.spa_write.specs.Measured.{PropertiesAreWritable};

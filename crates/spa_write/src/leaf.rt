@@ -2,10 +2,10 @@
 ghost use Rattle.std.specs.Prelude.{IfErr, OnErr, OnOk};
 ghost use Rattle.spa_sink.specs.Writing.{Begun, RefusesWrite};
 ghost use Rattle.spa_format.specs.Encoding.{encoding_of};
-ghost use Rattle.spa_leaf.specs.Written.{IsLeaf, IsPut, RefusesLeaf};
+ghost use Rattle.spa_bodies.specs.Written.{IsLeaf, IsPut, RefusesLeaf};
 ghost use Rattle.spa_value.specs.View.{array_view, choice_view, view};
 
-use spa_leaf::{
+use spa_bodies::{
     put_alternatives, put_bitmap, put_bytes, put_elements, put_number, put_pointer, put_text,
 };
 use spa_sink::{GenError, PodSink};

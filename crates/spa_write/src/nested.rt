@@ -7,14 +7,14 @@ ghost use Rattle.spa_sink.specs.declared.gen_error.GenError.TheVariants.{OutOfMe
 ghost use Rattle.spa_format.specs.Writable.{HasNul, IsTooLarge};
 ghost use Rattle.spa_value.specs.View.{view};
 ghost use Rattle.spa_write.specs.Nesting.{Begins, IsAppended, LeftHasNul, LeftTooLarge, PutsOn, PutsOrPasses, nested_tree};
-ghost use Rattle.spa_leaf.specs.Written.{IsLeaf};
+ghost use Rattle.spa_bodies.specs.Written.{IsLeaf};
 ghost use Rattle.spa_write.specs.declared.left.Left.TheVariants as left_variant;
 
 use crate::leaf::put_leaf;
 use crate::left::{Begun, Left, Nested, Stop};
 use crate::short::short_encoding;
 use bitflags::Flags;
-use spa_leaf::{begin, close};
+use spa_bodies::{begin, close};
 use spa_sink::{GenError, PodSink, put_two};
 use spa_utils::SpaTypes;
 use spa_value::{Object, Property, Value};

@@ -8,7 +8,7 @@ ghost use Rattle.spa_format.specs.Writable.{IsWritable};
 ghost use Rattle.spa_value.specs.View.{view};
 ghost use Rattle.spa_write.specs.Measured.{AreShort, IsMeasured};
 
-use spa_fixed::{CanonicalFixedSizedPod, LONGEST_POD_LEN, pod_bytes, pod_len};
+use spa_fixed_sized::{CanonicalFixedSizedPod, LONGEST_POD_LEN, pod_bytes, pod_len};
 use spa_value::Value;
 
 /// The encoding of a value of one of the nine types whose pods have sixteen bytes. None: the value is of another type.

@@ -1,6 +1,6 @@
 //! Computes how long encodings are, before a byte of them is written.
 ghost use Rattle.std.specs.Prelude.{◌≡◌, ◌+◌, ◌<◌, ◌≤◌, ◌⊎◌, IfErr, IfOk, IfSome, length, map};
-ghost use Rattle.spa_fixed.specs.Choices.{choice_tree};
+ghost use Rattle.spa_fixed_sized.specs.Choices.{choice_tree};
 ghost use Rattle.spa_sink.specs.Writing.{RefusesWrite};
 ghost use Rattle.spa_sink.specs.declared.gen_error.GenError.TheVariants.{TooLarge};
 ghost use Rattle.spa_format.specs.Encoding.{property_encodings};
@@ -10,12 +10,12 @@ ghost use Rattle.spa_format.specs.Writable.{HasNul, IsTooLarge, SomeValueHasNul,
 ghost use Rattle.spa_value.specs.View.{array_view, choice_view, view};
 ghost use Rattle.spa_value.specs.Views.{property_views, views};
 ghost use Rattle.spa_write.specs.Measured.{AreMeasured, IsMeasured, PropertiesAreMeasured};
-ghost use Rattle.spa_leaf.specs.Written.{IsLeaf};
+ghost use Rattle.spa_bodies.specs.Written.{IsLeaf};
 
 use crate::count::only_struct;
 use crate::short::are_short;
 use spa_bytes::{HEADER_LEN, POINTER_LEN, extent_of};
-use spa_fixed::{
+use spa_fixed_sized::{
     CanonicalFixedSizedPod, ChoiceElement, LONGEST_POD_LEN, array_size, choice_size, pod_len,
 };
 use spa_sink::GenError;

@@ -1,7 +1,7 @@
 //! Bytes from the words of a table, and what the tests assert: each assertion is proved here, once.
-use spa_spelling::bytes_of;
 use std::alloc::{AllocError, Global};
 use std::process::Abort;
+use test_bytes::bytes_of;
 
 /// Whether the bytes are these words.
 pub(crate) fn are_words(alloc: Global, found: &[u8], words: &[u32]) -> Result<bool, AllocError> {

@@ -4,13 +4,13 @@ use crate::nested::read;
 use arrayvec::ArrayVec;
 use spa_device::IoSink;
 use spa_sink::GenError;
-use spa_spelling::{nested_objects, nested_structs};
 use spa_typed_write::PodSerializer;
 use spa_value::{Held, Value, same};
 use spa_write::{write_sized, write_value};
 use std::alloc::{AllocError, Global};
 use std::process::Abort;
 use std::test::Fail;
+use test_bytes::{nested_objects, nested_structs};
 
 /// Few levels, and more than a stack of 8 MB holds of a function that calls itself for each.
 const DEPTHS: &[u32] = &[300, 100_000];

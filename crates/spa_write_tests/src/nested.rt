@@ -1,5 +1,5 @@
 //! Deeply nested pods, and the values that are read of them.
-use spa_fixed::DeserializeError;
+use spa_fixed_sized::DeserializeError;
 use spa_typed_read::PodDeserializer;
 use spa_value::Value;
 use std::alloc::{AllocError, Global};

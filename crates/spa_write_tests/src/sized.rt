@@ -4,13 +4,13 @@ use crate::writing::{rows, three, three_and_nul, value_of};
 use arrayvec::ArrayVec;
 use spa_device::IoSink;
 use spa_sink::GenError;
-use spa_spelling::bytes_spelled;
 use spa_value::Value;
 use spa_write::write_sized;
 use std::alloc::{AllocError, Global};
 use std::io::{self, Error, ErrorKind, Write};
 use std::process::Abort;
 use std::test::Fail;
+use test_bytes::bytes_spelled;
 
 /// A device that takes few bytes at a time, and answers an error at one of its writes. It takes no memory.
 #[derive(Drop)]

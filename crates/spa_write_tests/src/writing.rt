@@ -3,9 +3,8 @@ use crate::compare::{assert_bytes, assert_holds, assert_said};
 use crate::nested::read;
 use arrayvec::ArrayVec;
 use bitflags::Flags;
-use spa_leaf::{put_bitmap, put_bytes, put_pointer, put_text};
+use spa_bodies::{put_bitmap, put_bytes, put_pointer, put_text};
 use spa_sink::GenError;
-use spa_spelling::bytes_spelled;
 use spa_typed_write::{PodSerializer, laws};
 use spa_utils::{Choice, ChoiceEnum, ChoiceFlags};
 use spa_value::{ChoiceValue, Value, ValueArray};
@@ -13,6 +12,7 @@ use spa_write::{put_leaf, write_sized};
 use std::alloc::{AllocError, Global};
 use std::process::Abort;
 use std::test::Fail;
+use test_bytes::bytes_spelled;
 
 /// Values as their `Debug` text, and the words of their encodings.
 const ROWS: &[(&str, &str)] = &[

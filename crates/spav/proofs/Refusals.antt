@@ -4,11 +4,11 @@ use Rattle.std.specs.Prelude.{⊤, codes}
 use Rattle.std.specs.Borrow.{Bor}
 use Rattle.std.proofs.lemmas.Bool.{cases_lt}
 use Rattle.std.proofs.lemmas.List.{drop_at, nil_from_length, take_at}
-use Rattle.spa_fixed.specs.declared.fault.DeserializeError.{DeserializeError}
-use Rattle.spa_fixed.specs.declared.fault.DeserializeError.TheVariants as error
-use Rattle.spa_fixed.specs.Faults.{kind_text}
+use Rattle.spa_fixed_sized.specs.declared.fault.DeserializeError.{DeserializeError}
+use Rattle.spa_fixed_sized.specs.declared.fault.DeserializeError.TheVariants as error
+use Rattle.spa_fixed_sized.specs.Faults.{kind_text}
 use Rattle.spa_format.specs.Pod.{AreMembers}
-use Rattle.spa_leaf.specs.Reading.{OnFault}
+use Rattle.spa_bodies.specs.Reading.{OnFault}
 use Rattle.spa_in_place.specs.InPlace.{RefusesListAt}
 use Rattle.spa_format.specs.Lenient.{ConveyMembers}
 use Rattle.spa_read.specs.Reading.{ConveysNothing}

@@ -2,8 +2,8 @@
 use Rattle.std.proofs.Common.{◌≡◌, ◌≢◌, ℕ, ◌+◌, ◌-◌, ◌<◌, ◌≤◌, List, [], ◌∷◌, length, take, drop, refl, sym, ap, ◌∙◌, subst, arith, length-append, length-drop}
 use Rattle.std.specs.Prelude.{Bool, true, false}
 use Rattle.std.proofs.lemmas.List.{take_at, drop_at}
-use Rattle.spa_fixed.specs.declared.fault.Refusal.{Refusal}
-use Rattle.spa_fixed.specs.declared.fault.Refusal.TheVariants as refusal
+use Rattle.spa_fixed_sized.specs.declared.fault.Refusal.{Refusal}
+use Rattle.spa_fixed_sized.specs.declared.fault.Refusal.TheVariants as refusal
 use Rattle.spa_format.specs.Faults.{Fault, Short, Text, InvalidType, InvalidChoiceType, MissingChoiceValues, WrongSize, Stands, at_front, in_member, in_key, in_property, StandsAtFront}
 use Rattle.spa_format.specs.Front.{Begins, HasFront, IsRefused, front_of, rest_of}
 use Rattle.spa_format.specs.Opened.{OpensHeaderAlone, no_front, no_parts, short_object}
@@ -13,10 +13,10 @@ use Rattle.spa_format.specs.Words.{body_of, extent, header_size, word_at}
 use Rattle.spa_format.proofs.Fronts.{length-body_of, whole_front}
 use Rattle.spa_format.proofs.Refused as law
 use Rattle.spa_format.proofs.Short.{padded_above}
-use Rattle.spa_leaf.specs.Reading.{BeginsWith}
-use Rattle.spa_leaf.specs.Refusing.{Says}
-use Rattle.spa_leaf.proofs.Refusals.{says_through}
-use Rattle.spa_leaf.proofs.Steps.{parted}
+use Rattle.spa_bodies.specs.Reading.{BeginsWith}
+use Rattle.spa_bodies.specs.Refusing.{Says}
+use Rattle.spa_bodies.proofs.Refusals.{says_through}
+use Rattle.spa_bodies.proofs.Steps.{parted}
 use Rattle.spa_rewrite.specs.Rewriting.{IsLeft}
 use Rattle.spa_rewrite.specs.Steady.{IsBehindKey}
 use Rattle.spa_scan.specs.Depth.{NestsDeeper, levels_looked_into}

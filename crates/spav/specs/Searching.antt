@@ -4,7 +4,7 @@ use Rattle.spa_format.specs.Front.{HasFront, IsRefused}
 use Rattle.spa_format.specs.Pod.{AreMembers, AreProperties}
 use Rattle.spa_format.specs.Tree.{Trees, Properties, object_type, struct_type}
 use Rattle.spa_format.specs.Words.{body_of, header_size, word_at}
-use Rattle.spa_leaf.specs.Refusing.{Says}
+use Rattle.spa_bodies.specs.Refusing.{Says}
 use Rattle.spav.specs.Faults.{End, Finds, Scope, faulty, members, pod, properties, too_deep}
 use Rattle.spav.specs.declared.faults.Found.{Found}
 use Rattle.spav.specs.declared.faults.Found.TheVariants as found

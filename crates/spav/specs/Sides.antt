@@ -1,7 +1,7 @@
 -- Two inputs that lack an object: docs/CAPI.md, "Negotiation".
 use Rattle.std.specs.Prelude.{◌≡◌, ◌⊎◌, ℕ, List}
 use Rattle.spa_format.specs.Front.{IsRefused}
-use Rattle.spa_fronts.specs.Fronts.{BeginsObject, BeginsOther}
+use Rattle.spa_object_view.specs.Fronts.{BeginsObject, BeginsOther}
 use Rattle.spa_keyed_objects.specs.declared.side.Side.{Side}
 use Rattle.spa_keyed_objects.specs.declared.side.Side.TheVariants.{First, Second}
 

@@ -14,7 +14,7 @@ ghost use Rattle.spav.specs.Lists.{IsWritten};
 use crate::answers::{INVALID, NO_MEMORY, PAST};
 use crate::lists::put_front;
 use spa_builder::Builder;
-use spa_fixed::CanonicalFixedSizedPod;
+use spa_fixed_sized::CanonicalFixedSizedPod;
 use spa_utils::{Errno, Fd, Float32, Float64, Fraction, Frame, Id, Rectangle, SpaTypes};
 use std::alloc::Global;
 use std::str;

@@ -1,13 +1,13 @@
 //! Finds the first fault of the caller's bytes, and its offset.
 ghost use Rattle.std.specs.Prelude.{◌≡◌, ◌≢◌, ◌+◌, ◌-◌, ◌<◌, ◌≤◌, ◌++◌, [], IfErr, IfNone, IfOk, IfSome, List, ℕ, drop, length, take, true};
-ghost use Rattle.spa_fixed.specs.declared.fault.Refusal.TheVariants as refusal;
+ghost use Rattle.spa_fixed_sized.specs.declared.fault.Refusal.TheVariants as refusal;
 ghost use Rattle.spa_format.specs.Faults.{Fault, Short, StandsAtFront};
 ghost use Rattle.spa_format.specs.Front.{IsRefused};
 ghost use Rattle.spa_format.specs.Opened.{OpensHeaderAlone};
 ghost use Rattle.spa_format.specs.Pod.{AreMembers};
 ghost use Rattle.spa_format.specs.Tree.{Trees};
 ghost use Rattle.spa_format.specs.Words.{header_size};
-ghost use Rattle.spa_leaf.specs.Refusing.{Says};
+ghost use Rattle.spa_bodies.specs.Refusing.{Says};
 ghost use Rattle.spa_rewrite.specs.Rewriting.{IsLeft};
 ghost use Rattle.spa_scan.specs.Depth.{NestsDeeper, levels_looked_into};
 ghost use Rattle.spav.specs.Answers.{IsDone, IsNested, IsTooDeep, IsYes};
@@ -16,7 +16,7 @@ ghost use Rattle.spav.specs.Searching.{AreNone, IsEntered, IsFound, IsRefusedAmo
 
 use crate::answers::{DONE, TOO_DEEP, YES};
 use spa_bytes::{HEADER_LEN, open};
-use spa_fixed::Refusal;
+use spa_fixed_sized::Refusal;
 use spa_rewrite::{Rejected, behind_key, look_at_pod, look_at_pods};
 use spa_utils::SpaTypes;
 

@@ -8,9 +8,7 @@ ghost use Rattle.spav.specs.Answers.{IsDisjoint, IsDone, IsFiltered, IsInvalid, 
 ghost use Rattle.spav.specs.Lists.{IsWritten};
 ghost use Rattle.spav.specs.Sides.{HasNoObject};
 
-use crate::answers::{
-    DISJOINT, INVALID, MISSING, NO_MEMORY, OTHER, PAST, UNSUPPORTED,
-};
+use crate::answers::{DISJOINT, INVALID, MISSING, NO_MEMORY, OTHER, PAST, UNSUPPORTED};
 use crate::lists::put_front;
 use crate::sides::number_of;
 use spa_filter_pods::{FilterError, filter_pods};

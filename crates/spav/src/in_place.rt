@@ -1,6 +1,6 @@
 //! Canonicalizes lists of pods in place, in the caller's memory.
 ghost use Rattle.std.specs.Prelude.{◌≡◌, false, true, ℕ};
-ghost use Rattle.spa_fixed.specs.declared.fault.DeserializeError.TheVariants as refused;
+ghost use Rattle.spa_fixed_sized.specs.declared.fault.DeserializeError.TheVariants as refused;
 ghost use Rattle.spa_in_place.specs.InPlace.{RefusesListAt};
 ghost use Rattle.spa_rewrite.specs.Shorter.{ArePodsWithin};
 ghost use Rattle.spa_scan.specs.Depth.{levels_looked_into};
@@ -8,7 +8,7 @@ ghost use Rattle.spav.specs.Answers.{IsChecked, IsDone, IsInvalid, IsNoMemory};
 ghost use Rattle.spav.specs.Lists.{IsForBytes, ListIsRefused, ListIsWritten};
 
 use crate::answers::{DONE, INVALID, NO_MEMORY};
-use spa_fixed::DeserializeError;
+use spa_fixed_sized::DeserializeError;
 use spa_in_place::rewrite_in_place;
 use std::alloc::Global;
 

@@ -8,7 +8,7 @@ ghost use Rattle.spav.specs.Lenient.{ConveyedIsWritten, ConveyedLacksRoom, NoneA
 
 use crate::answers::{DONE, INVALID, NO_MEMORY};
 use crate::lists::put_front;
-use spa_fixed::DeserializeError;
+use spa_fixed_sized::DeserializeError;
 use spa_lenient::{rewrite_all_leniently, rewrite_in_place_leniently, rewrite_into_leniently};
 use std::alloc::Global;
 

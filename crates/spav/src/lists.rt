@@ -9,7 +9,7 @@ ghost use Rattle.spav.specs.Answers.{IsChecked, IsDone, IsInvalid, IsNoMemory, I
 ghost use Rattle.spav.specs.Lists.{ListIsRefused, ListIsWritten, ListLacksRoom};
 
 use crate::answers::{DONE, INVALID, NO_MEMORY, NO_ROOM};
-use spa_fixed::DeserializeError;
+use spa_fixed_sized::DeserializeError;
 use spa_in_place::{rewrite_across, rewrite_into};
 use spa_rewrite::{accept_all, canonical_stretch, rewrite_all};
 use std::alloc::Global;

@@ -1,10 +1,10 @@
 //! Bytes of nested structs, and values read from them.
 use libspa::pod::Held;
 use libspa::pod::deserialize::{DeserializeError, PodDeserializer};
-use spa_spelling::push_words;
 use std::alloc::{AllocError, Global};
 use std::process::Abort;
 use std::test::Fail;
+use test_bytes::push_words;
 
 /// Few levels, and more than a stack of 8 MB holds of a function that calls itself for each of them.
 pub(crate) const DEPTHS: &[u32] = &[300, 100_000];

@@ -1,9 +1,9 @@
 //! A choice that gets shorter, in tail position deep in structs or objects, rewritten in place.
 use crate::deep::bytes::{DEPTHS, assert_holds};
 use libspa::pod::rewrite_in_place;
-use spa_spelling::push_words;
 use std::alloc::{AllocError, Global};
 use std::test::Fail;
+use test_bytes::push_words;
 
 /// What stands before the pod in a struct, behind its size word, and in an object.
 const STRUCT: &[u32] = &[14];

@@ -8,16 +8,16 @@ use crate::reading::settled::{SETTLED, settled_said, stream_said};
 use crate::reading::structs::{Idle, Stubborn, screen_said};
 use crate::reading::visitors::called;
 use crate::reads::{USED, used};
-use spa_fixed::DeserializeError;
-use spa_spelling::bytes_spelled;
+use example_types::{Capture, Gain};
+use spa_fixed_sized::DeserializeError;
 use spa_typed_read::{PodDeserialize, PodDeserializer, StructOf};
-use spa_uses::{Capture, Gain};
 use spa_utils::{Choice, Fd, Float32, Float64, Fraction, Id, Rectangle};
 use spa_value::Bitmap;
 use std::alloc::{AllocError, Global};
 use std::fmt::Debug;
 use std::process::Abort;
 use std::test::Fail;
+use test_bytes::bytes_spelled;
 
 /// What a read by a type answers: the text of its value, or the refusal's name.
 fn answer<'de, P: PodDeserialize<'de> + Debug>(

@@ -1,9 +1,8 @@
 //! What the library's visitors answer to a struct and to an object.
 ghost use Rattle.std.specs.Prelude.{⊤, IfOk, IsOk, OnOk, ◌≡◌};
-ghost use Rattle.spa_leaf.specs.Reading.{IsRead};
+ghost use Rattle.spa_bodies.specs.Reading.{IsRead};
 
-use spa_fixed::DeserializeError;
-use spa_spelling::bytes_of;
+use spa_fixed_sized::DeserializeError;
 use spa_typed_read::{DeserializeSuccess, PodDeserialize, PodDeserializer};
 use spa_visitors::{
     BitmapVisitor, BoolVisitor, BytesVisitor, ChoiceBoolVisitor, ChoiceDoubleVisitor,
@@ -15,6 +14,7 @@ use spa_visitors::{
 use std::alloc::Global;
 use std::process::Abort;
 use std::test::Fail;
+use test_bytes::bytes_of;
 
 /// A read by a visitor, by the visitor's number.
 #[derive(Drop)]

@@ -3,7 +3,7 @@ ghost use Rattle.std.specs.Prelude.{⊤, IfOk};
 ghost use Rattle.spa_typed_read.specs.Members.{IsMadeOf, TakesElements};
 
 use crate::reading::answers::refused;
-use spa_fixed::{CanonicalFixedSizedPod, DeserializeError, FixedSizedPod};
+use spa_fixed_sized::{CanonicalFixedSizedPod, DeserializeError, FixedSizedPod};
 use spa_typed_read::{ArrayPodDeserializer, DeserializeSuccess, PodDeserialize, PodDeserializer};
 use std::alloc::{AllocError, Global};
 

@@ -5,7 +5,7 @@ ghost use Rattle.spa_format.specs.Tree.{fixed, no_properties, object, property, 
 
 use crate::reading::answers::refused;
 use crate::reading::telling::declined;
-use spa_fixed::DeserializeError;
+use spa_fixed_sized::DeserializeError;
 use spa_typed_read::{
     DeserializeSuccess, Never, ObjectPodDeserializer, PodDeserialize, PodDeserializer,
     StructPodDeserializer, Visit, Visitor,

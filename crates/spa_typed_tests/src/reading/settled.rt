@@ -1,9 +1,9 @@
 //! What reads through None choices answer.
 use crate::reading::answers::refused;
+use example_types::read_stream_format;
 use libspa::pod::FixedPod;
-use spa_fixed::DeserializeError;
+use spa_fixed_sized::DeserializeError;
 use spa_typed_read::{PodDeserializer, Settled};
-use spa_uses::read_stream_format;
 use std::alloc::{AllocError, Global};
 use std::fmt::Debug;
 

@@ -1,7 +1,7 @@
 //! A visitor that tells what the readers of members and of properties answer.
 ghost use Rattle.std.specs.Prelude.{⊤, IfErr, IfOk};
 
-use spa_fixed::DeserializeError;
+use spa_fixed_sized::DeserializeError;
 use spa_typed_read::{Never, ObjectPodDeserializer, StructPodDeserializer, Visit, Visitor};
 
 /// Lets go of what is handed over, and declines it.

@@ -1,12 +1,11 @@
 //! Each typed read, with the visitor of what it hands over.
 ghost use Rattle.std.specs.Prelude.{⊤, ◌≡◌, IfOk, IsOk, OnOk};
-ghost use Rattle.spa_leaf.specs.Reading.{IsRead};
+ghost use Rattle.spa_bodies.specs.Reading.{IsRead};
 
 use crate::compare::assert_said;
 use crate::reading::answers::refused;
 use crate::reading::telling::TellingVisitor;
-use spa_fixed::DeserializeError;
-use spa_spelling::bytes_of;
+use spa_fixed_sized::DeserializeError;
 use spa_typed_read::{DeserializeSuccess, PodDeserialize, PodDeserializer};
 use spa_visitors::{
     BitmapVisitor, BoolVisitor, BytesVisitor, ChoiceBoolVisitor, ChoiceDoubleVisitor,
@@ -19,6 +18,7 @@ use std::alloc::{AllocError, Global};
 use std::fmt::Debug;
 use std::process::Abort;
 use std::test::Fail;
+use test_bytes::bytes_of;
 
 /// The answer of a call, by its number, as a text. The first numbers are those of the pods' types.
 #[derive(Drop)]

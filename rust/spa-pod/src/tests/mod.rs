@@ -1,4 +1,6 @@
 //! Made by rust/erase.py of the proved crates, a module each.
+pub mod example_calls;
+pub mod example_types;
 pub mod libspa_tests;
 pub mod multiples_tests;
 pub mod negotiation_rows;
@@ -7,19 +9,16 @@ pub mod podtool_rows;
 pub mod podtool_tests;
 pub mod reading_rows;
 pub mod spa_builder_tests;
-pub mod spa_callers;
-pub mod spa_fixed_tests;
-pub mod spa_lenient_tests;
+pub mod spa_fixed_sized_tests;
 pub mod spa_parser_tests;
 pub mod spa_pod_commands;
 pub mod spa_read_tests;
-pub mod spa_spelling;
 pub mod spa_typed_tests;
-pub mod spa_uses;
 pub mod spa_utils_tests;
 pub mod spa_value_tests;
 pub mod spa_view_tests;
 pub mod spa_write_tests;
+pub mod test_bytes;
 pub mod test_streams;
 
 #[test]

@@ -1,5 +1,5 @@
 use Rattle.std.proofs.Common.{length}
-use Rattle.spa_fixed.specs.Reading.{AreWhole}
+use Rattle.spa_fixed_sized.specs.Reading.{AreWhole}
 use Rattle.spa_builder.specs.Framed.{IsGrown}
 use Rattle.spa_builder.proofs.Bodies.{ArePutBefore}
 use Rattle.spa_builder.proofs.bytes.put_each.Given as goal

@@ -1,4 +1,4 @@
-use Rattle.spa_fixed.specs.Choices.{choice_tree}
+use Rattle.spa_fixed_sized.specs.Choices.{choice_tree}
 use Rattle.spa_filter.proofs.CommonPods.{appended_choice, choice_typed}
 use Rattle.spa_filter.proofs.choices.put_choice_of.Goals as goal
 

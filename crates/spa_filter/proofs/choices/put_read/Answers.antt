@@ -1,9 +1,9 @@
 use Rattle.std.proofs.Common.{sym, subst, arith, None}
-use Rattle.spa_fixed.specs.Choices.{choice_tree}
+use Rattle.spa_fixed_sized.specs.Choices.{choice_tree}
 use Rattle.spa_value.specs.View.{view}
-use Rattle.spa_offers.specs.Admits.{AreSupported}
-use Rattle.spa_offers.specs.Offers.{OfferAdmits, OffersMeet, default_of}
-use Rattle.spa_offers.proofs.Offering.{AreOffersSayable-values}
+use Rattle.spa_filter_offers.specs.Admits.{AreSupported}
+use Rattle.spa_filter_offers.specs.Offers.{OfferAdmits, OffersMeet, default_of}
+use Rattle.spa_filter_offers.proofs.Offering.{AreOffersSayable-values}
 use Rattle.spa_filter.proofs.Apart.{refused_choices}
 use Rattle.spa_filter.proofs.CommonPods.{appended_over, choice_typed, none_over, same_choice, unwritten_over}
 use Rattle.spa_filter.proofs.Outcomes.{IsMeeting-offers, ValuesMeet-offers}

@@ -2,8 +2,8 @@ use Rattle.std.proofs.Common.{◌≡◌, ◌∙◌, sym, ap, subst}
 use Rattle.std.specs.Prelude.{OnOk}
 use Rattle.spa_format.specs.Tree.{fixed}
 use Rattle.spa_value.specs.View.{view}
-use Rattle.spa_fixed.specs.Choices.{choice_tree}
-use Rattle.spa_offers.specs.Admits.{choice_flags_of}
+use Rattle.spa_fixed_sized.specs.Choices.{choice_tree}
+use Rattle.spa_filter_offers.specs.Admits.{choice_flags_of}
 use Rattle.spa_filter.specs.CommonPods.{IsAppended}
 use Rattle.spa_filter.proofs.Plain.{IsPlainTree-view, IsPlainView-other}
 use Rattle.spa_filter.proofs.choices.put_value.Goals as goal

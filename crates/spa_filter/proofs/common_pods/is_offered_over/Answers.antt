@@ -1,7 +1,7 @@
 use Rattle.std.proofs.Common.{◌∙◌, sym, subst, arith}
 use Rattle.spa_format.specs.Tree.{fixed}
-use Rattle.spa_fixed.specs.Choices.{choice_tree}
-use Rattle.spa_offers.specs.Admits.{Admits, IsSupported}
+use Rattle.spa_fixed_sized.specs.Choices.{choice_tree}
+use Rattle.spa_filter_offers.specs.Admits.{Admits, IsSupported}
 use Rattle.spa_filter.proofs.Apart.{element_type, refused_plain}
 use Rattle.spa_filter.proofs.CommonPods.{choice_typed, offered, plain_is, same_choice}
 use Rattle.spa_filter.proofs.Passing.{passed_on}

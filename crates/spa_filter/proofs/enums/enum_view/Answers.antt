@@ -3,7 +3,7 @@ use Rattle.spa_format.specs.Words.{word_at}
 use Rattle.spa_format.specs.Kind.{content, type_number}
 use Rattle.spa_format.specs.Pod.{AreElements}
 use Rattle.spa_format.proofs.WordLemmas.{word_at-drop}
-use Rattle.spa_fixed.proofs.Chunks.{all_say}
+use Rattle.spa_fixed_sized.proofs.Chunks.{all_say}
 use Rattle.spa_filter.proofs.EnumValues.{enum_body, first_value}
 use Rattle.spa_filter.proofs.enums.enum_view.Goals as goal
 

@@ -2,8 +2,8 @@ use Rattle.std.proofs.Common.{[], ◌∷◌, map, sym, ap, ◌∙◌, subst}
 use Rattle.std.specs.List.{Contains}
 use Rattle.std.proofs.lemmas.List.{map-append}
 use Rattle.spa_format.specs.Kind.{content}
-use Rattle.spa_offers.specs.Offers.{IsOneMoreKept}
-use Rattle.spa_offers.proofs.Keeping.{IsOneMoreKept-pushed, IsOneMoreKept-seen}
+use Rattle.spa_filter_offers.specs.Offers.{IsOneMoreKept}
+use Rattle.spa_filter_offers.proofs.Keeping.{IsOneMoreKept-pushed, IsOneMoreKept-seen}
 use Rattle.spa_filter.proofs.enums.keep_shared.Goals as goal
 
 pub returns : goal.returns

@@ -3,7 +3,7 @@ use Rattle.std.specs.List.{Contains}
 use Rattle.std.specs.Option.{option_copied}
 use Rattle.std.specs.Prelude.{slice_get}
 use Rattle.spa_format.proofs.FixedKinds.{size_fits}
-use Rattle.spa_offers.proofs.Contents.{Contains-first}
+use Rattle.spa_filter_offers.proofs.Contents.{Contains-first}
 use Rattle.spa_filter.proofs.EnumValues.{appended_enum, empty_first, first_among, none_shared, refused_enum}
 use Rattle.spa_filter.proofs.Passing.{if_err, on_ok}
 use Rattle.spa_filter.proofs.enums.put_shared.Goals as goal

@@ -2,9 +2,9 @@ use Rattle.std.proofs.Common.{◌≡◌, [], map, take, sym, subst, arith}
 use Rattle.std.specs.List.{Contains}
 use Rattle.std.proofs.lemmas.Grind.{common_steps}
 use Rattle.spa_format.specs.Kind.{content, none}
-use Rattle.spa_offers.specs.Offers.{IsKept, IsOneMoreKept}
-use Rattle.spa_offers.proofs.Contents.{map-next}
-use Rattle.spa_offers.proofs.Keeping.{IsKept-none, IsKept-more}
+use Rattle.spa_filter_offers.specs.Offers.{IsKept, IsOneMoreKept}
+use Rattle.spa_filter_offers.proofs.Contents.{map-next}
+use Rattle.spa_filter_offers.proofs.Keeping.{IsKept-none, IsKept-more}
 use Rattle.spa_filter.proofs.enums.shared.Goals as goal
 
 pub loop-value-init : goal.loop-value-init

@@ -1,7 +1,7 @@
 use Rattle.std.proofs.Common.{map, take}
 use Rattle.std.specs.List.{Contains}
 use Rattle.spa_format.specs.Kind.{content}
-use Rattle.spa_offers.specs.Offers.{IsKept}
+use Rattle.spa_filter_offers.specs.Offers.{IsKept}
 use Rattle.spa_filter.proofs.enums.shared.Given as goal
 
 abbrev pub invariant-loop-value : goal.invariant-loop-value

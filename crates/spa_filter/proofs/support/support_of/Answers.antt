@@ -1,6 +1,6 @@
 use Rattle.std.proofs.Common.{◌∙◌, sym, subst}
 use Rattle.std.specs.Prelude.{◌↔◌, IsTrue}
-use Rattle.spa_offers.specs.Admits.{IsSupported}
+use Rattle.spa_filter_offers.specs.Admits.{IsSupported}
 use Rattle.spa_filter.proofs.Apart.{choice_body, choice_kind, opened_body}
 use Rattle.spa_filter.proofs.support.support_of.Goals as goal
 

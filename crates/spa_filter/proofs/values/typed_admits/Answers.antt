@@ -1,11 +1,11 @@
 use Rattle.std.proofs.Common.{◌≡◌, sym, subst}
 use Rattle.spa_format.specs.Tree.{fixed}
-use Rattle.spa_fixed.specs.Choices.{choice_tree}
+use Rattle.spa_fixed_sized.specs.Choices.{choice_tree}
 use Rattle.spa_value.specs.View.{view}
-use Rattle.spa_offers.specs.Offers.{IsOffer, OfferAdmits, default_of}
-use Rattle.spa_offers.proofs.Meetings.{IsOffer-content}
+use Rattle.spa_filter_offers.specs.Offers.{IsOffer, OfferAdmits, default_of}
+use Rattle.spa_filter_offers.proofs.Meetings.{IsOffer-content}
 use Rattle.spa_filter.proofs.Outcomes.{ValuesMeet-offers}
-use Rattle.spa_offers.proofs.Offering.{none_typed}
+use Rattle.spa_filter_offers.proofs.Offering.{none_typed}
 use Rattle.spa_filter.proofs.Plain.{IsPlainTree-view}
 use Rattle.spa_filter.proofs.values.typed_admits.Goals as goal
 

@@ -1,9 +1,9 @@
 use Rattle.std.proofs.Common.{sym, subst}
-use Rattle.spa_fixed.specs.Choices.{choice_tree}
+use Rattle.spa_fixed_sized.specs.Choices.{choice_tree}
 use Rattle.spa_value.specs.View.{choice_view}
-use Rattle.spa_offers.specs.Admits.{AreSayable}
-use Rattle.spa_offers.specs.Offers.{IsOfferOf, OfferAdmits, default_of}
-use Rattle.spa_offers.proofs.Offering.{none_typed, AreOffersSayable-values}
+use Rattle.spa_filter_offers.specs.Admits.{AreSayable}
+use Rattle.spa_filter_offers.specs.Offers.{IsOfferOf, OfferAdmits, default_of}
+use Rattle.spa_filter_offers.proofs.Offering.{none_typed, AreOffersSayable-values}
 use Rattle.spa_filter.proofs.Outcomes.{ValuesMeet-answer}
 use Rattle.spa_filter.proofs.values.typed_choices_meet.Goals as goal
 

@@ -1,7 +1,7 @@
 use Rattle.std.proofs.Common.{◌∙◌, ap, not, sym, subst}
 use Rattle.spa_format.specs.Tree.{no_properties}
-use Rattle.spa_fronts.proofs.Passing.{passed_on}
-use Rattle.spa_fronts.proofs.Sides.{IsSideLeft, side_begun, side_ended, side_next, side_on}
+use Rattle.spa_object_view.proofs.Passing.{passed_on}
+use Rattle.spa_object_view.proofs.Sides.{IsSideLeft, side_begun, side_ended, side_next, side_on}
 use Rattle.spa_filter_pods.specs.Written.{IsFilteredBehind}
 use Rattle.spa_filter_pods.proofs.Filterings.{first_put, first_refused, none_passed, seen}
 use Rattle.spa_filter_pods.proofs.views.filter_first.Goals.{then-is_new+in_ok-put_filtered, else-is_new}

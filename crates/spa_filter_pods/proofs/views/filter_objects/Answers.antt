@@ -1,10 +1,10 @@
 use Rattle.std.proofs.Common.{refl, sym, subst}
 use Rattle.spa_filter.specs.declared.error.FilterError.TheVariants.{OutOfMemory}
-use Rattle.spa_fronts.specs.Written.{BeginsWritten}
+use Rattle.spa_object_view.specs.Written.{BeginsWritten}
 use Rattle.spa_filter_pods.specs.Written.{AreViewsRefused}
 use Rattle.spa_filter_pods.proofs.Filterings.{are_filtered, are_large, lack_memory, refused_views}
-use Rattle.spa_fronts.proofs.Both.{begin_both}
-use Rattle.spa_fronts.proofs.Passing.{if_err, if_ok, on_if, passed_on}
+use Rattle.spa_object_view.proofs.Both.{begin_both}
+use Rattle.spa_object_view.proofs.Passing.{if_err, if_ok, on_if, passed_on}
 use Rattle.spa_filter_pods.proofs.views.filter_objects.Goals as goal
 
 pub returns-then-ours-theirs-clause-cause : goal.returns-then-ours-theirs-clause-cause

@@ -1,6 +1,6 @@
 use Rattle.std.proofs.Common.{◌∙◌, ap, not, sym, subst}
-use Rattle.spa_fronts.proofs.Passing.{passed_on}
-use Rattle.spa_fronts.proofs.Sides.{IsSideLeft, side_begun, side_ended, side_next, side_on}
+use Rattle.spa_object_view.proofs.Passing.{passed_on}
+use Rattle.spa_object_view.proofs.Sides.{IsSideLeft, side_begun, side_ended, side_next, side_on}
 use Rattle.spa_filter_pods.specs.Written.{IsFilteredBehind}
 use Rattle.spa_filter_pods.proofs.Filterings.{other_put, other_refused, seen}
 use Rattle.spa_filter_pods.proofs.views.filter_others.Goals.{then-is_new_beside+in_ok-put_alone, else-is_new_beside}

@@ -1,7 +1,7 @@
 use Rattle.std.proofs.Common.{ℕ, List, length}
 use Rattle.spa_format.specs.Tree.{Properties}
-use Rattle.spa_fronts.specs.Written.{AreWritten}
-use Rattle.spa_fronts.proofs.Sides.{IsSideLeft}
+use Rattle.spa_object_view.specs.Written.{AreWritten}
+use Rattle.spa_object_view.proofs.Sides.{IsSideLeft}
 use Rattle.spa_filter_pods.specs.Written.{IsFilteredBehind}
 use Rattle.spa_filter_pods.proofs.views.filter_others.Given as goal
 

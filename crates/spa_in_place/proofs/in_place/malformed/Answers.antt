@@ -1,6 +1,6 @@
 use Rattle.std.proofs.Common.{inl, inr, subst, sym}
 use Rattle.spa_format.specs.Faults.{Stands}
-use Rattle.spa_leaf.specs.Reading.{OnMemory}
+use Rattle.spa_bodies.specs.Reading.{OnMemory}
 use Rattle.spa_rewrite.specs.Look.{IsRejected}
 use Rattle.spa_rewrite.specs.Rewriting.{RefusesFront}
 use Rattle.spa_rewrite.proofs.Accepted.{fault_front}

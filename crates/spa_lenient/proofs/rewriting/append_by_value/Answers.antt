@@ -4,7 +4,7 @@ use Rattle.spa_format.specs.Front.{front_of}
 use Rattle.spa_format.specs.Typed.{IsBytes}
 use Rattle.spa_format.proofs.Exacted.{conveyed_writable}
 use Rattle.spa_format.proofs.WordLemmas.{IsBytes-take}
-use Rattle.spa_leaf.specs.Refusing.{error_of}
+use Rattle.spa_bodies.specs.Refusing.{error_of}
 use Rattle.spa_read.proofs.Conveying.{refused_as}
 use Rattle.spa_value.specs.View.{view}
 use Rattle.spa_lenient.specs.Rewriting.{RefusesFront}

@@ -1,6 +1,6 @@
 use Rattle.std.proofs.Common.{ℕ, map, ap, ◌∙◌, Result, Ok, Err, IfOk}
 use Rattle.spa_format.specs.Kind.{Kind, Fixed}
-use Rattle.spa_fixed.specs.Choices.{choice_enum_tree}
+use Rattle.spa_fixed_sized.specs.Choices.{choice_enum_tree}
 use Rattle.spa_value.specs.declared.ChoiceEnum.{ChoiceEnum}
 use Rattle.spa_value.specs.declared.ChoiceEnum.TheVariants as E
 use Rattle.spa_value.specs.View.{view}

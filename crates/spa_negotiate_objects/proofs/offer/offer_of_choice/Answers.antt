@@ -1,4 +1,4 @@
-use Rattle.spa_fixed.specs.Choices.{choice_enum_tree}
+use Rattle.spa_fixed_sized.specs.Choices.{choice_enum_tree}
 use Rattle.spa_negotiate_objects.specs.declared.offer.Offer.{Offer}
 use Rattle.spa_negotiate_objects.specs.Offers.{IsOfferOf}
 use Rattle.spa_negotiate_objects.proofs.Agreeing.{IsIndexed-offer}

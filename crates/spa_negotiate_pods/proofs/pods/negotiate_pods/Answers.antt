@@ -1,7 +1,7 @@
 use Rattle.std.proofs.Common.{sym, subst}
-use Rattle.spa_fronts.specs.Fronts.{BeginsObjectIn}
-use Rattle.spa_fronts.proofs.ObjectPods.{begins_object}
-use Rattle.spa_fronts.proofs.Passing.{if_err, if_ok, on_ok, passed_on}
+use Rattle.spa_object_view.specs.Fronts.{BeginsObjectIn}
+use Rattle.spa_object_view.proofs.ObjectPods.{begins_object}
+use Rattle.spa_object_view.proofs.Passing.{if_err, if_ok, on_ok, passed_on}
 use Rattle.spa_negotiate_pods.proofs.Fronts.{first_refused, second_refused, views_refused}
 use Rattle.spa_negotiate_pods.proofs.pods.negotiate_pods.Goals as goal
 

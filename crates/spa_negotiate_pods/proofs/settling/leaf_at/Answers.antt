@@ -2,8 +2,8 @@ use Rattle.std.proofs.Common.{◌≡◌, ◌∙◌, subst, sym}
 use Rattle.spa_format.specs.Pod.{IsPod}
 use Rattle.spa_format.specs.Tree.{Tree}
 use Rattle.spa_value.specs.View.{view}
-use Rattle.spa_leaf.specs.Written.{IsLeaf}
-use Rattle.spa_fronts.proofs.ObjectPods.{pod_there}
+use Rattle.spa_bodies.specs.Written.{IsLeaf}
+use Rattle.spa_object_view.proofs.ObjectPods.{pod_there}
 use Rattle.spa_negotiate_pods.proofs.Leaves.{leaf_read, no_members, object_read, struct_read}
 use Rattle.spa_negotiate_pods.proofs.settling.leaf_at.Goals as goal
 

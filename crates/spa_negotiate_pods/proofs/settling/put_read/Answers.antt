@@ -4,7 +4,7 @@ use Rattle.spa_format.specs.Pod.{IsPod}
 use Rattle.spa_format.specs.Tree.{Tree}
 use Rattle.spa_value.specs.View.{view}
 use Rattle.spa_negotiate_pods.specs.Written.{IsCommonPut}
-use Rattle.spa_fronts.proofs.Passing.{on_ok}
+use Rattle.spa_object_view.proofs.Passing.{on_ok}
 use Rattle.spa_negotiate_pods.proofs.Putting.{put_admitted}
 use Rattle.spa_negotiate_pods.proofs.settling.put_read.Goals as goal
 

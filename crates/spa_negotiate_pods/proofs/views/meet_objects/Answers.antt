@@ -1,9 +1,9 @@
 use Rattle.std.proofs.Common.{refl, sym, subst}
 use Rattle.spa_negotiate_objects.specs.declared.error.NegotiateError.TheVariants.{OutOfMemory}
-use Rattle.spa_fronts.specs.Written.{BeginsWritten}
-use Rattle.spa_fronts.proofs.Both.{begin_both}
+use Rattle.spa_object_view.specs.Written.{BeginsWritten}
+use Rattle.spa_object_view.proofs.Both.{begin_both}
 use Rattle.spa_negotiate_pods.proofs.Meetings.{are_large, are_met, lack_memory, refused_views}
-use Rattle.spa_fronts.proofs.Passing.{passed_on}
+use Rattle.spa_object_view.proofs.Passing.{passed_on}
 use Rattle.spa_negotiate_pods.proofs.views.meet_objects.Goals as goal
 
 pub returns-then-ours-theirs-clause-cause : goal.returns-then-ours-theirs-clause-cause

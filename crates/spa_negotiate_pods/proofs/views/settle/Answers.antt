@@ -1,4 +1,4 @@
-use Rattle.spa_fronts.proofs.Passing.{if_err, on_ok}
+use Rattle.spa_object_view.proofs.Passing.{if_err, on_ok}
 use Rattle.spa_negotiate_pods.proofs.Putting.{refused_found, settled_alone, settled_found}
 use Rattle.spa_negotiate_pods.proofs.views.settle.Goals as goal
 

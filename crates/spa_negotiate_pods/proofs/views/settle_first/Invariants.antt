@@ -1,7 +1,7 @@
 use Rattle.std.proofs.Common.{length}
 use Rattle.spa_format.specs.Tree.{Properties, no_properties}
-use Rattle.spa_fronts.specs.Written.{AreWritten}
-use Rattle.spa_fronts.proofs.Sides.{IsSideLeft}
+use Rattle.spa_object_view.specs.Written.{AreWritten}
+use Rattle.spa_object_view.proofs.Sides.{IsSideLeft}
 use Rattle.spa_negotiate_pods.specs.Written.{IsMetBehind}
 use Rattle.spa_negotiate_pods.proofs.views.settle_first.Given as goal
 

@@ -1,5 +1,5 @@
 use Rattle.std.proofs.Common.{◌∙◌, ap, not, sym, subst}
-use Rattle.spa_fronts.proofs.Sides.{IsSideLeft, side_begun, side_ended, side_next, side_on}
+use Rattle.spa_object_view.proofs.Sides.{IsSideLeft, side_begun, side_ended, side_next, side_on}
 use Rattle.spa_negotiate_pods.specs.Written.{IsMetBehind}
 use Rattle.spa_negotiate_pods.proofs.Meetings.{other_put, seen}
 use Rattle.spa_negotiate_pods.proofs.views.settle_others.Goals.{else-is_new-via-then-is_new+else-not-put_default, else-is_new-via-else-is_new}

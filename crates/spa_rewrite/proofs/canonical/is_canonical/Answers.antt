@@ -1,7 +1,7 @@
 use Rattle.std.proofs.Common.{◌≡◌, List, ℕ, subst}
 use Rattle.std.specs.Borrow.{Bor}
 use Rattle.std.specs.Prelude.{Decides, false, true}
-use Rattle.spa_fixed.specs.declared.fault.Refusal.{Refusal}
+use Rattle.spa_fixed_sized.specs.declared.fault.Refusal.{Refusal}
 use Rattle.spa_format.specs.Front.{rest_of}
 use Rattle.spa_scan.specs.Canonical.{BeginsCanonical}
 use Rattle.spa_rewrite.specs.Look.{IsRejected}

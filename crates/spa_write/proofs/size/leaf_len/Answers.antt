@@ -1,7 +1,7 @@
 use Rattle.std.proofs.Common.{ap, ◌∙◌, subst}
 use Rattle.spa_value.specs.View.{view}
 use Rattle.spa_value.proofs.ViewLaws.{view-fields}
-use Rattle.spa_leaf.specs.Written.{IsLeaf}
+use Rattle.spa_bodies.specs.Written.{IsLeaf}
 use Rattle.spa_write.proofs.size.leaf_len.Goals as goal
 
 pub unreachable-requires-in-Object : goal.unreachable-requires-in-Object

@@ -14,7 +14,7 @@ use Rattle.spa_write.proofs.LoneStructs.{begun_stops, left_stops, lone_length, n
 use Rattle.spa_write.proofs.MemberLists.{members_length, only_encoding, writable_there}
 use Rattle.spa_write.proofs.PropertyLists.{properties_length, properties_of_writable, property_writable_there}
 use Rattle.spa_write.proofs.Stopping.{body_stops, four_stop, head_stops, keyed_at, keyed_pod_at, keyed_pod_stop, member_known, next_key_stops, next_keyed_put, next_keyed_stops, next_property_put, next_put, next_stops, next_value_stops, no_property_put, none_put, object_fits, object_head, object_put, size_of_object, size_of_struct, struct_fits, struct_head, struct_put, property_known, two_stop_at}
-use Rattle.spa_leaf.proofs.Parts.{TakesParts, two_stop}
+use Rattle.spa_bodies.proofs.Parts.{TakesParts, two_stop}
 use Rattle.spa_write.proofs.sized.+put.Given.{Over}
 use Rattle.spa_write.proofs.sized.+put.Goals.{put_properties-in-Some+in_ok-put_keyed-in-Some, put_properties-in-None+in_ok-put_two-in-None+in_ok-put_value-in-None}
 use Rattle.spa_write.proofs.sized.+put.Goals as goal

@@ -1,6 +1,6 @@
 use Rattle.spa_format.specs.Encoding.{encoding_of}
 use Rattle.spa_value.specs.View.{view}
-use Rattle.spa_leaf.proofs.Parts.{both, stop_as, stop_by}
+use Rattle.spa_bodies.proofs.Parts.{both, stop_as, stop_by}
 use Rattle.spa_write.proofs.sized.put_checked_leaf.Goals as goal
 
 pub returns-in-Some-clause-stops : goal.returns-in-Some-clause-stops

@@ -1,6 +1,6 @@
 use Rattle.std.proofs.Common.{subst}
 use Rattle.spa_format.specs.Faults.{Stands}
-use Rattle.spa_leaf.proofs.Refusals.{says_through}
+use Rattle.spa_bodies.proofs.Refusals.{says_through}
 use Rattle.spav.specs.Faults.{Finds, at_pod, faulty, pod}
 use Rattle.spa_rewrite.specs.Look.{IsRejected}
 use Rattle.spav.proofs.Searches.{alone_at_front}

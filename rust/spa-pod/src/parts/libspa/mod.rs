@@ -1,7 +1,7 @@
 //! SPA's value format, verified: pods, their values, readers, writers and views, and the small types around them.
 //!
 //! This crate holds no function of its own. It gives the parts, each of which is a crate, under the paths of libspa.
-/// Numbers that other parts of PipeWire speak of.
+/// Numbers that other parts of PipeWire use.
 pub mod constants {
     pub use crate::parts::spa_utils::constants::ID_INVALID;
 }
@@ -20,7 +20,7 @@ pub mod utils {
         };
     }
 
-    /// Result codes, which say an error, a value, or that the answer comes later.
+    /// Result codes: an error, a value, or an answer that comes later.
     pub mod result {
         pub use crate::parts::spa_result::{AsyncSeq, Error, SpaResult, SpaSuccess};
     }
@@ -28,7 +28,7 @@ pub mod utils {
 
 /// Pods: values and their rewriting, and borrowed views.
 pub mod pod {
-    pub use crate::parts::spa_fixed::{CanonicalFixedSizedPod, ChoiceElement, FixedSizedPod};
+    pub use crate::parts::spa_fixed_sized::{CanonicalFixedSizedPod, ChoiceElement, FixedSizedPod};
     pub(crate) use crate::parts::spa_format::laws;
     pub(crate) use crate::parts::spa_format::view_laws;
     pub use crate::parts::spa_in_place::rewrite_in_place;
@@ -65,7 +65,7 @@ pub mod pod {
 
     /// Reading values.
     pub mod deserialize {
-        pub use crate::parts::spa_fixed::{DeserializeError, Fault, FaultKind};
+        pub use crate::parts::spa_fixed_sized::{DeserializeError, Fault, FaultKind};
         pub use crate::parts::spa_typed_read::{ArrayPodDeserializer, DeserializeAs, DeserializeMembers, DeserializeProperties, DeserializeSuccess, ExactDeserialize, Never, ObjectOf, ObjectPodDeserializer, Optional, PodDeserialize, PodDeserializer, Required, Settled, Skipped, StructOf, StructPodDeserializer, Visit, Visitor};
         pub(crate) use crate::parts::spa_typed_read::laws;
         pub use crate::parts::spa_visitors::{
@@ -78,7 +78,7 @@ pub mod pod {
         };
     }
 
-    /// Taking pods one by one.
+    /// Reading pods one by one.
     pub mod parser {
         pub use crate::parts::spa_parser::Parser;
         pub(crate) use crate::parts::spa_parser::laws;

@@ -1,10 +1,10 @@
-//! What a builder knows of the pods that are begun.
+//! What a builder stores of each open pod.
 
 use crate::shims::prelude::*;
-/// What was begun, and whether a key waits in it.
-#[derive(Clone, Copy, Debug)]
+/// The kind of an open pod, and of an object whether a key waits for its value.
+#[derive(Clone, Copy)]
 pub(crate) enum Stage {
-    /// Nothing.
+    /// No pod.
     Nothing,
     /// A struct.
     Struct,
@@ -18,33 +18,32 @@ pub(crate) enum Stage {
     Choice,
 }
 
-/// What the builder has to know of the elements of an array or of the values of a choice. Elsewhere there are none.
-#[derive(Clone, Copy, Debug)]
+/// What a builder stores of the elements of an open array, or of the values of an open choice.
+#[derive(Clone, Copy)]
 pub(crate) struct Elements {
-    /// A choice's shape, and 0 of an array.
+    /// The shape of a choice; 0 for an array.
     pub(crate) shape: u32,
-    /// The type number of the first one.
+    /// The type number of the first element or value.
     pub(crate) first: Option<u32>,
-    /// The number of a choice's values, or four where there are more, and 0 of an array.
+    /// The number of a choice's values, or four where there are more; 0 for an array.
     pub(crate) count: u32,
 }
 
-/// What was begun, and what of its members the builder has to know. The stage stands apart, so that a key and its value
-/// change one byte.
-#[derive(Clone, Copy, Debug)]
+/// An open pod's stage and elements. The stage is a field of its own, so that a key and its value change one byte.
+#[derive(Clone, Copy)]
 pub(crate) struct What {
-    /// What was begun.
+    /// The kind of the pod.
     pub(crate) stage: Stage,
-    /// Its elements.
+    /// The elements of an array, or the values of a choice; of any other pod `NO_ELEMENTS`.
     pub(crate) elements: Elements,
 }
 
-/// A pod that was begun, and where it begins.
-#[derive(Clone, Copy, Debug)]
+/// An open pod, and where it begins.
+#[derive(Clone, Copy)]
 pub(crate) struct BegunPod {
-    /// Where its header stands in the vector.
+    /// The offset of its header in the vector.
     pub(crate) start: usize,
-    /// What it is.
+    /// Its stage and elements.
     pub(crate) what: What,
 }
 

@@ -6,7 +6,7 @@ use crate::parts::spa_value::ValueArray;
 /// A call of a builder: each variant is the method of its name.
 #[derive(Clone, Copy, Debug)]
 pub enum BuildCall<'a> {
-    /// A value that says nothing.
+    /// A None.
     AddNone,
     /// A truth value.
     AddBool(bool),
@@ -32,20 +32,20 @@ pub enum BuildCall<'a> {
     AddRectangle(Rectangle),
     /// A fraction.
     AddFraction(Fraction),
-    /// An array, whole.
+    /// A whole array.
     AddArray(&'a ValueArray),
     /// A key and flags.
     AddProp(u32, u32),
-    /// An array is begun.
+    /// Opens an array.
     PushArray,
-    /// A shape word and flags.
+    /// Opens a choice with this shape word and flags.
     PushChoice(u32, u32),
-    /// A struct is begun.
+    /// Opens a struct.
     PushStruct,
-    /// A type and an id.
+    /// Opens an object of this type and id.
     PushObject(u32, u32),
-    /// The innermost pod that is begun, which this frame names, is closed.
+    /// Closes the innermost open pod, whose frame this has to be.
     Pop(Frame),
-    /// The innermost pod that is begun, which this frame names, is given up.
+    /// Gives up the innermost open pod, whose frame this has to be.
     Abandon(Frame),
 }

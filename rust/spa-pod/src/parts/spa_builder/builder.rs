@@ -12,17 +12,17 @@ use crate::parts::spa_builder::heads::{array_head, choice_head, object_head, str
 use crate::parts::spa_builder::pods::add_seen;
 use crate::parts::spa_builder::values::add_any;
 use crate::parts::spa_bytes::POINTER_LEN;
-use crate::parts::spa_fixed::{CanonicalFixedSizedPod, FLAGS_SHAPE};
-use crate::parts::spa_room::Written;
+use crate::parts::spa_fixed_sized::{CanonicalFixedSizedPod, FLAGS_SHAPE};
+use crate::parts::spa_spare_capacity::Written;
 use crate::parts::spa_utils::{Errno, Fd, Float32, Float64, Fraction, Frame, Id, Rectangle, SpaTypes};
 use crate::parts::spa_value::{Value, ValueArray};
 use crate::parts::spa_view::Pod;
 
 /// Builds pods call by call, one behind another, at the end of one vector.
 ///
-/// A value goes to the innermost pod that is begun, or is a top-level pod where none is. A call is refused with INVAL
-/// where it can't come there, with NOSPC where the size of the value or of a pod that is begun would be 4294967296 or more
-/// after it, and with NOMEM where there is no memory; in this order. A refused call changes nothing.
+/// A value is added to the innermost open pod, or is a top-level pod where no pod is open. A call is refused as INVAL
+/// where it isn't allowed there, as NOSPC where it would make the size of the value or of an open pod 4294967296 or more,
+/// and as NOMEM where there is no memory; in this order. A refused call changes nothing.
 pub struct Builder {
     bytes: Written,
     frames: Frames,
@@ -36,17 +36,17 @@ impl Builder {
         Builder { bytes, frames }
     }
 
-    /// What the vector holds: the pods that are closed, and behind them what there is of those that are begun.
+    /// The bytes of the vector: the closed pods, and behind them those of the open pods so far.
     pub fn as_bytes(&self) -> &[u8] {
         self.bytes.as_slice()
     }
 
-    /// How many pods are begun. It is the number in the innermost one's frame.
+    /// How many pods are open. It is the number of the innermost one's frame.
     pub fn open_frames(&self) -> usize {
         self.frames.len()
     }
 
-    /// The vector with the pods that were made, each closed. INVAL where one is begun: the vector is given up then.
+    /// The vector with the pods that were built. Refused as INVAL where a pod is open: the vector is given up then.
     pub fn finish(self) -> Result<Vec<u8>, Errno> {
         if self.frames.len() > 0 {
             return Err(Errno::INVAL);
@@ -54,12 +54,12 @@ impl Builder {
         Ok(self.bytes.into_inner())
     }
 
-    /// The vector, whatever is begun.
+    /// The vector, also where pods are open.
     pub fn into_inner(self) -> Vec<u8> {
         self.bytes.into_inner()
     }
 
-    /// Adds a value that says nothing.
+    /// Adds a None.
     #[cfg_attr(not(debug_assertions), inline(always))]
     pub fn add_none(&mut self) -> Result<(), Errno> {
         add_fixed(&mut self.bytes, &mut self.frames, &())
@@ -101,7 +101,7 @@ impl Builder {
         add_fixed(&mut self.bytes, &mut self.frames, &value)
     }
 
-    /// Adds a text. One that holds NUL is INVAL.
+    /// Adds a text. Refused as INVAL also where it holds NUL.
     #[cfg_attr(not(debug_assertions), inline(always))]
     pub fn add_string(&mut self, value: &str) -> Result<(), Errno> {
         let text = value.as_bytes();
@@ -163,8 +163,8 @@ impl Builder {
         add_values(&mut self.bytes, &mut self.frames, values)
     }
 
-    /// Adds a whole array of this type over the bodies of its elements, which stand in these bytes one after another: also of none. INVAL: the
-    /// bytes are no whole number of bodies. It asks for no memory but the builder's own.
+    /// Adds a whole array of this type from the bodies of its elements, one after another in these bytes; there may be none. Refused as INVAL also
+    /// where the bytes aren't a whole number of bodies. It asks for no memory but the builder's own.
     pub fn add_array_in<T: CanonicalFixedSizedPod>(&mut self, bodies: &[u8]) -> Result<(), Errno> {
         if !are_bodies::<T>(bodies) {
             return Err(Errno::INVAL);
@@ -172,26 +172,26 @@ impl Builder {
         add_bodies::<T>(&mut self.bytes, &mut self.frames, bodies)
     }
 
-    /// Adds any value: one of fixed size as the call of its kind does, and any other as it is written. It is gone through
-    /// once: where it may come next, want of memory or a size word in it past 32 bits is answered where it is found, though
-    /// a text in the value holds NUL.
+    /// Adds any value: one of fixed size as the call of its kind does, any other as its encoding. The value is walked once:
+    /// where it is allowed next, want of memory, or a size in it that doesn't fit 32 bits, is answered where it is found, even
+    /// if a later text in the value holds NUL.
     pub fn add_value(&mut self, value: &Value) -> Result<(), Errno> {
         add_any(&mut self.bytes, &mut self.frames, value)
     }
 
-    /// Adds the value that a pod says, as `add_value` does. Where any value may stand, a pod that is its own rewriting, and
-    /// nests no more than 1000 deep, is copied; any other is read first, and one of no value is INVAL.
+    /// Adds the value of a pod, as `add_value` does. Where a value of any type is allowed, a canonical pod with a nesting depth
+    /// of at most 1000 is copied; any other is read first. Refused as INVAL also where the pod is of no value.
     pub fn add_pod(&mut self, pod: Pod<'_>) -> Result<(), Errno> {
         add_seen(&mut self.bytes, &mut self.frames, &pod)
     }
 
-    /// Adds the key and the flags of a property. The next call adds or begins its value.
+    /// Adds the key and the flags of a property. The next call has to add its value or open it.
     #[cfg_attr(not(debug_assertions), inline(always))]
     pub fn add_prop(&mut self, key: u32, flags: u32) -> Result<(), Errno> {
         add_key(&mut self.bytes, &mut self.frames, key, flags)
     }
 
-    /// Begins an array. Its elements are of the first one's kind, of fixed size.
+    /// Opens an array. Its elements have to be of the first one's kind, of fixed size.
     #[cfg_attr(not(debug_assertions), inline(always))]
     pub fn push_array(&mut self) -> Result<Frame, Errno> {
         begin_tree(
@@ -205,9 +205,9 @@ impl Builder {
         )
     }
 
-    /// Begins a choice of this shape: 0 None, 1 Range, 2 Step, 3 Enum, 4 Flags, and any other number is INVAL. Its
-    /// values are of the first one's kind, of fixed size and not None. There is at least one value: of a Range default,
-    /// minimum and maximum, of a Step these and the step. Only Enum and Flags take more.
+    /// Opens a choice of this shape: 0 None, 1 Range, 2 Step, 3 Enum, 4 Flags; any other number is refused as INVAL. Its
+    /// values have to be of the first one's kind, of fixed size and not None. There has to be at least one value: of a Range
+    /// default, minimum and maximum, of a Step these and the step. Only Enum and Flags take more.
     pub fn push_choice(&mut self, shape: u32, flags: u32) -> Result<Frame, Errno> {
         if shape > FLAGS_SHAPE {
             return Err(Errno::INVAL);
@@ -227,7 +227,7 @@ impl Builder {
         )
     }
 
-    /// Begins a struct.
+    /// Opens a struct.
     #[cfg_attr(not(debug_assertions), inline(always))]
     pub fn push_struct(&mut self) -> Result<Frame, Errno> {
         begin_tree(
@@ -241,7 +241,7 @@ impl Builder {
         )
     }
 
-    /// Begins an object.
+    /// Opens an object of this type and id.
     #[cfg_attr(not(debug_assertions), inline(always))]
     pub fn push_object(&mut self, type_: u32, id: u32) -> Result<Frame, Errno> {
         begin_tree(
@@ -255,16 +255,16 @@ impl Builder {
         )
     }
 
-    /// Closes the innermost pod that is begun, which this frame names. Any other frame is INVAL, and so is an object
-    /// where a key waits for its value, and a choice that lacks values. It is never NOSPC.
+    /// Closes the innermost open pod, whose frame this has to be. Refused as INVAL for any other frame, for an object in
+    /// which a key waits for its value, and for a choice that lacks values. Never NOSPC.
     #[cfg_attr(not(debug_assertions), inline(always))]
     pub fn pop(&mut self, frame: Frame) -> Result<(), Errno> {
         close(&mut self.bytes, &mut self.frames, frame.0)
     }
 
-    /// Gives up the innermost pod that is begun, which this frame names, with all that was added to it: everything is as it
-    /// was before its push, and a key that waited for it waits again. Any other frame is INVAL. It is never NOSPC, and
-    /// wants no memory.
+    /// Gives up the innermost open pod, whose frame this has to be, with all that was added to it: everything is as it was
+    /// before the pod was opened, and a key that waited for it waits again. Refused as INVAL for any other frame. Never NOSPC or
+    /// NOMEM.
     pub fn abandon(&mut self, frame: Frame) -> Result<(), Errno> {
         leave(&mut self.bytes, &mut self.frames, frame.0)
     }

@@ -6,12 +6,12 @@ use crate::parts::spa_builder::bytes::{put_bodies, put_fixed_pod, put_padding, p
 use crate::parts::spa_builder::elements::{is_finished, is_first, takes_element, takes_elements, with_element};
 use crate::parts::spa_builder::frames::{Frames, admit, fill, takes_key, takes_trees};
 use crate::parts::spa_bytes::{HEADER_LEN, two_words};
-use crate::parts::spa_fixed::{CanonicalFixedSizedPod, put_array};
-use crate::parts::spa_room::Written;
+use crate::parts::spa_fixed_sized::{CanonicalFixedSizedPod, put_array};
+use crate::parts::spa_spare_capacity::Written;
 use crate::parts::spa_utils::{Errno, Frame};
 use crate::parts::spa_value::ValueArray;
 
-/// Adds a pod whose body is at hand in two parts, where a tree of any type may stand.
+/// Adds a pod whose body is given in two parts, where a value of any type is allowed.
 #[cfg_attr(not(debug_assertions), inline(always))]
 pub(crate) fn add_body(
     bytes: &mut Written,
@@ -28,7 +28,7 @@ pub(crate) fn add_body(
     Ok(())
 }
 
-/// Adds a value whose encoding is at hand, with a body of this size, where a tree of any type may stand.
+/// Adds a value by its encoding, with a body of this size, where a value of any type is allowed.
 #[cfg_attr(not(debug_assertions), inline(always))]
 pub(crate) fn add_encoding(
     bytes: &mut Written,
@@ -43,13 +43,13 @@ pub(crate) fn add_encoding(
     Ok(())
 }
 
-/// The size of the body of an array with so many elements; where it is past 32 bits, some such size.
+/// The size in bytes of the body of an array with `count` elements; where it is 4294967296 or more, any size that is.
 fn array_size<T: CanonicalFixedSizedPod>(count: usize) -> usize {
     count.saturating_mul(T::SIZE).saturating_add(HEADER_LEN)
 }
 
-/// Adds an array of these values, where a tree of any type may stand. Where memory is wanting, the part that was written
-/// is taken back.
+/// Adds an array of these values, where a value of any type is allowed. Where memory runs out, the part that was written is
+/// removed.
 pub(crate) fn add_values<T: CanonicalFixedSizedPod>(
     bytes: &mut Written,
     frames: &mut Frames,
@@ -70,7 +70,7 @@ pub(crate) fn add_values<T: CanonicalFixedSizedPod>(
     }
 }
 
-/// Whether these are bodies of the type, one after another without remainder.
+/// Whether the bytes are bodies of the type, one after another without remainder.
 pub(crate) fn are_bodies<T: CanonicalFixedSizedPod>(bytes: &[u8]) -> bool {
     if T::SIZE == 0 {
         return bytes.is_empty();
@@ -78,8 +78,8 @@ pub(crate) fn are_bodies<T: CanonicalFixedSizedPod>(bytes: &[u8]) -> bool {
     bytes.len() % T::SIZE == 0
 }
 
-/// Adds an array over the bodies of its elements, where a tree of any type may stand. Where memory is wanting, the part that was written is taken
-/// back.
+/// Adds an array from the bodies of its elements, where a value of any type is allowed. Where memory runs out, the part that was written is
+/// removed.
 pub(crate) fn add_bodies<T: CanonicalFixedSizedPod>(
     bytes: &mut Written,
     frames: &mut Frames,
@@ -100,7 +100,7 @@ pub(crate) fn add_bodies<T: CanonicalFixedSizedPod>(
     }
 }
 
-/// Adds an array, where a tree of any type may stand.
+/// Adds an array, where a value of any type is allowed.
 pub(crate) fn add_elements(
     bytes: &mut Written,
     frames: &mut Frames,
@@ -120,7 +120,7 @@ pub(crate) fn add_elements(
     }
 }
 
-/// Adds a value of fixed size: to an array or a choice as an element, and elsewhere as a pod.
+/// Adds a value of fixed size: as an element to an array or a choice, and else as a pod.
 #[cfg_attr(not(debug_assertions), inline(always))]
 pub(crate) fn add_fixed<T: CanonicalFixedSizedPod>(
     bytes: &mut Written,
@@ -167,14 +167,14 @@ fn add_element(
     Ok(())
 }
 
-/// Writes the child header there, where the first element came.
+/// Writes the child header at the offset `at`, where the element is the first one.
 fn set_child(bytes: &mut Written, first: bool, at: usize, size: u32, type_: u32) {
     if first {
         bytes.patch_two(at, size, type_);
     }
 }
 
-/// Adds the key and the flags of a property, whose value is to come.
+/// Adds the key and the flags of a property, whose value comes next.
 #[cfg_attr(not(debug_assertions), inline(always))]
 pub(crate) fn add_key(
     bytes: &mut Written,
@@ -193,7 +193,7 @@ pub(crate) fn add_key(
     Ok(())
 }
 
-/// Begins a tree with these bytes, which are its header, with the size 0, and what follows it.
+/// Opens a pod with these bytes, which are its header with a size word of 0, and the words that follow it.
 #[cfg_attr(not(debug_assertions), inline(always))]
 pub(crate) fn begin_tree<const N: usize>(
     bytes: &mut Written,
@@ -212,7 +212,7 @@ pub(crate) fn begin_tree<const N: usize>(
     Ok(Frame(frames.len()))
 }
 
-/// Closes the innermost tree.
+/// Closes the innermost open pod.
 #[cfg_attr(not(debug_assertions), inline(always))]
 pub(crate) fn close(bytes: &mut Written, frames: &mut Frames, frame: usize) -> Result<(), Errno> {
     let Some(open) = frames.innermost() else {
@@ -233,7 +233,7 @@ pub(crate) fn close(bytes: &mut Written, frames: &mut Frames, frame: usize) -> R
     Ok(())
 }
 
-/// Gives up the innermost tree, with the bytes that there are of it.
+/// Gives up the innermost open pod, and removes its bytes.
 #[cfg_attr(not(debug_assertions), inline(always))]
 pub(crate) fn leave(bytes: &mut Written, frames: &mut Frames, frame: usize) -> Result<(), Errno> {
     let Some(open) = frames.innermost() else {

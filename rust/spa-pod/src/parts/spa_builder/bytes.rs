@@ -1,10 +1,10 @@
-//! What is appended to the vector, and what is written over. Each call makes its one growth first: a refused one
-//! changes nothing.
+//! Appends bytes to the vector, and overwrites words in it. Each call makes room first: a refused call changes nothing,
+//! but where its doc says so.
 
 use crate::shims::prelude::*;
 use crate::parts::spa_bytes::{HEADER_LEN, POINTER_LEN, extent_of, joined, two_words};
-use crate::parts::spa_fixed::{CanonicalFixedSizedPod, next_element, pod_bytes};
-use crate::parts::spa_room::Written;
+use crate::parts::spa_fixed_sized::{CanonicalFixedSizedPod, next_element, pod_bytes};
+use crate::parts::spa_spare_capacity::Written;
 use crate::parts::spa_utils::{Errno, SpaTypes};
 
 /// The length in bytes of a pointer's pod.
@@ -16,13 +16,13 @@ fn padding_len(size: usize) -> usize {
     (HEADER_LEN - size % HEADER_LEN) % HEADER_LEN
 }
 
-/// Appends zeros up to a multiple of 8, behind a body of this size.
+/// Appends the padding behind a body of this size: zeros up to a multiple of 8 bytes.
 #[cfg_attr(not(debug_assertions), inline(always))]
 pub(crate) fn put_padding(bytes: &mut Written, size: usize) -> Result<(), Errno> {
     bytes.append_first([0; HEADER_LEN], padding_len(size))
 }
 
-/// Appends the pod of a value of fixed size.
+/// Appends the encoding of a value of fixed size.
 #[cfg_attr(not(debug_assertions), inline(always))]
 pub(crate) fn put_fixed_pod<T: CanonicalFixedSizedPod>(
     bytes: &mut Written,
@@ -31,7 +31,7 @@ pub(crate) fn put_fixed_pod<T: CanonicalFixedSizedPod>(
     bytes.append_first(pod_bytes(value), extent_of(T::SIZE as u32))
 }
 
-/// Appends a pod whose body is at hand in two parts.
+/// Appends a pod whose body is given in two parts.
 #[cfg_attr(not(debug_assertions), inline(always))]
 pub(crate) fn put_pod(
     bytes: &mut Written,
@@ -44,7 +44,7 @@ pub(crate) fn put_pod(
     bytes.append_parts(header, front, back, padding_len(size))
 }
 
-/// Appends the bodies of the elements that these bodies say, each written as its value is. What was appended stays where memory is wanting.
+/// Appends the canonical bodies of the elements with these bodies. Where memory runs out, what was appended stays.
 fn put_each<T: CanonicalFixedSizedPod>(bytes: &mut Written, bodies: &[u8]) -> Result<(), Errno> {
     let mut left = bodies;
     while !left.is_empty() {
@@ -55,8 +55,7 @@ fn put_each<T: CanonicalFixedSizedPod>(bytes: &mut Written, bodies: &[u8]) -> Re
     Ok(())
 }
 
-/// Appends the pod of an array of this type over the bodies of its elements, each written as its value is. What was appended stays where memory is
-/// wanting.
+/// Appends the encoding of an array of this type from the bodies of its elements. Where memory runs out, what was appended stays.
 pub(crate) fn put_bodies<T: CanonicalFixedSizedPod>(
     bytes: &mut Written,
     bodies: &[u8],
@@ -69,7 +68,7 @@ pub(crate) fn put_bodies<T: CanonicalFixedSizedPod>(
     put_padding(bytes, size)
 }
 
-/// The pod of a pointer.
+/// The encoding of a pointer.
 pub(crate) fn pointer_pod(type_: u32, address: u64) -> [u8; POINTER_POD_LEN] {
     let mut pod = [0; POINTER_POD_LEN];
     let (header, body) = pod.split_at_mut(HEADER_LEN);

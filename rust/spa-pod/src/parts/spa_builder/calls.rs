@@ -1,4 +1,4 @@
-//! Whole lists of calls.
+//! Makes whole lists of calls.
 
 use crate::shims::prelude::*;
 use crate::parts::spa_builder::build_call::BuildCall;
@@ -6,7 +6,7 @@ use crate::parts::spa_builder::builder::Builder;
 use crate::parts::spa_utils::Errno;
 use core::mem;
 
-/// Makes one call, and answers whether it was accepted.
+/// Makes one call, with its refusals.
 fn apply(builder: &mut Builder, call: &BuildCall<'_>) -> Result<(), Errno> {
     match call {
         BuildCall::AddNone => builder.add_none(),
@@ -45,8 +45,8 @@ fn apply(builder: &mut Builder, call: &BuildCall<'_>) -> Result<(), Errno> {
     }
 }
 
-/// Makes the calls on a new builder over the vector that is held, and gives each one's answer, in order; a frame is
-/// answered by `Ok(())`. Where there is no memory for the answers, it answers NOMEM and the vector stays as it was.
+/// Makes the calls on a new builder over the vector `held`, and gives the answer of each, in order; a frame is answered as
+/// `Ok(())`. Refused as NOMEM where there is no memory for the answers: the vector stays as it was.
 pub fn replay(held: &mut Vec<u8>, calls: &[BuildCall<'_>]) -> Result<Vec<Result<(), Errno>>, Errno> {
     let Ok(mut answers) = Vec::with_room(calls.len()) else {
         return Err(Errno::NOMEM);
@@ -57,7 +57,7 @@ pub fn replay(held: &mut Vec<u8>, calls: &[BuildCall<'_>]) -> Result<Vec<Result<
     Ok(answers)
 }
 
-/// The answers of the calls, for which there is room.
+/// Makes the calls, and appends their answers, for which there is room.
 fn run(builder: &mut Builder, calls: &[BuildCall<'_>], answers: &mut Vec<Result<(), Errno>>) {
     for call in calls {
         let answer = apply(builder, call);

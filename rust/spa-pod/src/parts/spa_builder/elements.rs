@@ -1,16 +1,16 @@
-//! Elements of arrays and choices: which may come next.
+//! Which elements of arrays and choices are allowed next.
 
 use crate::shims::prelude::*;
 use crate::parts::spa_builder::begun::{BegunPod, Elements, Stage, What};
-use crate::parts::spa_fixed::{NONE_SHAPE, RANGE_SHAPE, STEP_SHAPE};
+use crate::parts::spa_fixed_sized::{NONE_SHAPE, RANGE_SHAPE, STEP_SHAPE};
 use crate::parts::spa_utils::SpaTypes;
 
-/// The least counts of values of a range and of a step; one is the least for the others.
+/// The least numbers of values of a Range and of a Step; of the others it is one.
 const RANGE_COUNT: u32 = 3;
 
 const STEP_COUNT: u32 = 4;
 
-/// Whether elements of a fixed size stand there.
+/// Whether the innermost open pod takes elements of fixed size: it is an array or a choice.
 #[cfg_attr(not(debug_assertions), inline(always))]
 pub(crate) fn takes_elements(innermost: Option<BegunPod>) -> bool {
     match innermost {
@@ -19,12 +19,12 @@ pub(crate) fn takes_elements(innermost: Option<BegunPod>) -> bool {
     }
 }
 
-/// Whether the first element is to come.
+/// Whether the pod is an array or a choice without elements yet.
 pub(crate) fn is_first(what: What) -> bool {
     matches!(what.stage, Stage::Array | Stage::Choice) && what.elements.first.is_none()
 }
 
-/// Whether a choice of this shape with so many values takes one more.
+/// Whether a choice of this shape with `count` values takes one more.
 fn has_place(shape: u32, count: u32) -> bool {
     match shape {
         NONE_SHAPE => count < 1,
@@ -34,7 +34,7 @@ fn has_place(shape: u32, count: u32) -> bool {
     }
 }
 
-/// Whether an element of this type may come next.
+/// Whether an element of this type is allowed next in the pod.
 pub(crate) fn takes_element(what: What, type_: u32) -> bool {
     let Elements {
         shape,
@@ -50,7 +50,7 @@ pub(crate) fn takes_element(what: What, type_: u32) -> bool {
     }
 }
 
-/// What the frame says with one element more.
+/// The pod's stage and elements after one more element of this type.
 pub(crate) fn with_element(what: What, type_: u32) -> What {
     let Elements { shape, count, .. } = what.elements;
     let more = match what.stage {
@@ -69,7 +69,7 @@ pub(crate) fn with_element(what: What, type_: u32) -> What {
     }
 }
 
-/// Whether a tree of which this is known is a value when it is closed.
+/// Whether the pod may be closed: it lacks no value.
 #[cfg_attr(not(debug_assertions), inline(always))]
 pub(crate) fn is_finished(what: What) -> bool {
     let Elements { shape, count, .. } = what.elements;

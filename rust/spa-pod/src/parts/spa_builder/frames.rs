@@ -1,13 +1,13 @@
-//! The list of frames: what may come next, and what a frame says once it came.
+//! The stack of the frames of the open pods: what is allowed next, and how a frame changes by it.
 
 use crate::shims::prelude::*;
 use crate::parts::spa_builder::begun::{BegunPod, NO_ELEMENTS, Stage, What};
 use crate::parts::spa_bytes::HEADER_LEN;
-use crate::parts::spa_room::Written;
+use crate::parts::spa_spare_capacity::Written;
 use crate::parts::spa_utils::Errno;
 use core::mem;
 
-/// The numbers that a size word can't hold begin here.
+/// The least number that a size word can't hold.
 pub(crate) const SIZE_LIMIT: usize = 1 << 32;
 
 /// No frame.
@@ -22,8 +22,8 @@ const NO_FRAME: BegunPod = BegunPod {
 /// The most bytes of padding.
 const PADDING_MAX: usize = HEADER_LEN - 1;
 
-/// The numbers of bytes of a pod with its header that its size word can't hold begin here. Where a pod is open inside it,
-/// there may be padding to come.
+/// The least length in bytes of a pod, with its header, that its size word can't hold. Where a pod is open inside it,
+/// padding may follow.
 #[cfg_attr(not(debug_assertions), inline(always))]
 fn most_bytes(alone: bool) -> usize {
     if alone {
@@ -33,14 +33,14 @@ fn most_bytes(alone: bool) -> usize {
     }
 }
 
-/// Whether it is no pod.
+/// Whether the stage is that of no pod.
 #[cfg_attr(not(debug_assertions), inline(always))]
 fn is_nothing(what: What) -> bool {
     matches!(what.stage, Stage::Nothing)
 }
 
-/// The list, with room for one frame more where there is the memory. It is handed over whole, and not lent, so that a
-/// builder whose calls are inlined can lie in registers.
+/// The list, with room for one more frame where there is memory for it. It is moved and not borrowed, so that a builder
+/// whose calls are inlined can be kept in registers.
 #[cold]
 #[inline(never)]
 fn roomier(mut outer: Vec<BegunPod>) -> Vec<BegunPod> {
@@ -48,7 +48,7 @@ fn roomier(mut outer: Vec<BegunPod>) -> Vec<BegunPod> {
     outer
 }
 
-/// Makes room for one frame more.
+/// Makes room for one more frame. Refused as NOMEM.
 #[cfg_attr(not(debug_assertions), inline(always))]
 fn make_room(outer: &mut Vec<BegunPod>) -> Result<(), Errno> {
     if outer.len() < outer.capacity() {
@@ -61,7 +61,7 @@ fn make_room(outer: &mut Vec<BegunPod>) -> Result<(), Errno> {
     Err(Errno::NOMEM)
 }
 
-/// The list with this frame behind it, for which there is room. It is handed over whole, as above.
+/// The list with this frame at its end, for which there is room. It is moved, as in `roomier`.
 #[inline(never)]
 fn longer(mut outer: Vec<BegunPod>, frame: BegunPod) -> Vec<BegunPod> {
     if outer.try_push(frame).is_err() {
@@ -70,13 +70,13 @@ fn longer(mut outer: Vec<BegunPod>, frame: BegunPod) -> Vec<BegunPod> {
     outer
 }
 
-/// Puts a frame behind the others, for which there is room.
+/// Appends a frame, for which there is room.
 #[cfg_attr(not(debug_assertions), inline(always))]
 fn put(outer: &mut Vec<BegunPod>, frame: BegunPod) {
     *outer = longer(mem::replace(outer, Vec::new()), frame);
 }
 
-/// The frames of the pods that are begun.
+/// The frames of the open pods.
 pub(crate) struct Frames {
     outer: Vec<BegunPod>,
     innermost: BegunPod,
@@ -85,7 +85,7 @@ pub(crate) struct Frames {
 }
 
 impl Frames {
-    /// None.
+    /// No frames.
     pub(crate) fn new() -> Frames {
         Frames {
             outer: Vec::new(),
@@ -95,7 +95,7 @@ impl Frames {
         }
     }
 
-    /// How many there are.
+    /// How many frames there are.
     #[cfg_attr(not(debug_assertions), inline(always))]
     pub(crate) fn len(&self) -> usize {
         if is_nothing(self.innermost.what) {
@@ -104,7 +104,7 @@ impl Frames {
         self.outer.len() + 1
     }
 
-    /// The innermost.
+    /// The innermost frame. None: no pod is open.
     #[cfg_attr(not(debug_assertions), inline(always))]
     pub(crate) fn innermost(&self) -> Option<BegunPod> {
         if is_nothing(self.innermost.what) {
@@ -113,7 +113,7 @@ impl Frames {
         Some(self.innermost)
     }
 
-    /// Whether so many bytes more leave every size word within 32 bits: the outermost is the greatest.
+    /// Whether every size word still fits 32 bits after `more` bytes: that of the outermost pod is the greatest.
     #[cfg_attr(not(debug_assertions), inline(always))]
     pub(crate) fn has_room(&self, len: usize, more: usize) -> bool {
         if is_nothing(self.innermost.what) {
@@ -122,20 +122,20 @@ impl Frames {
         len + more < self.end
     }
 
-    /// Sets what the innermost says.
+    /// Sets stage and elements of the innermost frame.
     #[cfg_attr(not(debug_assertions), inline(always))]
     pub(crate) fn set_innermost(&mut self, what: What) {
         self.innermost.what = what;
     }
 
-    /// Sets the stage of the innermost.
+    /// Sets the stage of the innermost frame.
     #[cfg_attr(not(debug_assertions), inline(always))]
     pub(crate) fn set_stage(&mut self, stage: Stage) {
         self.innermost.what.stage = stage;
     }
 
-    /// Begins a frame in the innermost, and appends the bytes with which its pod begins. The frame has its memory first: a
-    /// refused call changes nothing.
+    /// Pushes a frame, and appends the bytes with which its pod begins. Memory for the frame comes first, so a refused call
+    /// changes nothing.
     #[cfg_attr(not(debug_assertions), inline(always))]
     pub(crate) fn try_push<const N: usize>(
         &mut self,
@@ -158,7 +158,7 @@ impl Frames {
         Ok(())
     }
 
-    /// Drops the innermost.
+    /// Drops the innermost frame.
     #[cfg_attr(not(debug_assertions), inline(always))]
     pub(crate) fn pop(&mut self) {
         let Some(frame) = self.outer.pop() else {
@@ -172,7 +172,7 @@ impl Frames {
     }
 }
 
-/// Whether a tree of any type may begin there.
+/// Whether a value of any type is allowed next.
 #[cfg_attr(not(debug_assertions), inline(always))]
 pub(crate) fn takes_trees(innermost: Option<BegunPod>) -> bool {
     match innermost {
@@ -181,7 +181,7 @@ pub(crate) fn takes_trees(innermost: Option<BegunPod>) -> bool {
     }
 }
 
-/// Whether a key waits there for its value.
+/// Whether a key waits for its value in the innermost open pod.
 #[cfg_attr(not(debug_assertions), inline(always))]
 fn waits(innermost: Option<BegunPod>) -> bool {
     match innermost {
@@ -190,7 +190,7 @@ fn waits(innermost: Option<BegunPod>) -> bool {
     }
 }
 
-/// Whether an object stands there in which no key waits.
+/// Whether the innermost open pod is an object in which no key waits.
 #[cfg_attr(not(debug_assertions), inline(always))]
 pub(crate) fn takes_key(innermost: Option<BegunPod>) -> bool {
     match innermost {
@@ -199,8 +199,8 @@ pub(crate) fn takes_key(innermost: Option<BegunPod>) -> bool {
     }
 }
 
-/// Whether a value that isn't an element, with a body of this size, may come next: INVAL where none may, NOSPC where a
-/// size word would be past 32 bits.
+/// Checks that a value that isn't an element, with a body of this size, is allowed next. Refused as INVAL where none is, and as NOSPC where a
+/// size word wouldn't fit 32 bits.
 #[cfg_attr(not(debug_assertions), inline(always))]
 pub(crate) fn admit(len: usize, frames: &Frames, size: usize) -> Result<(), Errno> {
     if !takes_trees(frames.innermost()) {
@@ -215,7 +215,7 @@ pub(crate) fn admit(len: usize, frames: &Frames, size: usize) -> Result<(), Errn
     Ok(())
 }
 
-/// A value came into the innermost tree, whose frame was read before: a key that waited has it.
+/// Marks that a value was added to the innermost open pod, whose frame was read before: a key that waited doesn't any more.
 #[cfg_attr(not(debug_assertions), inline(always))]
 pub(crate) fn fill(frames: &mut Frames, innermost: Option<BegunPod>) {
     if waits(innermost) {

@@ -1,4 +1,4 @@
-//! The bytes with which a pod begins: its header, with the size 0, and what stands before its members.
+//! The bytes with which an open pod begins: its header, with a size word of 0, and the words before its members.
 
 use crate::shims::prelude::*;
 use crate::parts::spa_bytes::{HEADER_LEN, two_words};
@@ -10,12 +10,12 @@ const LONG_HEAD_LEN: usize = 2 * HEADER_LEN;
 /// The length in bytes of a header and four words.
 const LONGEST_HEAD_LEN: usize = 3 * HEADER_LEN;
 
-/// The header of a struct whose size isn't known yet.
+/// The header of an open struct.
 pub(crate) fn struct_head() -> [u8; HEADER_LEN] {
     two_words(0, SpaTypes::Struct.0)
 }
 
-/// The header of an object whose size isn't known yet, its type and its id.
+/// The header of an open object, its type and its id.
 pub(crate) fn object_head(type_: u32, id: u32) -> [u8; LONG_HEAD_LEN] {
     let mut head = [0; LONG_HEAD_LEN];
     let (header, words) = head.split_at_mut(HEADER_LEN);
@@ -24,7 +24,7 @@ pub(crate) fn object_head(type_: u32, id: u32) -> [u8; LONG_HEAD_LEN] {
     head
 }
 
-/// With the child header of an array without elements.
+/// The header of an open array, and a child header for no elements.
 pub(crate) fn array_head() -> [u8; LONG_HEAD_LEN] {
     let mut head = [0; LONG_HEAD_LEN];
     let (header, child) = head.split_at_mut(HEADER_LEN);
@@ -33,7 +33,7 @@ pub(crate) fn array_head() -> [u8; LONG_HEAD_LEN] {
     head
 }
 
-/// With the child header of a choice without values.
+/// The header of an open choice, its shape and flags, and a child header for no values.
 pub(crate) fn choice_head(shape: u32, flags: u32) -> [u8; LONGEST_HEAD_LEN] {
     let mut head = [0; LONGEST_HEAD_LEN];
     let (header, rest) = head.split_at_mut(HEADER_LEN);

@@ -1,7 +1,7 @@
-//! Several calls of a builder in one expression.
+//! Makes several calls of a builder in one expression.
 
 use crate::shims::prelude::*;
-/// Adds a value, or a struct, an object, an array or a choice with all that is in it, by several calls of the builder:
+/// Adds a value, or a struct, an object, an array or a choice with its contents, by several calls of the builder:
 ///
 /// `None`, `Bool(v)`, `Id(v)`, `Int(v)`, `Long(v)`, `Float(v)`, `Double(v)`, `String(v)`, `Bytes(v)`,
 /// `Pointer(type, v)`, `Fd(v)`, `Rectangle(v)`, `Fraction(v)`, `Array(v)` of a slice of elements, `Value(v)` of a reference
@@ -9,8 +9,8 @@ use crate::shims::prelude::*;
 /// `Choice(shape, flags) { .. }` of forms of fixed size, a choice's default first, `Struct { .. }` of any forms, and
 /// `Object(type, id) { key => form, key, flags => form, .. }`, whose properties have no flags where none are given.
 ///
-/// It answers `Ok(())`, or the first refusal. Then the calls before the refused one keep their effect, and what was begun
-/// stays open: `abandon` gives it up.
+/// It answers `Ok(())`, or the first refusal. The calls before the refused one keep their effect, and the pods that they opened
+/// stay open: `abandon` gives them up.
 #[macro_export]
 macro_rules! builder_add {
     ($builder:expr, None) => {
@@ -99,7 +99,7 @@ macro_rules! builder_add {
     };
 }
 
-/// The members of a struct, an array or a choice one by one, and its pop.
+/// Adds the members of a struct, an array or a choice one by one, and closes it.
 #[doc(hidden)]
 #[macro_export]
 macro_rules! builder_members {
@@ -126,7 +126,7 @@ macro_rules! builder_members {
     };
 }
 
-/// The properties of an object one by one, and its pop.
+/// Adds the properties of an object one by one, and closes it.
 #[doc(hidden)]
 #[macro_export]
 macro_rules! builder_properties {
@@ -147,7 +147,7 @@ macro_rules! builder_properties {
     };
 }
 
-/// The value of a property, and the properties behind it.
+/// Adds the value of a property, and the properties behind it.
 #[doc(hidden)]
 #[macro_export]
 macro_rules! builder_property {

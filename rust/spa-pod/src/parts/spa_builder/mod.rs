@@ -1,4 +1,4 @@
-//! Pods built call by call, into one vector.
+//! Builds pods call by call, into one vector.
 use crate::shims::prelude::*;
 mod begun;
 mod build_call;
@@ -18,4 +18,4 @@ pub use build_call::BuildCall;
 pub use builder::Builder;
 pub use calls::replay;
 /// The shape words that `builder_add!` names.
-pub use crate::parts::spa_fixed::{ENUM_SHAPE, FLAGS_SHAPE, RANGE_SHAPE, STEP_SHAPE};
+pub use crate::parts::spa_fixed_sized::{ENUM_SHAPE, FLAGS_SHAPE, RANGE_SHAPE, STEP_SHAPE};

@@ -1,4 +1,4 @@
-//! Pods that are at hand, added as the values that they say.
+//! Adds the values of given pods.
 
 use crate::shims::prelude::*;
 use crate::parts::spa_builder::begun::BegunPod;
@@ -7,15 +7,16 @@ use crate::parts::spa_builder::elements::{takes_element, takes_elements};
 use crate::parts::spa_builder::frames::{Frames, takes_trees};
 use crate::parts::spa_builder::values::add_any;
 use crate::parts::spa_bytes::{HEADER_LEN, u32_at};
-use crate::parts::spa_fixed::Refusal;
+use crate::parts::spa_fixed_sized::Refusal;
 use crate::parts::spa_read::{Refused, read_value};
-use crate::parts::spa_room::Written;
-use crate::parts::spa_scan::{canonical_front, fixed_len};
+use crate::parts::spa_rewrite::canonical_front;
+use crate::parts::spa_scan::fixed_len;
+use crate::parts::spa_spare_capacity::Written;
 use crate::parts::spa_utils::Errno;
 use crate::parts::spa_value::Held;
 use crate::parts::spa_view::{Pod, whole_bytes};
 
-/// Whether a value of this type may come next.
+/// Whether a value of this type is allowed next.
 fn takes_type(innermost: Option<BegunPod>, type_: u32) -> bool {
     let Some(open) = innermost else {
         return true;
@@ -29,7 +30,7 @@ fn takes_type(innermost: Option<BegunPod>, type_: u32) -> bool {
     takes_element(open.what, type_)
 }
 
-/// What a builder answers where a pod can't be read.
+/// The builder's error for a pod that can't be read.
 fn errno_of(why: Refusal) -> Errno {
     match why {
         Refusal::OutOfMemory => Errno::NOMEM,
@@ -37,7 +38,7 @@ fn errno_of(why: Refusal) -> Errno {
     }
 }
 
-/// Adds the value that these bytes, a whole pod, are read as, where such a value may come next.
+/// Reads a whole pod, and adds its value, where a value of its type is allowed next.
 fn add_read(bytes: &mut Written, frames: &mut Frames, pod: &[u8]) -> Result<(), Errno> {
     match read_value(pod, &mut 0) {
         Ok((_, value)) => add_any(bytes, frames, &*Held::from(value)),
@@ -45,12 +46,12 @@ fn add_read(bytes: &mut Written, frames: &mut Frames, pod: &[u8]) -> Result<(), 
     }
 }
 
-/// Adds the value of a whole pod that is its own rewriting, where a tree of any type may stand: its bytes are copied.
+/// Adds the value of a whole canonical pod, where a value of any type is allowed, by copying the bytes.
 fn add_copied(bytes: &mut Written, frames: &mut Frames, pod: &[u8]) -> Result<(), Errno> {
     add_encoding(bytes, frames, u32_at(pod, 0) as usize, pod)
 }
 
-/// Adds the value of a pod: where a tree of any type may stand, the bytes of one that is its own rewriting are copied.
+/// Adds the value of a pod. Where a value of any type is allowed, the bytes of a canonical pod are copied.
 pub(crate) fn add_seen(bytes: &mut Written, frames: &mut Frames, pod: &Pod<'_>) -> Result<(), Errno> {
     let innermost = frames.innermost();
     if !takes_type(innermost, pod.type_().0) {

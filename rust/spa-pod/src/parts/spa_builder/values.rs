@@ -1,16 +1,16 @@
-//! Values of any type, added.
+//! Adds values of any type.
 
 use crate::shims::prelude::*;
 use crate::parts::spa_builder::building::{add_elements, add_fixed};
 use crate::parts::spa_builder::frames::{Frames, fill, takes_trees};
-use crate::parts::spa_room::Written;
 use crate::parts::spa_sink::GenError;
+use crate::parts::spa_spare_capacity::Written;
 use crate::parts::spa_utils::Errno;
 use crate::parts::spa_value::Value;
 use crate::parts::spa_value::laws::trees_have_their_types;
 use crate::parts::spa_write::write_sized;
 
-/// What a builder answers where a value can't be written.
+/// The builder's error for a value that can't be written.
 fn errno_of(refusal: GenError) -> Errno {
     match refusal {
         GenError::NulInText => Errno::INVAL,
@@ -19,7 +19,7 @@ fn errno_of(refusal: GenError) -> Errno {
     }
 }
 
-/// Appends the encoding of a value, and answers its length. A refused value changes nothing.
+/// Appends the encoding of a value, and answers its length in bytes. A refused value changes nothing.
 fn put_value(bytes: &mut Written, value: &Value) -> Result<usize, Errno> {
     let had = bytes.len();
     match write_sized(bytes, value) {
@@ -31,7 +31,7 @@ fn put_value(bytes: &mut Written, value: &Value) -> Result<usize, Errno> {
     }
 }
 
-/// Adds a value that isn't of fixed size, as it is written.
+/// Adds a value that isn't of fixed size, by its encoding.
 fn add_written(bytes: &mut Written, frames: &mut Frames, value: &Value) -> Result<(), Errno> {
     let innermost = frames.innermost();
     if !takes_trees(innermost) {

@@ -1,4 +1,4 @@
-//! The front of an input: the pod that its first size word names, where it is there.
+//! Opens the front of an input: the pod that its first size word names.
 
 use crate::shims::prelude::*;
 use crate::parts::spa_bytes::words::{HEADER_LEN, SECOND_WORD, u32_at};
@@ -10,17 +10,17 @@ pub struct Front<'de> {
     pub type_: u32,
     /// The bytes behind the header, as many as the size word says, without the padding.
     pub body: &'de [u8],
-    /// What follows the pod and its padding.
+    /// The bytes that follow the pod and its padding.
     pub rest: &'de [u8],
 }
 
-/// How many bytes a pod takes whose body has this many: its header, the body, and the padding.
+/// The length in bytes of a pod whose body has `size` bytes: its header, the body, and the padding.
 #[cfg_attr(not(debug_assertions), inline(always))]
 pub fn extent_of(size: u32) -> usize {
     HEADER_LEN + (size as usize).div_ceil(HEADER_LEN) * HEADER_LEN
 }
 
-/// Opens the pod that the first size word names, where all of it is there.
+/// Opens the pod that the first size word names. None: it isn't all there.
 pub fn open(input: &[u8]) -> Option<Front<'_>> {
     if input.len() < HEADER_LEN {
         return None;

@@ -40,9 +40,9 @@ impl<W: Write> IoSink<W> {
     }
 }
 
-/// What is written by one attempt after another.
+/// A device that is written to by one attempt after another.
 trait Attempts {
-    /// One write: how many bytes it took, or nothing where it failed.
+    /// One write: answers how many bytes the device took. None: it failed.
     fn attempt(&mut self, bytes: &[u8]) -> Option<usize>;
 }
 
@@ -56,8 +56,8 @@ impl<W: Write> Attempts for W {
     }
 }
 
-/// Hands the bytes over by one write after another, until all are taken or one fails, which isn't tried again. The answer is how
-/// many were taken, and whether one failed.
+/// Hands the bytes to the device by one write after another, until all are taken or a write fails, which isn't tried again. Answers
+/// how many bytes were taken, and whether a write failed.
 fn hand_over<D: Attempts>(device: &mut D, bytes: &[u8]) -> (usize, bool) {
     let mut left = bytes;
     let mut done = 0;
@@ -73,9 +73,8 @@ fn hand_over<D: Attempts>(device: &mut D, bytes: &[u8]) -> (usize, bool) {
 }
 
 impl<W: Write> PodSink for IoSink<W> {
-    /// Hands the device the bytes until it has taken them all. The first write that fails ends this with `Io`; the device has
-    /// taken a beginning of the bytes then. `Failed` is answered, and nothing is written, where one of the counts has no
-    /// room.
+    /// Hands the bytes to the device until it has taken them all. Refused as `Io` where a write fails: the device has taken a
+    /// beginning of the bytes then. Refused as `Failed`, and nothing is written, where one of the counts would overflow.
     fn append(&mut self, bytes: &[u8]) -> Result<(), GenError> {
         if self.failures == u64::MAX || bytes.len() as u64 > u64::MAX - self.written {
             return Err(GenError::Failed);

@@ -1,4 +1,4 @@
-//! An input, read whole.
+//! Reads a whole input.
 
 use crate::shims::prelude::*;
 use core::error::Error;
@@ -8,7 +8,7 @@ use std::io::{ErrorKind, Read};
 /// Why an input wasn't read whole.
 #[derive(Clone, Copy, Debug)]
 pub enum ReadError {
-    /// A growth was refused.
+    /// Memory ran out.
     OutOfMemory,
     /// The reader failed.
     Failed,
@@ -25,7 +25,7 @@ impl fmt::Display for ReadError {
 
 impl Error for ReadError {}
 
-/// All bytes that the reader gives.
+/// Reads all bytes that the reader gives.
 pub fn read_whole<R: Read>(input: &mut R) -> Result<Vec<u8>, ReadError> {
     let mut bytes = Vec::new();
     match input.read_to_end(&mut bytes) {

@@ -1,4 +1,4 @@
-//! A sink over a device, which counts what the device took, and inputs read whole.
+//! A sink over a device, which counts the bytes that the device took, and inputs that are read whole.
 use crate::shims::prelude::*;
 mod device;
 mod input;

@@ -1,11 +1,11 @@
-//! Dictionaries over a borrowed list of pairs.
+//! Dictionaries: views of a borrowed list of pairs.
 
 use crate::shims::prelude::*;
 use crate::parts::spa_dict::iter::{CIter, Iter, Keys, Values};
 use crate::parts::spa_dict::parse::{ParsableValue, ParseValueError};
 use crate::shims::flags::{Flag, bitflag_items};
 
-/// A dictionary's flags. All bits are kept, and none changes a look-up.
+/// A dictionary's flags. All bits are kept, and no bit changes a look-up.
 #[derive(Clone, Copy, Debug, PartialEq, Eq)]
 pub struct Flags(u32);
 
@@ -40,7 +40,7 @@ pub struct DictRef<'a> {
 }
 
 impl<'a> DictRef<'a> {
-    /// The dictionary of those pairs.
+    /// The dictionary of these pairs, with these flags.
     pub fn new(items: &'a [(&'a [u8], &'a [u8])], flags: Flags) -> DictRef<'a> {
         DictRef { items, flags }
     }
@@ -50,21 +50,21 @@ impl<'a> DictRef<'a> {
         CIter { items: self.items }
     }
 
-    /// The pairs in order whose key and value both are UTF-8.
+    /// The pairs whose key and value both are UTF-8, in order.
     pub fn iter(&self) -> Iter<'a> {
         Iter {
             inner: self.iter_cstr(),
         }
     }
 
-    /// The keys in order that are UTF-8.
+    /// The keys that are UTF-8, in order.
     pub fn keys(&self) -> Keys<'a> {
         Keys {
             inner: self.iter_cstr(),
         }
     }
 
-    /// The values in order that are UTF-8.
+    /// The values that are UTF-8, in order.
     pub fn values(&self) -> Values<'a> {
         Values {
             inner: self.iter_cstr(),
@@ -86,7 +86,7 @@ impl<'a> DictRef<'a> {
         self.flags
     }
 
-    /// The value of the first pair with that key, among the pairs that are UTF-8 on both sides.
+    /// The value of the first pair with this key, among the pairs whose key and value are UTF-8. None: no such pair has it.
     pub fn get(&self, key: &str) -> Option<&'a str> {
         let mut pairs = self.iter();
         while let Some((name, value)) = pairs.next() {
@@ -97,8 +97,8 @@ impl<'a> DictRef<'a> {
         None
     }
 
-    /// What `get` answers, read as a `T`. It is refused where the text is no text of a `T`, with the
-    /// text and the name of `T`.
+    /// The text that `get` answers, read as a `T`; None where `get` answers none. Refused where the text is no text of a `T`, with
+    /// the text and the name of `T`.
     pub fn parse<T: ParsableValue>(&self, key: &str) -> Option<Result<T, ParseValueError<'a>>> {
         let text = self.get(key)?;
         Some(T::parse_value(text).ok_or(ParseValueError {

@@ -1,9 +1,9 @@
-//! The pairs of a dictionary one after another, as bytes or as text.
+//! Iterators over the pairs of a dictionary, as bytes or as text.
 
 use crate::shims::prelude::*;
 use core::str;
 
-/// All pairs in order, as bytes.
+/// An iterator over all pairs in order, as bytes.
 #[derive(Clone, Debug)]
 pub struct CIter<'a> {
     pub(crate) items: &'a [(&'a [u8], &'a [u8])],
@@ -26,7 +26,7 @@ impl<'a> Iterator for CIter<'a> {
     }
 }
 
-/// The pairs in order whose key and value both are UTF-8.
+/// An iterator over the pairs whose key and value both are UTF-8, in order.
 #[derive(Debug)]
 pub struct Iter<'a> {
     pub(crate) inner: CIter<'a>,
@@ -47,13 +47,13 @@ impl<'a> Iterator for Iter<'a> {
         None
     }
 
-    /// No lower bound, and as an upper one the number of pairs that are left: any of them may not be text.
+    /// The lower bound is 0, and the upper one the number of pairs that are left, since any of them may not be text.
     fn size_hint(&self) -> (usize, Option<usize>) {
         (0, Some(self.inner.items.len()))
     }
 }
 
-/// The keys in order that are UTF-8, whatever their values are.
+/// An iterator over the keys that are UTF-8, in order, whatever their values are.
 #[derive(Debug)]
 pub struct Keys<'a> {
     pub(crate) inner: CIter<'a>,
@@ -71,13 +71,13 @@ impl<'a> Iterator for Keys<'a> {
         None
     }
 
-    /// No lower bound, and as an upper one the number of pairs that are left: any of them may not be text.
+    /// The lower bound is 0, and the upper one the number of pairs that are left, since any of them may not be text.
     fn size_hint(&self) -> (usize, Option<usize>) {
         (0, Some(self.inner.items.len()))
     }
 }
 
-/// The values in order that are UTF-8, whatever their keys are.
+/// An iterator over the values that are UTF-8, in order, whatever their keys are.
 #[derive(Debug)]
 pub struct Values<'a> {
     pub(crate) inner: CIter<'a>,
@@ -95,7 +95,7 @@ impl<'a> Iterator for Values<'a> {
         None
     }
 
-    /// No lower bound, and as an upper one the number of pairs that are left: any of them may not be text.
+    /// The lower bound is 0, and the upper one the number of pairs that are left, since any of them may not be text.
     fn size_hint(&self) -> (usize, Option<usize>) {
         (0, Some(self.inner.items.len()))
     }

@@ -1,4 +1,4 @@
-//! Values of a dictionary read as truth values and integers.
+//! Reads values of a dictionary as truth values and integers.
 
 use crate::shims::prelude::*;
 use core::error::Error;
@@ -12,7 +12,7 @@ pub trait ParsableValue: Copy {
     /// The type's name, which is `TYPE_NAME`: a call, so that contracts can speak of it.
     fn name() -> &'static str;
 
-    /// What the text reads as, or `None` where it is no text of this type.
+    /// The value as which the text reads. None: it is no text of this type.
     fn parse_value(value: &str) -> Option<Self>;
 }
 
@@ -173,7 +173,7 @@ impl ParsableValue for usize {
     }
 }
 
-/// A value that couldn't be read as the type that was asked for.
+/// The refusal of a text that can't be read as the type that was asked for.
 #[derive(Debug, PartialEq, Eq)]
 pub struct ParseValueError<'a> {
     pub(crate) text: &'a str,

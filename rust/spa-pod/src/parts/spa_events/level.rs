@@ -15,11 +15,11 @@ pub(crate) struct Level {
     pub(crate) before: usize,
     /// How many structs and objects they stand in.
     pub(crate) depth: usize,
-    /// Where the innermost of these is told of, or `NO_PARENT`.
+    /// The index of the event of the innermost of these containers, or `NO_PARENT`.
     pub(crate) parent: usize,
 }
 
-/// What is told of the first of them, where it is there.
+/// The event of the first of these pods; `None` where none is there.
 pub(crate) fn next_event(input: &[u8], level: Level) -> Option<Event> {
     let left = &input[level.at..level.end];
     if left.len() < level.before + HEADER_LEN {
@@ -38,7 +38,7 @@ pub(crate) fn next_event(input: &[u8], level: Level) -> Option<Event> {
     })
 }
 
-/// The pods inside one that is told of at this place of the list: the members of a struct, the properties of an object, or none.
+/// The pods inside the one whose event has this index: the members of a struct, the properties of an object, or none.
 fn inside(event: Event, index: usize) -> Level {
     let first = event.at + HEADER_LEN;
     let (before, size) = match SpaTypes(event.type_) {
@@ -64,7 +64,7 @@ fn holds_pods(event: Event) -> bool {
     }
 }
 
-/// The pods to go on with once the first of these is told of at this place of the list: those inside it, or else those that follow it.
+/// The pods to go on with once the event of the first of these is in the list at this index: those inside it, or else those that follow it.
 pub(crate) fn following(level: Level, event: Event, index: usize) -> Level {
     if holds_pods(event) {
         return inside(event, index);
@@ -75,7 +75,7 @@ pub(crate) fn following(level: Level, event: Event, index: usize) -> Level {
     }
 }
 
-/// The pods that follow the one that is told of at this place of the list.
+/// The pods that follow the one whose event has this index.
 pub(crate) fn outside(len: usize, events: &[Event], parent: usize) -> Level {
     let event = events[parent];
     let at = event.at + extent_of(event.size);

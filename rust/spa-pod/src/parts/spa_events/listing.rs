@@ -1,13 +1,13 @@
-//! The list of all that lies inside an input.
+//! Lists the events of an input.
 
 use crate::shims::prelude::*;
 use crate::parts::spa_events::event::{Event, NO_PARENT};
 use crate::parts::spa_events::level::{Level, following, next_event, outside};
 
-/// Writes what is told of each pod that the input consists of, and of each inside it, to the front of `out`, and says how many
-/// they are: a pod comes before those inside it, and these before what follows it.
+/// Writes one event for each pod that the input consists of, and for each nested pod, to the front of `out`, and answers how many there
+/// are: a pod's event comes before those of the pods in it, and these before those of the pods that follow it.
 ///
-/// None: there are more than `out` has room for, and it is full of the first of them.
+/// None: there are more events than `out` has room for, and it is full of the first of them.
 pub fn list_events(input: &[u8], out: &mut [Event]) -> Option<usize> {
     let mut level = Level {
         at: 0,

@@ -1,4 +1,4 @@
-//! What lies inside an input, told pod by pod into memory of the caller's.
+//! Lists the nested pods of an input, one event a pod, in memory of the caller's.
 use crate::shims::prelude::*;
 mod event;
 pub mod laws;

@@ -1,19 +1,19 @@
-//! Two choices over one type, read where their pods lie.
+//! Reads two choices over one type from the borrowed bodies of their pods, and writes what they filter to.
 
 use crate::shims::prelude::*;
 use crate::parts::spa_filter::refused::Refused;
 use crate::parts::spa_filter::values::are_meetable;
 use crate::parts::spa_bytes::{HEADER_LEN, SECOND_WORD, u32_at};
-use crate::parts::spa_fixed::{put_choice, put_fixed, read_choice};
-use crate::parts::spa_offers::{Element, meet, offer_of};
+use crate::parts::spa_filter_offers::{Element, meet, offer_of};
+use crate::parts::spa_fixed_sized::{put_choice, put_fixed, read_choice};
 use crate::parts::spa_sink::GenError;
 use crate::parts::spa_utils::Choice;
 use crate::parts::spa_value::Value;
 
-/// Where the values of a choice begin in its body: behind its shape and flags, and their size and type.
+/// The offset in a choice's body at which its values begin: behind the shape, the flags, and the values' size and type.
 pub(crate) const VALUES_AT: usize = 16;
 
-/// The choice over a type of which this is the body. The body of such a choice is refused for lack of memory alone.
+/// Reads the choice over the type `T` of which this is the body. Refused as `Apart` where it is the body of no such choice, and as `OutOfMemory`.
 #[inline(never)]
 pub(crate) fn choice_over<T: Element>(body: &[u8]) -> Result<Choice<T>, Refused> {
     if body.len() < VALUES_AT {
@@ -28,7 +28,7 @@ pub(crate) fn choice_over<T: Element>(body: &[u8]) -> Result<Choice<T>, Refused>
     }
 }
 
-/// Appends the pod of a value to which the choices of two bodies filter, the first of which is over this type.
+/// Appends the canonical pod of the value to which the choices of two bodies filter, the first of which is over the type `T`.
 pub(crate) fn put_read<T: Element>(
     out: &mut Vec<u8>,
     a: &[u8],
@@ -48,7 +48,7 @@ pub(crate) fn put_read<T: Element>(
     }
 }
 
-/// Appends the pod of a value that admits contents of this type, and has no flags of its own.
+/// Appends the canonical pod of a value that admits contents of the type `T`, and has no flags of its own.
 fn put_value<T: Element>(out: &mut Vec<u8>, value: &Value) -> Result<(), Refused> {
     match value {
         Value::Choice(choice) => match T::in_choice(choice) {
@@ -62,7 +62,7 @@ fn put_value<T: Element>(out: &mut Vec<u8>, value: &Value) -> Result<(), Refused
     }
 }
 
-/// Appends the pod of a choice.
+/// Appends the canonical pod of a choice without flags. Refused as `TooLarge` and as `OutOfMemory`.
 pub(crate) fn put_choice_of<T: Element>(
     out: &mut Vec<u8>,
     choice: &Choice<T>,
@@ -74,7 +74,7 @@ pub(crate) fn put_choice_of<T: Element>(
     }
 }
 
-/// Appends the pod of an element.
+/// Appends the canonical pod of an element. Refused only as `OutOfMemory`.
 fn put_element<T: Element>(out: &mut Vec<u8>, x: &T) -> Result<(), Refused> {
     match put_fixed(out, x) {
         Ok(()) => Ok(()),

@@ -1,4 +1,4 @@
-//! What two values filter to, from pod to pod.
+//! Filters two values, from their pods to the pod of the outcome.
 
 use crate::shims::prelude::*;
 use crate::parts::spa_filter::choices::{VALUES_AT, choice_over, put_read};
@@ -9,7 +9,7 @@ use crate::parts::spa_filter::support::are_supported;
 use crate::parts::spa_filter::types::{BOOL, DOUBLE, FD, FLOAT, FRACTION, ID, INT, LONG, RECTANGLE};
 use crate::parts::spa_filter::values::is_shape_supported;
 use crate::parts::spa_bytes::{HEADER_LEN, SECOND_WORD, open, u32_at};
-use crate::parts::spa_offers::{Element, admits, offer_of};
+use crate::parts::spa_filter_offers::{Element, admits, offer_of};
 use crate::parts::spa_utils::{Fd, Float32, Float64, Fraction, Id, Rectangle, SpaTypes};
 
 /// The length in bytes of a body of one word.
@@ -18,11 +18,11 @@ const ONE_WORD: usize = 4;
 /// The length in bytes of a body of two words.
 const TWO_WORDS: usize = 8;
 
-/// Appends the pod of a value that admits exactly what the values of two pods admit, which are written as their values are, and stand
-/// under this key.
+/// Appends the canonical pod of a value that admits exactly what the values of two canonical pods admit, which two objects have under this key.
 ///
-/// The refusals: `Unsupported` where no common value is sought for one of the two or for both side by side, before `Disjoint` where
-/// no value is admitted by both; `TooLarge` where that value can't be written. Bytes may have been appended, then.
+/// Refused as `Unsupported` of the key where no common value is sought for one of the two values or for such a pair; else as `Disjoint` of the
+/// key where no value is admitted by both; as `TooLarge` where a size word of the outcome would be 4294967296 or more; and as `OutOfMemory`.
+/// After a refusal bytes may have been appended.
 pub fn put_common(
     key: u32,
     out: &mut Vec<u8>,
@@ -37,7 +37,7 @@ pub fn put_common(
     }
 }
 
-/// Why two values don't meet that stand apart.
+/// The refusal of the values of two pods, for which no common value was found: `Unsupported` or `Disjoint`.
 #[inline(never)]
 fn refusal(key: u32, a: &[u8], b: &[u8]) -> FilterError {
     if are_supported(a, b) {
@@ -47,7 +47,7 @@ fn refusal(key: u32, a: &[u8], b: &[u8]) -> FilterError {
     }
 }
 
-/// Appends the pod of a value that admits exactly what the values of two pods admit.
+/// Appends the canonical pod of a value that admits exactly what the values of two canonical pods admit.
 fn put_met(out: &mut Vec<u8>, a: &[u8], b: &[u8]) -> Result<(), Refused> {
     let Some(ours) = open(a) else {
         return Err(Refused::Apart);
@@ -72,7 +72,7 @@ fn put_met(out: &mut Vec<u8>, a: &[u8], b: &[u8]) -> Result<(), Refused> {
     put_choices(out, ours.body, theirs.body)
 }
 
-/// Appends a pod.
+/// Appends the bytes of a pod. Refused only as `OutOfMemory`.
 fn put_pod(out: &mut Vec<u8>, pod: &[u8]) -> Result<(), Refused> {
     if out.try_extend_from_slice(pod).is_ok() {
         Ok(())
@@ -81,7 +81,8 @@ fn put_pod(out: &mut Vec<u8>, pod: &[u8]) -> Result<(), Refused> {
     }
 }
 
-/// Whether the value of a body of this type, which is plain, is one that the choice of the other body admits.
+/// Checks that the plain value of a body of this type is one that the choice of the other body admits. Refused as `Apart` where it isn't, or
+/// where the choice is over another type or unsupported.
 fn is_offered(type_: u32, body: &[u8], choice: &[u8]) -> Result<(), Refused> {
     match type_ {
         BOOL => is_offered_over::<bool>(body, choice),
@@ -97,7 +98,7 @@ fn is_offered(type_: u32, body: &[u8], choice: &[u8]) -> Result<(), Refused> {
     }
 }
 
-/// The same of a body of one type.
+/// Checks that the element of the type `T` with this body is one that the choice of the other body admits, with the refusals of `is_offered`.
 fn is_offered_over<T: Element>(body: &[u8], choice: &[u8]) -> Result<(), Refused> {
     if body.len() != T::SIZE {
         return Err(Refused::Apart);
@@ -112,7 +113,7 @@ fn is_offered_over<T: Element>(body: &[u8], choice: &[u8]) -> Result<(), Refused
     Ok(())
 }
 
-/// Appends the pod of a value to which the choices of two bodies filter.
+/// Appends the canonical pod of the value to which the choices of two bodies filter.
 fn put_choices(out: &mut Vec<u8>, a: &[u8], b: &[u8]) -> Result<(), Refused> {
     if a.len() < VALUES_AT {
         return Err(Refused::Apart);
@@ -131,7 +132,8 @@ fn put_choices(out: &mut Vec<u8>, a: &[u8], b: &[u8]) -> Result<(), Refused> {
     }
 }
 
-/// The same of choices the first of which is over one type, whose values have so many bytes each.
+/// Appends the canonical pod of the value to which the choices of two bodies filter, the first of which is over the type `T`, whose bodies have
+/// `N` bytes.
 fn put_over<T: Element, const N: usize>(
     out: &mut Vec<u8>,
     a: &[u8],

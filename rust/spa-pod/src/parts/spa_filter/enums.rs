@@ -1,24 +1,25 @@
-//! Two Enums, looked at where they lie.
+//! Filters two Enums of few values by their borrowed bodies, without reading them first.
 
 use crate::shims::prelude::*;
 use crate::parts::spa_filter::choices::{put_choice_of, put_read};
 use crate::parts::spa_filter::refused::Refused;
 use crate::shims::flags::Flags;
 use crate::parts::spa_bytes::{HEADER_LEN, SECOND_WORD, u32_at};
-use crate::parts::spa_fixed::{ENUM_SHAPE, open_array};
-use crate::parts::spa_offers::{Element, is_among, is_same};
+use crate::parts::spa_filter_offers::{Element, is_among, is_same};
+use crate::parts::spa_fixed_sized::{ENUM_SHAPE, open_array};
 use crate::parts::spa_utils::{Choice, ChoiceEnum, ChoiceFlags};
 use crate::shims::memory::AllocError;
 
-/// How long the body of an Enum is, at most, whose values are looked for one by one: 17 values of two words each.
+/// The greatest length in bytes of an Enum's body whose values are searched one by one: 17 values of two words each.
 const SHORT_LEN: usize = 152;
 
-/// Whether the body of a choice is a short one of an Enum.
+/// Whether a choice's body is that of an Enum of at most `SHORT_LEN` bytes.
 pub(crate) fn is_short_enum(body: &[u8]) -> bool {
     body.len() >= HEADER_LEN && body.len() <= SHORT_LEN && u32_at(body, 0) == ENUM_SHAPE
 }
 
-/// The default of an Enum and the bodies of its values, the default's first, of so many bytes each.
+/// The default of the Enum over the type `T` with this body, and the bodies of its values, of `N` bytes each, the default's first. None: it isn't
+/// the body of such an Enum.
 fn enum_view<T: Element, const N: usize>(body: &[u8]) -> Option<(T, &[[u8; N]])> {
     if body.len() < 2 * HEADER_LEN || u32_at(body, HEADER_LEN + SECOND_WORD) != T::TYPE {
         return None;
@@ -33,7 +34,7 @@ fn enum_view<T: Element, const N: usize>(body: &[u8]) -> Option<(T, &[[u8; N]])>
     Some((T::of_body(first), values))
 }
 
-/// Whether an element is one of these values.
+/// Whether an element is among the values with these bodies.
 fn is_one<T: Element, const N: usize>(x: &T, values: &[[u8; N]]) -> bool {
     for value in values {
         if is_same(x, &T::of_body(value)) {
@@ -43,7 +44,7 @@ fn is_one<T: Element, const N: usize>(x: &T, values: &[[u8; N]]) -> bool {
     false
 }
 
-/// Those of an Enum's values that another Enum admits, each once, in order.
+/// The values of an Enum that another Enum admits, each once, in the order of the first. Refused only for want of memory.
 fn shared<T: Element, const N: usize>(
     ours: &[[u8; N]],
     theirs: &[[u8; N]],
@@ -55,7 +56,7 @@ fn shared<T: Element, const N: usize>(
     Ok(values)
 }
 
-/// Keeps an element that an Enum admits, where it isn't kept yet.
+/// Appends an element to the list where an Enum admits it and the list doesn't have it yet. Refused only for want of memory.
 fn keep_shared<T: Element, const N: usize>(
     values: &mut Vec<T>,
     value: &T,
@@ -71,7 +72,7 @@ fn keep_shared<T: Element, const N: usize>(
     Ok(())
 }
 
-/// The first of these that both Enums admit: the default of the one, that of the other, and an element that both admit.
+/// The first of three elements that both Enums admit: the default of the one, the default of the other, and an element that both do admit.
 fn shared_default<T: Element, const N: usize>(
     first: &T,
     ours: &[[u8; N]],
@@ -88,7 +89,7 @@ fn shared_default<T: Element, const N: usize>(
     *other
 }
 
-/// Appends the pod of an Enum of the values that the Enums of two bodies share, the first of which is over this type.
+/// Appends the canonical pod of an Enum of the values that the Enums of two bodies share, the first of which is over the type `T`.
 pub(crate) fn put_shared<T: Element, const N: usize>(
     out: &mut Vec<u8>,
     a: &[u8],

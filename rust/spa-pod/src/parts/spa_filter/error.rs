@@ -1,21 +1,13 @@
 //! Why two objects, or the objects of two pods, aren't filtered.
 
 use crate::shims::prelude::*;
+use crate::parts::spa_keyed_objects::Side;
 use crate::shims::memory::AllocError;
 use core::error::Error;
 use core::fmt;
 
-/// One of the two sides that are filtered. It prints `first` or `second`.
-#[derive(Clone, Copy, PartialEq, Eq, Debug)]
-pub enum Side {
-    /// The first input.
-    First,
-    /// The second one.
-    Second,
-}
-
-/// Why two objects, or the objects of two pods, aren't filtered. The key in a refusal is the first of all keys, those of the first
-/// object before those that the second alone has, under which one of these stands.
+/// Why two objects, or the objects of two pods, aren't filtered. The key in a refusal is the first at which `Missing`, `Unsupported` or `Disjoint`
+/// is so, where the keys of the first object come before those that only the second has.
 #[derive(Clone, Copy, PartialEq, Eq, Debug)]
 pub enum FilterError {
     /// The types of the objects differ. No key is looked at then.
@@ -35,17 +27,8 @@ pub enum FilterError {
     NotObject(Side),
     /// Of pods: the object to which the two are filtered can't be written: a size word of its encoding is 4294967296 or more.
     TooLarge,
-    /// A growth was refused.
+    /// Memory ran out.
     OutOfMemory,
-}
-
-impl fmt::Display for Side {
-    fn fmt(&self, f: &mut fmt::Formatter<'_>) -> fmt::Result {
-        match self {
-            Side::First => write!(f, "first"),
-            Side::Second => write!(f, "second"),
-        }
-    }
 }
 
 impl fmt::Display for FilterError {

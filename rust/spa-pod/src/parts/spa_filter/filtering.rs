@@ -1,27 +1,25 @@
-//! Two objects are filtered.
+//! Filters two objects.
 
 use crate::shims::prelude::*;
 use crate::parts::spa_filter::error::FilterError;
-use crate::parts::spa_filter::keyed::{Keyed, add_key};
-use crate::parts::spa_filter::met::{Met, push};
 use crate::parts::spa_filter::values::common;
 use crate::shims::flags::Flags;
+use crate::parts::spa_keyed_objects::{Keyed, Met, add_key, push};
 use crate::parts::spa_value::laws::{objects_are_their_fields, property_lists_are_in_order};
 use crate::parts::spa_value::{Object, Property, PropertyFlags};
 use crate::shims::sorted::BTreeSet;
 
-/// The object to which two objects are filtered.
+/// Filters two objects: answers the object that admits, under each key of both, exactly what both admit.
 ///
-/// It has their type, the id of `a`, and each key of either once: first the keys of `a` in the order of their first places, then
-/// those that `b` alone has, in the same way. On each side the first property with a key counts.
+/// It has their type, the id of `a`, and each key of either once: first the keys of `a` in the order in which they first occur, then
+/// those that only `b` has, in the same order. On each side the first property with a key counts.
 ///
-/// Under a key of both stands a value that admits exactly what both values admit, with the flags that both have: a plain value
-/// where one of them is plain, else an Enum where one of them is one, else a Range. Its default is the first of these that both
-/// admit: a's default, b's default, the first alternative of an Enum or the minimum of a Range. A key of one side stands as that
-/// side has it.
+/// A key of both has a value that admits exactly what both values admit, with the flags that both have: a plain value where one of them
+/// is plain, else an Enum where one of them is one, else a Range. Its default is the first of these that both admit: a's default, b's
+/// default, the first alternative of an Enum or the minimum of a Range. A key of one side has the flags and the value of that side.
 ///
-/// The refusals: `TypeMismatch`, before any other; then, at the first key under which the two don't agree, `Missing` where only
-/// one side has it, and else `Unsupported`, before `Disjoint`.
+/// The refusals: `TypeMismatch` before any other; then, at the first key under which the two don't agree, `Missing` where only one side
+/// has it, and else `Unsupported` before `Disjoint`; and `OutOfMemory`.
 ///
 /// Keys and alternatives are looked for in trees, so the time grows with n log n for n properties and alternatives, other
 /// values aside.
@@ -38,13 +36,13 @@ pub fn filter(a: &Object, b: &Object) -> Result<Object, FilterError> {
     })
 }
 
-/// Filtered properties, and the keys that were filtered.
+/// The properties of the outcome so far, and the set of their keys.
 struct Filtered {
     met: Met,
     keys: BTreeSet<u32>,
 }
 
-/// The properties to which those of two objects are filtered.
+/// The properties of the object to which two objects with these properties are filtered.
 fn filter_lists(a: &[Property], b: &[Property]) -> Result<Vec<Property>, FilterError> {
     let ours = Keyed::new(a)?;
     let theirs = Keyed::new(b)?;
@@ -57,8 +55,8 @@ fn filter_lists(a: &[Property], b: &[Property]) -> Result<Vec<Property>, FilterE
     Ok(both.met.into_properties())
 }
 
-/// The filtered properties so far, and behind them those for the keys of one side that aren't among them. `before` are the
-/// properties so far; it stands in the contract alone.
+/// Appends to the properties of the outcome those for the keys of one side that aren't among them yet. `before` are the properties whose keys
+/// are filtered already; only the contract uses it.
 fn filter_side(
     filtered: Filtered,
     before: &[Property],
@@ -77,7 +75,7 @@ fn filter_side(
     Ok(Filtered { met, keys })
 }
 
-/// What the two sides filter to under a key that one of them has.
+/// The property of the outcome under a key that at least one side has.
 fn filter_key(
     key: u32,
     ours: &Keyed<'_>,
@@ -95,7 +93,7 @@ fn filter_key(
     }
 }
 
-/// What two properties filter to.
+/// The property to which two properties with this key filter.
 fn both(key: u32, a: &Property, b: &Property) -> Result<Property, FilterError> {
     let value = common(key, &a.value, &b.value)?;
     Ok(Property {
@@ -105,7 +103,7 @@ fn both(key: u32, a: &Property, b: &Property) -> Result<Property, FilterError> {
     })
 }
 
-/// A property that one side alone has.
+/// A copy of a property that only one side has. Refused as `Missing` where it is MANDATORY.
 fn alone(key: u32, property: &Property) -> Result<Property, FilterError> {
     if property.flags.contains(PropertyFlags::MANDATORY) {
         return Err(FilterError::Missing(key));

@@ -1,13 +1,11 @@
-//! Two offers are filtered: to an object under each of whose keys stands a value that admits exactly what both sides admit.
+//! Filters two offers to an object that admits, under each key of both, exactly what both sides admit.
 use crate::shims::prelude::*;
 mod choices;
 mod common_pods;
 mod enums;
 mod error;
 mod filtering;
-mod keyed;
 pub mod laws;
-mod met;
 mod refused;
 mod settling;
 mod support;
@@ -15,7 +13,8 @@ mod types;
 mod values;
 
 pub use common_pods::put_common;
-pub use error::{FilterError, Side};
+pub use error::FilterError;
 pub use filtering::filter;
 pub use settling::settle;
+pub use crate::parts::spa_keyed_objects::Side;
 pub use values::common;

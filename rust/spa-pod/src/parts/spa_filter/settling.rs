@@ -1,15 +1,15 @@
-//! An object with each choice at its default.
+//! Settles an object: each choice at its default.
 
 use crate::shims::prelude::*;
-use crate::parts::spa_filter::met::{Met, push};
-use crate::parts::spa_offers::{Element, default_of, offer_of};
+use crate::parts::spa_filter_offers::{Element, default_of, offer_of};
+use crate::parts::spa_keyed_objects::{Met, push};
 use crate::parts::spa_utils::Choice;
 use crate::parts::spa_value::laws::{objects_are_their_fields, property_lists_are_in_order};
 use crate::parts::spa_value::{ChoiceValue, Object, Property, Value};
 use crate::shims::memory::AllocError;
 
-/// An object with each choice at its default, under all its keys and flags. What two objects are filtered to is by that a fixed
-/// object which both admit.
+/// The object with each property's choice at its default, and its type, id, keys and flags as they are. Of an object to which two were filtered
+/// this is a fixed object that both admit. Refused only for want of memory.
 pub fn settle(object: &Object) -> Result<Object, AllocError> {
     objects_are_their_fields();
     let properties = settled_list(object.properties.as_slice())?;
@@ -20,7 +20,7 @@ pub fn settle(object: &Object) -> Result<Object, AllocError> {
     })
 }
 
-/// Properties with each choice at its default.
+/// The properties with each choice at its default. Refused only for want of memory.
 fn settled_list(properties: &[Property]) -> Result<Vec<Property>, AllocError> {
     property_lists_are_in_order();
     let mut met = Met::new();
@@ -38,7 +38,7 @@ fn settled_list(properties: &[Property]) -> Result<Vec<Property>, AllocError> {
     Ok(met.into_properties())
 }
 
-/// The value itself where it is plain, and the default where it is a choice.
+/// A copy of the value where it is plain, and the default where it is a choice. Refused only for want of memory.
 fn settled(value: &Value) -> Result<Value, AllocError> {
     match value {
         Value::Choice(choice) => Ok(settled_choice(choice)),
@@ -61,7 +61,7 @@ fn settled_choice(choice: &ChoiceValue) -> Value {
     }
 }
 
-/// The same over one type.
+/// The default of a choice over the type `T`, as a value.
 fn default_value<T: Element>(choice: &Choice<T>) -> Value {
     let default = default_of(&offer_of(&choice.1));
     default.value()

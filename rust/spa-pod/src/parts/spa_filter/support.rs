@@ -1,20 +1,20 @@
-//! Whether a common value is sought for two values, where their pods lie.
+//! Whether a common value is sought for two values, by their borrowed pods.
 
 use crate::shims::prelude::*;
 use crate::parts::spa_filter::choices::VALUES_AT;
 use crate::parts::spa_filter::values::are_both;
 use crate::parts::spa_bytes::{HEADER_LEN, SECOND_WORD, open, u32_at};
-use crate::parts::spa_fixed::{FLAGS_SHAPE, RANGE_SHAPE, STEP_SHAPE};
+use crate::parts::spa_fixed_sized::{FLAGS_SHAPE, RANGE_SHAPE, STEP_SHAPE};
 use crate::parts::spa_utils::SpaTypes;
 
-/// What is asked of a value before it is met.
+/// What decides whether a common value is sought for a value and another.
 #[derive(Clone, Copy)]
 struct Support {
-    /// Whether a common value is sought for it.
+    /// Whether a common value is sought for it at all.
     is_supported: bool,
-    /// Whether it is Flags.
+    /// Whether it is a Flags choice.
     is_flags: bool,
-    /// Whether it is a Range or a Step.
+    /// Whether it is a Range or a Step choice.
     is_bounded: bool,
 }
 
@@ -34,7 +34,7 @@ pub(crate) fn are_supported(a: &[u8], b: &[u8]) -> bool {
     true
 }
 
-/// What is asked of the value of a pod.
+/// The `Support` of the value of a pod.
 fn support_of(pod: &[u8]) -> Support {
     let plain = Support {
         is_supported: true,
@@ -51,7 +51,7 @@ fn support_of(pod: &[u8]) -> Support {
     support_over(u32_at(front.body, 0), type_)
 }
 
-/// What is asked of a choice of this shape over values of this type.
+/// The `Support` of a choice of this shape over values of this type.
 fn support_over(shape: u32, type_: u32) -> Support {
     let is_supported = match shape {
         RANGE_SHAPE => has_order(type_),

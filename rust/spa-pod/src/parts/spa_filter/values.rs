@@ -2,7 +2,7 @@
 
 use crate::shims::prelude::*;
 use crate::parts::spa_filter::error::FilterError;
-use crate::parts::spa_offers::{Element, Offer, meet, meet_only, offer_of};
+use crate::parts::spa_filter_offers::{Element, Offer, meet, meet_only, offer_of};
 use crate::parts::spa_utils::{Choice, ChoiceEnum};
 use crate::parts::spa_value::laws::{equal_trees_are_the_same, trees_have_their_types};
 use crate::parts::spa_value::{ChoiceValue, Value, same};
@@ -31,7 +31,7 @@ fn is_supported(value: &Value) -> bool {
     }
 }
 
-/// The same of a choice.
+/// Whether a common value is sought for this choice.
 fn is_choice_supported(choice: &ChoiceValue) -> bool {
     match choice {
         ChoiceValue::Bool(choice) => is_shape_supported(choice),
@@ -46,7 +46,7 @@ fn is_choice_supported(choice: &ChoiceValue) -> bool {
     }
 }
 
-/// The same of a choice over one type.
+/// Whether a common value is sought for a choice of this shape over this type.
 pub(crate) fn is_shape_supported<T: Element>(choice: &Choice<T>) -> bool {
     match &choice.1 {
         ChoiceEnum::None(_) => true,
@@ -83,7 +83,7 @@ fn shapes(value: &Value) -> (bool, bool) {
     }
 }
 
-/// The same of a choice.
+/// Whether a choice is Flags, and whether it is a Range or a Step.
 fn choice_shapes(choice: &ChoiceValue) -> (bool, bool) {
     match choice {
         ChoiceValue::Bool(choice) => typed_shapes(choice),
@@ -98,7 +98,7 @@ fn choice_shapes(choice: &ChoiceValue) -> (bool, bool) {
     }
 }
 
-/// The same of a choice over one type.
+/// Whether a choice over one type is Flags, and whether it is a Range or a Step.
 fn typed_shapes<T: Element>(choice: &Choice<T>) -> (bool, bool) {
     match &choice.1 {
         ChoiceEnum::None(_) => (false, false),
@@ -136,7 +136,7 @@ fn values_meet(a: &Value, b: &Value) -> Result<Option<Value>, AllocError> {
     }
 }
 
-/// The same of two plain values.
+/// The value that two plain values have in common: either, where they are equal.
 fn plain_values_meet(a: &Value, b: &Value) -> Result<Option<Value>, AllocError> {
     trees_have_their_types();
     equal_trees_are_the_same();
@@ -146,7 +146,7 @@ fn plain_values_meet(a: &Value, b: &Value) -> Result<Option<Value>, AllocError> 
     Ok(None)
 }
 
-/// The same of a choice and any value.
+/// A value that admits exactly what the choice and the value both admit, where they admit one.
 fn choice_meets(choice: &ChoiceValue, b: &Value) -> Result<Option<Value>, AllocError> {
     match choice {
         ChoiceValue::Bool(choice) => typed_meets(choice, b),
@@ -161,7 +161,7 @@ fn choice_meets(choice: &ChoiceValue, b: &Value) -> Result<Option<Value>, AllocE
     }
 }
 
-/// The same of a choice over one type and any value.
+/// A value that admits exactly what a choice over one type and the value both admit, where they admit one.
 fn typed_meets<T: Element>(
     choice: &Choice<T>,
     b: &Value,
@@ -172,7 +172,7 @@ fn typed_meets<T: Element>(
     }
 }
 
-/// The same of a choice over one type and another choice.
+/// A value that admits exactly what a choice over one type and another choice both admit, where they admit one.
 fn typed_choices_meet<T: Element>(
     choice: &Choice<T>,
     other: &ChoiceValue,
@@ -183,7 +183,7 @@ fn typed_choices_meet<T: Element>(
     }
 }
 
-/// The same of a choice over one type and a plain value.
+/// The plain value, where the choice over one type admits it.
 fn typed_admits<T: Element>(choice: &Choice<T>, b: &Value) -> Option<Value> {
     match T::in_value(b) {
         Some(x) => meet_only(&offer_of(&choice.1), &Offer::Only(x), &x),
@@ -191,7 +191,7 @@ fn typed_admits<T: Element>(choice: &Choice<T>, b: &Value) -> Option<Value> {
     }
 }
 
-/// The same of a plain value and a choice.
+/// The plain value, where the choice admits it.
 fn plain_meets(a: &Value, choice: &ChoiceValue) -> Option<Value> {
     match choice {
         ChoiceValue::Bool(choice) => typed_admits(choice, a),

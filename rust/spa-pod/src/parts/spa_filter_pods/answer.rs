@@ -1,25 +1,25 @@
-//! What two objects filter to, as it is written property by property.
+//! Writes the object to which two objects filter, property by property.
 
 use crate::shims::prelude::*;
 use crate::parts::spa_filter_pods::common_pods::put_met;
 use crate::parts::spa_filter::FilterError;
-use crate::parts::spa_fronts::{ObjectView, PropertyView, finish, put_header, put_key, put_pod};
+use crate::parts::spa_object_view::{ObjectView, PropertyView, finish, put_header, put_key, put_pod};
 
-/// Where the properties of an object begin in its pod: behind its header, its type and its id.
+/// The offset in an object's pod at which its properties begin: behind its header, its type and its id.
 const PROPERTIES_AT: usize = 16;
 
 /// The flag of a property that the other side must have, too.
 const MANDATORY: u32 = 8;
 
-/// An answer, as far as it is written.
+/// The outcome, as far as it is written.
 pub(crate) struct Answer {
-    /// The header, whose size isn't there yet, and properties.
+    /// The header, with a size word of 0 for now, and the properties so far.
     pub(crate) bytes: Vec<u8>,
-    /// Whether a value was left out that can't be written.
+    /// Whether a value was left out since it can't be written.
     pub(crate) is_large: bool,
 }
 
-/// An answer without properties, with the type and the id of this object, and room for properties of the same length.
+/// An outcome without properties, with the type and the id of this object, and room for properties of the same length.
 pub(crate) fn begun(object: &ObjectView<'_>) -> Result<Answer, FilterError> {
     let Ok(mut bytes) = Vec::with_room(PROPERTIES_AT + object.properties.len()) else {
         return Err(FilterError::OutOfMemory);
@@ -33,7 +33,7 @@ pub(crate) fn begun(object: &ObjectView<'_>) -> Result<Answer, FilterError> {
     })
 }
 
-/// Puts a property that one side alone has.
+/// Appends a property that only one side has. Refused as `Missing` where it is MANDATORY.
 pub(crate) fn put_alone(out: &mut Answer, first: &PropertyView<'_>) -> Result<(), FilterError> {
     if first.flags & MANDATORY == MANDATORY {
         return Err(FilterError::Missing(first.key));
@@ -47,7 +47,7 @@ pub(crate) fn put_alone(out: &mut Answer, first: &PropertyView<'_>) -> Result<()
     Ok(())
 }
 
-/// Puts what two properties filter to, under the key of the first.
+/// Appends the property to which two properties filter, with the key of the first.
 pub(crate) fn put_both(
     out: &mut Answer,
     first: &PropertyView<'_>,
@@ -69,7 +69,7 @@ pub(crate) fn put_both(
     }
 }
 
-/// The bytes of an answer that has all its properties.
+/// The bytes of an outcome that has all its properties.
 pub(crate) fn ended(out: Answer) -> Result<Vec<u8>, FilterError> {
     let Answer {
         mut bytes,

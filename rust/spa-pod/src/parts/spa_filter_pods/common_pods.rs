@@ -1,11 +1,10 @@
-//! What two values filter to, from pod to pod.
+//! Filters two values, from their pods to the pod of the outcome.
 
 use crate::shims::prelude::*;
 use crate::parts::spa_filter::{FilterError, put_common};
-use crate::parts::spa_fronts::{are_same, is_plain, put_pod};
+use crate::parts::spa_object_view::{are_same, is_plain, put_pod};
 
-/// Appends the pod of a value that admits exactly what the values of two pods admit, which are written as their values are, and stand
-/// under this key.
+/// Appends the canonical pod of a value that admits exactly what the values of two canonical pods admit, which two objects have under this key.
 pub(crate) fn put_met(
     key: u32,
     out: &mut Vec<u8>,

@@ -1,4 +1,4 @@
-//! Filtering from bytes to bytes: the objects of two pods are filtered, and the answer is written.
+//! Filtering from bytes to bytes: filters the objects of two pods, and writes the outcome.
 use crate::shims::prelude::*;
 mod answer;
 mod common_pods;

@@ -1,15 +1,15 @@
-//! The objects of two pods are filtered.
+//! Filters the objects of two pods.
 
 use crate::shims::prelude::*;
 use crate::parts::spa_filter_pods::views::filter_objects;
 use crate::parts::spa_filter::{FilterError, Side};
 use crate::parts::spa_format::laws::pods_have_one_value;
-use crate::parts::spa_fronts::{NoObject, ObjectPod, object_in, object_pod};
+use crate::parts::spa_object_view::{NoObject, ObjectPod, object_in, object_pod};
 
-/// The encoding of the object to which the objects at the fronts of two inputs are filtered, by the rules of `filter`. What
-/// follows the two fronts doesn't count.
+/// Filters the objects at the fronts of two inputs by the rules of `filter`, and answers the encoding of the outcome. The bytes
+/// behind the two fronts don't count.
 ///
-/// The answer is one whole pod, which may still hold choices.
+/// The answer is one whole pod, which may still have choices.
 ///
 /// The refusals: `Unread` and `NotObject`, of the first side before the second; then those of `filter`; then `TooLarge`.
 pub fn filter_pods(a: &[u8], b: &[u8]) -> Result<Vec<u8>, FilterError> {
@@ -25,7 +25,7 @@ pub fn filter_pods(a: &[u8], b: &[u8]) -> Result<Vec<u8>, FilterError> {
     filter_objects(&ours, &theirs)
 }
 
-/// The pod of the object at the front of a side's bytes.
+/// The canonical pod of the object at the front of a side's bytes. Refused as `Unread` or `NotObject` of the side, and as `OutOfMemory`.
 fn object_at(bytes: &[u8], side: Side) -> Result<ObjectPod<'_>, FilterError> {
     match object_pod(bytes) {
         Ok(pod) => Ok(pod),

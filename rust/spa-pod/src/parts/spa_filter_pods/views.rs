@@ -1,11 +1,11 @@
-//! Two objects are filtered where they lie.
+//! Filters two objects by their zero-copy views.
 
 use crate::shims::prelude::*;
 use crate::parts::spa_filter_pods::answer::{Answer, begun, ended, put_alone, put_both};
 use crate::parts::spa_filter::FilterError;
-use crate::parts::spa_fronts::{Keyed, ObjectView, PropertyView, first_property, raised};
+use crate::parts::spa_object_view::{Keyed, ObjectView, PropertyView, first_property, raised};
 
-/// The bytes of the object to which two objects are filtered.
+/// The encoding of the object to which two objects are filtered.
 pub(crate) fn filter_objects(
     ours: &ObjectView<'_>,
     theirs: &ObjectView<'_>,
@@ -21,7 +21,7 @@ pub(crate) fn filter_objects(
     ended(out)
 }
 
-/// Filters the keys of the first side.
+/// Appends the properties for the keys of the first side.
 fn filter_first(
     out: &mut Answer,
     ours: &Keyed<'_>,
@@ -39,7 +39,7 @@ fn filter_first(
     Ok(())
 }
 
-/// Filters the keys that the second side alone has.
+/// Appends the properties for the keys that only the second side has.
 fn filter_others(out: &mut Answer, ours: &Keyed<'_>, theirs: &Keyed<'_>) -> Result<(), FilterError> {
     let mut left = theirs.properties;
     let mut bound = 0;
@@ -53,7 +53,7 @@ fn filter_others(out: &mut Answer, ours: &Keyed<'_>, theirs: &Keyed<'_>) -> Resu
     Ok(())
 }
 
-/// Filters the key of a property of the first side.
+/// Appends the property for the key of a property of the first side.
 fn put_filtered(
     out: &mut Answer,
     first: &PropertyView<'_>,

@@ -1,4 +1,4 @@
-//! The pod format: its definitions, which stand in `specs/`, and their laws.
+//! The pod format: its definitions, which are in `specs/`, and their laws.
 use crate::shims::prelude::*;
 pub mod laws;
 pub mod lenient_laws;

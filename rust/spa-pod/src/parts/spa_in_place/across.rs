@@ -1,18 +1,17 @@
-//! Rewritings written elsewhere, of pods that may get shorter.
+//! Pods rewritten into another buffer, where they may get shorter.
 
 use crate::shims::prelude::*;
 use crate::parts::spa_bytes::{
     HEADER_LEN, extent_of, joined, open, two_words, u32_at, u64_at, wide_body, word_body,
 };
 use crate::parts::spa_rewrite::{
-    SECOND_HEADER, begins_word, behind_key, patch_all, patch_leaf, patch_values, surplus_of_each,
-    taken_len,
+    SECOND_HEADER, begins_word, behind_key, canonical_stretch, patch_all, patch_leaf, patch_values,
+    surplus_of_each, taken_len,
 };
-use crate::parts::spa_scan::canonical_stretch;
 use crate::parts::spa_utils::SpaTypes;
 
-/// Puts the rewritings of all pods that the input is at the front of an output that is at least as long as the input, and answers how many
-/// bytes they take; what is behind them stays as it was. To a shorter output it writes nothing, and only answers that. It takes no memory.
+/// Writes the rewritings of all pods of the input to the front of an output that is at least as long as the input, and answers how many
+/// bytes they take; what is behind them stays as it was. To a shorter output it writes nothing, and answers the length alone. It takes no memory.
 ///
 /// `None` says that the input isn't pods one after another, or that structs and objects stand more than `LEVELS` deep in one another in
 /// them: then it writes nothing.
@@ -38,7 +37,7 @@ fn put_first(bytes: &[u8], out: &mut [u8]) {
     }
 }
 
-/// By how many bytes the rewritings of all pods that the bytes are are shorter than these. `None` says what it says there.
+/// By how many bytes the rewritings of all pods are shorter than these. `None` says what `surplus_of_each` says by it.
 #[cfg_attr(not(debug_assertions), inline(always))]
 pub(crate) fn surplus_behind(pods: &[u8]) -> Option<usize> {
     if pods.is_empty() {
@@ -61,7 +60,7 @@ fn write_rest(surplus: usize, pods: &[u8], out: &mut [u8]) {
     write_steady(surplus, pods, out);
 }
 
-/// The same of pods that aren't shorter: patched in a copy.
+/// Writes the rewritings of pods that don't get shorter: these are copied, and patched in the copy.
 #[inline(never)]
 fn write_steady(surplus: usize, pods: &[u8], out: &mut [u8]) {
     let len = pods.len() - surplus;
@@ -94,7 +93,7 @@ fn write_front(type_: u32, size: usize, pod: &[u8], out: &mut [u8]) -> usize {
     }
 }
 
-/// The same of a pod that holds no others, or of one that no value says.
+/// Does what `write_leaf` does, by a call of its own.
 #[inline(never)]
 fn write_alone(type_: u32, size: usize, pod: &[u8], out: &mut [u8]) -> usize {
     write_leaf(type_, size, pod, out)
@@ -126,7 +125,7 @@ fn write_pods(keyed: bool, pods: &[u8], out: &mut [u8]) -> usize {
     }
 }
 
-/// The same of the pod at the front, which is a word and no truth value.
+/// Writes the rewriting of the pod at the front, which is a word and no truth value.
 #[cfg_attr(not(debug_assertions), inline(always))]
 fn write_word(pods: &[u8], out: &mut [u8]) {
     let body = word_body(u32_at(pods, HEADER_LEN));
@@ -155,7 +154,7 @@ fn first_words(bytes: &[u8]) -> [u8; 8] {
     wide_body(u64_at(bytes, 0))
 }
 
-/// The same of one pod.
+/// Writes the rewriting of one pod to the front of an output, and answers how many bytes it takes.
 #[cfg_attr(not(debug_assertions), inline(always))]
 fn write_pod(type_: u32, size: usize, pod: &[u8], out: &mut [u8]) -> usize {
     match holds_whole(type_, size) {
@@ -179,7 +178,7 @@ pub(crate) fn holds_whole(type_: u32, size: usize) -> Option<bool> {
     None
 }
 
-/// The same of a struct or an object: what it holds, and then its header.
+/// Writes the rewriting of a struct or an object: of its pods, and then its header.
 #[cfg_attr(not(debug_assertions), inline(always))]
 fn write_inner(keyed: bool, pod: &[u8], out: &mut [u8]) -> usize {
     let from = put_key(keyed, &pod[HEADER_LEN..], out, HEADER_LEN);
@@ -199,7 +198,7 @@ pub(crate) fn inner_type(keyed: bool) -> u32 {
     }
 }
 
-/// The same of a pod that holds no others, or of one that no value says.
+/// Writes the rewriting of a pod that holds no others. Of one that no value says it promises only what stays as it was.
 #[cfg_attr(not(debug_assertions), inline(always))]
 fn write_leaf(type_: u32, size: usize, pod: &[u8], out: &mut [u8]) -> usize {
     match SpaTypes(type_) {
@@ -216,7 +215,7 @@ fn write_leaf(type_: u32, size: usize, pod: &[u8], out: &mut [u8]) -> usize {
     }
 }
 
-/// The same of a choice: copied without its surplus values, and patched there.
+/// Writes the rewriting of a choice: it is copied without its surplus values, and patched there.
 #[cfg_attr(not(debug_assertions), inline(always))]
 fn write_choice(size: usize, pod: &[u8], out: &mut [u8]) -> usize {
     if size < SECOND_HEADER {

@@ -2,12 +2,12 @@
 
 use crate::shims::prelude::*;
 use crate::parts::spa_in_place::place::place_all;
-use crate::parts::spa_fixed::{DeserializeError, Fault};
-use crate::parts::spa_leaf::error_at;
+use crate::parts::spa_bodies::error_at;
+use crate::parts::spa_fixed_sized::{DeserializeError, Fault};
 use crate::parts::spa_rewrite::{
-    Rejected, look_at_pods, patch_all, rewrite_in_parts, steady_stretch, surplus_of_all,
+    Rejected, canonical_stretch, look_at_pods, patch_all, rewrite_in_parts, steady_stretch,
+    surplus_of_all,
 };
-use crate::parts::spa_scan::canonical_stretch;
 
 /// Puts the rewritings of all pods that the bytes are at their front, and answers how many bytes these take: never more than the
 /// pods took. The bytes behind them stay as they were.

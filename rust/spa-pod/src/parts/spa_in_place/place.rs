@@ -1,13 +1,13 @@
-//! Pods that may get shorter, made their rewritings at the front of where they lie.
+//! Pods compacted in place: their rewritings, which may be shorter, at the front of the buffer.
 
 use crate::shims::prelude::*;
 use crate::parts::spa_in_place::across::{holds_whole, inner_type};
 use crate::parts::spa_bytes::{HEADER_LEN, extent_of, open, two_words, u32_at};
 use crate::parts::spa_rewrite::{
-    SECOND_HEADER, behind_key, patch_all, patch_leaf, patch_values, place_behind, steady_stretch,
-    taken_len,
+    SECOND_HEADER, behind_key, canonical_stretch, patch_all, patch_leaf, patch_values,
+    place_behind, steady_stretch, taken_len,
 };
-use crate::parts::spa_scan::{canonical_stretch, leaf_members, leaf_properties};
+use crate::parts::spa_scan::{leaf_members, leaf_properties};
 use crate::parts::spa_utils::SpaTypes;
 
 /// How many bytes a run has at least that was worth the look.
@@ -16,8 +16,8 @@ const LONG_RUN: usize = 64;
 /// How many bytes are moved pod by pod, where a list in a pod begins or a run was shorter, before the next run is looked for.
 const UNLOOKED: usize = 1024;
 
-/// Makes all pods that the bytes are, which are so many bytes shorter then, their rewritings at their front, and answers how many bytes these
-/// take. Structs and objects may stand at any depth that end where the one around them does: where they end then is known before.
+/// Replaces all pods of a buffer by their rewritings, which are so many bytes shorter, at its front, and answers how many bytes these take. A
+/// struct or object that ends where the one around it does may stand at any depth: its new end is known before.
 #[inline(never)]
 pub(crate) fn place_all(surplus: usize, bytes: &mut [u8]) -> usize {
     if bytes.is_empty() {
@@ -26,11 +26,11 @@ pub(crate) fn place_all(surplus: usize, bytes: &mut [u8]) -> usize {
     let end = bytes.len() - surplus;
     let (mut outermost, mut keyed) = (true, false);
     // A look at all pods has ended at the first.
-    let (mut look_at, mut noisy) = (1, false);
+    let (mut look_at, mut unpatched) = (1, false);
     let (mut from, mut to) = (0, 0);
     loop {
-        if let Some(run) = run_len(outermost, keyed, &mut look_at, &mut noisy, bytes, from) {
-            put_run(noisy, bytes, from, to, run);
+        if let Some(run) = run_len(outermost, keyed, &mut look_at, &mut unpatched, bytes, from) {
+            put_run(unpatched, bytes, from, to, run);
             from += run;
             to += run;
             continue;
@@ -61,29 +61,29 @@ pub(crate) fn place_all(surplus: usize, bytes: &mut [u8]) -> usize {
 }
 
 /// How many bytes the pods from a place on take that are a run, with key and flags before each where `keyed` is set, if there is one; and
-/// whether it is noisy. Before the place to look at none is looked for. That goes on: behind a run to the pod behind the one that ended it.
+/// whether it is unpatched. Before the place to look at none is looked for. That goes on: behind a run to the pod behind the one that ended it.
 #[cfg_attr(not(debug_assertions), inline(always))]
 fn run_len(
     outermost: bool,
     keyed: bool,
     look_at: &mut usize,
-    noisy: &mut bool,
+    unpatched: &mut bool,
     bytes: &[u8],
     from: usize,
 ) -> Option<usize> {
     if from < *look_at {
         return None;
     }
-    let len = run_at(outermost, keyed, noisy, &bytes[from..]);
+    let len = run_at(outermost, keyed, unpatched, &bytes[from..]);
     let unlooked = if len < LONG_RUN { UNLOOKED } else { 1 };
     *look_at = from.saturating_add(len).saturating_add(unlooked);
     if len == 0 { None } else { Some(len) }
 }
 
-/// How many bytes the first of these pods take that are their own rewritings; where these are few of the outermost pods, the noisy ones that
-/// are as long. Inside others only leaves are looked at: a look at structs would be one at each level that they stand in.
-fn run_at(outermost: bool, keyed: bool, noisy: &mut bool, left: &[u8]) -> usize {
-    *noisy = false;
+/// How many bytes the first canonical pods take; where these are few of the outermost pods, those whose encodings are as long as they are. Inside
+/// others only pods that hold none are looked at: a look at structs would be one at each level that they stand in.
+fn run_at(outermost: bool, keyed: bool, unpatched: &mut bool, left: &[u8]) -> usize {
+    *unpatched = false;
     if keyed {
         let (run, _) = leaf_properties(left);
         return run.len();
@@ -96,16 +96,16 @@ fn run_at(outermost: bool, keyed: bool, noisy: &mut bool, left: &[u8]) -> usize 
     if own.len() >= LONG_RUN {
         return own.len();
     }
-    *noisy = true;
+    *unpatched = true;
     let (steady, _) = steady_stretch(left);
     steady.len()
 }
 
-/// Moves a run from one place down to another, and makes noisy pods their rewritings there.
+/// Moves a run from one place down to another, and replaces pods that aren't canonical by their encodings there.
 #[cfg_attr(not(debug_assertions), inline(always))]
-fn put_run(noisy: bool, bytes: &mut [u8], from: usize, to: usize, len: usize) {
+fn put_run(unpatched: bool, bytes: &mut [u8], from: usize, to: usize, len: usize) {
     move_run(bytes, from, to, len);
-    if noisy {
+    if unpatched {
         patch_all(&mut bytes[to..to + len]);
     }
 }
@@ -140,15 +140,15 @@ fn put_header(keyed: bool, bytes: &mut [u8], at: usize, to: usize, end: usize) -
     move_key(keyed, bytes, at + HEADER_LEN, body)
 }
 
-/// Makes the pods behind the first `gap` bytes their rewritings, at the front of all these bytes, with key and flags before each where
+/// Replaces the pods behind the first `gap` bytes by their rewritings, at the front of all these bytes, with key and flags before each where
 /// `keyed` is set, and answers how many bytes they take. Of bytes that aren't such pods it promises only what stays as it was.
 fn place(keyed: bool, bytes: &mut [u8], gap: usize) -> usize {
-    let (mut look_at, mut noisy) = (gap.saturating_add(UNLOOKED), false);
+    let (mut look_at, mut unpatched) = (gap.saturating_add(UNLOOKED), false);
     let mut to = 0;
     let mut from = gap;
     loop {
-        if let Some(run) = run_len(false, keyed, &mut look_at, &mut noisy, bytes, from) {
-            put_run(noisy, bytes, from, to, run);
+        if let Some(run) = run_len(false, keyed, &mut look_at, &mut unpatched, bytes, from) {
+            put_run(unpatched, bytes, from, to, run);
             from += run;
             to += run;
             continue;
@@ -186,7 +186,7 @@ fn move_down(bytes: &mut [u8], gap: usize, len: usize) {
     bytes.copy_within(gap..gap + len, 0);
 }
 
-/// The same of one pod.
+/// Replaces the pod behind the first `gap` bytes by its rewriting, at the front of all these bytes, and answers how many bytes it takes.
 fn place_pod(type_: u32, size: usize, bytes: &mut [u8], gap: usize) -> usize {
     match holds_whole(type_, size) {
         Some(keyed) => place_inner(keyed, bytes, gap),
@@ -194,7 +194,7 @@ fn place_pod(type_: u32, size: usize, bytes: &mut [u8], gap: usize) -> usize {
     }
 }
 
-/// The same of a struct or an object: what it holds, and then its header.
+/// Replaces a struct or an object there: its pods, and then its header.
 fn place_inner(keyed: bool, bytes: &mut [u8], gap: usize) -> usize {
     let from = move_key(keyed, bytes, gap + HEADER_LEN, HEADER_LEN);
     let len = from + place(keyed, &mut bytes[from..], gap);
@@ -203,7 +203,7 @@ fn place_inner(keyed: bool, bytes: &mut [u8], gap: usize) -> usize {
     len
 }
 
-/// The same of a pod that holds no others, or of one that no value says.
+/// Replaces a pod there that holds no others. Of one that no value says it promises only what stays as it was.
 fn place_leaf(type_: u32, size: usize, bytes: &mut [u8], gap: usize) -> usize {
     match SpaTypes(type_) {
         SpaTypes::Struct => 0,
@@ -219,7 +219,7 @@ fn place_leaf(type_: u32, size: usize, bytes: &mut [u8], gap: usize) -> usize {
     }
 }
 
-/// The same of a choice: moved without its surplus values, and patched there.
+/// Replaces a choice there: it is moved without its surplus values, and patched.
 fn place_choice(size: usize, bytes: &mut [u8], gap: usize) -> usize {
     if size < SECOND_HEADER {
         return 0;

@@ -1,18 +1,18 @@
-//! The lenient rewritings of all pods of a buffer, in place or in a buffer of the caller's.
+//! Rewrites all pods of a buffer leniently, in place or into a buffer of the caller's.
 
 use crate::shims::prelude::*;
 use crate::parts::spa_lenient::rewriting::{append_all, rewrite_all_leniently};
-use crate::parts::spa_fixed::{DeserializeError, Fault, FaultKind, Refusal};
+use crate::parts::spa_fixed_sized::{DeserializeError, Fault, FaultKind, Refusal};
 use crate::parts::spa_in_place::{rewrite_in_place, rewrite_into};
 
-/// Puts the lenient rewritings of all pods that the bytes consist of at their front, and answers how many bytes these take: never more than
-/// there were. The bytes behind them stay as they were.
+/// Rewrites all pods that the bytes consist of leniently in place, and answers the length of the outcome in bytes: never more than there were. The
+/// bytes behind it are unchanged.
 ///
-/// The call is refused exactly as `rewrite_all_leniently`, and then no byte is changed. A refusal gives how many bytes stand before the
-/// refused pod, and what is wrong with that one, without the place inside it: a lenient read of the bytes from there on gives that too.
+/// The call is refused exactly as `rewrite_all_leniently`, and then no byte is changed. A refusal gives the offset of the refused pod, and its
+/// cause without the place inside the pod: a lenient read of the bytes from that offset on gives the place, too.
 ///
-/// Pods that are accepted exactly are rewritten as `rewrite_in_place` does, which takes no memory where structs and objects stand at most `LEVELS`
-/// deep in one another. Where one isn't, memory is asked for the rewritings of all and for the value of that one.
+/// Pods that the exact reading accepts are rewritten as by `rewrite_in_place`, which takes no memory where their nesting depth is at most `LEVELS`.
+/// Where a pod is accepted only leniently, memory is asked for the rewritings of all pods and for the value of that one.
 pub fn rewrite_in_place_leniently(
     bytes: &mut [u8],
 ) -> Result<usize, (usize, DeserializeError<()>)> {
@@ -32,12 +32,12 @@ pub fn rewrite_in_place_leniently(
     Ok(rewritten.len())
 }
 
-/// Puts the lenient rewritings of all pods that the input consists of at the front of an output that is at least as long as the input, and answers
-/// how many bytes they take: never more than the input has. What is behind them stays as it was. To a shorter output it writes nothing, and
-/// only answers that.
+/// Rewrites all pods that the input consists of leniently, to the front of an output that is at least as long as the input, and answers the length
+/// of the outcome in bytes: never more than the input has. The output behind it is unchanged. For a shorter output only the length is answered, and
+/// nothing is written.
 ///
-/// The call is refused exactly as `rewrite_all_leniently`, and then nothing is written. Pods that are accepted exactly are rewritten as `rewrite_into`
-/// does, without memory, where structs and objects stand at most `LEVELS` deep in one another; else memory is asked for the rewritings of all.
+/// The call is refused exactly as `rewrite_all_leniently`, and then nothing is written. Pods that the exact reading accepts are rewritten as by
+/// `rewrite_into`, without memory, where their nesting depth is at most `LEVELS`; else memory is asked for the rewritings of all pods.
 pub fn rewrite_into_leniently<'a>(
     input: &'a [u8],
     out: &mut [u8],
@@ -53,12 +53,12 @@ pub fn rewrite_into_leniently<'a>(
     Ok(rewritten.len())
 }
 
-/// Puts bytes at the front of an output that is at least as long.
+/// Copies bytes to the front of an output that is at least as long.
 fn put_first(bytes: &[u8], out: &mut [u8]) {
     out[..bytes.len()].copy_from_slice(bytes);
 }
 
-/// The cause of a refusal, without the place.
+/// The public refusal without a place.
 fn cause_of(why: Refusal) -> DeserializeError<()> {
     match why {
         Refusal::Short => DeserializeError::Nom(Fault {

@@ -1,4 +1,4 @@
-//! Rewriting in the lenient reading: what other programs leave in place of a pod is rewritten as the value that it conveys.
+//! Rewriting in the lenient reading: bytes that other programs leave in place of a pod are rewritten as the value that they convey.
 use crate::shims::prelude::*;
 mod in_place;
 mod rewriting;

@@ -1,9 +1,9 @@
-//! The lenient rewriting of a pod is the encoding of the value that it conveys.
+//! Rewrites pods leniently: to the encoding of the value that the bytes convey.
 
 use crate::shims::prelude::*;
+use crate::parts::spa_bodies::{close, error_at};
 use crate::parts::spa_bytes::{open, two_words};
-use crate::parts::spa_fixed::{DeserializeError, Refusal};
-use crate::parts::spa_leaf::{close, error_at};
+use crate::parts::spa_fixed_sized::{DeserializeError, Refusal};
 use crate::parts::spa_read::{Refused, read_value_leniently};
 use crate::parts::spa_rewrite::{rewrite, rewrite_all};
 use crate::parts::spa_sink::GenError;
@@ -12,12 +12,13 @@ use crate::parts::spa_value::{Value, discard};
 use crate::parts::spa_write::write_value;
 use crate::shims::memory::{AllocError, AllocFailed};
 
-/// The encoding of the value that the front of the input conveys in the lenient reading, and what follows that front.
+/// Rewrites the front of the input leniently: answers the bytes that follow the front, and the encoding of the value that it conveys in the
+/// lenient reading.
 ///
 /// Unless memory runs out, this succeeds exactly where the front that the first size word names is there and conveys a value. An accepted pod costs
-/// what `rewrite` takes, and gives the same. The lenient rewriting is a pod, and its own lenient rewriting: `lenient_rewritings_are_pods` and
-/// `lenient_rewritings_stay` of `spa_format` say so. The refusals are those of `PodDeserializer::deserialize_any_leniently_from`, but that
-/// memory may also run out for the encoding.
+/// what `rewrite` costs, and gives the same. The lenient rewriting is a canonical pod, which a lenient rewriting doesn't change:
+/// `lenient_rewritings_are_pods` and `lenient_rewritings_stay` of `spa_format` say so. The refusals are those of
+/// `PodDeserializer::deserialize_any_leniently_from`, but that memory may also run out for the encoding.
 pub fn rewrite_leniently(
     input: &[u8],
 ) -> Result<(&[u8], Vec<u8>), DeserializeError<&[u8]>> {
@@ -36,9 +37,9 @@ pub fn rewrite_leniently(
 /// Appends the lenient rewritings of all pods that the input consists of. Memory is asked for by the allocator of `out`.
 ///
 /// Unless memory runs out, this succeeds exactly where the input conveys values one after another without remainder, or is empty. A refusal gives
-/// what is left of the input from the refused pod on, with the refusal of that pod, and `out` holds what it held before the call. It takes
-/// time in proportion to the input: pods that are accepted exactly are rewritten as `rewrite_all` does, twice where one that isn't
-/// follows them. Of a struct that isn't accepted so are its members, and only those that aren't are read as values.
+/// the remaining input from the refused pod on, with the refusal of that pod, and `out` is unchanged. The time is proportional to the input: pods
+/// that the exact reading accepts are rewritten as by `rewrite_all`, and twice where one that it doesn't accept follows them. The members of a
+/// struct that it doesn't accept are rewritten in the same way, and only the members that it doesn't accept are read as values.
 pub fn rewrite_all_leniently<'a>(
     input: &'a [u8],
     out: &mut Vec<u8>,
@@ -49,7 +50,7 @@ pub fn rewrite_all_leniently<'a>(
     }
 }
 
-/// Does what `rewrite_all_leniently` does, with the refused pod's place and cause apart.
+/// Appends the lenient rewritings as `rewrite_all_leniently` does, but gives the inner refusal.
 pub(crate) fn append_all<'a>(
     input: &'a [u8],
     out: &mut Vec<u8>,
@@ -77,7 +78,7 @@ pub(crate) fn append_all<'a>(
     }
 }
 
-/// The refusal of what begins there, for want of memory.
+/// The refusal for want of memory at this place.
 fn lacking_memory(place: &[u8]) -> Refused<'_> {
     Refused {
         place,
@@ -85,8 +86,8 @@ fn lacking_memory(place: &[u8]) -> Refused<'_> {
     }
 }
 
-/// Appends the rewritings of the first pods, up to one that isn't accepted, and answers what is left from that one on, which is nothing where all
-/// are. Where memory runs out, it appends nothing, and answers what is left from the pod on at which it did.
+/// Appends the encodings of the first pods, up to one that the exact reading doesn't accept, and answers the bytes from that one on, which are none
+/// where it accepts all. Refused for want of memory with the bytes from the pod on at which it ran out: nothing is appended then.
 fn append_accepted<'a>(input: &'a [u8], out: &mut Vec<u8>) -> Result<&'a [u8], &'a [u8]> {
     let pod = match rewrite_all(input, out) {
         Ok(()) => {
@@ -113,7 +114,8 @@ fn append_leniently<'a>(input: &'a [u8], out: &mut Vec<u8>) -> Result<&'a [u8], 
     }
 }
 
-/// Does so for a struct, if all its members convey values and memory suffices: else it appends nothing.
+/// Appends the lenient rewriting of the struct at the front, and answers the bytes that follow it. None, and nothing appended: the front is no
+/// struct, a member conveys no value, or memory ran out.
 fn append_struct<'a>(input: &'a [u8], out: &mut Vec<u8>) -> Option<&'a [u8]> {
     let front = open(input)?;
     if front.type_ != SpaTypes::Struct.0 {
@@ -127,7 +129,7 @@ fn append_struct<'a>(input: &'a [u8], out: &mut Vec<u8>) -> Option<&'a [u8]> {
     None
 }
 
-/// Appends the encoding of a struct of the values that these bytes convey one after another, and answers whether it could.
+/// Appends the encoding of a struct of the values that these bytes convey one after another. False: they don't, or memory ran out.
 fn append_struct_of(body: &[u8], out: &mut Vec<u8>) -> bool {
     let start = out.len();
     let header = two_words(0, SpaTypes::Struct.0);
@@ -143,7 +145,7 @@ fn append_struct_of(body: &[u8], out: &mut Vec<u8>) -> bool {
     true
 }
 
-/// Appends the encodings of the values that these bytes convey one after another, and answers whether it could.
+/// Appends the encodings of the values that these bytes convey one after another. False: they don't, or memory ran out.
 fn append_members(body: &[u8], out: &mut Vec<u8>) -> bool {
     let mut left = body;
     loop {
@@ -160,7 +162,7 @@ fn append_members(body: &[u8], out: &mut Vec<u8>) -> bool {
     }
 }
 
-/// Appends the lenient rewriting of the front of the input, which is read for that, and answers what follows the front.
+/// Reads the front of the input leniently, appends the value's encoding, and answers the bytes that follow the front.
 fn append_by_value<'a>(input: &'a [u8], out: &mut Vec<u8>) -> Result<&'a [u8], Refused<'a>> {
     let (rest, value) = read_value_leniently(input)?;
     let written = append_value(&value, out);
@@ -171,7 +173,7 @@ fn append_by_value<'a>(input: &'a [u8], out: &mut Vec<u8>) -> Result<&'a [u8], R
     }
 }
 
-/// Appends the encoding of a value that can be written, unless memory runs out.
+/// Appends the encoding of a value that can be written. Refused only for want of memory: nothing is appended then.
 fn append_value(value: &Value, out: &mut Vec<u8>) -> Result<(), AllocError> {
     let start = out.len();
     match write_value(out, value) {

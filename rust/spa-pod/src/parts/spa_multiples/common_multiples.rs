@@ -1,13 +1,13 @@
 //! Multiples that two numbers have in common.
 
 use crate::shims::prelude::*;
-/// Whether a number is a multiple of a step. No number is one of 0.
+/// Whether a number is a multiple of a step. No number is a multiple of 0.
 pub fn is_multiple(number: u64, step: u64) -> bool {
     step > 0 && number % step == 0
 }
 
-/// The number whose multiples are those of both, which is their least common multiple, and 0 where one of them is 0. None
-/// where it is 2^64 or more: of the numbers below, 0 alone is a multiple of both then.
+/// The number whose multiples are the common multiples of both: their least common multiple, or 0 where one of them is 0. None: it is 2^64 or
+/// more, so that of the numbers below 2^64 only 0 is a multiple of both.
 pub fn common_multiple(x: u64, y: u64) -> Option<u64> {
     if x == 0 || y == 0 {
         return Some(0);

@@ -1,7 +1,7 @@
-//! The first multiple of a step from a number on.
+//! The first multiple of a step between two bounds.
 
 use crate::shims::prelude::*;
-/// The least multiple of a step from a number to another. None where there is none, as of 0.
+/// The least multiple of a step from `low` to `high`. None: there is none; of the step 0 there never is.
 pub fn first_multiple(low: u64, high: u64, step: u64) -> Option<u64> {
     if step == 0 {
         return None;
@@ -16,7 +16,7 @@ pub fn first_multiple(low: u64, high: u64, step: u64) -> Option<u64> {
     }
 }
 
-/// The same from a number to another that may be below 0: multiples are told by their magnitudes.
+/// The least multiple of a step from `low` to `high`, which may be below 0: a number is a multiple where its magnitude is. None: there is none.
 pub fn first_signed(low: i64, high: i64, step: u64) -> Option<i64> {
     if step == 0 {
         return None;
@@ -33,12 +33,12 @@ pub fn first_signed(low: i64, high: i64, step: u64) -> Option<i64> {
     }
 }
 
-/// A number that isn't above another.
+/// The number `found` where it isn't above `high`, else None.
 fn within(found: u64, high: u64) -> Option<u64> {
     if found <= high { Some(found) } else { None }
 }
 
-/// The multiple of a step that is next to a number below 0, towards 0.
+/// The multiple of a step that is next to `low`, which is below 0, towards 0.
 fn towards_zero(low: i64, step: u64) -> i64 {
     let size = low.unsigned_abs();
     let rest = size % step;
@@ -48,7 +48,7 @@ fn towards_zero(low: i64, step: u64) -> i64 {
     low + rest as i64
 }
 
-/// The same of a number that may be below 0.
+/// The number `found`, which may be below 0, where it isn't above `high`, else None.
 fn up_to(found: i64, high: i64) -> Option<i64> {
     if found <= high { Some(found) } else { None }
 }

@@ -1,4 +1,4 @@
-//! Multiples: common ones of two numbers, and the first one from a number on.
+//! Multiples: common ones of two numbers, and the first one between two bounds.
 use crate::shims::prelude::*;
 mod common_multiples;
 mod first;

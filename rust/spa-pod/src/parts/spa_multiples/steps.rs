@@ -3,20 +3,19 @@
 use crate::shims::prelude::*;
 use crate::parts::spa_multiples::common_multiples::common_multiple;
 
-/// The multiples of a step from one number to another, told by the magnitudes of both.
+/// The multiples of a step from one number to another: the numbers whose magnitude is a multiple of the step's.
 #[derive(Clone, Copy, PartialEq, Eq, Debug)]
 pub struct Steps {
     /// The least number that may be one of them.
     pub low: i64,
-    /// The greatest one.
+    /// The greatest number that may be one of them.
     pub high: i64,
     /// The step, which may be below 0.
     pub step: i64,
 }
 
-/// Those multiples that are multiples of another step too. The numbers are from a least to a greatest one, as those of a type
-/// are. Where the least common multiple isn't among these, 0 alone may be a multiple of both: then no bound is on the far side
-/// of 0, and the step stays.
+/// The numbers of `steps` that are multiples of another step, too. `least` and `greatest` are the bounds of a number type. Where the least common
+/// multiple isn't within them, only 0 may be a multiple of both: then `low` becomes at least 0, `high` at most 0, and the step stays.
 pub fn narrowed(steps: &Steps, other: i64, least: i64, greatest: i64) -> Steps {
     match common_step(steps.step, other, least, greatest) {
         Some(step) => Steps {
@@ -32,7 +31,7 @@ pub fn narrowed(steps: &Steps, other: i64, least: i64, greatest: i64) -> Steps {
     }
 }
 
-/// The step from the least to the greatest number whose multiples are those of both.
+/// The step from `least` to `greatest` whose multiples are the common multiples of both steps. None: only 0 is one there.
 fn common_step(x: i64, y: i64, least: i64, greatest: i64) -> Option<i64> {
     match common_multiple(x.unsigned_abs(), y.unsigned_abs()) {
         Some(common) => of_magnitude(common, least, greatest),
@@ -40,7 +39,7 @@ fn common_step(x: i64, y: i64, least: i64, greatest: i64) -> Option<i64> {
     }
 }
 
-/// The number from the least to the greatest with this magnitude, above 0 where there is one.
+/// The number from `least` to `greatest` with this magnitude, the positive one where it is there. None: neither is there.
 fn of_magnitude(magnitude: u64, least: i64, greatest: i64) -> Option<i64> {
     if magnitude <= greatest.unsigned_abs() {
         return Some(magnitude as i64);

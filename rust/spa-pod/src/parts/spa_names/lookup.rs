@@ -1,4 +1,4 @@
-//! Names looked up by numbers, and numbers by names.
+//! Looks names up by numbers, and numbers by names.
 
 use crate::shims::prelude::*;
 use crate::parts::spa_names::contents::{entries_of, namings_of};
@@ -7,7 +7,7 @@ use crate::parts::spa_names::key_entries::EXPECTED;
 use crate::parts::spa_names::table::{OBJECTS, Table};
 use crate::parts::spa_utils::SpaTypes;
 
-/// The name of a number.
+/// The name of a number. None: the table has none.
 pub fn name_of(table: Table, number: u32) -> Option<&'static str> {
     match entry_of(table, number) {
         Some(entry) => Some(&entry.1[entry.2..]),
@@ -15,7 +15,7 @@ pub fn name_of(table: Table, number: u32) -> Option<&'static str> {
     }
 }
 
-/// PipeWire's own name for a number, of which its name is an end.
+/// PipeWire's own name for a number, which ends in its name. None: the table has none.
 pub fn path_of(table: Table, number: u32) -> Option<&'static str> {
     match entry_of(table, number) {
         Some(entry) => Some(entry.1),
@@ -23,7 +23,7 @@ pub fn path_of(table: Table, number: u32) -> Option<&'static str> {
     }
 }
 
-/// What is expected under a key, by the table of its object's keys.
+/// What is expected of the value under a key, by the table of its object's keys.
 pub fn expected_under(keys: Table, key: u32) -> Expected {
     match entry_of(keys, key) {
         Some(entry) => expected_at(entry.3),
@@ -31,7 +31,7 @@ pub fn expected_under(keys: Table, key: u32) -> Expected {
     }
 }
 
-/// What stands there in `EXPECTED`.
+/// The element of `EXPECTED` at this index.
 fn expected_at(place: usize) -> Expected {
     let expected: &'static [Expected] = &EXPECTED;
     match expected.get(place) {
@@ -40,7 +40,7 @@ fn expected_at(place: usize) -> Expected {
     }
 }
 
-/// The number of a name.
+/// The number of a name. None: the table doesn't have it.
 pub fn number_of(table: Table, name: &str) -> Option<u32> {
     let namings = namings_of(table);
     match namings.binary_search_by(|naming| naming.0.cmp(&name)) {
@@ -74,7 +74,7 @@ fn object_of(type_: SpaTypes) -> Option<(u32, Table, Table)> {
     }
 }
 
-/// What a table says of a number.
+/// A table's entry of a number. None: it has none.
 fn entry_of(table: Table, number: u32) -> Option<Entry> {
     let entries = entries_of(table);
     match entries.binary_search_by_key(&number, |entry| entry.0) {

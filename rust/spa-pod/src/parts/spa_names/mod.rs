@@ -1,4 +1,4 @@
-//! The names that PipeWire gives to types, keys and ids, and what stands under a key.
+//! The names that PipeWire gives to types, keys and ids, and what is expected under a key.
 use crate::shims::prelude::*;
 mod contents;
 mod entry;

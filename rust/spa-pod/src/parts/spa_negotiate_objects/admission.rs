@@ -1,4 +1,4 @@
-//! The search for a value that two offers both admit.
+//! Searches for a value that two offers both admit.
 
 use crate::shims::prelude::*;
 use crate::parts::spa_negotiate_objects::numbers::has;
@@ -7,7 +7,7 @@ use crate::parts::spa_value::laws::{equal_trees_are_the_same, trees_have_their_t
 use crate::parts::spa_value::{Value, same};
 use crate::shims::memory::AllocError;
 
-/// Whether the first is no greater than the second, where both are ids, both ints or both longs.
+/// Whether the two are both ids, both ints or both longs, and the first is no greater than the second.
 fn is_at_most(value: &Value, other: &Value) -> bool {
     trees_have_their_types();
     match value {
@@ -27,7 +27,7 @@ fn is_at_most(value: &Value, other: &Value) -> bool {
     }
 }
 
-/// Whether the two are the same value.
+/// Whether the two values are equal. Refused only for want of memory, as all that takes an allocator here.
 fn is_same(value: &Value, other: &Value) -> Result<bool, AllocError> {
     equal_trees_are_the_same();
     let is_same = same(value, other)?;
@@ -54,7 +54,7 @@ fn both_admit(a: &Offer, b: &Offer, value: &Value) -> Result<bool, AllocError> {
     Ok(first && second)
 }
 
-/// The first of these values that both offers admit, where there is one.
+/// The first of these values that both offers admit. None: there is none among them.
 fn first_of<'v>(
     values: &'v [Value],
     a: &Offer,
@@ -68,7 +68,7 @@ fn first_of<'v>(
     Ok(None)
 }
 
-/// The alternatives of an Enum, and nothing of other values.
+/// The alternatives of an Enum; of any other offer an empty list.
 fn alternatives(offer: &Offer) -> &[Value] {
     match offer.rule {
         Rule::Among => offer.values.as_slice(),
@@ -76,7 +76,7 @@ fn alternatives(offer: &Offer) -> &[Value] {
     }
 }
 
-/// The minimum of a Range, and the default of any other value.
+/// The minimum of a Range; of any other offer its default.
 fn floor(offer: &Offer) -> &Value {
     match offer.rule {
         Rule::Between => match offer.values.as_slice() {
@@ -87,8 +87,8 @@ fn floor(offer: &Offer) -> &Value {
     }
 }
 
-/// The first of these that both offers admit: a's default, b's default, a's alternatives, b's alternatives, a's
-/// minimum, b's minimum. Where both admit none of these, they admit no value.
+/// The first of these that both offers admit: a's default, b's default, a's alternatives, b's alternatives, a's minimum, b's minimum. None: there
+/// is no value that both admit.
 pub(crate) fn first_common<'v>(
     a: &'v Offer,
     b: &'v Offer,

@@ -1,21 +1,21 @@
-//! The nine types over which there are choices: their elements as values and as numbers.
+//! The nine types over which there are choices: their elements as values and as search keys.
 
 use crate::shims::prelude::*;
 use crate::parts::spa_negotiate_objects::numbers::Numbers;
 use crate::parts::spa_negotiate_objects::offer::Rule;
-use crate::parts::spa_fixed::CanonicalFixedSizedPod;
+use crate::parts::spa_fixed_sized::CanonicalFixedSizedPod;
 use crate::parts::spa_utils::{Fd, Float32, Float64, Fraction, Id, Rectangle};
 use crate::parts::spa_value::Value;
 
 /// One of the nine types over which there are choices.
 pub(crate) trait Element: CanonicalFixedSizedPod {
-    /// The rule of a range over this type.
+    /// The rule of a Range over this type.
     fn range_rule() -> Rule;
 
     /// This element as a value.
     fn value(&self) -> Value;
 
-    /// The numbers by which this element is told from all others.
+    /// The search key of this element, which no other element has.
     fn numbers(&self) -> Numbers;
 }
 

@@ -1,21 +1,13 @@
 //! Why two objects, or the objects of two pods, don't meet.
 
 use crate::shims::prelude::*;
+use crate::parts::spa_keyed_objects::Side;
 use crate::shims::memory::AllocError;
 use core::error::Error;
 use core::fmt;
 
-/// One of the two sides that meet. It prints `first` or `second`.
-#[derive(Clone, Copy, PartialEq, Eq, Debug)]
-pub enum Side {
-    /// The first input.
-    First,
-    /// The second one.
-    Second,
-}
-
-/// Why two objects, or the objects of two pods, don't meet. The key in a refusal is the first of the first object's keys under
-/// which one of these stands.
+/// Why two objects, or the objects of two pods, don't meet. The key in a refusal is the first of the first object's keys at which
+/// `Unsupported` or `Disjoint` is so.
 #[derive(Clone, Copy, PartialEq, Eq, Debug)]
 pub enum NegotiateError {
     /// The types of the objects differ. No key is looked at then.
@@ -31,17 +23,8 @@ pub enum NegotiateError {
     NotObject(Side),
     /// The object in which the two meet can't be written: a size word of its encoding is 4294967296 or more.
     TooLarge,
-    /// A growth was refused.
+    /// Memory ran out.
     OutOfMemory,
-}
-
-impl fmt::Display for Side {
-    fn fmt(&self, f: &mut fmt::Formatter<'_>) -> fmt::Result {
-        match self {
-            Side::First => write!(f, "first"),
-            Side::Second => write!(f, "second"),
-        }
-    }
 }
 
 impl fmt::Display for NegotiateError {

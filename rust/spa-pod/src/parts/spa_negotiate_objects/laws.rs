@@ -1,6 +1,5 @@
 //! A law of negotiation, over the definitions alone. The function does nothing: its contract is the law.
 
 use crate::shims::prelude::*;
-/// The object in which two meet holds a NUL in a text only where one of the two does, is a normal form where both are, and needs no
-/// fixation.
+/// The object in which two meet has a text with NUL only where one of the two has, is a normal form where both are, and needs no fixation.
 pub fn meetings_are_plain() {}

@@ -1,14 +1,14 @@
-//! Negotiation: two objects meet in a third one, under each of whose keys stands a value that both admit.
+//! Negotiation: two objects meet in a third, which has under each key of both a value that both admit.
 use crate::shims::prelude::*;
 mod admission;
 mod element;
 mod error;
-mod keyed;
 pub mod laws;
 mod negotiation;
 mod numbers;
 mod offer;
 
-pub use error::{NegotiateError, Side};
+pub use error::NegotiateError;
 pub use negotiation::{common, negotiate};
 pub use offer::is_supported;
+pub use crate::parts::spa_keyed_objects::Side;

@@ -1,27 +1,27 @@
-//! Two objects meet.
+//! Negotiates two objects.
 
 use crate::shims::prelude::*;
 use crate::parts::spa_negotiate_objects::admission::first_common;
 use crate::parts::spa_negotiate_objects::error::NegotiateError;
-use crate::parts::spa_negotiate_objects::keyed::{Keyed, add_key};
 use crate::parts::spa_negotiate_objects::offer::{Offer, offer_of, settled};
+use crate::parts::spa_keyed_objects::{Keyed, Met, add_key, push};
 use crate::parts::spa_value::laws::{objects_are_their_fields, property_lists_are_in_order};
-use crate::parts::spa_value::{Object, Property, Value, discard};
+use crate::parts::spa_value::{Object, Property, Value};
 use crate::shims::memory::AllocError;
 use crate::shims::sorted::BTreeSet;
 
-/// The object in which two objects meet.
+/// Negotiates two objects: answers the object in which they meet.
 ///
-/// It has their type, the id of `a`, and each key of either once, with empty flags and a plain value: first the keys of
-/// `a` in the order of their first places, then those that `b` alone has, in the same way. On each side the first
-/// property with a key counts, and flags of properties don't.
+/// It has their type, the id of `a`, and each key of either once, with flags 0 and a plain value: first the keys of `a` in the order in
+/// which they first occur, then those that only `b` has, in the same order. On each side the first property with a key counts; flags of
+/// properties don't.
 ///
 /// A key of one side keeps its plain value, or gets the default of its choice, of whatever shape. A key of both gets
 /// the first of these that both values admit: a's default, b's default, a's alternatives, b's alternatives, a's minimum,
 /// b's minimum. A plain value is its own default.
 ///
-/// The refusals: `TypeMismatch`, before any other; then, at the first of a's keys under which the two don't agree,
-/// `Unsupported`, before `Disjoint`. `OutOfMemory` is answered only for two objects of one type.
+/// The refusals: `TypeMismatch` before any other; then, at the first of a's keys under which the two don't agree, `Unsupported` before
+/// `Disjoint`. `OutOfMemory` is answered only for two objects of one type.
 ///
 /// Keys and alternatives are looked for in trees, so the time grows with n log n for n properties and alternatives, other
 /// values aside.
@@ -42,83 +42,68 @@ pub fn negotiate(a: &Object, b: &Object) -> Result<Object, NegotiateError> {
     })
 }
 
-/// Settled properties. Their values may be nested deep, so they are taken apart by a loop.
-struct Met {
-    properties: Vec<Property>,
-}
-
-impl Met {
-    /// The properties themselves.
-    fn into_properties(mut self) -> Vec<Property> {
-        let properties = core::mem::take(&mut self.properties);
-        properties
-    }
-}
-
-impl Drop for Met {
-    fn drop(&mut self) {
-        let properties = core::mem::take(&mut self.properties);
-        discard(Value::Object(Object {
-            type_: 0,
-            id: 0,
-            properties,
-        }));
-    }
-}
-
-/// Settled properties, and the keys that were settled.
+/// The properties of the outcome so far, and the set of their keys.
 struct Settled {
     met: Met,
     keys: BTreeSet<u32>,
 }
 
-/// The settled properties of the first side.
+/// The properties of the outcome for the keys of the first side.
 fn settle_first(a: &[Property], b: &Keyed<'_>) -> Result<Settled, NegotiateError> {
     property_lists_are_in_order();
-    let mut met = Met {
-        properties: Vec::new(),
-    };
+    let mut met = Met::new();
     let mut keys = BTreeSet::new();
     for property in a {
         if add_key(&mut keys, property.key)? {
             let value = settle(property, b)?;
-            push(&mut met, property.key, value)?;
+            let plain = Property::new(property.key, value);
+            push(&mut met, plain)?;
         }
     }
     Ok(Settled { met, keys })
 }
 
-/// The settled properties of the first side, and behind them those that the second side alone has.
+/// The properties of the outcome for the keys of the first side, and behind them those for the keys that only the second side has.
 fn settle_rest(first: Settled, b: &[Property]) -> Result<Vec<Property>, AllocError> {
     property_lists_are_in_order();
     let Settled { mut met, mut keys } = first;
     for property in b {
         if add_key(&mut keys, property.key)? {
             let value = settled(&property.value)?;
-            push(&mut met, property.key, value)?;
+            let alone = Property::new(property.key, value);
+            push(&mut met, alone)?;
         }
     }
     Ok(met.into_properties())
 }
 
-/// A plain value that settles the key of a property of the first side, where the second side has these.
+/// The plain value that the outcome has under the key of a property of the first side, where `others` are the properties of the second.
 fn settle(property: &Property, others: &Keyed<'_>) -> Result<Value, NegotiateError> {
-    match others.find(property.key) {
+    match value_of(others, property.key) {
         Some(other) => common(property.key, &property.value, other),
         None => Ok(settled(&property.value)?),
     }
 }
 
-/// A plain value that both admit: of a key that two objects have, the value of that in which they meet.
+/// The value of the first property with this key. None: no property has it.
+fn value_of<'a>(properties: &Keyed<'a>, key: u32) -> Option<&'a Value> {
+    match properties.find(key) {
+        Some(property) => Some(&property.value),
+        None => None,
+    }
+}
+
+/// Negotiates two values: answers a plain value that both admit, which under a key of two objects is the value of the object in which they meet.
 ///
-/// The refusals: `Unsupported` of this key, before `Disjoint` of it.
+/// Refused as `Unsupported` of the key where no common value is sought for one of the two, else as `Disjoint` of the key where no value is
+/// admitted by both, and as `OutOfMemory`.
 pub fn common(key: u32, a: &Value, b: &Value) -> Result<Value, NegotiateError> {
     let first = offer_of(a)?;
     let second = offer_of(b)?;
     common_of(key, &first, &second)
 }
 
-/// A value that both offers admit.
+/// A plain value that both offers admit, with the refusals of `common`.
 fn common_of(
     key: u32,
     first: &Offer,
@@ -131,15 +116,4 @@ fn common_of(
         Some(value) => Ok(value.try_clone()?),
         None => Err(NegotiateError::Disjoint(key)),
     }
-}
-
-/// Appends a property with empty flags.
-fn push(met: &mut Met, key: u32, value: Value) -> Result<(), AllocError> {
-    property_lists_are_in_order();
-    if let Err(error) = met.properties.make_room(1) {
-        discard(value);
-        return Err(error);
-    }
-    met.properties.push(Property::new(key, value));
-    Ok(())
 }

@@ -1,4 +1,4 @@
-//! Contents of fixed size told apart by numbers, and sets of these.
+//! Search keys of values of fixed size, and sets of them.
 
 use crate::shims::prelude::*;
 use crate::parts::spa_negotiate_objects::element::Element;
@@ -8,21 +8,21 @@ use crate::parts::spa_value::laws::trees_have_their_types;
 use crate::shims::memory::AllocError;
 use crate::shims::sorted::BTreeSet;
 
-/// The numbers by which a content of fixed size is told from all others, in an order of their own.
+/// The search key of a value of fixed size, which no other value has. Keys are ordered by their type number and then by their numbers.
 #[derive(Clone, Copy, PartialEq, Eq, PartialOrd, Ord)]
 pub(crate) struct Numbers {
-    /// The type of a pod of the content.
+    /// The type number of the value's pod.
     type_: u32,
-    /// The content, where it may be below 0.
+    /// The value, where its type has negative numbers, and else 0.
     signed: i64,
-    /// The content, where it is never below 0: the first of its two numbers, or its only one.
+    /// The first or only number of the value, where its type has no negative numbers, and else 0.
     first: u64,
-    /// The second of its two numbers.
+    /// The second number of a rectangle or a fraction, and else 0.
     second: u64,
 }
 
 impl Numbers {
-    /// The numbers of a content that may be below 0.
+    /// The search key of a value whose type has negative numbers.
     pub(crate) fn signed(type_: u32, number: i64) -> Numbers {
         Numbers {
             type_,
@@ -32,7 +32,7 @@ impl Numbers {
         }
     }
 
-    /// The numbers of a content of one number or two, never below 0.
+    /// The search key of a value of one or two numbers, whose type has no negative ones.
     pub(crate) fn unsigned(type_: u32, first: u64, second: u64) -> Numbers {
         Numbers {
             type_,
@@ -43,7 +43,7 @@ impl Numbers {
     }
 }
 
-/// The numbers of a value of fixed size.
+/// The search key of a value. None: it isn't of fixed size.
 fn numbers_of(value: &Value) -> Option<Numbers> {
     trees_have_their_types();
     match value {
@@ -61,7 +61,7 @@ fn numbers_of(value: &Value) -> Option<Numbers> {
     }
 }
 
-/// Whether the set has the value.
+/// Whether the set has the search key of the value.
 pub(crate) fn has(set: &BTreeSet<Numbers>, value: &Value) -> bool {
     match numbers_of(value) {
         Some(numbers) => set.contains(&numbers),
@@ -69,7 +69,7 @@ pub(crate) fn has(set: &BTreeSet<Numbers>, value: &Value) -> bool {
     }
 }
 
-/// Adds an element to the set.
+/// Adds the search key of an element to the set. Refused only for want of memory.
 pub(crate) fn add<T: Element>(set: &mut BTreeSet<Numbers>, element: &T) -> Result<(), AllocError> {
     set.try_insert(element.numbers())?;
     Ok(())

@@ -1,4 +1,4 @@
-//! What a value offers: a default, further values, and a rule by which they admit a value.
+//! A value as an offer: a default, further values, and the rule by which these admit a value.
 
 use crate::shims::prelude::*;
 use crate::parts::spa_negotiate_objects::element::Element;
@@ -16,9 +16,9 @@ pub(crate) enum Rule {
     Only,
     /// The default and the further values.
     Among,
-    /// From the first of the further values to the second.
+    /// Each value from the first of the further values to the second.
     Between,
-    /// None: no common value is sought.
+    /// No value: no common value is sought.
     Unsupported,
 }
 
@@ -29,19 +29,19 @@ impl Rule {
     }
 }
 
-/// What a value offers.
+/// A value as an offer.
 pub(crate) struct Offer {
-    /// Which values are admitted.
+    /// Which values the offer admits.
     pub(crate) rule: Rule,
-    /// The value itself where it is plain, and the default of a choice.
+    /// The value itself where it is plain, and its default where it is a choice.
     pub(crate) default: Value,
-    /// The alternatives of an Enum, the minimum and the maximum of a Range, and nothing elsewhere.
+    /// The alternatives of an Enum, the minimum and the maximum of a Range, and else an empty list.
     pub(crate) values: Vec<Value>,
-    /// The default and the alternatives of an Enum, to look values up in, and nothing elsewhere.
+    /// The search keys of an Enum's default and alternatives, and else an empty set.
     pub(crate) index: BTreeSet<Numbers>,
 }
 
-// By hand, so that a default that is nested deep is taken apart by a loop.
+// By hand, so that the default is dropped by a loop, at any nesting depth.
 impl Drop for Offer {
     fn drop(&mut self) {
         let default = core::mem::take(&mut self.default);
@@ -71,7 +71,7 @@ fn plain_of<T: Element>(choice: &ChoiceEnum<T>) -> Value {
     }
 }
 
-/// The alternatives of an Enum, the minimum and the maximum of a Range, and nothing elsewhere.
+/// The alternatives of an Enum, the minimum and the maximum of a Range; of any other choice an empty list.
 fn further_values_of<T: Element>(
     choice: &ChoiceEnum<T>,
 ) -> Result<Vec<Value>, AllocError> {
@@ -82,7 +82,7 @@ fn further_values_of<T: Element>(
     }
 }
 
-/// Two elements as values.
+/// A list of two elements as values.
 fn pair_of<T: Element>(first: &T, second: &T) -> Result<Vec<Value>, AllocError> {
     let mut values = Vec::new();
     values.try_push(first.value())?;
@@ -90,7 +90,7 @@ fn pair_of<T: Element>(first: &T, second: &T) -> Result<Vec<Value>, AllocError> 
     Ok(values)
 }
 
-/// Elements as values.
+/// A list of elements as values.
 fn list_of<T: Element>(elements: &[T]) -> Result<Vec<Value>, AllocError> {
     let mut values = Vec::new();
     for element in elements {
@@ -99,7 +99,7 @@ fn list_of<T: Element>(elements: &[T]) -> Result<Vec<Value>, AllocError> {
     Ok(values)
 }
 
-/// The default and the alternatives of an Enum, and nothing of other choices.
+/// The search keys of the default and of the alternatives of an Enum; of any other choice an empty set.
 fn index_of<T: Element>(
     choice: &ChoiceEnum<T>,
 ) -> Result<BTreeSet<Numbers>, AllocError> {
@@ -115,7 +115,7 @@ fn index_of<T: Element>(
     }
 }
 
-/// An element and others.
+/// The search keys of an element and of others.
 fn index_of_all<T: Element>(
     first: &T,
     others: &[T],
@@ -128,7 +128,7 @@ fn index_of_all<T: Element>(
     Ok(index)
 }
 
-/// What a choice offers, whatever its flags are.
+/// A choice as an offer. Its flags don't count.
 fn offer_of_choice<T: Element>(choice: &ChoiceEnum<T>) -> Result<Offer, AllocError> {
     let values = further_values_of(choice)?;
     let index = index_of(choice)?;
@@ -140,7 +140,7 @@ fn offer_of_choice<T: Element>(choice: &ChoiceEnum<T>) -> Result<Offer, AllocErr
     })
 }
 
-/// What a value offers.
+/// The offer of a value. Refused only for want of memory.
 pub(crate) fn offer_of(value: &Value) -> Result<Offer, AllocError> {
     trees_have_their_types();
     match value {
@@ -179,7 +179,7 @@ fn settled_choice(choice: &ChoiceValue) -> Value {
     }
 }
 
-/// The value itself where it is plain, and the default where it is a choice.
+/// A copy of the value where it is plain, and the default where it is a choice.
 pub(crate) fn settled(value: &Value) -> Result<Value, AllocError> {
     trees_have_their_types();
     match value {
@@ -203,7 +203,7 @@ fn rule_of_choice(choice: &ChoiceValue) -> Rule {
     }
 }
 
-/// Whether a common value is sought for this one and others.
+/// Whether a common value is sought for this value and another: it is plain, a None choice, an Enum, or a Range over `Id`, `i32` or `i64`.
 pub fn is_supported(value: &Value) -> bool {
     trees_have_their_types();
     match value {

@@ -1,4 +1,4 @@
-//! Negotiation from bytes to bytes: the objects of two pods meet, and the answer is written.
+//! Negotiation from bytes to bytes: negotiates the objects of two pods, and writes the outcome.
 use crate::shims::prelude::*;
 pub mod laws;
 mod offer_view;

@@ -1,9 +1,9 @@
-//! What a value offers, where its pod lies.
+//! Zero-copy views of offers.
 
 use crate::shims::prelude::*;
+use crate::parts::spa_bodies::{CHOICE_HEADER_LEN, VALUE_TYPE_AT};
 use crate::parts::spa_bytes::{HEADER_LEN, open, u32_at, u64_at};
-use crate::parts::spa_fixed::{ENUM_SHAPE, NONE_SHAPE, RANGE_SHAPE};
-use crate::parts::spa_leaf::{CHOICE_HEADER_LEN, VALUE_TYPE_AT};
+use crate::parts::spa_fixed_sized::{ENUM_SHAPE, NONE_SHAPE, RANGE_SHAPE};
 use crate::parts::spa_utils::SpaTypes;
 use crate::shims::memory::AllocError;
 
@@ -20,19 +20,19 @@ pub(crate) enum Rule {
     Only,
     /// The default and the further values.
     Among,
-    /// From the first of the further values to the second.
+    /// Each value from the first of the further values to the second.
     Between,
-    /// None: no common value is sought.
+    /// No value: no common value is sought.
     Unsupported,
 }
 
 /// How long the values of an Enum are, in bytes, that are looked for one by one beside those of another: 16 values of two words.
 const SHORT_LEN: usize = 128;
 
-/// What a value offers, where its pod lies: a choice, or a plain value as the choice that admits it alone.
+/// A zero-copy view of a value as an offer: a choice, or a plain value as the choice that admits it alone.
 #[derive(Clone, Copy)]
 pub(crate) struct OfferView<'a> {
-    /// Which values are admitted.
+    /// Which values the offer admits.
     pub(crate) rule: Rule,
     /// The type of the values.
     pub(crate) type_: u32,
@@ -42,7 +42,7 @@ pub(crate) struct OfferView<'a> {
     pub(crate) values: &'a [u8],
 }
 
-/// What the value of a pod offers, where that is a choice or of a type over which there are choices.
+/// The offer of a pod's value. None: the value is neither a choice nor of a type over which there are choices.
 pub(crate) fn offer_view(pod: &[u8]) -> Option<OfferView<'_>> {
     let front = open(pod)?;
     let body = front.body;
@@ -60,7 +60,7 @@ pub(crate) fn offer_view(pod: &[u8]) -> Option<OfferView<'_>> {
     })
 }
 
-/// The same of the body of a choice.
+/// The offer of the choice with this body. None: it has none.
 fn choice_view(body: &[u8]) -> Option<OfferView<'_>> {
     if body.len() < CHOICE_HEADER_LEN {
         return None;
@@ -120,7 +120,7 @@ fn is_same(size: usize, value: &[u8], other: &[u8]) -> bool {
     }
 }
 
-/// Whether the first is no greater than the second, of a type that has an order.
+/// Whether the first value is no greater than the second, of a type that has an order.
 fn is_at_most(type_: u32, value: &[u8], other: &[u8]) -> bool {
     match SpaTypes(type_) {
         SpaTypes::Id => {
@@ -154,7 +154,7 @@ fn is_at_most(type_: u32, value: &[u8], other: &[u8]) -> bool {
     }
 }
 
-/// Whether the value is among these.
+/// Whether the value is among these, by a linear search.
 fn is_among(size: usize, values: &[u8], value: &[u8]) -> bool {
     let mut left = values;
     while left.len() >= size {
@@ -193,7 +193,7 @@ fn both_admit(a: &OfferView<'_>, b: &OfferView<'_>, value: &[u8]) -> bool {
     admits(a, value) && admits(b, value)
 }
 
-/// The first of these that both offers admit. The first offer is asked before the second.
+/// The first of these values that both offers admit. The first offer is asked before the second.
 fn first_of<'v>(a: &OfferView<'_>, b: &OfferView<'_>, values: &'v [u8]) -> Option<&'v [u8]> {
     let mut left = values;
     while left.len() >= a.size {
@@ -206,7 +206,7 @@ fn first_of<'v>(a: &OfferView<'_>, b: &OfferView<'_>, values: &'v [u8]) -> Optio
     None
 }
 
-/// The first of a's values that b has, too, where these are looked for by halves.
+/// The first of a's values that b has, too, by binary search in a sorted list of b's values.
 fn first_by_halves<'v>(a: &OfferView<'v>, b: &OfferView<'_>) -> Option<&'v [u8]> {
     let Ok(order) = order_of(b.size, b.values) else {
         return None;
@@ -227,7 +227,7 @@ fn first_by_halves<'v>(a: &OfferView<'v>, b: &OfferView<'_>) -> Option<&'v [u8]>
     None
 }
 
-/// Values as numbers, in ascending order.
+/// The values as numbers, in ascending order. Refused only for want of memory.
 fn order_of(size: usize, values: &[u8]) -> Result<Vec<u64>, AllocError> {
     let mut order = Vec::new();
     let mut left = values;

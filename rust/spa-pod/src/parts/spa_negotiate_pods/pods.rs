@@ -1,16 +1,16 @@
-//! The objects of two pods meet.
+//! Negotiates the objects of two pods.
 
 use crate::shims::prelude::*;
 use crate::parts::spa_negotiate_pods::laws::{meetings_need_no_fixation, refused_fronts_cannot_meet};
 use crate::parts::spa_negotiate_pods::views::meet_objects;
-use crate::parts::spa_fronts::{NoObject, ObjectPod, object_in, object_pod};
 use crate::parts::spa_negotiate_objects::{NegotiateError, Side};
+use crate::parts::spa_object_view::{NoObject, ObjectPod, object_in, object_pod};
 
-/// The encoding of the object in which the objects at the fronts of two inputs meet, by the rules of `negotiate`. What follows
-/// the two fronts doesn't count.
+/// Negotiates the objects at the fronts of two inputs by the rules of `negotiate`, and answers the encoding of the object in
+/// which they meet. The bytes behind the two fronts don't count.
 ///
-/// The answer is one whole pod, and no property's value in it is a choice of another shape than None: `is_fixated` of a view of
-/// it is true.
+/// The answer is one whole pod, and no property's value in it is a choice of a shape other than None: `is_fixated` of a view
+/// of it is true.
 ///
 /// The refusals: `Unread` and `NotObject`, of the first side before the second; then those of `negotiate`; then `TooLarge`.
 pub fn negotiate_pods(a: &[u8], b: &[u8]) -> Result<Vec<u8>, NegotiateError> {
@@ -27,7 +27,7 @@ pub fn negotiate_pods(a: &[u8], b: &[u8]) -> Result<Vec<u8>, NegotiateError> {
     meet_objects(&ours, &theirs)
 }
 
-/// The pod of the object at the front of a side's bytes.
+/// The canonical pod of the object at the front of a side's bytes. Refused as `Unread` or `NotObject` of the side, and as `OutOfMemory`.
 fn object_at(bytes: &[u8], side: Side) -> Result<ObjectPod<'_>, NegotiateError> {
     match object_pod(bytes) {
         Ok(pod) => Ok(pod),

@@ -1,11 +1,11 @@
-//! What the two sides have under a key, settled from pod to pod.
+//! Settles a key of the two sides, from their pods to the pod of the outcome.
 
 use crate::shims::prelude::*;
 use crate::parts::spa_negotiate_pods::offer_view::{first_common, offer_view};
 use crate::parts::spa_bytes::{joined, open, two_words, u32_at, u64_at, wide_body, word_body};
 use crate::parts::spa_format::laws::pods_have_one_value;
-use crate::parts::spa_fronts::{are_same, is_plain, put_key, put_pod};
 use crate::parts::spa_negotiate_objects::{NegotiateError, common, is_supported};
+use crate::parts::spa_object_view::{are_same, is_plain, put_key, put_pod};
 use crate::parts::spa_read::read_leaf;
 use crate::parts::spa_utils::SpaTypes;
 use crate::parts::spa_value::{Held, Value};
@@ -17,7 +17,7 @@ const ONE_WORD: usize = 4;
 /// The length in bytes of a body of two words.
 const TWO_WORDS: usize = 8;
 
-/// Puts a plain value, or the default of a choice.
+/// Appends a property with a plain value, or with the default of a choice.
 pub(crate) fn put_default(out: &mut Vec<u8>, key: u32, pod: &[u8]) -> bool {
     if is_plain(pod) {
         return put(out, key, pod);
@@ -28,8 +28,8 @@ pub(crate) fn put_default(out: &mut Vec<u8>, key: u32, pod: &[u8]) -> bool {
     }
 }
 
-/// Puts a value that the values of two pods admit. Choices are looked at where they lie, and read only where no value is seen there that
-/// both admit.
+/// Appends a property with a value that the values of two pods admit. Choices are compared as borrowed bytes, and read only where no common value is
+/// found so.
 pub(crate) fn put_common(
     out: &mut Vec<u8>,
     key: u32,
@@ -54,7 +54,7 @@ pub(crate) fn put_common(
     Ok(())
 }
 
-/// Puts the value of two pods that are the same. Both values are plain.
+/// Appends a property with the value of two plain pods that are equal.
 fn put_same(out: &mut Vec<u8>, key: u32, pod: &[u8], other: &[u8]) -> Result<(), NegotiateError> {
     if !are_same(pod, other) {
         return Err(NegotiateError::Disjoint(key));
@@ -65,7 +65,7 @@ fn put_same(out: &mut Vec<u8>, key: u32, pod: &[u8], other: &[u8]) -> Result<(),
     Ok(())
 }
 
-/// Puts a value that the values of two pods admit, which are read as far as they have no members.
+/// Appends a property with a value that the values of two pods admit; values without members are read.
 #[inline(never)]
 fn put_read(
     out: &mut Vec<u8>,
@@ -87,7 +87,7 @@ fn put_read(
     }
 }
 
-/// The value of a pod, unless it has members.
+/// Reads the value of a pod. None: it is a struct or an object.
 fn leaf_at(pod: &[u8]) -> Result<Option<Held>, NegotiateError> {
     pods_have_one_value();
     let Some(front) = open(pod) else {
@@ -105,7 +105,7 @@ fn leaf_at(pod: &[u8]) -> Result<Option<Held>, NegotiateError> {
     }
 }
 
-/// Puts a value that two values admit.
+/// Appends a property with a value that two values admit.
 fn put_met(
     out: &mut Vec<u8>,
     key: u32,
@@ -122,7 +122,7 @@ fn put_met(
     }
 }
 
-/// Why a value without members doesn't meet one that has them.
+/// The refusal where a value without members is to meet one with members.
 fn apart(key: u32, leaf: &Value) -> NegotiateError {
     if is_supported(leaf) {
         NegotiateError::Disjoint(key)
@@ -131,7 +131,7 @@ fn apart(key: u32, leaf: &Value) -> NegotiateError {
     }
 }
 
-/// Puts a value of fixed size, of this type and this length of its body, with which the bytes begin.
+/// Appends a property with the value of fixed size, of this type and this body length, at the front of the bytes.
 fn put_value(out: &mut Vec<u8>, key: u32, type_: u32, size: usize, value: &[u8]) -> bool {
     if value.len() < size {
         return false;
@@ -154,7 +154,7 @@ fn put_value(out: &mut Vec<u8>, key: u32, type_: u32, size: usize, value: &[u8])
     }
 }
 
-/// The word that a value of this type is written as whose body is this word: of a truth value 0 or 1.
+/// The canonical word of a value of this type whose body is this word: of a truth value 0 or 1.
 fn written_word(type_: u32, word: u32) -> u32 {
     if type_ == SpaTypes::Bool.0 && word > 1 {
         return 1;
@@ -162,7 +162,7 @@ fn written_word(type_: u32, word: u32) -> u32 {
     word
 }
 
-/// Puts a property with this key, no flags and the value of this pod.
+/// Appends a property with this key, no flags and the value of this pod.
 fn put(out: &mut Vec<u8>, key: u32, pod: &[u8]) -> bool {
     put_key(out, key, 0) && put_pod(out, pod)
 }

@@ -1,14 +1,16 @@
-//! Two objects meet where they lie.
+//! Negotiates two objects by their zero-copy views.
 
 use crate::shims::prelude::*;
 use crate::parts::spa_negotiate_pods::settling::{put_common, put_default};
-use crate::parts::spa_fronts::{Keyed, ObjectView, PropertyView, finish, first_property, put_header, raised};
 use crate::parts::spa_negotiate_objects::NegotiateError;
+use crate::parts::spa_object_view::{
+    Keyed, ObjectView, PropertyView, finish, first_property, put_header, raised,
+};
 
-/// Where the properties of an object begin in its pod: behind its header, its type and its id.
+/// The offset in an object's pod at which its properties begin: behind its header, its type and its id.
 const PROPERTIES_AT: usize = 16;
 
-/// The bytes of the object in which two objects meet.
+/// The encoding of the object in which two objects meet.
 pub(crate) fn meet_objects(
     ours: &ObjectView<'_>,
     theirs: &ObjectView<'_>,
@@ -40,7 +42,7 @@ fn begun(object: &ObjectView<'_>) -> Result<Vec<u8>, NegotiateError> {
     Ok(out)
 }
 
-/// Settles the keys of the first side.
+/// Appends the properties for the keys of the first side.
 fn settle_first(
     out: &mut Vec<u8>,
     ours: &Keyed<'_>,
@@ -58,7 +60,7 @@ fn settle_first(
     Ok(())
 }
 
-/// Settles the keys that the second side alone has.
+/// Appends the properties for the keys that only the second side has.
 fn settle_others(out: &mut Vec<u8>, ours: &Keyed<'_>, theirs: &Keyed<'_>) -> bool {
     let mut left = theirs.properties;
     let mut bound = 0;
@@ -73,7 +75,7 @@ fn settle_others(out: &mut Vec<u8>, ours: &Keyed<'_>, theirs: &Keyed<'_>) -> boo
     left.is_empty()
 }
 
-/// Settles the key of a property of the first side.
+/// Appends the property for the key of a property of the first side.
 fn settle(
     out: &mut Vec<u8>,
     first: &PropertyView<'_>,

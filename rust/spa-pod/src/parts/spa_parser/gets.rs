@@ -1,4 +1,4 @@
-//! What a parser gets. Each call asks for the next pod by its type and its size, and moves past it.
+//! The gets of a parser. Each call asks for the next pod by its type and its size, and moves past it.
 
 use crate::shims::prelude::*;
 use crate::parts::spa_parser::parser::Parser;
@@ -136,7 +136,7 @@ impl<'d> Parser<'d> {
         Ok(object)
     }
 
-    /// A parser at the front of the value of the object's first property with this key. PIPE where there is none.
+    /// A parser at the front of the value of the object's first property with this key. PIPE where no property has it.
     pub fn value_of(&self, view: &PodObject<'d>, key: u32) -> Result<Parser<'d>, Errno> {
         match view.find_prop(Id(key)) {
             Some(property) => Ok(Parser::from_pod(property.value())),
@@ -144,7 +144,7 @@ impl<'d> Parser<'d> {
         }
     }
 
-    /// The view of the next pod, whatever it is.
+    /// The view of the next pod, of any type.
     pub fn get_pod(&mut self) -> Result<Pod<'d>, Errno> {
         let (pod, left) = self.innermost.next()?;
         self.innermost.bytes = left;

@@ -1,7 +1,7 @@
 //! The macro that takes several pods at once.
 
 use crate::shims::prelude::*;
-/// Takes what a form asks for from a parser, and answers a `Result<(), Errno>`.
+/// Reads the next pod, or the next pods, from a parser by a form, and answers a `Result<(), Errno>`.
 ///
 /// The forms are `Bool`, `Id`, `Int`, `Long`, `Float`, `Double`, `String` (a text), `Bytes`, `Pointer`, `Fd`, `Rectangle`,
 /// `Fraction` and `Pod`, each with a reference to assign to; `Option(form)` of one of these, which assigns `None` where the
@@ -52,7 +52,7 @@ macro_rules! parser_get {
     }};
 }
 
-/// Takes what each of the forms asks for, in order, up to the first that is refused.
+/// Reads pods by each of the forms, in order, up to the first that is refused.
 #[doc(hidden)]
 #[macro_export]
 macro_rules! parser_get_all {

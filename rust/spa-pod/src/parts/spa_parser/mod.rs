@@ -1,4 +1,4 @@
-//! A parser that takes an input apart pod by pod, opens structs and objects on the way, and never looks behind it.
+//! A pull parser: reads an input pod by pod, opens structs and objects on the way, and never reads past the input.
 use crate::shims::prelude::*;
 mod gets;
 pub mod laws;

@@ -4,14 +4,14 @@ use crate::shims::prelude::*;
 use crate::parts::spa_utils::{Errno, Frame, Id};
 use crate::parts::spa_view::{Pod, body_bytes, split_first, whole_bytes};
 
-/// What is left of the input or of a body that is open.
+/// The remaining bytes of the input or of an open body.
 pub(crate) struct Remainder<'d> {
     pub(crate) bytes: &'d [u8],
     of_object: bool,
 }
 
 impl<'d> Remainder<'d> {
-    /// The next pod, and what is left behind it. PIPE inside an object, or where no whole pod is left.
+    /// The next pod, and the bytes left behind it. PIPE inside an object, or where no whole pod is left.
     pub(crate) fn next(&self) -> Result<(Pod<'d>, &'d [u8]), Errno> {
         if self.of_object {
             return Err(Errno::PIPE);
@@ -23,7 +23,7 @@ impl<'d> Remainder<'d> {
     }
 }
 
-/// Takes an input apart, pod by pod. In contracts it is the remainders of the input and of what is open, innermost first.
+/// Reads an input pod by pod. Its model: the remaining bytes of the input and of each open body, the innermost first.
 ///
 /// A get or a push asks for the next pod by its type and its size. It is refused with PIPE inside an object, or where no
 /// whole pod is left; else with INVAL where the next pod is another one. A refused call changes nothing. Only a push
@@ -71,7 +71,7 @@ impl<'d> Parser<'d> {
         Ok((frame, object.id()))
     }
 
-    /// Makes a body innermost, with what is left behind its pod round it. NOMEM where the list of frames can't grow.
+    /// Opens a body, with `left` left behind its pod in the one around it. NOMEM where the list of frames can't grow.
     fn open(&mut self, body: &'d [u8], of_object: bool, left: &'d [u8]) -> Result<Frame, Errno> {
         let outer = Remainder {
             bytes: left,
@@ -87,7 +87,7 @@ impl<'d> Parser<'d> {
         Ok(Frame(self.outer.len()))
     }
 
-    /// Closes the innermost frame, and skips what is left in it. INVAL where the frame is another one, or none is open.
+    /// Closes the innermost frame, and skips the bytes left in it. INVAL where the frame is another one, or none is open.
     pub fn pop(&mut self, frame: Frame) -> Result<(), Errno> {
         if frame.0 != self.outer.len() {
             return Err(Errno::INVAL);

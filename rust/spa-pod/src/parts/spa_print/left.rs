@@ -1,24 +1,24 @@
-//! What is left to print of a struct or of an object.
+//! What is left to print of a container.
 
 use crate::shims::prelude::*;
 use crate::parts::spa_value::{Property, Value};
 use core::fmt;
 
-/// The members of a struct, or the properties of an object, that are left.
+/// The members of a struct, or the properties of an object, that are left to print.
 #[derive(Clone, Copy)]
 pub(crate) enum Left<'a> {
     Members(&'a [Value]),
     Properties(&'a [Property]),
 }
 
-/// A struct or an object that is begun within another one, and what is left behind it there.
+/// A container that is begun inside another one, and what is left behind it there.
 #[derive(Clone, Copy)]
 pub(crate) struct Inside<'a> {
     pub(crate) inner: Left<'a>,
     pub(crate) behind: Left<'a>,
 }
 
-/// Prints a value that holds no others, and of a struct or of an object what comes before what it holds, which is answered.
+/// Prints a value that is no container; of a container it prints the text before the members or properties, and answers these.
 pub(crate) fn begin_printing<'a>(
     f: &mut fmt::Formatter<'_>,
     value: &'a Value,
@@ -44,7 +44,7 @@ pub(crate) fn begin_printing<'a>(
 }
 
 impl<'a> Left<'a> {
-    /// Prints on, to the next struct or object, which is begun, or to the end.
+    /// Prints up to the next container, which is begun, or to the end.
     pub(crate) fn print_on(
         self,
         f: &mut fmt::Formatter<'_>,
@@ -55,7 +55,7 @@ impl<'a> Left<'a> {
         }
     }
 
-    /// Prints what comes between the value before these and the next one of them.
+    /// Prints the text between the value before these and the next of them.
     pub(crate) fn part(self, f: &mut fmt::Formatter<'_>) -> fmt::Result {
         match self {
             Left::Members(members) => part_members(f, members),
@@ -80,7 +80,7 @@ fn part_properties(f: &mut fmt::Formatter<'_>, left: &[Property]) -> fmt::Result
     }
 }
 
-/// Prints members on.
+/// Prints members up to the next container, which is begun, or to the end.
 fn print_members<'a>(
     f: &mut fmt::Formatter<'_>,
     members: &'a [Value],
@@ -100,7 +100,7 @@ fn print_members<'a>(
     Ok(None)
 }
 
-/// Prints properties on.
+/// Prints properties up to the next whose value is a container, which is begun, or to the end.
 fn print_properties<'a>(
     f: &mut fmt::Formatter<'_>,
     properties: &'a [Property],

@@ -1,4 +1,4 @@
-//! Values printed by a loop, however deep they are nested.
+//! Prints values by a loop, at any nesting depth.
 use crate::shims::prelude::*;
 mod left;
 mod printed;

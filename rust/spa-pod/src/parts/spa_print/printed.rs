@@ -5,10 +5,10 @@ use crate::parts::spa_print::left::begin_printing;
 use crate::parts::spa_value::Value;
 use core::fmt;
 
-/// A value that is printed by a loop: `{:?}` of it is the text that `{:?}` of the value is, in one line, whatever options are given.
+/// A value that is printed by a loop: `{:?}` of it gives the text of `{:?}` of the value, in one line, whatever options are given.
 ///
-/// `{:?}` of a value has no answer for want of memory, and so calls itself for each level of nesting. This takes memory for each
-/// level, and is refused as `fmt::Error` where that is, or where what is printed to refuses.
+/// `{:?}` of a value can't answer that memory ran out, and so calls itself for each level of nesting. This takes memory for each
+/// level, and is refused as `fmt::Error` where that memory or the printer is refused.
 #[derive(Clone, Copy)]
 pub struct Printed<'a> {
     value: &'a Value,

@@ -1,12 +1,13 @@
-//! Bodies of arrays, over any of the ten types of fixed size.
+//! Reads the bodies of arrays, over any of the ten types of fixed size.
 
 use crate::shims::prelude::*;
 use crate::parts::spa_bytes::{HEADER_LEN, SECOND_WORD, u32_at};
-use crate::parts::spa_fixed::{Refusal, read_array};
+use crate::parts::spa_fixed_sized::{Refusal, read_array};
 use crate::parts::spa_utils::{Fd, Float32, Float64, Fraction, Id, Rectangle, SpaTypes};
 use crate::parts::spa_value::ValueArray;
 
-/// The elements in the body of an array of any of the ten types.
+/// Reads the array, over any of the ten types, with this body. Refused as `InvalidType` and `WrongSize`, each where that fault stands, and as
+/// `OutOfMemory`.
 #[cfg_attr(not(debug_assertions), inline(always))]
 pub(crate) fn read_any_array(body: &[u8]) -> Result<ValueArray, Refusal> {
     if body.len() < HEADER_LEN {

@@ -1,13 +1,14 @@
-//! Bodies of choices, over any of the nine types of fixed size that have bytes.
+//! Reads the bodies of choices, over any of the nine types of fixed size that have bytes.
 
 use crate::shims::prelude::*;
+use crate::parts::spa_bodies::{CHOICE_HEADER_LEN, VALUE_TYPE_AT};
 use crate::parts::spa_bytes::u32_at;
-use crate::parts::spa_fixed::{Refusal, read_choice};
-use crate::parts::spa_leaf::{CHOICE_HEADER_LEN, VALUE_TYPE_AT};
+use crate::parts::spa_fixed_sized::{Refusal, read_choice};
 use crate::parts::spa_utils::{Fd, Float32, Float64, Fraction, Id, Rectangle, SpaTypes};
 use crate::parts::spa_value::ChoiceValue;
 
-/// The choice in a body of one over any of the nine types.
+/// Reads the choice, over any of the nine types, with this body. Refused as `InvalidType`, `InvalidChoiceType`, `MissingChoiceValues` and
+/// `WrongSize`, each where that fault stands, and as `OutOfMemory`.
 #[cfg_attr(not(debug_assertions), inline(always))]
 pub fn read_any_choice(body: &[u8]) -> Result<ChoiceValue, Refusal> {
     if body.len() < CHOICE_HEADER_LEN {

@@ -1,4 +1,4 @@
-//! What is read of the body of a struct or of an object, up to the next struct or object in it.
+//! Reads the body of a container up to the next container in it.
 
 use crate::shims::prelude::*;
 use crate::parts::spa_read::front::open_in;
@@ -6,18 +6,18 @@ use crate::parts::spa_read::leaves::read_leaf_into;
 use crate::parts::spa_read::refused::Refused;
 use crate::shims::flags::Flags;
 use crate::parts::spa_bytes::{Front, HEADER_LEN, SECOND_WORD, extent_of, u32_at};
-use crate::parts::spa_fixed::Refusal;
+use crate::parts::spa_fixed_sized::Refusal;
 use crate::parts::spa_utils::SpaTypes;
 use crate::parts::spa_value::{Object, Property, PropertyFlags, Takes, Value};
 use crate::shims::memory::AllocError;
 
-/// What is read of a body so far.
+/// A container whose body is being read: its members or properties so far.
 pub(crate) enum Inside {
     Struct(Vec<Value>),
     Object(OpenObject),
 }
 
-/// What is read of an object so far.
+/// An object whose body is being read: its type, its id and its properties so far.
 pub(crate) struct OpenObject {
     pub(crate) type_: u32,
     pub(crate) id: u32,
@@ -28,12 +28,12 @@ pub(crate) struct OpenObject {
     pub(crate) flags: PropertyFlags,
 }
 
-/// A body that is read pod by pod.
+/// A list of members, or an object, that grows by one pod of a body after another.
 pub(crate) trait Grows: Takes {
-    /// Goes on to the next pod in a struct or, behind its key and flags, in an object, where these are whole.
+    /// The bytes from the next pod on: in an object those behind the property's key and flags. None: the key and the flags are cut short.
     fn reach<'a>(&mut self, left: &'a [u8]) -> Option<&'a [u8]>;
 
-    /// Makes room for one more, and where there is none, for those behind it too.
+    /// Makes room for one more pod; where there is none, also for the whole pods that follow in `behind`. Refused only for want of memory.
     fn make_room(&mut self, behind: &[u8]) -> Result<(), AllocError>;
 }
 
@@ -86,7 +86,7 @@ impl Grows for OpenObject {
     }
 }
 
-/// How many pods room is made for: one, and the whole ones that follow it, each behind so many bytes.
+/// How many pods to make room for: one, and the whole ones that follow it in `behind`, each with `between` bytes before it.
 #[inline(never)]
 fn pods_from(behind: &[u8], between: usize) -> usize {
     let mut left = behind;
@@ -103,8 +103,8 @@ fn pods_from(behind: &[u8], between: usize) -> usize {
     count
 }
 
-/// Reads pods up to the end of a body, where it answers nothing, or up to a struct or an object, which it answers opened and
-/// where it then stands.
+/// Reads pods up to the end of a body, where the answer is None, or up to the next container, which is answered, opened; `left` is then at that
+/// container.
 #[cfg_attr(not(debug_assertions), inline(always))]
 pub(crate) fn read_leaves<'de, G: Grows, const LENIENT: bool>(
     left: &mut &'de [u8],
@@ -140,7 +140,7 @@ pub(crate) fn read_leaves<'de, G: Grows, const LENIENT: bool>(
 }
 
 impl Inside {
-    /// Reads on as the members of a struct or as the properties of an object.
+    /// Reads further members or properties, as `read_leaves` does.
     #[cfg_attr(not(debug_assertions), inline(always))]
     pub(crate) fn read_on<'de, const LENIENT: bool>(
         &mut self,
@@ -157,7 +157,7 @@ impl Inside {
         }
     }
 
-    /// Makes room for one more, and where there is none, for those behind it too.
+    /// Makes room for one more pod; where there is none, also for the whole pods that follow in `behind`. Refused only for want of memory.
     #[cfg_attr(not(debug_assertions), inline(always))]
     pub(crate) fn make_room(&mut self, behind: &[u8]) -> Result<(), AllocError> {
         match self {
@@ -166,7 +166,7 @@ impl Inside {
         }
     }
 
-    /// Puts the next member, or the value of the next property, behind the others.
+    /// Appends the next member, or the value of the property whose key and flags are read.
     #[cfg_attr(not(debug_assertions), inline(always))]
     pub(crate) fn put(&mut self, value: Value) {
         match self {
@@ -175,7 +175,7 @@ impl Inside {
         }
     }
 
-    /// The value that is read.
+    /// The struct or object of the members or properties so far.
     #[cfg_attr(not(debug_assertions), inline(always))]
     pub(crate) fn into_value(self) -> Value {
         match self {

@@ -1,14 +1,14 @@
-//! Values without members, put where they are kept.
+//! Reads values that are neither structs nor objects, each into the place where it will stay.
 
 use crate::shims::prelude::*;
 use crate::parts::spa_read::arrays::read_any_array;
 use crate::parts::spa_read::choices::read_any_choice;
-use crate::parts::spa_fixed::Refusal;
-use crate::parts::spa_leaf::{read_fixed, read_pointer, text_of};
+use crate::parts::spa_bodies::{read_fixed, read_pointer, text_of};
+use crate::parts::spa_fixed_sized::Refusal;
 use crate::parts::spa_utils::{Fd, Float32, Float64, Fraction, Id, Rectangle, SpaTypes};
 use crate::parts::spa_value::{Takes, Value};
 
-/// A text as a `String`.
+/// Reads the text of a string's body. Refused as `Text` where the fault stands, and as `OutOfMemory`.
 #[cfg_attr(not(debug_assertions), inline(always))]
 fn read_string(body: &[u8]) -> Result<String, Refusal> {
     let Some(text) = text_of(body) else {
@@ -17,8 +17,8 @@ fn read_string(body: &[u8]) -> Result<String, Refusal> {
     Ok(String::try_from_str(text)?)
 }
 
-/// Puts the value of a body of this type number, which is any but that of a struct or of an object, where there is room for
-/// it.
+/// Reads the value of a body of this type number, which is not that of structs or objects, into `to`, which has room for it. The refusals are
+/// those of `read_leaf`.
 #[cfg_attr(not(debug_assertions), inline(always))]
 pub(crate) fn read_leaf_into<T: Takes>(
     type_: u32,
@@ -50,30 +50,30 @@ pub(crate) fn read_leaf_into<T: Takes>(
     Ok(())
 }
 
-// What is put by these isn't small: they stand apart so that nothing is set aside for it where a number is read.
+// The values read by these aren't small: they are functions of their own, so that reading a number needs no stack for them.
 
-/// Puts the text that a body holds.
+/// Reads the text of a body into `to`.
 #[inline(never)]
 fn put_string<T: Takes>(body: &[u8], to: &mut T) -> Result<(), Refusal> {
     to.put(Value::String(read_string(body)?));
     Ok(())
 }
 
-/// Puts the bytes of a body.
+/// Reads the bytes of a body into `to`.
 #[inline(never)]
 fn put_bytes<T: Takes>(body: &[u8], to: &mut T) -> Result<(), Refusal> {
     to.put(Value::Bytes(Vec::try_from_slice(body)?));
     Ok(())
 }
 
-/// Puts the bitmap of a body.
+/// Reads the bitmap of a body into `to`.
 #[inline(never)]
 fn put_bitmap<T: Takes>(body: &[u8], to: &mut T) -> Result<(), Refusal> {
     to.put(Value::Bitmap(Vec::try_from_slice(body)?));
     Ok(())
 }
 
-/// Puts the pointer of a body.
+/// Reads the pointer of a body into `to`.
 #[inline(never)]
 fn put_pointer<T: Takes>(body: &[u8], to: &mut T) -> Result<(), Refusal> {
     let (type_, address) = read_pointer(body)?;
@@ -81,24 +81,24 @@ fn put_pointer<T: Takes>(body: &[u8], to: &mut T) -> Result<(), Refusal> {
     Ok(())
 }
 
-/// Puts the array of a body.
+/// Reads the array of a body into `to`.
 #[inline(never)]
 fn put_array<T: Takes>(body: &[u8], to: &mut T) -> Result<(), Refusal> {
     to.put(Value::ValueArray(read_any_array(body)?));
     Ok(())
 }
 
-/// Puts the choice of a body.
+/// Reads the choice of a body into `to`.
 #[inline(never)]
 fn put_choice<T: Takes>(body: &[u8], to: &mut T) -> Result<(), Refusal> {
     to.put(Value::Choice(read_any_choice(body)?));
     Ok(())
 }
 
-/// The value of a body of this type number, which is any but that of a struct or of an object.
+/// Reads the value of a body of this type number, which is not that of structs or objects.
 ///
-/// Only texts, bytes, bitmaps, arrays and choices ask for memory. A type number that isn't of the format is refused as
-/// `InvalidType`.
+/// Only texts, bytes, bitmaps, arrays and choices ask for memory. Refused as `Text`, `InvalidType`, `InvalidChoiceType`, `MissingChoiceValues` and
+/// `WrongSize`, each where that fault stands in the body, and as `OutOfMemory`. A type number that isn't of the format is `InvalidType`.
 pub fn read_leaf(type_: u32, body: &[u8]) -> Result<Value, Refusal> {
     let mut read = None;
     if let Err(why) = read_leaf_into(type_, body, &mut read) {

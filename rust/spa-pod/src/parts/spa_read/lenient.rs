@@ -1,17 +1,17 @@
-//! What the lenient reading reads in the place of a pod: the one step in which it differs from the exact reading.
+//! What the lenient reading reads in place of a pod: the one step in which it differs from the exact reading.
 
 use crate::shims::prelude::*;
+use crate::parts::spa_bodies::{CHOICE_HEADER_LEN, VALUE_TYPE_AT};
 use crate::parts::spa_bytes::{Front, HEADER_LEN, u32_at};
-use crate::parts::spa_leaf::{CHOICE_HEADER_LEN, VALUE_TYPE_AT};
 use crate::parts::spa_utils::SpaTypes;
 
 /// The shape word of a None choice.
 const NONE_SHAPE: u32 = 0;
 
-/// The byte that ends a text.
+/// The byte behind a text.
 const NUL: u8 = 0;
 
-/// What the lenient reading reads in the place of this pod.
+/// The front with the type and the body that the lenient reading reads in place of its own.
 pub(crate) fn read_as<'de>(front: Front<'de>) -> Front<'de> {
     if !is_none_choice(front.type_, front.body) {
         return Front {
@@ -28,7 +28,7 @@ pub(crate) fn read_as<'de>(front: Front<'de>) -> Front<'de> {
     }
 }
 
-/// Whether it is a choice of shape 0 with room for its child header.
+/// Whether a body of this type is a None choice's, with room for its child header.
 fn is_none_choice(type_: u32, body: &[u8]) -> bool {
     if type_ != SpaTypes::Choice.0 || body.len() < CHOICE_HEADER_LEN {
         return false;
@@ -36,7 +36,7 @@ fn is_none_choice(type_: u32, body: &[u8]) -> bool {
     u32_at(body, 0) == NONE_SHAPE
 }
 
-/// The type and the body that are read in the place of a None choice of this body.
+/// The type and the body that are read in place of a None choice with this body.
 fn none_choice_as(body: &[u8]) -> (u32, &[u8]) {
     let type_ = u32_at(body, VALUE_TYPE_AT);
     let end = CHOICE_HEADER_LEN + u32_at(body, HEADER_LEN) as usize;
@@ -66,7 +66,7 @@ fn stays_choice(type_: u32) -> bool {
     }
 }
 
-/// So many first bytes, or all, where these are fewer.
+/// The first `len` bytes, or all where there are fewer.
 fn first_of(body: &[u8], len: usize) -> &[u8] {
     if body.len() < len {
         return body;
@@ -74,7 +74,7 @@ fn first_of(body: &[u8], len: usize) -> &[u8] {
     &body[..len]
 }
 
-/// What is read of a body of this type, which is no None choice.
+/// The part that is read of a body of this type, which is no None choice's: of a string up to its first NUL, of any other all.
 fn body_as(type_: u32, body: &[u8]) -> &[u8] {
     if type_ == SpaTypes::String.0 {
         return text_as(body);
@@ -82,7 +82,7 @@ fn body_as(type_: u32, body: &[u8]) -> &[u8] {
     body
 }
 
-/// What is read of a string's body: where it ends in NUL, what stands before the first NUL, and that.
+/// The part that is read of a string's body: up to and with the first NUL where the last byte is NUL, else all.
 fn text_as(body: &[u8]) -> &[u8] {
     let Some((last, _)) = body.split_last() else {
         return body;
@@ -96,7 +96,7 @@ fn text_as(body: &[u8]) -> &[u8] {
     }
 }
 
-/// Where the first NUL is.
+/// The offset of the first NUL. None: there is no NUL.
 fn first_nul(body: &[u8]) -> Option<usize> {
     body.iter().position(|byte| *byte == NUL)
 }

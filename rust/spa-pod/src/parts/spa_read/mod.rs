@@ -1,4 +1,4 @@
-//! The reader of any value: from the pod at the front of an input to a `Value`, by a loop over what is begun.
+//! The reader of values: from the pod at the front of an input to a `Value`, by a loop with an explicit stack.
 use crate::shims::prelude::*;
 mod arrays;
 mod choices;

@@ -1,24 +1,25 @@
-//! The structs and objects that are begun, each within the next one.
+//! The reader's explicit stack: the containers whose bodies are being read, each inside the next one.
 
 use crate::shims::prelude::*;
 use crate::parts::spa_read::inside::{Inside, OpenObject};
 use crate::parts::spa_read::refused::Refused;
 use crate::shims::flags::Flags;
 use crate::parts::spa_bytes::{Front, HEADER_LEN, SECOND_WORD, u32_at};
-use crate::parts::spa_fixed::Refusal;
+use crate::parts::spa_fixed_sized::Refusal;
 use crate::parts::spa_utils::SpaTypes;
 use crate::parts::spa_value::{PropertyFlags, Value, discard};
 use crate::shims::memory::AllocError;
 use core::mem;
 
-/// A struct or an object whose header is read and whose body isn't yet read to its end.
+/// A container whose header is read, and whose body isn't yet read to its end.
 pub(crate) struct PartlyRead<'de> {
-    /// What follows it in the input, which is what remains of the body around it.
+    /// The bytes behind it in the input, which are what is left of the body around it.
     pub(crate) rest: &'de [u8],
     pub(crate) inside: Inside,
 }
 
-/// The struct or the object of a front, with what is left of its body. An object's body may lack its type and its id.
+/// Begins the container of a front, and answers it with what is left of its body. Refused as `WrongSize` where an object's body is too short for
+/// its type and id.
 #[cfg_attr(not(debug_assertions), inline(always))]
 pub(crate) fn begin_reading<'de>(
     front: Front<'de>,
@@ -48,18 +49,18 @@ pub(crate) fn begin_reading<'de>(
     Ok((begun, behind))
 }
 
-/// Structs and objects that are begun, each within the next one.
+/// The stack of the containers that are begun, each inside the next one.
 pub(crate) struct Nest<'de> {
-    /// The innermost.
+    /// The innermost container.
     inner: PartlyRead<'de>,
-    /// Those between it and the outermost, the innermost last.
+    /// The containers between it and the outermost, the innermost last.
     between: Vec<PartlyRead<'de>>,
-    /// The outermost, where that is another one: so two levels take no memory for the list.
+    /// The outermost container, where it isn't the innermost: so two levels take no memory for the list.
     outermost: Option<PartlyRead<'de>>,
 }
 
 impl<'de> Nest<'de> {
-    /// One alone.
+    /// The stack of one container.
     #[cfg_attr(not(debug_assertions), inline(always))]
     pub(crate) fn new(inner: PartlyRead<'de>) -> Nest<'de> {
         Nest {
@@ -69,8 +70,8 @@ impl<'de> Nest<'de> {
         }
     }
 
-    /// Reads on to the next struct or object, which is begun, or to the end of the innermost, which is put into the one around
-    /// it. Whether something is left to read: where not, the innermost is the outermost, and is read.
+    /// Reads up to the next container, which is begun, or to the end of the innermost, which is put into the one around it. Answers whether there is
+    /// more to do: if not, the innermost is the outermost, and is whole.
     #[cfg_attr(not(debug_assertions), inline(always))]
     pub(crate) fn step<const LENIENT: bool>(
         &mut self,
@@ -93,7 +94,7 @@ impl<'de> Nest<'de> {
         }
     }
 
-    /// Goes into the one that is begun.
+    /// Makes a container that is begun the innermost. Refused only for want of memory.
     #[cfg_attr(not(debug_assertions), inline(always))]
     fn try_push(&mut self, begun: PartlyRead<'de>) -> Result<(), AllocError> {
         if self.outermost.is_none() && self.between.is_empty() {
@@ -106,7 +107,7 @@ impl<'de> Nest<'de> {
         Ok(())
     }
 
-    /// The one around the innermost, where there is one.
+    /// Removes and answers the container around the innermost. None: there is none.
     #[cfg_attr(not(debug_assertions), inline(always))]
     fn pop(&mut self) -> Option<PartlyRead<'de>> {
         if let Some(open) = self.between.pop() {
@@ -115,7 +116,7 @@ impl<'de> Nest<'de> {
         self.outermost.take()
     }
 
-    /// Puts the innermost, which is read, into the one around it. Whether there is one.
+    /// Puts the innermost, which is whole, into the container around it. Answers whether there is one. Refused only as `OutOfMemory`.
     #[cfg_attr(not(debug_assertions), inline(always))]
     fn end(&mut self) -> Result<bool, Refused<'de>> {
         let Some(around) = self.pop() else {
@@ -132,7 +133,7 @@ impl<'de> Nest<'de> {
         Ok(true)
     }
 
-    /// The value of the innermost, where nothing is around it.
+    /// The value of the innermost container, which is the only one.
     #[cfg_attr(not(debug_assertions), inline(always))]
     pub(crate) fn into_value(self) -> Value {
         let Nest {
@@ -143,7 +144,7 @@ impl<'de> Nest<'de> {
         inner.inside.into_value()
     }
 
-    /// Takes apart what is read, by loops: it may be nested deep.
+    /// Drops what is read so far by loops, at any nesting depth.
     #[cold]
     #[inline(never)]
     pub(crate) fn give_up(self) {

@@ -1,10 +1,10 @@
-//! The reader's own refusal, which is small: the public one is made of it once, at the boundary.
+//! The refusal inside the reader, which is small: it becomes the public one once, at the boundary.
 
 use crate::shims::prelude::*;
-use crate::parts::spa_fixed::Refusal;
+use crate::parts::spa_fixed_sized::Refusal;
 use crate::shims::memory::AllocFailed;
 
-/// A refusal, and what was left of the input where its fault stands.
+/// A refusal with its place, given by the bytes that were left where the fault stands.
 #[derive(Clone, Copy)]
 pub struct Refused<'de> {
     pub place: &'de [u8],
@@ -12,7 +12,7 @@ pub struct Refused<'de> {
 }
 
 impl<'de> Refused<'de> {
-    /// Memory ran out, which has no place.
+    /// The refusal for want of memory, whose place is empty.
     pub(crate) fn lacking_memory() -> Refused<'de> {
         Refused {
             place: &[],

@@ -1,4 +1,4 @@
-//! Any value, read from the front of an input: the structs and objects in it by one loop over those that are begun.
+//! Reads any value from the front of an input, by one loop over the containers that are begun.
 
 use crate::shims::prelude::*;
 use crate::parts::spa_read::front::open_in;
@@ -6,14 +6,15 @@ use crate::parts::spa_read::leaves::read_leaf;
 use crate::parts::spa_read::nest::{Nest, begin_reading};
 use crate::parts::spa_read::refused::Refused;
 use crate::parts::spa_bytes::Front;
-use crate::parts::spa_fixed::Refusal;
+use crate::parts::spa_fixed_sized::Refusal;
 use crate::parts::spa_utils::SpaTypes;
 use crate::parts::spa_value::Value;
 
-/// What follows the pod at the front of the input, and its value. The number grows by that of the pod headers opened.
+/// Reads the pod at the front of the input: answers the bytes that follow it, and its value. `opened`, which begins at 0, becomes the number of
+/// pod headers that were opened.
 ///
-/// Unless memory runs out, this succeeds exactly where the front that the first size word names is there and is a pod. A refusal
-/// names a fault that stands, and where; or it is `OutOfMemory`, where the front is there and its type takes memory.
+/// Unless memory runs out, this succeeds exactly where the front that the first size word names is there and is a pod. A refusal is a fault
+/// that stands, with its place; or it is `OutOfMemory`, where the front is there and its type takes memory.
 pub fn read_value<'de>(
     input: &'de [u8],
     opened: &mut u64,
@@ -21,16 +22,16 @@ pub fn read_value<'de>(
     read_either::<false>(input, opened)
 }
 
-/// What follows the pod at the front of the input, and the value that the front conveys in the lenient reading.
+/// Reads the front of the input leniently: answers the bytes that follow the front, and the value that it conveys in the lenient reading.
 ///
-/// Unless memory runs out, this succeeds exactly where the front that the first size word names is there and conveys a value. A refusal
-/// names a fault that stands in the lenient reading, and where; or it is `OutOfMemory`, where the front is there and its type takes memory.
+/// Unless memory runs out, this succeeds exactly where the front that the first size word names is there and conveys a value. A refusal is a
+/// fault that stands in the lenient reading, with its place; or it is `OutOfMemory`, where the front is there and its type takes memory.
 pub fn read_value_leniently(input: &[u8]) -> Result<(&[u8], Value), Refused<'_>> {
     let mut opened = 0;
     read_either::<true>(input, &mut opened)
 }
 
-/// What follows the pod at the front, and its value in either reading.
+/// Reads the front of the input in either reading: answers the bytes that follow it, and its value.
 #[cfg_attr(not(debug_assertions), inline(always))]
 fn read_either<'de, const LENIENT: bool>(
     input: &'de [u8],
@@ -51,7 +52,7 @@ fn read_either<'de, const LENIENT: bool>(
     }
 }
 
-/// What follows a struct or an object at the front, which is opened, and its value.
+/// Reads the container at the front, which is opened: answers the bytes that follow it, and its value.
 fn read_nested<'de, const LENIENT: bool>(
     input: &'de [u8],
     front: Front<'de>,

@@ -1,4 +1,4 @@
-//! Sequence numbers of calls that are done later.
+//! Sequence numbers of calls that complete later.
 
 use crate::shims::prelude::*;
 use core::fmt;
@@ -9,7 +9,7 @@ pub(crate) const SEQ_BITS: u32 = 30;
 /// How many sequence numbers there are. It is also the code of the first of them: bit 30 alone.
 const SEQ_COUNT: u32 = 1073741824;
 
-/// The sequence number of a call that is done later, with bit 30 over it: an asynchronous code.
+/// The sequence number of a call that completes later, with bit 30 set above it: an asynchronous code.
 #[derive(Clone, Copy, PartialEq, Eq)]
 pub struct AsyncSeq(i32);
 
@@ -19,7 +19,7 @@ impl AsyncSeq {
         AsyncSeq((SEQ_COUNT + seq.cast_unsigned() % SEQ_COUNT) as i32)
     }
 
-    /// The sequence number of an asynchronous code. Whether a code is one, `SpaResult::from_c(code).is_async()` tells.
+    /// The sequence number of an asynchronous code. `SpaResult::from_c(code).is_async()` answers whether a code is one.
     pub fn from_raw(code: i32) -> AsyncSeq {
         assert!(code.cast_unsigned() >> SEQ_BITS == 1, "the code is not asynchronous");
         AsyncSeq(code)

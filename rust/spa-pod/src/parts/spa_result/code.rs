@@ -1,4 +1,4 @@
-//! Result codes, and what they mean.
+//! Result codes, and their meanings.
 
 use crate::shims::prelude::*;
 use super::async_seq::{AsyncSeq, SEQ_BITS};
@@ -9,12 +9,12 @@ use crate::parts::spa_utils::Errno;
 #[derive(Debug, PartialEq, Eq)]
 pub struct SpaResult(i32);
 
-/// What a call that didn't fail answered.
+/// The answer of a call that didn't fail.
 #[derive(Debug, PartialEq, Eq)]
 pub enum SpaSuccess {
-    /// The call is done, with that code.
+    /// The call has completed, with this code.
     Sync(i32),
-    /// The call will be done later, under that sequence number.
+    /// The call will complete later, under this sequence number.
     Async(AsyncSeq),
 }
 
@@ -24,17 +24,17 @@ impl SpaResult {
         SpaResult(code)
     }
 
-    /// The result of a call that will be done later, under the low 30 bits of that number.
+    /// The result of a call that will complete later, under the low 30 bits of this number.
     pub fn new_return_async(seq: i32) -> SpaResult {
         SpaResult(AsyncSeq::from_seq(seq).raw())
     }
 
-    /// The code's top two bits are 01: the call will be done later.
+    /// Whether the code's top two bits are 01: the call will complete later.
     pub fn is_async(&self) -> bool {
         self.0.cast_unsigned() >> SEQ_BITS == 1
     }
 
-    /// What the code means. A code below 0 is the error of its magnitude.
+    /// The meaning of the code. A code below 0 is the error of its magnitude.
     pub fn into_result(self) -> Result<SpaSuccess, Error> {
         if self.0 < 0 {
             Err(Error(Errno::from_raw(self.0.unsigned_abs())))
@@ -45,7 +45,7 @@ impl SpaResult {
         }
     }
 
-    /// The code of a call that is done, or the error. For codes that aren't asynchronous.
+    /// The code of a call that has completed, or the error. Only for codes that aren't asynchronous.
     pub fn into_sync_result(self) -> Result<i32, Error> {
         assert!(!self.is_async(), "the code is asynchronous");
         match self.into_result()? {
@@ -54,7 +54,7 @@ impl SpaResult {
         }
     }
 
-    /// The sequence number of a call that will be done later, or the error. For codes that are below 0 or asynchronous.
+    /// The sequence number of a call that will complete later, or the error. Only for codes that are below 0 or asynchronous.
     pub fn into_async_result(self) -> Result<AsyncSeq, Error> {
         assert!(self.0 < 0 || self.is_async(), "the code is neither an error nor asynchronous");
         match self.into_result()? {

@@ -1,22 +1,28 @@
-//! Whether a pod is its own rewriting.
+//! Whether a pod is canonical.
 
 use crate::shims::prelude::*;
+use crate::parts::spa_rewrite::look::{Rejected, look_at_pod};
 use crate::parts::spa_rewrite::rewriting::rewrite;
-use crate::parts::spa_fixed::DeserializeError;
-use crate::parts::spa_scan::{LEVELS, canonical_front, nests_within};
+use crate::parts::spa_fixed_sized::DeserializeError;
 use crate::shims::memory::AllocError;
 
-/// Whether the pod at the front of the input is its own rewriting: all of it is there, and `rewrite` would give the same bytes.
+/// Whether the pod at the front of the input is canonical: all of it is there, and `rewrite` would give the same bytes.
 /// A front that is refused isn't, and what follows the front doesn't count.
 ///
-/// Memory is asked for only where structs and objects stand more than 1000 deep in one another, and then as `rewrite` does.
+/// Memory is asked for only where more than 1000 structs and objects stand in one another, not counting those that end where the one around them
+/// does, and then as `rewrite` does.
 pub fn is_canonical(input: &[u8]) -> Result<bool, AllocError> {
-    let None = canonical_front(input) else {
-        return Ok(true);
-    };
-    if nests_within(input, LEVELS) {
-        return Ok(false);
+    match look_at_pod(input) {
+        Ok(pod) => Ok(pod.canonical),
+        Err(rejected) => match rejected {
+            Rejected::Fault(_, _) => Ok(false),
+            Rejected::TooDeep => is_deep_canonical(input),
+        },
     }
+}
+
+/// Whether the pod at the front is canonical, which nests too deep to be looked into: its encoding is compared.
+fn is_deep_canonical(input: &[u8]) -> Result<bool, AllocError> {
     match rewrite(input) {
         Ok((rest, encoding)) => {
             let (front, _) = input.split_at(input.len() - rest.len());

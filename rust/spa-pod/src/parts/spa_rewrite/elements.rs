@@ -4,7 +4,7 @@
 use crate::shims::prelude::*;
 use crate::parts::spa_rewrite::tail::Tail;
 use crate::parts::spa_bytes::{HEADER_LEN, SECOND_WORD, joined, two_words, u32_at};
-use crate::parts::spa_fixed::{
+use crate::parts::spa_fixed_sized::{
     CanonicalFixedSizedPod, ENUM_SHAPE, FLAGS_SHAPE, NONE_SHAPE, RANGE_SHAPE, STEP_SHAPE,
 };
 use crate::parts::spa_scan::fixed_len;

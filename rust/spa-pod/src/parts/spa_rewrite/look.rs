@@ -2,12 +2,12 @@
 //! memory and calls itself nowhere: what is left of the structs and objects around a pod waits in an array of fixed size.
 
 use crate::shims::prelude::*;
-use crate::parts::spa_rewrite::steady::{CHOICE_HEADER, Inside, behind_key, inside_of, short_front};
+use crate::parts::spa_rewrite::steady::{CHOICE_HEADER, Inside, behind_key, inside_of, is_steady_leaf, short_front};
 use crate::parts::spa_rewrite::surplus::leaf_surplus;
+use crate::parts::spa_bodies::VALUE_TYPE_AT;
 use crate::parts::spa_bytes::{HEADER_LEN, SECOND_WORD, open, u32_at};
-use crate::parts::spa_fixed::{FLAGS_SHAPE, Refusal};
-use crate::parts::spa_leaf::VALUE_TYPE_AT;
-use crate::parts::spa_scan::{LEVELS, canonical_front, fixed_len, leaf_front, nests_within};
+use crate::parts::spa_fixed_sized::{FLAGS_SHAPE, Refusal};
+use crate::parts::spa_scan::{LEVELS, fixed_len, leaf_front, nests_within};
 use crate::parts::spa_utils::SpaTypes;
 
 /// A pod that is accepted.
@@ -42,9 +42,11 @@ pub enum Rejected<'a> {
 
 /// What is found inside a struct or an object.
 #[derive(Clone, Copy)]
-enum Found<'a> {
+pub(crate) enum Found<'a> {
     /// Accepted pods: whether they are canonical, and by how many bytes their encodings are shorter.
     Fits(bool, usize),
+    /// The look ended at a pod that isn't canonical, if that is asked, and else at one whose encoding is shorter.
+    Differs,
     /// A fault stands at the front of these bytes.
     Stops(&'a [u8]),
     /// There is no room for one more list that waits.
@@ -63,7 +65,7 @@ enum Met<'a> {
 }
 
 /// How many lists can wait in the short array.
-const FEW: usize = 16;
+pub(crate) const FEW: usize = 16;
 
 /// How many can wait in the long one, which is taken where the short one is full.
 const MANY: usize = 1000;
@@ -217,12 +219,13 @@ fn look_at_front<'a>(
             surplus,
         });
     };
-    match look_into(inside.keyed, canonical, inside.pods, frames) {
+    match look_into(false, inside.keyed, canonical, inside.pods, frames) {
         Found::Fits(canonical, surplus) => Ok(AcceptedPod {
             rest: front.rest,
             canonical,
             surplus,
         }),
+        Found::Differs => unreachable!(),
         Found::Stops(place) => Err(Rejected::Fault(place, fault(place))),
         Found::TooDeep => Err(Rejected::TooDeep),
     }
@@ -237,44 +240,69 @@ fn first_leaf(canonical: bool, input: &[u8]) -> Option<&[u8]> {
     short_front(input)
 }
 
-/// Looks inside a struct or an object: at what follows its first pods that hold no others, if anything does.
+/// Looks inside a struct or an object: at what follows its first pods that hold no others, if anything does. `ends` says whether the look
+/// ends at the first difference: at a pod that isn't canonical, if that is asked, and else at one whose encoding is shorter.
 #[cfg_attr(not(debug_assertions), inline(always))]
-fn look_into<'a>(
+pub(crate) fn look_into<'a>(
+    ends: bool,
     keyed: bool,
     canonical: bool,
     pods: &'a [u8],
     frames: &mut [Inside<'a>],
 ) -> Found<'a> {
-    if !canonical {
-        return look_on(keyed, canonical, pods, frames);
-    }
-    let left = behind_canonical(keyed, pods);
+    let left = behind_alike_first(ends, keyed, canonical, pods);
     if left.is_empty() {
         return Found::Fits(canonical, 0);
     }
-    look_on(keyed, canonical, left, frames)
+    look_on(ends, keyed, canonical, left, frames)
+}
+
+/// What follows the first pods that a look which ends there passes without a call: canonical ones, or such that are as long as their encodings.
+#[cfg_attr(not(debug_assertions), inline(always))]
+fn behind_alike_first(ends: bool, keyed: bool, canonical: bool, pods: &[u8]) -> &[u8] {
+    if canonical {
+        return behind_canonical(keyed, pods);
+    }
+    if ends {
+        return behind_as_long(keyed, pods);
+    }
+    pods
 }
 
 /// Looks inside with this array, and where it is too short with the long one.
 #[cfg_attr(not(debug_assertions), inline(always))]
-fn look_on<'a>(keyed: bool, canonical: bool, pods: &'a [u8], frames: &mut [Inside<'a>]) -> Found<'a> {
-    match look_inside(keyed, canonical, pods, frames) {
+fn look_on<'a>(
+    ends: bool,
+    keyed: bool,
+    canonical: bool,
+    pods: &'a [u8],
+    frames: &mut [Inside<'a>],
+) -> Found<'a> {
+    match look_inside(ends, keyed, canonical, pods, frames) {
         Found::Fits(canonical, surplus) => Found::Fits(canonical, surplus),
+        Found::Differs => Found::Differs,
         Found::Stops(place) => Found::Stops(place),
-        Found::TooDeep => look_deep(keyed, canonical, pods),
+        Found::TooDeep => look_deep(ends, keyed, canonical, pods),
     }
 }
 
 /// Looks inside a struct or an object with the long array alone.
 #[cold]
 #[inline(never)]
-fn look_deep(keyed: bool, canonical: bool, pods: &[u8]) -> Found<'_> {
-    look_inside(keyed, canonical, pods, &mut [Inside { keyed, pods }; MANY])
+fn look_deep(ends: bool, keyed: bool, canonical: bool, pods: &[u8]) -> Found<'_> {
+    look_inside(
+        ends,
+        keyed,
+        canonical,
+        pods,
+        &mut [Inside { keyed, pods }; MANY],
+    )
 }
 
 /// Looks inside a struct or an object. What is left behind an inner one waits in the array; nothing waits where nothing is left.
 #[inline(never)]
 fn look_inside<'a>(
+    ends: bool,
     are_keyed: bool,
     are_canonical: bool,
     pods: &'a [u8],
@@ -294,8 +322,11 @@ fn look_inside<'a>(
             left = outer.pods;
             continue;
         }
-        match meet(keyed, canonical, left) {
+        match meet(ends, keyed, canonical, left) {
             Met::Leaves(rest, are_all, more) => {
+                if ends && is_difference(are_canonical, are_all, more) {
+                    return Found::Differs;
+                }
                 canonical = are_all;
                 surplus += more;
                 left = rest;
@@ -319,12 +350,18 @@ fn look_inside<'a>(
     }
 }
 
+/// Whether pods differ from what is looked for: canonical ones, if these are asked for, and else such that are as long as their encodings.
+#[cfg_attr(not(debug_assertions), inline(always))]
+fn is_difference(asked: bool, canonical: bool, surplus: usize) -> bool {
+    if asked { !canonical } else { surplus > 0 }
+}
+
 /// What stands first in pods: accepted ones that hold no others, a struct or an object, or a fault. `canonical` says whether all pods before are
 /// canonical.
 #[cfg_attr(not(debug_assertions), inline(always))]
-fn meet(keyed: bool, canonical: bool, left: &[u8]) -> Met<'_> {
+fn meet(ends: bool, keyed: bool, canonical: bool, left: &[u8]) -> Met<'_> {
     if !is_inside_first(keyed, left) {
-        let (rest, surplus) = behind_first(keyed, canonical, left);
+        let (rest, surplus) = behind_first(ends, keyed, canonical, left);
         if rest.len() < left.len() {
             return Met::Leaves(rest, canonical, surplus);
         }
@@ -345,16 +382,20 @@ fn meet(keyed: bool, canonical: bool, left: &[u8]) -> Met<'_> {
 }
 
 /// What follows the first accepted pods that hold no others, as many as are found, and by how many bytes their encodings are shorter: where
-/// `canonical` is set those that are canonical. A key and flags stand before each where `keyed` is set.
+/// `canonical` is set those that are canonical, and else where `ends` is those that are as long as their encodings. A key and flags stand before
+/// each where `keyed` is set.
 #[cfg_attr(not(debug_assertions), inline(always))]
-fn behind_first(keyed: bool, canonical: bool, pods: &[u8]) -> (&[u8], usize) {
-    if !canonical {
-        if keyed {
-            return behind_leaves(true, pods);
-        }
-        return behind_leaves(false, pods);
+fn behind_first(ends: bool, keyed: bool, canonical: bool, pods: &[u8]) -> (&[u8], usize) {
+    if canonical {
+        return (behind_canonical(keyed, pods), 0);
     }
-    (behind_canonical(keyed, pods), 0)
+    if ends {
+        return (behind_as_long(keyed, pods), 0);
+    }
+    if keyed {
+        return behind_leaves(true, pods);
+    }
+    behind_leaves(false, pods)
 }
 
 /// Whether a struct or an object is first, or less than a pod of one word is left.
@@ -399,6 +440,52 @@ fn canonical_leaf(keyed: bool, left: &[u8]) -> Option<&[u8]> {
     leaf_front(here)
 }
 
+/// What follows the first pods that hold no others and are as long as their encodings: of properties by one loop, and of members by another.
+#[inline(never)]
+fn behind_as_long(keyed: bool, pods: &[u8]) -> &[u8] {
+    if keyed {
+        return behind_steady(true, pods);
+    }
+    behind_steady(false, pods)
+}
+
+/// The loop over these.
+#[cfg_attr(not(debug_assertions), inline(always))]
+fn behind_steady(keyed: bool, pods: &[u8]) -> &[u8] {
+    let mut left = behind_short(keyed, pods);
+    loop {
+        let Some(here) = behind_key(keyed, left) else {
+            return left;
+        };
+        let Some(front) = open(here) else {
+            return left;
+        };
+        if !is_steady_leaf(front.type_, front.body) {
+            return left;
+        }
+        left = behind_short(keyed, front.rest);
+    }
+}
+
+/// What follows the first pods whose bodies are one or two words and of a kind of fixed size.
+#[cfg_attr(not(debug_assertions), inline(always))]
+fn behind_short(keyed: bool, pods: &[u8]) -> &[u8] {
+    let mut left = pods;
+    while let Some(rest) = short_leaf(keyed, left) {
+        left = rest;
+    }
+    left
+}
+
+/// What follows the first member or property, where its body is one or two words and of a kind of fixed size.
+#[cfg_attr(not(debug_assertions), inline(always))]
+fn short_leaf(keyed: bool, left: &[u8]) -> Option<&[u8]> {
+    let Some(here) = behind_key(keyed, left) else {
+        return None;
+    };
+    short_front(here)
+}
+
 /// What follows the first accepted pods that hold no others, and by how many bytes their encodings are shorter.
 #[cfg_attr(not(debug_assertions), inline(always))]
 fn behind_leaves(keyed: bool, pods: &[u8]) -> (&[u8], usize) {
@@ -428,7 +515,7 @@ fn stays_canonical(canonical: bool, pod: &[u8]) -> bool {
     if !canonical {
         return false;
     }
-    match canonical_front(pod) {
+    match leaf_front(pod) {
         Some(_) => true,
         None => false,
     }

@@ -2,6 +2,7 @@
 use crate::shims::prelude::*;
 mod canonical;
 mod elements;
+mod leading;
 mod look;
 mod patch;
 mod pod;
@@ -11,6 +12,7 @@ mod surplus;
 mod tail;
 
 pub use canonical::is_canonical;
+pub use leading::{canonical_front, canonical_stretch, steady_stretch};
 pub use look::{
     AcceptedPod, AcceptedPods, Rejected, look_at_pod, look_at_pods, surplus_of_all, surplus_of_each,
 };
@@ -18,4 +20,4 @@ pub use patch::{
     SECOND_HEADER, begins_word, patch_all, patch_leaf, patch_values, place_behind, taken_len,
 };
 pub use rewriting::{accept_all, rewrite, rewrite_all, rewrite_in_parts};
-pub use steady::{behind_key, steady_stretch};
+pub use steady::behind_key;

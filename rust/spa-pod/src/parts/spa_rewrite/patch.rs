@@ -1,4 +1,4 @@
-//! Pods made their rewritings where they lie, where these are as long: only padding and words that mean nothing change.
+//! Pods canonicalized in place whose encodings are as long as they are: only padding and words that mean nothing change.
 
 use crate::shims::prelude::*;
 use crate::parts::spa_rewrite::elements::written_flags;
@@ -6,7 +6,7 @@ use crate::parts::spa_bytes::{
     HEADER_LEN, POINTER_LEN, SECOND_WORD, SHORT_POINTER_LEN, joined, open, two_words, u32_at,
     u64_at, wide_body,
 };
-use crate::parts::spa_fixed::{CanonicalFixedSizedPod, NONE_SHAPE, RANGE_SHAPE, STEP_SHAPE};
+use crate::parts::spa_fixed_sized::{CanonicalFixedSizedPod, NONE_SHAPE, RANGE_SHAPE, STEP_SHAPE};
 use crate::parts::spa_utils::SpaTypes;
 
 /// The length in bytes of a word.
@@ -22,7 +22,7 @@ const VALUES_AT: usize = 24;
 /// The length in bytes of a whole pointer.
 const POINTER_POD: usize = 24;
 
-/// Makes pods one after another their rewritings. It promises nothing where the bytes aren't such pods, or are longer than these rewritings.
+/// Replaces pods one after another by their encodings. It promises nothing where the bytes aren't such pods, or are longer than the encodings.
 pub fn patch_all(bytes: &mut [u8]) {
     let mut at = 0;
     loop {
@@ -36,7 +36,7 @@ pub fn patch_all(bytes: &mut [u8]) {
     }
 }
 
-/// Makes a pod its rewriting, if that is as long. What stands in it is patched in place, without a call.
+/// Replaces a pod by its encoding, if that is as long. The pods in it need no call.
 #[cfg_attr(not(debug_assertions), inline(always))]
 fn patch_here(type_: u32, size: usize, pod: &mut [u8]) {
     match SpaTypes(type_) {
@@ -50,7 +50,7 @@ fn patch_here(type_: u32, size: usize, pod: &mut [u8]) {
     }
 }
 
-/// Makes properties their rewritings in place, with the same promise.
+/// Replaces the pods of properties by their encodings in place, if the properties are as long with these.
 #[cfg_attr(not(debug_assertions), inline(always))]
 fn patch_properties(bytes: &mut [u8]) {
     let mut at = 0;
@@ -69,12 +69,12 @@ fn patch_properties(bytes: &mut [u8]) {
     }
 }
 
-/// Makes pods one after another their rewritings, with key and flags before each where `keyed` is set, with the same promise.
+/// Replaces pods one after another by their encodings, if these are as long, with key and flags before each where `keyed` is set.
 fn patch(keyed: bool, bytes: &mut [u8]) {
     patch_inside(keyed, bytes);
 }
 
-/// The same in place.
+/// Does what `patch` does, inlined where it is called.
 #[cfg_attr(not(debug_assertions), inline(always))]
 fn patch_inside(keyed: bool, bytes: &mut [u8]) {
     let mut properties = keyed;
@@ -103,7 +103,7 @@ fn patch_inside(keyed: bool, bytes: &mut [u8]) {
 }
 
 /// The place behind the first pods from there on that are a word, truth values aside, with key and flags before each where `keyed` is
-/// set: these become their rewritings.
+/// set: these are replaced by their encodings.
 #[cfg_attr(not(debug_assertions), inline(always))]
 fn behind_words(keyed: bool, bytes: &mut [u8], from: usize) -> usize {
     if keyed {
@@ -118,7 +118,7 @@ fn behind_words(keyed: bool, bytes: &mut [u8], from: usize) -> usize {
     at
 }
 
-/// The same of properties.
+/// The place behind the first properties from there on whose pods are a word, truth values aside: these are replaced by their encodings.
 #[cfg_attr(not(debug_assertions), inline(always))]
 fn behind_word_properties(bytes: &mut [u8], from: usize) -> usize {
     let mut at = from;
@@ -189,7 +189,7 @@ fn last_inner(left: usize, type_: u32, size: usize) -> Option<bool> {
     None
 }
 
-/// The same of one pod.
+/// Replaces one pod by its encoding, if that is as long.
 #[cfg_attr(not(debug_assertions), inline(always))]
 fn patch_pod(type_: u32, size: usize, pod: &mut [u8]) {
     match SpaTypes(type_) {
@@ -203,7 +203,7 @@ fn patch_pod(type_: u32, size: usize, pod: &mut [u8]) {
     }
 }
 
-/// Makes a pod of this type and this size of a body, which holds no others, its rewriting, if that is as long.
+/// Replaces a pod of this type and this size of a body, which holds no others, by its encoding, if that is as long.
 #[cfg_attr(not(debug_assertions), inline(always))]
 pub fn patch_leaf(type_: u32, size: usize, pod: &mut [u8]) {
     match SpaTypes(type_) {
@@ -215,7 +215,7 @@ pub fn patch_leaf(type_: u32, size: usize, pod: &mut [u8]) {
     }
 }
 
-/// The same of a Bool: true is the word 1.
+/// Replaces a Bool by its encoding: true is the word 1.
 fn patch_bool(size: usize, pod: &mut [u8]) {
     if size == WORD_LEN {
         let truth = bool::of_body(&pod[HEADER_LEN..HEADER_LEN + WORD_LEN]);
@@ -223,7 +223,7 @@ fn patch_bool(size: usize, pod: &mut [u8]) {
     }
 }
 
-/// The same of a pointer: its free word is 0, and its address has eight bytes.
+/// Replaces a pointer by its encoding: its free word is 0, and its address has eight bytes.
 fn patch_pointer(size: usize, pod: &mut [u8]) {
     let Some(address) = address_of(size, pod) else {
         return;
@@ -245,7 +245,7 @@ fn address_of(size: usize, pod: &[u8]) -> Option<u64> {
     None
 }
 
-/// The same of an array: truth values among its elements are 0 or 1.
+/// Replaces an array by its encoding: truth values among its elements are 0 or 1.
 fn patch_array(size: usize, pod: &mut [u8]) {
     if size >= HEADER_LEN {
         let type_ = u32_at(pod, HEADER_LEN + SECOND_WORD);
@@ -254,7 +254,8 @@ fn patch_array(size: usize, pod: &mut [u8]) {
     }
 }
 
-/// The same of a choice: what it holds beyond the values that it takes is padding, and so are the flags of a None choice.
+/// Replaces a choice by its encoding, if that is as long: what it holds beyond the values that it takes is padding, and the flags of a None
+/// choice are 0.
 pub(crate) fn patch_choice(size: usize, pod: &mut [u8]) {
     if size < SECOND_HEADER {
         return;
@@ -268,7 +269,7 @@ pub(crate) fn patch_choice(size: usize, pod: &mut [u8]) {
     patch_values(shape, len, pod);
 }
 
-/// Makes a choice of this shape, which takes so many bytes of values, its rewriting, if that is as long. Its size word isn't read.
+/// Replaces a choice of this shape, which takes so many bytes of values, by its encoding, if that is as long. Its size word isn't read.
 #[cfg_attr(not(debug_assertions), inline(always))]
 pub fn patch_values(shape: u32, len: usize, pod: &mut [u8]) {
     let type_ = u32_at(pod, VALUES_AT - WORD_LEN);

@@ -5,12 +5,12 @@
 use crate::shims::prelude::*;
 use crate::parts::spa_rewrite::elements::{elements_of, put_array, put_choice, values_of};
 use crate::parts::spa_rewrite::tail::Tail;
-use crate::parts::spa_bytes::{HEADER_LEN, SECOND_WORD, extent_of, open, u32_at};
-use crate::parts::spa_fixed::{CanonicalFixedSizedPod, Refusal, put_fixed};
-use crate::parts::spa_leaf::{
+use crate::parts::spa_bodies::{
     begin, check_array, check_choice, close, put_bitmap, put_bytes, put_pointer, put_text,
     read_fixed, read_pointer, text_of,
 };
+use crate::parts::spa_bytes::{HEADER_LEN, SECOND_WORD, extent_of, open, u32_at};
+use crate::parts::spa_fixed_sized::{CanonicalFixedSizedPod, Refusal, put_fixed};
 use crate::parts::spa_scan::{leaf_members, leaf_properties};
 use crate::parts::spa_sink::{GenError, PodSink, put_two};
 use crate::parts::spa_utils::{Fd, Float32, Float64, Fraction, Id, Rectangle, SpaTypes};
@@ -83,7 +83,7 @@ const LONG_RUN: usize = 64;
 /// How many times no run is looked for after one that was shorter.
 const UNLOOKED: u32 = 7;
 
-/// Appends the first pods of a struct, or the first properties of an object, that are their own rewritings and hold no others: all
+/// Appends the first pods of a struct, or the first properties of an object, that are canonical and hold no others: all
 /// of them at once. It goes on behind them. Where runs are short, it looks for few of them.
 #[cfg_attr(not(debug_assertions), inline(always))]
 fn put_leaves<'a>(
@@ -221,7 +221,7 @@ fn rewrite_array(body: &[u8], out: &mut Tail) -> Result<(), Refusal> {
     }
 }
 
-/// The same of a choice.
+/// Appends the pod that is written for the body of a choice. Where no choice says it, the refusal is that of a read.
 fn rewrite_choice(body: &[u8], out: &mut Tail) -> Result<(), Refusal> {
     match values_of(body) {
         Some(kept) => written(put_choice(body, kept, out)),

@@ -1,13 +1,12 @@
 //! The rewriting of a pod is the encoding of its value.
 
 use crate::shims::prelude::*;
+use crate::parts::spa_rewrite::leading::{canonical_stretch, steady_stretch};
 use crate::parts::spa_rewrite::look::{Rejected, look_at_pod, look_at_pods};
 use crate::parts::spa_rewrite::pod::rewrite_pod;
-use crate::parts::spa_rewrite::steady::steady_stretch;
 use crate::parts::spa_rewrite::tail::Tail;
-use crate::parts::spa_fixed::{DeserializeError, Refusal};
-use crate::parts::spa_leaf::error_at;
-use crate::parts::spa_scan::canonical_stretch;
+use crate::parts::spa_bodies::error_at;
+use crate::parts::spa_fixed_sized::{DeserializeError, Refusal};
 use crate::parts::spa_sink::PodSink;
 use core::mem;
 
@@ -67,8 +66,8 @@ pub fn rewrite_all<'a>(
     }
 }
 
-/// The rewritings of all pods that the input consists of, in two parts: the first bytes of the input, as far as they are their
-/// own rewriting, and the rewritings of the pods behind them.
+/// The rewritings of all pods that the input consists of, in two parts: the first pods of the input, as far as they are canonical, and the
+/// rewritings of the pods behind them.
 ///
 /// One after the other they are what `rewrite_all` appends, and the call is refused exactly as that one. It asks for memory
 /// for the second part alone: a program that writes the first one from the input itself needs no room for it.
@@ -124,7 +123,7 @@ fn rewrite_pods<'a>(
     rewrite_others(rest, tail)
 }
 
-/// The same, of pods the first of which isn't its own rewriting: it isn't looked at for that again.
+/// Appends the rewritings of pods behind the bytes that stay, where the first pod isn't canonical: whether it is isn't asked again.
 fn rewrite_others<'a>(
     input: &'a [u8],
     tail: &mut Tail,
@@ -162,7 +161,7 @@ fn put_steady<'a>(left: &'a [u8], tail: &mut Tail) -> Option<&'a [u8]> {
     }
 }
 
-/// Appends the first pods, as many as are their own rewritings, and gives what follows them. `None` says that memory ran out.
+/// Appends the first pods, as many as are canonical, and gives what follows them. `None` says that memory ran out.
 fn put_stretch<'a>(left: &'a [u8], tail: &mut Tail) -> Option<&'a [u8]> {
     let (stretch, rest) = canonical_stretch(left);
     if stretch.is_empty() {

@@ -1,9 +1,9 @@
-//! Pods whose rewritings are as long as they are: a look that writes nothing and takes no memory.
+//! Pods that hold no others and whose encodings are as long as they are; and what stands inside a struct or an object.
 
 use crate::shims::prelude::*;
 use crate::parts::spa_rewrite::elements::{elements_of, values_of};
-use crate::parts::spa_bytes::{HEADER_LEN, POINTER_LEN, SECOND_WORD, SHORT_POINTER_LEN, open, u32_at};
-use crate::parts::spa_scan::{LEVELS, fixed_len, is_text};
+use crate::parts::spa_bytes::{HEADER_LEN, POINTER_LEN, SECOND_WORD, SHORT_POINTER_LEN, u32_at};
+use crate::parts::spa_scan::{fixed_len, is_text};
 use crate::parts::spa_utils::SpaTypes;
 
 /// The length in bytes of a body of one word.
@@ -25,70 +25,6 @@ pub(crate) struct Inside<'a> {
     pub(crate) keyed: bool,
     /// The pods, one after another.
     pub(crate) pods: &'a [u8],
-}
-
-/// The first pods whose rewritings are as long as they are, as many as are found, and what follows them. A pod in which structs and
-/// objects stand more than `LEVELS` deep in one another, those at the end of the one around them aside, isn't looked into.
-pub fn steady_stretch(input: &[u8]) -> (&[u8], &[u8]) {
-    let mut left = input;
-    while let Some(rest) = steady_front(left) {
-        left = rest;
-    }
-    input.split_at(input.len() - left.len())
-}
-
-/// What follows the pod at the front, where its rewriting is found to be as long as it is.
-fn steady_front(input: &[u8]) -> Option<&[u8]> {
-    let Some(front) = open(input) else {
-        return None;
-    };
-    let steady = match inside_of(front.type_, front.body) {
-        Some(inside) => are_steady_inside(inside.keyed, inside.pods, LEVELS),
-        None => is_steady_leaf(front.type_, front.body),
-    };
-    if steady { Some(front.rest) } else { None }
-}
-
-/// Whether the bytes are pods one after another whose rewritings are as long as they are, with key and flags before each where
-/// `keyed` is set.
-fn are_steady(keyed: bool, body: &[u8], levels: u32) -> bool {
-    are_steady_inside(keyed, body, levels)
-}
-
-/// The same in place: what stands in the first pods of an input needs no call.
-#[cfg_attr(not(debug_assertions), inline(always))]
-fn are_steady_inside(keyed: bool, body: &[u8], levels: u32) -> bool {
-    let mut properties = keyed;
-    let mut left = body;
-    while !left.is_empty() {
-        let Some(here) = behind_key(properties, left) else {
-            return false;
-        };
-        if let Some(rest) = short_front(here) {
-            left = behind_short(properties, rest);
-        } else {
-            let Some(front) = open(here) else {
-                return false;
-            };
-            if let Some(inside) = inside_of(front.type_, front.body) {
-                if front.rest.is_empty() {
-                    properties = inside.keyed;
-                    left = inside.pods;
-                } else {
-                    if levels == 0 || !are_steady(inside.keyed, inside.pods, levels - 1) {
-                        return false;
-                    }
-                    left = front.rest;
-                }
-            } else {
-                if !is_steady_leaf(front.type_, front.body) {
-                    return false;
-                }
-                left = front.rest;
-            }
-        }
-    }
-    true
 }
 
 /// What is left of properties without the first key and flags, where these are there, and of pods all.
@@ -126,43 +62,6 @@ fn is_short(size: u32, type_: u32) -> bool {
     size == TWO_WORDS && fixed_len(type_) == TWO_WORDS
 }
 
-/// What follows the first pods whose bodies are one or two words and of a kind of fixed size, with key and flags before each where
-/// `keyed` is set.
-#[cfg_attr(not(debug_assertions), inline(always))]
-fn behind_short(keyed: bool, pods: &[u8]) -> &[u8] {
-    if keyed {
-        return behind_short_properties(pods);
-    }
-    let mut left = pods;
-    while let Some(rest) = short_front(left) {
-        left = rest;
-    }
-    left
-}
-
-/// The same of properties.
-#[cfg_attr(not(debug_assertions), inline(always))]
-fn behind_short_properties(pods: &[u8]) -> &[u8] {
-    let mut left = pods;
-    while let Some(rest) = short_property(left) {
-        left = rest;
-    }
-    left
-}
-
-/// What follows the property at the front, where the body of its value is one or two words and of a kind of fixed size.
-#[cfg_attr(not(debug_assertions), inline(always))]
-fn short_property(input: &[u8]) -> Option<&[u8]> {
-    if input.len() < HEADER_LEN {
-        return None;
-    }
-    let (_, here) = input.split_at(HEADER_LEN);
-    match short_front(here) {
-        Some(rest) => Some(rest),
-        None => None,
-    }
-}
-
 /// What stands in the body of a struct or of an object; None for other types, and where an object's type and id aren't there.
 #[cfg_attr(not(debug_assertions), inline(always))]
 pub(crate) fn inside_of(type_: u32, body: &[u8]) -> Option<Inside<'_>> {
@@ -193,13 +92,13 @@ pub(crate) fn is_steady_leaf(type_: u32, body: &[u8]) -> bool {
     }
 }
 
-/// The same of the kinds of fixed size.
+/// Whether this is the body of a value of fixed size.
 fn is_steady_fixed(type_: u32, body: &[u8]) -> bool {
     let len = fixed_len(type_);
     len <= TWO_WORDS && body.len() == len as usize
 }
 
-/// The same of arrays.
+/// Whether this is the body of an array: these are as long as their encodings.
 fn is_steady_array(body: &[u8]) -> bool {
     match elements_of(body) {
         Some(_) => true,
@@ -207,7 +106,7 @@ fn is_steady_array(body: &[u8]) -> bool {
     }
 }
 
-/// The same of choices: what they hold beyond the values that they take is within the padding.
+/// Whether this is the body of a choice whose values beyond those that it takes are within the padding.
 #[cfg_attr(not(debug_assertions), inline(always))]
 fn is_steady_choice(body: &[u8]) -> bool {
     match values_of(body) {

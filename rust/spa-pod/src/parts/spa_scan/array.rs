@@ -3,7 +3,7 @@
 use crate::shims::prelude::*;
 use crate::parts::spa_scan::front::{ONE_WORD, TWO_WORDS, fixed_len, is_word_type};
 use crate::parts::spa_bytes::{HEADER_LEN, SECOND_WORD, u32_at};
-use crate::parts::spa_fixed::{FLAGS_SHAPE, RANGE_SHAPE, STEP_SHAPE};
+use crate::parts::spa_fixed_sized::{FLAGS_SHAPE, RANGE_SHAPE, STEP_SHAPE};
 use crate::parts::spa_utils::SpaTypes;
 
 /// The length in bytes of the four words before the values of a choice.
@@ -36,7 +36,7 @@ fn is_sized_array(body: &[u8]) -> bool {
     elements.len() % HEADER_LEN == 0
 }
 
-/// The same as `is_array`, of elements of any kind.
+/// Does what `is_array` does, for elements of any kind.
 fn is_any_array(body: &[u8]) -> bool {
     if body.len() < HEADER_LEN {
         return false;

@@ -47,7 +47,7 @@ fn has_zeros(behind: &[u8], size: usize) -> bool {
     last >> (8 * over as u32) == 0
 }
 
-/// What follows the pod at the front, where that is its own rewriting and of a kind of fixed size, None aside.
+/// What follows the pod at the front, where that is canonical and of a kind of fixed size, None aside.
 #[cfg_attr(not(debug_assertions), inline(always))]
 pub(crate) fn fixed_front(input: &[u8]) -> Option<&[u8]> {
     if input.len() < SHORT_POD {
@@ -60,21 +60,7 @@ pub(crate) fn fixed_front(input: &[u8]) -> Option<&[u8]> {
     Some(rest)
 }
 
-/// The same behind a key and flags.
-#[cfg_attr(not(debug_assertions), inline(always))]
-pub(crate) fn fixed_property(input: &[u8]) -> Option<&[u8]> {
-    if input.len() < HEADER_LEN + SHORT_POD {
-        return None;
-    }
-    let (_, behind) = input.split_at(HEADER_LEN);
-    if !is_short_pod(behind) {
-        return None;
-    }
-    let (_, rest) = behind.split_at(SHORT_POD);
-    Some(rest)
-}
-
-/// Whether the pod at the front is its own rewriting and of a kind of fixed size, None aside.
+/// Whether the pod at the front is canonical and of a kind of fixed size, None aside.
 #[cfg_attr(not(debug_assertions), inline(always))]
 fn is_short_pod(input: &[u8]) -> bool {
     let type_ = u32_at(input, SECOND_WORD);

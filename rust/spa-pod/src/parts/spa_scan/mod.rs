@@ -1,4 +1,4 @@
-//! Pods that are their own rewriting: found by one look at their bytes, so that they can be copied at once.
+//! Canonical pods that hold no others: found by a look at their bytes, so that they can be copied at once.
 use crate::shims::prelude::*;
 mod array;
 mod front;
@@ -8,7 +8,5 @@ mod text;
 
 pub use front::fixed_len;
 pub use nesting::nests_within;
-pub use scan::{
-    LEVELS, canonical_front, canonical_stretch, leaf_front, leaf_members, leaf_properties,
-};
+pub use scan::{LEVELS, leaf_front, leaf_members, leaf_properties};
 pub use text::is_text;

@@ -1,4 +1,4 @@
-//! How deep structs and objects stand in one another, told without memory.
+//! How deep structs and objects stand in one another, counted without memory.
 
 use crate::shims::prelude::*;
 use crate::parts::spa_bytes::{HEADER_LEN, open};
@@ -17,7 +17,7 @@ pub fn nests_within(input: &[u8], levels: u32) -> bool {
     }
 }
 
-/// The same of the body of a pod of this type: no call of its own for a pod that holds no others.
+/// Whether at most so many structs and objects stand in one another in a pod of this type with this body. A pod that holds no others needs no call.
 #[cfg_attr(not(debug_assertions), inline(always))]
 fn body_nests_within(type_: u32, body: &[u8], levels: u32) -> bool {
     match SpaTypes(type_) {
@@ -36,7 +36,7 @@ fn body_nests_within(type_: u32, body: &[u8], levels: u32) -> bool {
     }
 }
 
-/// The same of each of the pods that stand one after another.
+/// Whether at most so many stand in one another in each pod of a list.
 fn members_nest_within(body: &[u8], levels: u32) -> bool {
     let mut left = body;
     while let Some(front) = open(left) {
@@ -48,7 +48,7 @@ fn members_nest_within(body: &[u8], levels: u32) -> bool {
     true
 }
 
-/// The same of properties.
+/// Whether at most so many stand in one another in the pod of each property.
 fn properties_nest_within(body: &[u8], levels: u32) -> bool {
     let mut left = body;
     while left.len() >= HEADER_LEN {

@@ -1,7 +1,7 @@
 //! Strings: UTF-8 texts without NUL, with one NUL behind them.
 
 use crate::shims::prelude::*;
-use crate::parts::spa_leaf::text_of;
+use crate::parts::spa_bodies::text_of;
 
 /// Whether the body of a string is a text without NUL, and one NUL behind it.
 #[cfg_attr(not(debug_assertions), inline(always))]
@@ -9,7 +9,7 @@ pub fn is_text(body: &[u8]) -> bool {
     is_ascii_string(body) || holds_text(body)
 }
 
-/// The same, of ASCII characters alone.
+/// Whether the body of a string is ASCII characters other than NUL, and one NUL behind them.
 #[cfg_attr(not(debug_assertions), inline(always))]
 fn is_ascii_string(body: &[u8]) -> bool {
     let Some((last, text)) = body.split_last() else {
@@ -21,7 +21,7 @@ fn is_ascii_string(body: &[u8]) -> bool {
     is_ascii_text(text)
 }
 
-/// The same as `is_text`, of any characters.
+/// Does what `is_text` does, for characters of any length.
 fn holds_text(body: &[u8]) -> bool {
     match text_of(body) {
         Some(_) => true,
@@ -58,7 +58,7 @@ fn is_ascii_text(text: &[u8]) -> bool {
     true
 }
 
-/// The same of fewer than eight bytes.
+/// Whether each of fewer than eight bytes is an ASCII character other than NUL.
 #[cfg_attr(not(debug_assertions), inline(always))]
 fn is_short_ascii_text(text: &[u8]) -> bool {
     if text.len() < HALF_PIECE || text.len() > PIECE {
@@ -69,7 +69,7 @@ fn is_short_ascii_text(text: &[u8]) -> bool {
     are_four_ascii(text) & are_four_ascii(last)
 }
 
-/// The same, byte by byte.
+/// Whether each byte is an ASCII character other than NUL, byte by byte.
 fn are_ascii_bytes(text: &[u8]) -> bool {
     let mut left = text;
     while let Some((byte, rest)) = left.split_first() {
@@ -81,7 +81,7 @@ fn are_ascii_bytes(text: &[u8]) -> bool {
     true
 }
 
-/// The same of the first eight bytes.
+/// Whether each of the first eight bytes is an ASCII character other than NUL.
 #[cfg_attr(not(debug_assertions), inline(always))]
 fn are_ascii(word: &[u8]) -> bool {
     is_ascii(word[0])
@@ -94,7 +94,7 @@ fn are_ascii(word: &[u8]) -> bool {
         & is_ascii(word[7])
 }
 
-/// The same of the first four bytes.
+/// Whether each of the first four bytes is an ASCII character other than NUL.
 #[cfg_attr(not(debug_assertions), inline(always))]
 fn are_four_ascii(word: &[u8]) -> bool {
     is_ascii(word[0]) & is_ascii(word[1]) & is_ascii(word[2]) & is_ascii(word[3])

@@ -16,11 +16,11 @@ pub enum GenError {
     NulInText,
     /// An array's writer was given more or fewer elements than it was opened for.
     WrongCount,
-    /// The writer was refused before, or a count of an `IoSink` would overflow.
+    /// A call of the writer was refused before, or a count of an `IoSink` would overflow.
     Failed,
     /// A device answered an error, or took no byte.
     Io,
-    /// A growth was refused.
+    /// Memory ran out.
     OutOfMemory,
 }
 

@@ -1,4 +1,4 @@
-//! What bytes are written to, and why a write is refused.
+//! Sinks and outputs, to which bytes are written, and why a write is refused.
 use crate::shims::prelude::*;
 mod gen_error;
 mod put;

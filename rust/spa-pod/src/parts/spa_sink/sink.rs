@@ -1,35 +1,35 @@
-//! What bytes are written to.
+//! Sinks and outputs.
 
 use crate::shims::prelude::*;
 use crate::parts::spa_sink::gen_error::GenError;
 use crate::shims::array::ArrayVec;
 
-/// Takes bytes at its end.
+/// A sink: takes bytes at its end.
 ///
-/// What it took is a relation between the sink before and after, so that a device whose bytes nobody knows is a sink too.
+/// Its contracts relate the sink before and after, so that a device whose bytes aren't known is a sink, too.
 pub trait PodSink {
-    /// Appends the bytes. A refusal leaves a beginning of them appended.
+    /// Appends the bytes. After a refusal a beginning of them may have been appended.
     fn append(&mut self, bytes: &[u8]) -> Result<(), GenError>;
 
-    /// Whether it takes memory as it grows. A writer may put together in memory what it appends then:
-    /// so the sink may always refuse for want of memory, and be left as it was. A sink that takes none keeps the default.
+    /// Whether the sink takes memory as it grows. A writer may put together bytes in memory of its own before it appends them:
+    /// so the sink may always refuse for want of memory, and stay as it was. A sink that takes none keeps the default.
     fn has_own_memory(&self) -> bool {
         false
     }
 
-    /// How many bytes more it takes at the most, where it knows that. A writer may answer `Full` for more than these before it
-    /// appends a byte. A sink that doesn't know keeps the default.
+    /// The greatest number of bytes that the sink still takes, where it knows that. A writer may answer `Full` for more bytes before
+    /// it appends one. A sink that doesn't know keeps the default.
     fn room(&self) -> Option<usize> {
         None
     }
 }
 
-/// A sink whose bytes are known, and can be changed after they were written.
+/// An output: a sink whose bytes are known, and can be changed after they were written.
 pub trait PodOutput: PodSink {
-    /// How many bytes it holds.
+    /// How many bytes the output has.
     fn len(&self) -> usize;
 
-    /// Writes these four bytes over those from this place on.
+    /// Overwrites the four bytes at the offset `at`.
     fn overwrite(&mut self, at: usize, bytes: [u8; 4]);
 }
 

@@ -1,10 +1,10 @@
-//! What arrays are read over.
+//! The types over which arrays are read.
 use crate::shims::prelude::*;
-use crate::parts::spa_fixed::CanonicalFixedSizedPod;
+use crate::parts::spa_fixed_sized::CanonicalFixedSizedPod;
 use crate::parts::spa_utils::{Fd, Float32, Float64, Fraction, Id, Rectangle};
 
-/// One of the ten types of fixed size, of which a `Vec` is read as an array. `u8` is none of them: a `Vec` of it is read as
-/// bytes. `CanonicalFixedSizedPod`, a trait of another crate, can't say that.
+/// One of the ten types of fixed size: a `Vec` of it is read as an array. `u8` is none of them: a `Vec` of it is read as
+/// bytes. `CanonicalFixedSizedPod`, a trait of another crate, can't exclude it.
 pub trait ArrayElement: CanonicalFixedSizedPod {}
 
 impl ArrayElement for () {}

@@ -3,11 +3,11 @@
 use crate::shims::prelude::*;
 use crate::parts::spa_typed_read::array_element::ArrayElement;
 use crate::parts::spa_typed_read::deserializer::{DeserializeSuccess, PodDeserialize, PodDeserializer};
-use crate::parts::spa_fixed::{ChoiceElement, DeserializeError};
+use crate::parts::spa_fixed_sized::{ChoiceElement, DeserializeError};
 use crate::parts::spa_utils::{Choice, Fd, Float32, Float64, Fraction, Id, Rectangle};
 use crate::parts::spa_value::Bitmap;
 
-/// The text of a string, which is a part of the input. It asks for no memory.
+/// The text of a string, borrowed from the input. It asks for no memory.
 impl<'de> PodDeserialize<'de> for &'de str {
     fn deserialize(
         deserializer: PodDeserializer<'de>,
@@ -26,7 +26,7 @@ impl<'de> PodDeserialize<'de> for String {
     }
 }
 
-/// Bytes, which are a part of the input. It asks for no memory.
+/// Bytes, borrowed from the input. It asks for no memory.
 impl<'de> PodDeserialize<'de> for &'de [u8] {
     fn deserialize(
         deserializer: PodDeserializer<'de>,
@@ -45,7 +45,7 @@ impl<'de> PodDeserialize<'de> for Vec<u8> {
     }
 }
 
-/// The bytes of a bitmap, which are a part of the input. It asks for no memory.
+/// The bytes of a bitmap, borrowed from the input. It asks for no memory.
 impl<'de> PodDeserialize<'de> for Bitmap<'de> {
     fn deserialize(
         deserializer: PodDeserializer<'de>,
@@ -163,7 +163,7 @@ impl<'de, T: ArrayElement> PodDeserialize<'de> for Vec<T> {
     }
 }
 
-/// A choice over one of the nine types that have bytes. One over another of them is refused as `UnsupportedType`.
+/// A choice over one of the nine types that have bytes. A choice over another of the nine is refused as `UnsupportedType`.
 impl<'de, T: ChoiceElement> PodDeserialize<'de> for Choice<T> {
     fn deserialize(
         deserializer: PodDeserializer<'de>,

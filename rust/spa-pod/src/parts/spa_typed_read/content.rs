@@ -1,21 +1,21 @@
-//! Types that are made of what is read: of a struct's members, and of anything else.
+//! Types that are made of a content that is read: of a struct's members, or of any other readable type.
 
 use crate::shims::prelude::*;
 use crate::parts::spa_typed_read::deserializer::{DeserializeSuccess, PodDeserialize, PodDeserializer};
 use crate::parts::spa_typed_read::exact::ExactDeserialize;
 use crate::parts::spa_typed_read::members::StructPodDeserializer;
-use crate::parts::spa_fixed::DeserializeError;
+use crate::parts::spa_fixed_sized::DeserializeError;
 use crate::parts::spa_value::{Held, Value};
 
-/// A type of a program's own: it is read as another one is, its content, and made of that. So it is read exactly where the
-/// front is a pod of such a content, unless memory runs out.
+/// A type of a program's own that is made of another type, its content, which is what is read. So, unless memory runs out, it is read exactly
+/// where the front is a pod of such a content.
 ///
 /// The content of a struct is `StructOf` its members, that of an object `ObjectOf` its properties.
 pub trait DeserializeAs: Sized {
-    /// What it is read as.
+    /// The type of the content, which is read.
     type Content;
 
-    /// Makes it.
+    /// Makes a value of its content.
     fn of_content(given: Self::Content) -> Self;
 }
 
@@ -41,7 +41,7 @@ where
 {
 }
 
-/// Any value, kept so that it is let go by a loop: where what is read behind it is refused, too.
+/// Any value, which is dropped by a loop: also where a later member is refused.
 impl DeserializeAs for Held {
     type Content = Value;
 
@@ -52,9 +52,9 @@ impl DeserializeAs for Held {
 
 /// The members of a struct, the first one and those behind it, up to `()`: `(A, (B, (C, ())))` are three.
 pub trait DeserializeMembers<'de>: Sized {
-    /// Reads all that is left.
+    /// Reads all members that are left.
     ///
-    /// Refusals: `PropertyMissing` where a member isn't there, `UnreadMembers` where there is one more, else that of the
+    /// Refusals: `PropertyMissing` where a member isn't there, `UnreadMembers` where there is one more, else the refusal of the
     /// member's type.
     fn read_members(
         reader: &mut StructPodDeserializer<'de>,
@@ -85,7 +85,7 @@ impl<'de, A: ExactDeserialize<'de>, R: DeserializeMembers<'de>> DeserializeMembe
     }
 }
 
-/// A struct of these members: `StructOf<(i32, (Rectangle, ()))>` is one of an Int and a Rectangle.
+/// The content of a struct with these members: `StructOf<(i32, (Rectangle, ()))>` is a struct of an Int and a Rectangle.
 pub struct StructOf<M>(pub M);
 
 /// A struct of these members and no others. Refusals: those of `DeserializeMembers`, and `Nom` with `Short` or `Tag` where

@@ -1,20 +1,20 @@
-//! What reads one pod from the front of an input.
+//! The deserializer, which reads one pod from the front of an input.
 
 use crate::shims::prelude::*;
-use crate::parts::spa_fixed::DeserializeError;
-use crate::parts::spa_leaf::error_at;
+use crate::parts::spa_bodies::error_at;
+use crate::parts::spa_fixed_sized::DeserializeError;
 use crate::parts::spa_read::{read_value, read_value_leniently};
 use crate::parts::spa_value::Value;
 
 /// A type that is read from a pod.
 pub trait PodDeserialize<'de>: Sized {
-    /// Reads the pod at the front of the deserializer's input.
+    /// Reads the pod at the front of the deserializer's input. `refuses` states the refusals.
     fn deserialize(
         deserializer: PodDeserializer<'de>,
     ) -> Result<(Self, DeserializeSuccess<'de>), DeserializeError<&'de [u8]>>;
 }
 
-/// Any value, whose tree is the pod's one value. A refusal says what that of `deserialize_any_from` says.
+/// Any value, whose tree is the pod's one value. The refusals are those of `deserialize_any_from`.
 impl<'de> PodDeserialize<'de> for Value {
     fn deserialize(
         deserializer: PodDeserializer<'de>,
@@ -23,28 +23,29 @@ impl<'de> PodDeserialize<'de> for Value {
     }
 }
 
-/// Reads one pod from the front of an input. In contracts it is the bytes that are left.
+/// Reads one pod from the front of an input. Its model is the remaining bytes.
 pub struct PodDeserializer<'de> {
     pub(crate) input: &'de [u8],
 }
 
-/// A pod was read. In contracts it is the bytes that follow it.
+/// A pod was read. The model is the bytes that follow it.
 pub struct DeserializeSuccess<'de>(PodDeserializer<'de>);
 
 impl<'de> DeserializeSuccess<'de> {
-    /// A pod was read, and this follows it.
+    /// A pod was read, and `rest` follows it.
     pub(crate) fn before(rest: &'de [u8]) -> DeserializeSuccess<'de> {
         DeserializeSuccess(PodDeserializer { input: rest })
     }
 
-    /// What follows the pod.
+    /// The bytes that follow the pod.
     pub(crate) fn rest(self) -> &'de [u8] {
         self.0.input
     }
 }
 
 impl<'de> PodDeserializer<'de> {
-    /// Reads the pod at the front of the input as a value of this type, and answers what follows it.
+    /// Reads the pod at the front of the input as a value of the type `P`, and answers the bytes that follow it. The refusals are
+    /// those of `P`.
     pub fn deserialize_from<P: PodDeserialize<'de>>(
         input: &'de [u8],
     ) -> Result<(&'de [u8], P), DeserializeError<&'de [u8]>> {
@@ -52,7 +53,7 @@ impl<'de> PodDeserializer<'de> {
         Ok((success.0.input, value))
     }
 
-    /// Reads the pod at the front of the input, whatever it is, and answers what follows it.
+    /// Reads the pod at the front of the input, of any type, and answers the bytes that follow it.
     ///
     /// Unless memory runs out, this succeeds exactly where the front that the first size word names is there and is a
     /// pod. Refusals: `Nom` with `Short` or `Text`, `InvalidType`, `InvalidChoiceType`, `MissingChoiceValues`,
@@ -67,8 +68,9 @@ impl<'de> PodDeserializer<'de> {
         }
     }
 
-    /// Reads what the front of the input conveys in the lenient reading (docs/FORMAT.md), and answers what follows the front. That also finds the value of
-    /// a None choice over an array, and the text of a string that ends in several NULs, at any depth: what `spa_pod_filter` and ALSA leave.
+    /// Reads the value that the front of the input conveys in the lenient reading (docs/FORMAT.md), and answers the bytes that follow the front.
+    /// Beyond the exact reading, it finds the value of a None choice over an array, and the text of a string that ends in several NULs, at any
+    /// nesting depth: `spa_pod_filter` and ALSA leave such bytes.
     ///
     /// Unless memory runs out, this succeeds exactly where the front that the first size word names is there and conveys a value. A pod conveys its
     /// own value: where `deserialize_any_from` accepts, this gives the same. Refusals are those of that call, each where that fault stands in
@@ -102,7 +104,7 @@ impl<'de> PodDeserializer<'de> {
     /// - `InvalidChoiceType`: a choice's shape word is above 4.
     /// - `MissingChoiceValues`: a choice has fewer values than its shape needs.
     /// - `WrongSize`: a body isn't as long as its type's bodies are, or isn't made of whole elements.
-    /// - `OutOfMemory`: a growth was refused.
+    /// - `OutOfMemory`: memory ran out.
     pub fn deserialize_any_counted(
         input: &'de [u8],
     ) -> (Result<(&'de [u8], Value), DeserializeError<&'de [u8]>>, u64) {
@@ -113,7 +115,7 @@ impl<'de> PodDeserializer<'de> {
         }
     }
 
-    /// Reads the pod at the front of what is left, whatever it is. Refusals are those of `deserialize_any_from`.
+    /// Reads the pod at the front of the remaining bytes, of any type. The refusals are those of `deserialize_any_from`.
     pub fn deserialize_any(
         self,
     ) -> Result<(Value, DeserializeSuccess<'de>), DeserializeError<&'de [u8]>> {
@@ -121,7 +123,7 @@ impl<'de> PodDeserializer<'de> {
         Ok((value, self.after(rest)))
     }
 
-    /// A pod was read, and this follows it.
+    /// A pod was read, and `rest` follows it.
     pub(crate) fn after(self, rest: &'de [u8]) -> DeserializeSuccess<'de> {
         DeserializeSuccess::before(rest)
     }

@@ -3,13 +3,13 @@
 use crate::shims::prelude::*;
 use crate::parts::spa_typed_read::array_element::ArrayElement;
 use crate::parts::spa_typed_read::deserializer::PodDeserialize;
-use crate::parts::spa_fixed::ChoiceElement;
+use crate::parts::spa_fixed_sized::ChoiceElement;
 use crate::parts::spa_utils::{Choice, Fd, Float32, Float64, Fraction, Id, Rectangle};
 use crate::parts::spa_value::{Bitmap, Value};
 
-/// A type whose read, unless memory runs out, succeeds exactly where the front is a pod of a value that is read as one of it.
+/// A type whose read, unless memory runs out, succeeds exactly where the front is a pod of a value that is read as this type.
 ///
-/// A type that another one is made of has to be one. What `DeserializeAs` makes is one.
+/// The content of a `DeserializeAs` has to be such a type, and then the type that is made of it is one.
 pub trait ExactDeserialize<'de>: PodDeserialize<'de> {
 }
 

@@ -1,17 +1,17 @@
-//! The elements of an array, read one by one.
+//! Reads the elements of an array one by one.
 
 use crate::shims::prelude::*;
 use crate::parts::spa_typed_read::deserializer::{DeserializeSuccess, PodDeserializer};
 use crate::parts::spa_typed_read::typed::open_as;
 use crate::parts::spa_bytes::{Front, HEADER_LEN, SECOND_WORD, u32_at};
-use crate::parts::spa_fixed::{
+use crate::parts::spa_fixed_sized::{
     CanonicalFixedSizedPod, DeserializeError, Fault, FaultKind, FixedSizedPod, open_array,
 };
 use crate::parts::spa_utils::SpaTypes;
 use core::marker::PhantomData;
 
-/// Opens the array at the front of the input, whose elements have to be of this type. Refusals: `Nom` with `Short` or `Tag`,
-/// and `WrongSize` where the body lacks a child header.
+/// Opens the array at the front of the input. Refusals: `Nom` with `Short` where the front isn't there, `Nom` with `Tag` where it is no
+/// array or its elements are of another type than `T`, and `WrongSize` where the body lacks a child header.
 #[cfg_attr(not(debug_assertions), inline(always))]
 pub(crate) fn open_array_of<'de, T: CanonicalFixedSizedPod>(
     input: &'de [u8],
@@ -29,9 +29,9 @@ pub(crate) fn open_array_of<'de, T: CanonicalFixedSizedPod>(
     Ok(front)
 }
 
-/// Reads an array's elements one by one. Once one was refused, every call answers `FailedReader`.
+/// Reads an array's elements one by one. Once a call was refused, every call answers `FailedReader`.
 ///
-/// In contracts it is how many elements are left, their bytes, what follows the array, and whether it has failed.
+/// Its model: how many elements are left, their bytes, the bytes that follow the array, and whether it has failed.
 pub struct ArrayPodDeserializer<'de, E: FixedSizedPod> {
     left: &'de [u8],
     after: &'de [u8],

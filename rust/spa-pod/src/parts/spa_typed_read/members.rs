@@ -1,14 +1,14 @@
-//! The members of a struct, read one by one.
+//! Reads the members of a struct one by one.
 
 use crate::shims::prelude::*;
 use crate::parts::spa_typed_read::deserializer::{DeserializeSuccess, PodDeserialize, PodDeserializer};
 use crate::parts::spa_typed_read::typed::open_as;
-use crate::parts::spa_fixed::DeserializeError;
+use crate::parts::spa_fixed_sized::DeserializeError;
 use crate::parts::spa_utils::SpaTypes;
 
 /// Reads a struct's members one by one. Once a member was refused, every call answers `FailedReader`.
 ///
-/// In contracts it is what is left of the struct's body, what follows the struct, and whether it has failed.
+/// Its model: the remaining bytes of the struct's body, the bytes that follow the struct, and whether it has failed.
 pub struct StructPodDeserializer<'de> {
     left: &'de [u8],
     after: &'de [u8],
@@ -16,7 +16,7 @@ pub struct StructPodDeserializer<'de> {
 }
 
 impl<'de> StructPodDeserializer<'de> {
-    /// The reader of the struct at the front of the input.
+    /// The reader of the struct at the front of the input. Refusals: `Nom` with `Short` or `Tag`, where the front isn't there or is no struct.
     pub(crate) fn open(
         deserializer: PodDeserializer<'de>,
     ) -> Result<StructPodDeserializer<'de>, DeserializeError<&'de [u8]>> {
@@ -28,10 +28,10 @@ impl<'de> StructPodDeserializer<'de> {
         })
     }
 
-    /// Reads the next member as a value of this type; at the end there is none.
+    /// Reads the next member as a value of the type `P`. None: there are no more members.
     ///
-    /// A refusal is that of the type, of what is left of the struct's body alone, or `FailedReader` where a member was
-    /// refused before. After it the reader has failed.
+    /// Refusals: those of `P`, for the remaining bytes of the struct's body, and `FailedReader` where a member was refused
+    /// before. After a refusal the reader has failed.
     pub fn deserialize_field<P: PodDeserialize<'de>>(
         &mut self,
     ) -> Result<Option<P>, DeserializeError<&'de [u8]>> {
@@ -50,7 +50,7 @@ impl<'de> StructPodDeserializer<'de> {
         Ok(Some(value))
     }
 
-    /// Are all members read? Refusals are those of `end`.
+    /// Checks that all members are read, with the refusals of `end`.
     pub(crate) fn ended(&self) -> Result<(), DeserializeError<&'de [u8]>> {
         if self.failed {
             return Err(DeserializeError::FailedReader);

@@ -1,4 +1,4 @@
-//! Typed reads: from the pod at the front of an input to a type of one's own, member by member or by a visitor.
+//! Typed reads: from the pod at the front of an input to a type of the program's own, member by member or by a visitor.
 use crate::shims::prelude::*;
 mod array_element;
 mod builtin;

@@ -4,23 +4,22 @@ use crate::shims::prelude::*;
 use crate::parts::spa_typed_read::deserializer::{DeserializeSuccess, PodDeserialize, PodDeserializer};
 use crate::parts::spa_typed_read::exact::ExactDeserialize;
 use crate::parts::spa_typed_read::properties::ObjectPodDeserializer;
-use crate::parts::spa_fixed::DeserializeError;
+use crate::parts::spa_fixed_sized::DeserializeError;
 
-/// A property that has to be there, with the value of the first one under its key.
+/// A property that has to be there: the value of the first property with the key `KEY`.
 pub struct Required<const KEY: u32, P>(pub P);
 
-/// A property that may be there, with the value of the first one under its key.
+/// A property that may be there: the value of the first property with the key `KEY`, or None.
 pub struct Optional<const KEY: u32, P>(pub Option<P>);
 
-/// The properties of an object, one and those after it, up to `()`. They stand in the object in any order, and others among
-/// them.
+/// The properties of an object, the first and those behind it, up to `()`. The object may have them in any order, and others too.
 pub trait DeserializeProperties<'de>: Sized {
-    /// Is this one of these keys?
+    /// Whether this is one of their keys.
     fn asks_for(key: u32) -> bool;
 
-    /// Finds them among properties of which none before this place is under one of their keys.
+    /// Finds these properties in an object, from `from` on: no property before that place has one of their keys.
     ///
-    /// Refusals: `PropertyMissing` where one that has to be there isn't, else those of `find_property`.
+    /// Refusals: `PropertyMissing` where a `Required` one isn't there, else those of `find_property`.
     fn find_from(
         reader: &ObjectPodDeserializer<'de>,
         from: &'de [u8],
@@ -99,12 +98,12 @@ impl<
     }
 }
 
-/// An object of this type and id, with these properties.
+/// The content of an object of this type and id with these properties.
 pub struct ObjectOf<const TYPE: u32, const ID: u32, P>(pub P);
 
-/// An object of this type and id, with these properties in any order, and others among them. Refusals: `Nom` with `Short` or
-/// `Tag` where the front isn't there or is no object; `WrongSize` where it lacks its type or id, `UnsupportedType` where one of
-/// them is another; else those of `DeserializeProperties` and of `skip_properties`.
+/// An object of this type and id, which has these properties in any order, and may have others. Refusals: `Nom` with `Short` or
+/// `Tag` where the front isn't there or is no object; `WrongSize` where it lacks its type or id, `UnsupportedType` where its
+/// type or its id is another one; else those of `DeserializeProperties` and of `skip_properties`.
 impl<'de, const TYPE: u32, const ID: u32, P: DeserializeProperties<'de>> PodDeserialize<'de>
     for ObjectOf<TYPE, ID, P> {
     fn deserialize(

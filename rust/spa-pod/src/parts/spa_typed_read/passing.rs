@@ -1,15 +1,15 @@
-//! Values that are passed where they are, and not kept.
+//! Values that are checked in the input and skipped.
 
 use crate::shims::prelude::*;
 use crate::parts::spa_typed_read::deserializer::{DeserializeSuccess, PodDeserialize, PodDeserializer};
 use crate::parts::spa_typed_read::exact::ExactDeserialize;
-use crate::parts::spa_fixed::DeserializeError;
-use crate::parts::spa_leaf::error_at;
+use crate::parts::spa_bodies::error_at;
+use crate::parts::spa_fixed_sized::DeserializeError;
 use crate::parts::spa_rewrite::{Rejected, look_at_pod};
 use crate::parts::spa_value::discard;
 
-/// Any value, which is looked at where it is and not kept. Memory is asked for only where more than 1000 structs and objects stand in one
-/// another, not counting those that end where the one around them does. A refusal says what that of `deserialize_any_from` says.
+/// Any value, which is checked in the borrowed input and not kept. Memory is asked for only where the nesting depth, without containers in tail
+/// position, is above 1000. The refusals are those of `deserialize_any_from`.
 pub struct Skipped;
 
 impl<'de> PodDeserialize<'de> for Skipped {

@@ -1,20 +1,20 @@
-//! Whole pods of one type at the front: what the built-in types are read from.
+//! Reads the pod of one type at the front, for the built-in types.
 
 use crate::shims::prelude::*;
 use crate::parts::spa_typed_read::deserializer::{DeserializeSuccess, PodDeserializer};
 use crate::parts::spa_typed_read::items::open_array_of;
 use crate::parts::spa_typed_read::typed::open_as;
-use crate::parts::spa_bytes::u32_at;
-use crate::parts::spa_fixed::{
-    CanonicalFixedSizedPod, ChoiceElement, DeserializeError, Refusal, read_array, read_choice,
-};
-use crate::parts::spa_leaf::{
+use crate::parts::spa_bodies::{
     CHOICE_HEADER_LEN, VALUE_TYPE_AT, check_choice, error_at, read_fixed, read_pointer, text_of,
+};
+use crate::parts::spa_bytes::u32_at;
+use crate::parts::spa_fixed_sized::{
+    CanonicalFixedSizedPod, ChoiceElement, DeserializeError, Refusal, read_array, read_choice,
 };
 use crate::parts::spa_utils::{Choice, SpaTypes};
 
 impl<'de> PodDeserializer<'de> {
-    /// The value of one of the ten types.
+    /// Reads a value of one of the ten types of fixed size.
     #[cfg_attr(not(debug_assertions), inline(always))]
     pub(crate) fn fixed_pod<T: CanonicalFixedSizedPod>(
         self,
@@ -26,7 +26,7 @@ impl<'de> PodDeserializer<'de> {
         }
     }
 
-    /// The text of a string.
+    /// Reads the borrowed text of a string.
     pub(crate) fn text_pod(
         self,
     ) -> Result<(&'de str, DeserializeSuccess<'de>), DeserializeError<&'de [u8]>> {
@@ -37,7 +37,7 @@ impl<'de> PodDeserializer<'de> {
         }
     }
 
-    /// The bytes of a pod of bytes.
+    /// Reads the borrowed bytes of a pod of bytes.
     pub(crate) fn bytes_pod(
         self,
     ) -> Result<(&'de [u8], DeserializeSuccess<'de>), DeserializeError<&'de [u8]>> {
@@ -45,7 +45,7 @@ impl<'de> PodDeserializer<'de> {
         Ok((front.body, self.after(front.rest)))
     }
 
-    /// The bytes of a bitmap.
+    /// Reads the borrowed bytes of a bitmap.
     pub(crate) fn bitmap_pod(
         self,
     ) -> Result<(&'de [u8], DeserializeSuccess<'de>), DeserializeError<&'de [u8]>> {
@@ -53,7 +53,7 @@ impl<'de> PodDeserializer<'de> {
         Ok((front.body, self.after(front.rest)))
     }
 
-    /// A pointer's type and address.
+    /// Reads a pointer's type and address.
     pub(crate) fn pointer_pod(
         self,
     ) -> Result<((u32, u64), DeserializeSuccess<'de>), DeserializeError<&'de [u8]>> {
@@ -64,7 +64,7 @@ impl<'de> PodDeserializer<'de> {
         }
     }
 
-    /// The elements of an array over one of the ten types.
+    /// Reads the elements of an array over one of the ten types.
     pub(crate) fn array_pod<T: CanonicalFixedSizedPod>(
         self,
     ) -> Result<(Vec<T>, DeserializeSuccess<'de>), DeserializeError<&'de [u8]>> {
@@ -75,7 +75,7 @@ impl<'de> PodDeserializer<'de> {
         }
     }
 
-    /// The choice over one of the nine types that have bytes. One over another of them is refused as `UnsupportedType`.
+    /// Reads a choice over one of the nine types that have bytes. A choice over another of the nine is refused as `UnsupportedType`.
     pub(crate) fn choice_pod<T: ChoiceElement>(
         self,
     ) -> Result<(Choice<T>, DeserializeSuccess<'de>), DeserializeError<&'de [u8]>> {

@@ -1,4 +1,4 @@
-//! The properties of an object, read one by one.
+//! Reads the properties of an object one by one, or finds them by their keys.
 
 use crate::shims::prelude::*;
 use crate::parts::spa_typed_read::deserializer::{DeserializeSuccess, PodDeserialize, PodDeserializer};
@@ -7,11 +7,11 @@ use crate::parts::spa_typed_read::passing::Skipped;
 use crate::parts::spa_typed_read::typed::open_as;
 use crate::shims::flags::Flags;
 use crate::parts::spa_bytes::{HEADER_LEN, SECOND_WORD, open, u32_at};
-use crate::parts::spa_fixed::{DeserializeError, Fault, FaultKind};
+use crate::parts::spa_fixed_sized::{DeserializeError, Fault, FaultKind};
 use crate::parts::spa_utils::SpaTypes;
 use crate::parts::spa_value::PropertyFlags;
 
-/// The input is short, at this place.
+/// The refusal `Nom` with `Short` at this place.
 fn short_at(place: &[u8]) -> DeserializeError<&[u8]> {
     DeserializeError::Nom(Fault {
         input: place,
@@ -19,7 +19,7 @@ fn short_at(place: &[u8]) -> DeserializeError<&[u8]> {
     })
 }
 
-/// The first place whose key is asked for: the one that was met before, or else this one, if its key is.
+/// The first place of a property whose key `R` asks for: the one that was met before, else this one if its key is asked for.
 #[cfg_attr(not(debug_assertions), inline(always))]
 fn first_asked<'de, R: DeserializeProperties<'de>>(
     before: Option<&'de [u8]>,
@@ -34,7 +34,7 @@ fn first_asked<'de, R: DeserializeProperties<'de>>(
 
 /// Reads an object's properties one by one. Once a property was refused, every call answers `FailedReader`.
 ///
-/// In contracts it is the object's type and id, what is left of its body, what follows the object, and whether it has
+/// Its model: the object's type and id, the remaining bytes of its body, the bytes that follow the object, and whether it has
 /// failed.
 pub struct ObjectPodDeserializer<'de> {
     type_: u32,
@@ -45,7 +45,8 @@ pub struct ObjectPodDeserializer<'de> {
 }
 
 impl<'de> ObjectPodDeserializer<'de> {
-    /// The reader of the object at the front of the input.
+    /// The reader of the object at the front of the input. Refusals: `Nom` with `Short` or `Tag`, and `WrongSize` where the body lacks the
+    /// object's type or id.
     pub(crate) fn open(
         deserializer: PodDeserializer<'de>,
     ) -> Result<ObjectPodDeserializer<'de>, DeserializeError<&'de [u8]>> {
@@ -73,11 +74,12 @@ impl<'de> ObjectPodDeserializer<'de> {
         self.id
     }
 
-    /// Reads the next property's value as one of this type, with its key and flags; at the end there is none.
+    /// Reads the next property's value as one of the type `P`, and answers it with its key and flags. None: there are no more
+    /// properties.
     ///
-    /// A refusal is `Nom` with `Short`, at the key, where fewer bytes are left than a key and flags; that of the type, of what
-    /// is left of the object's body behind key and flags; or `FailedReader` where a property was refused before. After it the
-    /// reader has failed.
+    /// Refusals: `Nom` with `Short`, at the key, where fewer bytes are left than a key and flags; those of `P`, for the
+    /// remaining bytes of the object's body behind key and flags; and `FailedReader` where a property was refused before. After
+    /// a refusal the reader has failed.
     pub fn deserialize_property<P: PodDeserialize<'de>>(
         &mut self,
     ) -> Result<Option<(P, u32, PropertyFlags)>, DeserializeError<&'de [u8]>> {
@@ -104,9 +106,9 @@ impl<'de> ObjectPodDeserializer<'de> {
 
     /// Reads the next property, which has to have this key, and answers its value and its flags.
     ///
-    /// Refusals: `PropertyMissing` at the end, and `PropertyWrongKey` with the next property's key where that is another one;
-    /// the reader then stands behind that property. These two don't make the reader fail. Any other one is that of
-    /// `deserialize_property`.
+    /// Refusals: `PropertyMissing` where there are no more properties, and `PropertyWrongKey` with the next property's key
+    /// where that is another one; the reader is then behind that property. After these two the reader hasn't failed. The others
+    /// are those of `deserialize_property`.
     pub fn deserialize_property_key<P: PodDeserialize<'de>>(
         &mut self,
         key: u32,
@@ -123,12 +125,12 @@ impl<'de> ObjectPodDeserializer<'de> {
         }
     }
 
-    /// Looks for the first property under this key among those that are left, and reads its value as one of this type; where none
-    /// is under the key there is none. The reader stays where it is, so that properties are found in any order. It looks at 16
-    /// bytes of each property before that one, and at nothing behind it.
+    /// Finds the first property with this key among the remaining ones, and reads its value as one of the type `P`. None: no
+    /// property has the key. The reader doesn't move, so that properties can be found in any order. The search reads 16 bytes of
+    /// each property before that one, and nothing behind it.
     ///
-    /// Refusals: `FailedReader` where a property was refused before; `Nom` with `Short` where a property isn't there as its size
-    /// says; else that of the type.
+    /// Refusals: `FailedReader` where a property was refused before; `Nom` with `Short` where the search comes to a property that
+    /// isn't whole; else those of `P`.
     pub fn find_property<P: PodDeserialize<'de>>(
         &self,
         key: u32,
@@ -139,18 +141,18 @@ impl<'de> ObjectPodDeserializer<'de> {
         }
     }
 
-    /// Finds these properties among those that are left, each the first one under its key, and leaves the reader where it is. Where they
-    /// stand in the order in which they are asked for, one walk over the properties finds them all; a search that finds nothing is one more.
+    /// Finds these properties among the remaining ones, each the first with its key, and doesn't move the reader. Where the object has them in the
+    /// order in which they are asked for, one walk finds them all; each search that finds none takes one walk more.
     ///
-    /// Refusals: `PropertyMissing` where one that has to be there isn't, else those of `find_property`.
+    /// Refusals: `PropertyMissing` where a `Required` one isn't there, else those of `find_property`.
     pub fn find_properties<P: DeserializeProperties<'de>>(
         &self,
     ) -> Result<P, DeserializeError<&'de [u8]>> {
         P::find_from(self, self.left)
     }
 
-    /// Looks for the first property under this key from a place on, as `find_property` does. It also answers the place from which those
-    /// that `R` asks for are to be looked for: at the first of them that it met, or else behind what it looked at.
+    /// Finds the first property with this key from a place on, as `find_property` does. It also answers the place from which to search for the
+    /// properties of `R`: that of the first of them which it met, or else the place behind those it walked over.
     #[cfg_attr(not(debug_assertions), inline(always))]
     pub(crate) fn find_from<P: PodDeserialize<'de>, R: DeserializeProperties<'de>>(
         &self,
@@ -185,8 +187,8 @@ impl<'de> ObjectPodDeserializer<'de> {
         Ok((None, next.unwrap_or(left)))
     }
 
-    /// Passes all properties that are left, whatever they are. Refusals are those of `deserialize_property` into a `Skipped`; after
-    /// one the reader has failed.
+    /// Checks all remaining properties, of any types, and skips them. The refusals are those of `deserialize_property` into a
+    /// `Skipped`; after one the reader has failed.
     pub fn skip_properties(&mut self) -> Result<(), DeserializeError<&'de [u8]>> {
         loop {
             match self.deserialize_property::<Skipped>() {

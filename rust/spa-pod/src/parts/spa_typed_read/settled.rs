@@ -1,20 +1,20 @@
-//! Values that are read through None choices, which fixation leaves in their places.
+//! Values that are read through None choices, which fixation leaves in place of other choices.
 
 use crate::shims::prelude::*;
 use crate::parts::spa_typed_read::deserializer::{DeserializeSuccess, PodDeserialize, PodDeserializer};
 use crate::parts::spa_typed_read::exact::ExactDeserialize;
-use crate::parts::spa_fixed::DeserializeError;
-use crate::parts::spa_leaf::error_at;
+use crate::parts::spa_bodies::error_at;
+use crate::parts::spa_fixed_sized::DeserializeError;
 use crate::parts::spa_rewrite::{Rejected, look_at_pod};
 use crate::parts::spa_utils::SpaTypes;
 use crate::parts::spa_view::{FixedPod, FromPod, Pod};
 
-/// A value of one of the ten types of fixed size, read settled: as it stands there, or as the value of a None choice. Fixation leaves a None
-/// choice of a value where a format has the value, so `Required<KEY, Settled<i32>>` reads a property of any format that is fixated. It
-/// asks for no memory. A None choice over a text or over bytes is no pod, so these are read as they are.
+/// A value of one of the ten types of fixed size, read as itself or as the value of a None choice. Fixation leaves a None choice where a
+/// format had another choice, so `Required<KEY, Settled<i32>>` reads a property of any fixated format. It asks for no memory. A None choice
+/// over a text or over bytes is no pod, so texts and bytes need no `Settled`.
 pub struct Settled<T>(pub T);
 
-/// The pod at the front, where it is a choice's.
+/// The zero-copy view of the pod at the front, where it is a choice's. None: the front isn't there or is of another type.
 #[cfg_attr(not(debug_assertions), inline(always))]
 fn choice_at(input: &[u8]) -> Option<Pod<'_>> {
     let pod = Pod::from_bytes(input)?;
@@ -24,8 +24,8 @@ fn choice_at(input: &[u8]) -> Option<Pod<'_>> {
     Some(pod)
 }
 
-/// Refusals: where no choice is there, those of the type. Of a choice: `InvalidType`, `InvalidChoiceType`, `MissingChoiceValues` and `WrongSize`
-/// where that fault stands in it, and else `UnsupportedType`, for another shape or over another type.
+/// Refusals: where the front is no choice, those of the type. Of a choice: `InvalidType`, `InvalidChoiceType`, `MissingChoiceValues` and
+/// `WrongSize`, each where that fault stands in it, and else `UnsupportedType`, where it is of another shape or over another type.
 impl<'de, T: FixedPod> PodDeserialize<'de> for Settled<T> {
     fn deserialize(
         deserializer: PodDeserializer<'de>,

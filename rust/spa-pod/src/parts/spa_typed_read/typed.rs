@@ -1,4 +1,4 @@
-//! Typed reads: a pod of one type at the front, and what a visitor makes of it.
+//! Typed reads: reads a pod of one type at the front, and hands its content to a visitor.
 
 use crate::shims::prelude::*;
 use crate::parts::spa_typed_read::deserializer::{DeserializeSuccess, PodDeserializer};
@@ -6,16 +6,16 @@ use crate::parts::spa_typed_read::items::ArrayPodDeserializer;
 use crate::parts::spa_typed_read::members::StructPodDeserializer;
 use crate::parts::spa_typed_read::properties::ObjectPodDeserializer;
 use crate::parts::spa_typed_read::visitor::{Visit, Visitor};
+use crate::parts::spa_bodies::{error_at, read_fixed, read_pointer, text_of};
 use crate::parts::spa_bytes::{Front, open};
-use crate::parts::spa_fixed::{
+use crate::parts::spa_fixed_sized::{
     CanonicalFixedSizedPod, DeserializeError, Fault, FaultKind, FixedSizedPod, Refusal,
 };
-use crate::parts::spa_leaf::{error_at, read_fixed, read_pointer, text_of};
 use crate::parts::spa_read::read_any_choice;
 use crate::parts::spa_utils::{Fd, Float32, Float64, Fraction, Id, Rectangle, SpaTypes};
 
-/// Opens the pod at the front of the input, which has to be of this type. Refusals: `Nom` with `Short` where the front isn't
-/// there, else `Nom` with `Tag` where its type number is another one.
+/// Opens the pod at the front of the input, which has to have this type number. Refusals: `Nom` with `Short` where the front isn't there, else
+/// `Nom` with `Tag` where its type number is another one.
 #[cfg_attr(not(debug_assertions), inline(always))]
 pub(crate) fn open_as<'de>(
     input: &'de [u8],
@@ -36,8 +36,7 @@ pub(crate) fn open_as<'de>(
     Ok(front)
 }
 
-/// What a visitor is handed of a body of this type, which is any but that of an array, of a struct or of an object. Only a
-/// choice asks for memory.
+/// The content of a body of this type, for a visitor. The type isn't that of arrays, structs or objects. Only a choice asks for memory.
 #[cfg_attr(not(debug_assertions), inline(always))]
 fn content<'de, E>(type_: u32, body: &'de [u8]) -> Result<Visit<'de, E>, Refusal> {
     match SpaTypes(type_) {
@@ -151,7 +150,7 @@ impl<'de> PodDeserializer<'de> {
         self.deserialize_as(SpaTypes::Double.0, visitor)
     }
 
-    /// Hands a text, which is a part of the input, to the visitor.
+    /// Hands a text, borrowed from the input, to the visitor.
     ///
     /// Refusals: `Nom` with `Short` where the front isn't there, `Nom` with `Tag` where it is of another type, `Nom`
     /// with `Text` where the body is no text with one NUL behind it; else the visitor's.
@@ -162,7 +161,7 @@ impl<'de> PodDeserializer<'de> {
         self.deserialize_as(SpaTypes::String.0, visitor)
     }
 
-    /// Hands bytes, which are a part of the input, to the visitor.
+    /// Hands bytes, borrowed from the input, to the visitor.
     ///
     /// Refusals: `Nom` with `Short` where the front isn't there, `Nom` with `Tag` where it is of another type; else the
     /// visitor's.
@@ -173,7 +172,7 @@ impl<'de> PodDeserializer<'de> {
         self.deserialize_as(SpaTypes::Bytes.0, visitor)
     }
 
-    /// Hands the bytes of a bitmap, which are a part of the input, to the visitor.
+    /// Hands the bytes of a bitmap, borrowed from the input, to the visitor.
     ///
     /// Refusals: `Nom` with `Short` where the front isn't there, `Nom` with `Tag` where it is of another type; else the
     /// visitor's.

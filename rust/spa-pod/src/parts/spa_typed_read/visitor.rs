@@ -1,13 +1,13 @@
-//! Visitors: what is made of the pod that a typed read finds.
+//! Visitors, which make a value of the pod that a typed read finds.
 
 use crate::shims::prelude::*;
 use crate::parts::spa_typed_read::members::StructPodDeserializer;
 use crate::parts::spa_typed_read::properties::ObjectPodDeserializer;
-use crate::parts::spa_fixed::DeserializeError;
+use crate::parts::spa_fixed_sized::DeserializeError;
 use crate::parts::spa_utils::{Fd, Float32, Float64, Fraction, Id, Rectangle};
 use crate::parts::spa_value::ChoiceValue;
 
-/// What a visitor is handed: the content of any pod but a struct or an object.
+/// The content of a pod, of any type but structs and objects, as it is handed to a visitor.
 pub enum Visit<'de, E> {
     /// No value.
     None,
@@ -21,11 +21,11 @@ pub enum Visit<'de, E> {
     Float(Float32),
     /// A float of 64 bits, by its bits.
     Double(Float64),
-    /// A text, which is a part of the input.
+    /// A text, borrowed from the input.
     String(&'de str),
-    /// Bytes, which are a part of the input.
+    /// Bytes, borrowed from the input.
     Bytes(&'de [u8]),
-    /// The bytes of a bitmap, which are a part of the input.
+    /// The bytes of a bitmap, borrowed from the input.
     Bitmap(&'de [u8]),
     /// A width and a height.
     Rectangle(Rectangle),
@@ -43,33 +43,33 @@ pub enum Visit<'de, E> {
     Pointer(u32, u64),
 }
 
-/// The element of the visitors that take no array: it has no value.
+/// The element type of visitors that take no array. It has no values.
 pub enum Never {}
 
 /// Makes a value of the pod that a typed read finds. Each call may decline what it is handed, with any error:
 /// `UnsupportedType` is the usual one.
 pub trait Visitor<'de>: Sized {
-    /// What it makes.
+    /// The type of the values that the visitor makes.
     type Value;
 
-    /// The elements of the arrays that it takes; `Never` where it takes none.
+    /// The element type of the arrays that the visitor takes; `Never` where it takes none.
     type ArrayElem;
 
-    /// Takes the content of a pod that is no struct and no object.
+    /// Makes a value of the content of a pod that is neither a struct nor an object.
     fn visit(
         &self,
         given: Visit<'de, Self::ArrayElem>,
     ) -> Result<Self::Value, DeserializeError<&'de [u8]>>;
 
-    /// Reads a struct's members, up to the last one where it succeeds: what it makes is owed only where they are all
-    /// read, and elsewhere the read is refused.
+    /// Reads a struct's members and makes a value of them. It should read all: `made` is owed only then, and otherwise
+    /// the typed read is refused.
     fn visit_struct(
         &self,
         reader: &mut StructPodDeserializer<'de>,
     ) -> Result<Self::Value, DeserializeError<&'de [u8]>>;
 
-    /// Reads an object's properties, up to the last one where it succeeds: what it makes is owed only where they are all
-    /// read, and elsewhere the read is refused.
+    /// Reads an object's properties and makes a value of them. It should read all: `made` is owed only then, and otherwise
+    /// the typed read is refused.
     fn visit_object(
         &self,
         reader: &mut ObjectPodDeserializer<'de>,

@@ -2,12 +2,12 @@
 
 use crate::shims::prelude::*;
 use crate::parts::spa_typed_write::exact::{SerializeAs, write_elements, write_number};
-use crate::parts::spa_fixed::CanonicalFixedSizedPod;
+use crate::parts::spa_fixed_sized::CanonicalFixedSizedPod;
 use crate::parts::spa_sink::{GenError, PodOutput};
 use crate::parts::spa_utils::{Fd, Float32, Float64, Fraction, Id, Rectangle};
 
-/// One of the ten types of fixed size, of which a list is written as an array. `u8` is none of them: a list of it is written
-/// as bytes. `CanonicalFixedSizedPod`, a trait of another crate, can't say that.
+/// One of the ten types of fixed size: a list of it is written as an array. `u8` is none of them: a list of it is written
+/// as bytes. `CanonicalFixedSizedPod`, a trait of another crate, can't exclude it.
 pub trait ArrayElement: CanonicalFixedSizedPod {}
 
 impl ArrayElement for () {}

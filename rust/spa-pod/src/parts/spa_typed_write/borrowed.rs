@@ -1,4 +1,4 @@
-//! Texts, bytes, bitmaps and pointers, written from where they lie.
+//! Writes borrowed texts, bytes and bitmaps, and pointers.
 
 use crate::shims::prelude::*;
 use crate::parts::spa_typed_write::exact::{SerializeAs, write_bitmap, write_bytes, write_pointer, write_text};

@@ -1,8 +1,8 @@
-//! Choices over one of the nine types of fixed size that have bytes.
+//! Writes choices over one of the nine types of fixed size that have bytes.
 
 use crate::shims::prelude::*;
 use crate::parts::spa_typed_write::exact::{SerializeAs, write_alternatives};
-use crate::parts::spa_fixed::ChoiceElement;
+use crate::parts::spa_fixed_sized::ChoiceElement;
 use crate::parts::spa_sink::{GenError, PodOutput};
 use crate::parts::spa_utils::Choice;
 

@@ -1,14 +1,14 @@
-//! The writer of arrays.
+//! The writer of arrays, element by element.
 
 use crate::shims::prelude::*;
 use crate::parts::spa_typed_write::serializer::{PodSerializer, SerializeSuccess};
 use crate::parts::spa_bytes::{HEADER_LEN, joined, two_words};
-use crate::parts::spa_fixed::{CanonicalFixedSizedPod, FixedSizedPod};
+use crate::parts::spa_fixed_sized::{CanonicalFixedSizedPod, FixedSizedPod};
 use crate::parts::spa_sink::{GenError, PodOutput, put_padding};
 use crate::parts::spa_utils::SpaTypes;
 use core::marker::PhantomData;
 
-/// Writes the elements of an array, one by one. After a refusal it answers `Failed` to every call.
+/// Writes the elements of an array one by one. After a refusal every call answers `Failed`.
 pub struct ArrayPodSerializer<O: PodOutput, P: FixedSizedPod> {
     out: Option<O>,
     start: usize,
@@ -17,8 +17,8 @@ pub struct ArrayPodSerializer<O: PodOutput, P: FixedSizedPod> {
 }
 
 impl<O: PodOutput> PodSerializer<O> {
-    /// Begins an array of this many elements. It is refused as `TooLarge` where its body, which is 8 bytes and one element's
-    /// size for each, is 4294967296 bytes or more, and else where the output refuses the 16 bytes before the first.
+    /// Begins an array of `length` elements. Refused as `TooLarge` where its body, which has 8 bytes and the size of each element, has
+    /// 4294967296 bytes or more, and else with the output's error where that refuses the 16 bytes before the first element.
     pub fn serialize_array<P: FixedSizedPod>(
         self,
         length: u32,
@@ -41,8 +41,8 @@ impl<O: PodOutput> PodSerializer<O> {
 }
 
 impl<O: PodOutput, P: FixedSizedPod> ArrayPodSerializer<O, P> {
-    /// Writes one element more, and answers the size of an element. It is refused as `WrongCount` where none is left, and
-    /// else where the output refuses the element's body; as `Failed` after a refusal.
+    /// Writes the next element, and answers its size in bytes. Refused as `Failed` after a refusal, as `WrongCount` where no element is left,
+    /// and else with the output's error where that refuses the element's body.
     pub fn serialize_element(&mut self, element: &P) -> Result<u64, GenError> {
         let Some(mut out) = self.out.take() else {
             return Err(GenError::Failed);
@@ -56,8 +56,8 @@ impl<O: PodOutput, P: FixedSizedPod> ArrayPodSerializer<O, P> {
         Ok(P::CanonicalType::SIZE as u64)
     }
 
-    /// Ends the array. It is refused as `WrongCount` where elements are left, and else where the output refuses the padding;
-    /// as `Failed` after a refusal.
+    /// Ends the array. Refused as `Failed` after a refusal, as `WrongCount` where elements are left, and else with the output's error where that
+    /// refuses the padding.
     pub fn end(self) -> Result<SerializeSuccess<O>, GenError> {
         let ArrayPodSerializer {
             out,

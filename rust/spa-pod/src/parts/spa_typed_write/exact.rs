@@ -1,12 +1,12 @@
-//! Types that are written wherever they can be.
+//! Types whose write is refused only where their value can't be written or the output refuses it.
 
 use crate::shims::prelude::*;
 use crate::parts::spa_typed_write::serializer::{PodSerialize, PodSerializer, SerializeSuccess};
 use crate::parts::spa_typed_write::whole::written_since;
-use crate::parts::spa_fixed::{CanonicalFixedSizedPod, ChoiceElement};
-use crate::parts::spa_leaf::{
+use crate::parts::spa_bodies::{
     put_alternatives, put_bitmap, put_bytes, put_elements, put_number, put_pointer, put_text,
 };
+use crate::parts::spa_fixed_sized::{CanonicalFixedSizedPod, ChoiceElement};
 use crate::parts::spa_sink::{GenError, PodOutput};
 use crate::parts::spa_utils::Choice;
 use crate::parts::spa_value::Value;
@@ -14,17 +14,18 @@ use crate::parts::spa_write::write_sized;
 
 /// A type whose write is refused only where its value can't be written, or where the output may refuse its encoding.
 ///
-/// A type that another one is made of has to be one. What `SerializeAs` writes is one, so each built-in type is.
+/// The members and the properties that `write_struct` and `write_object` write have to be of such types. A `SerializeAs` is one, and so is each
+/// built-in type.
 pub trait ExactSerialize: PodSerialize {
-    /// Appends the value's encoding. What a refused write leaves in the output isn't said.
+    /// Appends the value's encoding. The contract doesn't state what a refused write leaves in the output.
     fn write_exactly<O: PodOutput>(&self, out: &mut O) -> Result<(), GenError>;
 }
 
-/// A type that says how it is written: each built-in one, and one of a program's own, by `write_struct` of its members or by
-/// `write_object` of its properties. So it is refused only as `NulInText` where a text in it holds NUL, as `TooLarge` where a
-/// size word is 4294967296 or more, and where the output refuses its encoding.
+/// A type that is written as another value: each built-in type, and a type of a program's own, by `write_struct` of its members or by
+/// `write_object` of its properties. Refused only as `NulInText` where a text in the value holds NUL, as `TooLarge` where a size word would be
+/// 4294967296 or more, and with the output's error where that refuses the encoding.
 pub trait SerializeAs {
-    /// Appends its encoding. What a refused write leaves in the output isn't said.
+    /// Appends the encoding of that value. The contract doesn't state what a refused write leaves in the output.
     fn write_as<O: PodOutput>(&self, out: &mut O) -> Result<(), GenError>;
 }
 
@@ -59,7 +60,7 @@ impl SerializeAs for Value {
     }
 }
 
-/// Appends a value of a type of fixed size.
+/// Appends the encoding of a value of a type of fixed size.
 #[cfg_attr(not(debug_assertions), inline(always))]
 pub(crate) fn write_number<T: CanonicalFixedSizedPod, O: PodOutput>(
     out: &mut O,
@@ -68,7 +69,7 @@ pub(crate) fn write_number<T: CanonicalFixedSizedPod, O: PodOutput>(
     put_number(out, value)
 }
 
-/// Appends an array of elements of one type of fixed size.
+/// Appends the encoding of an array of these elements.
 pub(crate) fn write_elements<T: CanonicalFixedSizedPod, O: PodOutput>(
     out: &mut O,
     values: &[T],
@@ -76,7 +77,7 @@ pub(crate) fn write_elements<T: CanonicalFixedSizedPod, O: PodOutput>(
     put_elements(out, values)
 }
 
-/// Appends a choice over one type of fixed size.
+/// Appends the encoding of a choice over one type of fixed size.
 pub(crate) fn write_alternatives<T: ChoiceElement, O: PodOutput>(
     out: &mut O,
     choice: &Choice<T>,
@@ -84,22 +85,22 @@ pub(crate) fn write_alternatives<T: ChoiceElement, O: PodOutput>(
     put_alternatives(out, choice)
 }
 
-/// Appends a text.
+/// Appends the encoding of a text.
 pub(crate) fn write_text<O: PodOutput>(out: &mut O, text: &str) -> Result<(), GenError> {
     put_text(out, text)
 }
 
-/// Appends bytes.
+/// Appends the encoding of bytes.
 pub(crate) fn write_bytes<O: PodOutput>(out: &mut O, bytes: &[u8]) -> Result<(), GenError> {
     put_bytes(out, bytes)
 }
 
-/// Appends a bitmap.
+/// Appends the encoding of a bitmap.
 pub(crate) fn write_bitmap<O: PodOutput>(out: &mut O, bytes: &[u8]) -> Result<(), GenError> {
     put_bitmap(out, bytes)
 }
 
-/// Appends a pointer.
+/// Appends the encoding of a pointer.
 pub(crate) fn write_pointer<O: PodOutput>(
     out: &mut O,
     type_: u32,

@@ -1,16 +1,16 @@
-//! The members of a struct and the properties of an object, written one after another.
+//! Writes the members of a struct and the properties of an object, one after another.
 
 use crate::shims::prelude::*;
 use crate::parts::spa_typed_write::exact::ExactSerialize;
 use crate::parts::spa_typed_write::serializer::{PodSerializer, SerializeSuccess};
 use crate::parts::spa_typed_write::whole::written_since;
-use crate::parts::spa_leaf::{begin, close};
+use crate::parts::spa_bodies::{begin, close};
 use crate::parts::spa_sink::{GenError, PodOutput, put_two};
 use crate::parts::spa_utils::SpaTypes;
 
-/// The members of a struct, the first one and those behind it, up to `()`: `(&a, (&b, (&c, ())))` are three.
+/// The members of a struct, the first and those behind it, up to `()`: `(&a, (&b, (&c, ())))` are three.
 pub trait SerializeMembers {
-    /// Appends them one after another.
+    /// Appends the encodings of the members one after another.
     fn write_members<O: PodOutput>(&self, out: &mut O) -> Result<(), GenError>;
 }
 
@@ -29,11 +29,11 @@ impl<A: ExactSerialize, R: SerializeMembers> SerializeMembers for (&A, R) {
     }
 }
 
-/// A property's value, where there is one.
+/// The value of a property that may be missing: None writes no property.
 pub struct Maybe<'a, P>(pub &'a Option<P>);
 
-/// The properties of an object without flags, the first key and value and those behind it, up to `()`:
-/// `((1, &a), ((2, Maybe(&b)), ()))` are a and, where it is there, b.
+/// The properties of an object, without flags: the first key and value and those behind it, up to `()`. So
+/// `((1, &a), ((2, Maybe(&b)), ()))` is a property of a and, where b is Some, a property of b.
 pub trait SerializeProperties {
     /// Appends them one after another.
     fn write_properties<O: PodOutput>(&self, out: &mut O) -> Result<(), GenError>;
@@ -76,8 +76,8 @@ impl<A: ExactSerialize, R: SerializeProperties> SerializeProperties for ((u32, M
     }
 }
 
-/// Appends a struct of these members. It is refused as `NulInText` or `TooLarge` only where one of them or the struct itself
-/// can't be written, and else only where the output refuses its encoding.
+/// Appends the encoding of a struct of these members. Refused as `NulInText` only where a text in them holds NUL, as `TooLarge` only where a size
+/// word, the struct's own among them, would be 4294967296 or more, and else only with the output's error where that refuses the encoding.
 pub fn write_struct<M: SerializeMembers, O: PodOutput>(
     out: &mut O,
     members: &M,
@@ -92,8 +92,9 @@ pub fn write_struct<M: SerializeMembers, O: PodOutput>(
     close(out, start)
 }
 
-/// Appends an object of this type and id with these properties. It is refused as `NulInText` or `TooLarge` only where one of them
-/// or the object itself can't be written, and else only where the output refuses its encoding.
+/// Appends the encoding of an object of this type and id with these properties. Refused as `NulInText` only where a text in them holds NUL, as
+/// `TooLarge` only where a size word, the object's own among them, would be 4294967296 or more, and else only with the output's error where that
+/// refuses the encoding.
 pub fn write_object<P: SerializeProperties, O: PodOutput>(
     out: &mut O,
     type_: u32,
@@ -114,7 +115,7 @@ pub fn write_object<P: SerializeProperties, O: PodOutput>(
 }
 
 impl<O: PodOutput> PodSerializer<O> {
-    /// Writes a struct of these members. It is refused as `write_struct` is.
+    /// Writes a struct of these members, with the refusals of `write_struct`.
     pub fn serialize_members<M: SerializeMembers>(
         self,
         members: &M,
@@ -127,7 +128,7 @@ impl<O: PodOutput> PodSerializer<O> {
         }
     }
 
-    /// Writes an object of this type and id with these properties. It is refused as `write_object` is.
+    /// Writes an object of this type and id with these properties, with the refusals of `write_object`.
     pub fn serialize_properties<P: SerializeProperties>(
         self,
         type_: u32,

@@ -1,4 +1,4 @@
-//! The writers of structs and objects.
+//! The writers of structs and objects, member by member.
 
 use crate::shims::prelude::*;
 use crate::parts::spa_typed_write::open_pod::OpenPod;
@@ -8,18 +8,18 @@ use crate::parts::spa_sink::{GenError, PodOutput};
 use crate::parts::spa_utils::SpaTypes;
 use crate::parts::spa_value::PropertyFlags;
 
-/// Writes the members of a struct, one by one. After a refusal it answers `Failed` to every call.
+/// Writes the members of a struct one by one. After a refusal every call answers `Failed`.
 pub struct StructPodSerializer<O: PodOutput> {
     pod: OpenPod<O>,
 }
 
-/// Writes the properties of an object, one by one. After a refusal it answers `Failed` to every call.
+/// Writes the properties of an object one by one. After a refusal every call answers `Failed`.
 pub struct ObjectPodSerializer<O: PodOutput> {
     pod: OpenPod<O>,
 }
 
 impl<O: PodOutput> PodSerializer<O> {
-    /// Begins a struct. It is refused only where the output refuses the 8 bytes of the header.
+    /// Begins a struct. Refused only with the output's error, where that refuses the 8 bytes of the header.
     #[cfg_attr(not(debug_assertions), inline(always))]
     pub fn serialize_struct(self) -> Result<StructPodSerializer<O>, GenError> {
         let PodSerializer { out } = self;
@@ -28,8 +28,8 @@ impl<O: PodOutput> PodSerializer<O> {
         })
     }
 
-    /// Begins an object of this type, with this id. It is refused only where the output refuses the 8 bytes of the
-    /// header, or the 8 bytes of type and id behind it.
+    /// Begins an object of this type and id. Refused only with the output's error, where that refuses the 8 bytes of the header, or
+    /// the 8 bytes of type and id behind it.
     #[cfg_attr(not(debug_assertions), inline(always))]
     pub fn serialize_object(self, type_: u32, id: u32) -> Result<ObjectPodSerializer<O>, GenError> {
         let PodSerializer { out } = self;
@@ -40,15 +40,15 @@ impl<O: PodOutput> PodSerializer<O> {
 }
 
 impl<O: PodOutput> StructPodSerializer<O> {
-    /// Writes one member more, and answers how many bytes it took. It is refused as the member is, or where the output
-    /// refuses the member's encoding; as `Failed` after a refusal.
+    /// Writes the next member, and answers the length of its encoding in bytes. Refused as `Failed` after a refusal, as the
+    /// member's type refuses it, and with the output's error where that refuses the encoding.
     #[cfg_attr(not(debug_assertions), inline(always))]
     pub fn serialize_field<P: PodSerialize>(&mut self, field: &P) -> Result<u64, GenError> {
         self.pod.put(field)
     }
 
-    /// Ends the struct. It is refused as `TooLarge` exactly where its body is 4294967296 bytes or more, and as `Failed`
-    /// exactly after a refusal.
+    /// Ends the struct. Refused as `Failed` after a refusal, as `TooLarge` where its body has 4294967296 bytes or more, and
+    /// never otherwise.
     #[cfg_attr(not(debug_assertions), inline(always))]
     pub fn end(self) -> Result<SerializeSuccess<O>, GenError> {
         let StructPodSerializer { pod } = self;
@@ -57,9 +57,9 @@ impl<O: PodOutput> StructPodSerializer<O> {
 }
 
 impl<O: PodOutput> ObjectPodSerializer<O> {
-    /// Writes one property more, and answers how many bytes it took: 8 of key and flags, and the value's encoding. It is
-    /// refused as the value is, or where the output refuses key and flags or the value's encoding; as `Failed` after a
-    /// refusal.
+    /// Writes the next property, and answers how many bytes it has: 8 of key and flags, and the value's encoding. Refused as
+    /// `Failed` after a refusal, as the value's type refuses it, and with the output's error where that refuses key and flags or
+    /// the encoding.
     #[cfg_attr(not(debug_assertions), inline(always))]
     pub fn serialize_property<P: PodSerialize>(
         &mut self,
@@ -70,8 +70,8 @@ impl<O: PodOutput> ObjectPodSerializer<O> {
         self.pod.put_property(key, flags.bits(), value)
     }
 
-    /// Ends the object. It is refused as `TooLarge` exactly where its body is 4294967296 bytes or more, and as `Failed`
-    /// exactly after a refusal.
+    /// Ends the object. Refused as `Failed` after a refusal, as `TooLarge` where its body has 4294967296 bytes or more, and
+    /// never otherwise.
     #[cfg_attr(not(debug_assertions), inline(always))]
     pub fn end(self) -> Result<SerializeSuccess<O>, GenError> {
         let ObjectPodSerializer { pod } = self;

@@ -1,4 +1,4 @@
-//! Typed writers: a type of one's own is written as a pod, at once or member by member.
+//! Typed writers: a type of the program's own is written as a pod, at once or member by member.
 use crate::shims::prelude::*;
 mod array_element;
 mod borrowed;

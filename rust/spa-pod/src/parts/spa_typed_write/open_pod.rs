@@ -1,11 +1,11 @@
-//! Structs and objects whose members are written one by one.
+//! A struct or an object that is open: its members or properties are written one by one.
 
 use crate::shims::prelude::*;
 use crate::parts::spa_typed_write::serializer::{PodSerialize, PodSerializer, SerializeSuccess};
-use crate::parts::spa_leaf::{begin, close};
+use crate::parts::spa_bodies::{begin, close};
 use crate::parts::spa_sink::{GenError, PodOutput, put_two};
 
-/// A struct or an object that isn't closed. After a refusal its output is given up.
+/// A struct or an object that is open, so that its size word is 0 for now. After a refusal it has no output any more.
 pub(crate) struct OpenPod<O: PodOutput> {
     out: Option<O>,
     start: usize,
@@ -13,7 +13,7 @@ pub(crate) struct OpenPod<O: PodOutput> {
 }
 
 impl<O: PodOutput> OpenPod<O> {
-    /// Begins a pod of this type.
+    /// Opens a pod of this type at the end of the output. Refused only where the output refuses the 8 bytes of its header.
     #[cfg_attr(not(debug_assertions), inline(always))]
     pub(crate) fn begin_pod(mut out: O, type_: u32) -> Result<OpenPod<O>, GenError> {
         let start = begin(&mut out, type_)?;
@@ -24,7 +24,7 @@ impl<O: PodOutput> OpenPod<O> {
         })
     }
 
-    /// Appends two words.
+    /// Appends two words to the body.
     #[cfg_attr(not(debug_assertions), inline(always))]
     pub(crate) fn put_words(&mut self, first: u32, second: u32) -> Result<(), GenError> {
         let Some(mut out) = self.out.take() else {
@@ -35,7 +35,7 @@ impl<O: PodOutput> OpenPod<O> {
         Ok(())
     }
 
-    /// Appends a value, and answers how many bytes its encoding has.
+    /// Appends the encoding of a value to the body, and answers its length in bytes.
     #[cfg_attr(not(debug_assertions), inline(always))]
     pub(crate) fn put<P: PodSerialize>(&mut self, value: &P) -> Result<u64, GenError> {
         let Some(out) = self.out.take() else {
@@ -46,7 +46,7 @@ impl<O: PodOutput> OpenPod<O> {
         Ok(len)
     }
 
-    /// Appends a key, flags and a value, and answers how many bytes they take.
+    /// Appends a key, flags and the encoding of a value to the body, and answers their length in bytes.
     #[cfg_attr(not(debug_assertions), inline(always))]
     pub(crate) fn put_property<P: PodSerialize>(
         &mut self,
@@ -65,7 +65,7 @@ impl<O: PodOutput> OpenPod<O> {
         Ok(len)
     }
 
-    /// Writes the size word.
+    /// Closes the pod: writes its size word. Refused as `Failed` after a refusal, and as `TooLarge` where the body has 4294967296 bytes or more.
     #[cfg_attr(not(debug_assertions), inline(always))]
     pub(crate) fn close(self) -> Result<SerializeSuccess<O>, GenError> {
         let OpenPod { out, start, .. } = self;

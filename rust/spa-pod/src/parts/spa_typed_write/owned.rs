@@ -1,4 +1,4 @@
-//! Texts, bytes and values that own what they hold, written as what they lend.
+//! Writes owned texts, bytes and values, as the borrowed ones are written.
 
 use crate::shims::prelude::*;
 use crate::parts::spa_typed_write::exact::{SerializeAs, write_bytes, write_text};

@@ -6,8 +6,8 @@ use crate::parts::spa_sink::{GenError, PodOutput};
 
 /// A type that is written as a pod.
 pub trait PodSerialize {
-    /// Appends the value's encoding to the serializer's output. It is refused for one of the value's own causes, or
-    /// where the output may refuse as many bytes as the encoding has.
+    /// Appends the value's encoding to the serializer's output. Refused as `refuses` states, or with an error with which the
+    /// output may refuse as many bytes as the encoding has.
     fn serialize<O: PodOutput>(
         &self,
         serializer: PodSerializer<O>,
@@ -19,15 +19,15 @@ pub struct PodSerializer<O: PodOutput> {
     pub(crate) out: O,
 }
 
-/// A pod was written.
+/// A pod was written: the output, and the length of the pod in bytes.
 pub struct SerializeSuccess<O: PodOutput> {
     pub(crate) out: O,
     pub(crate) len: u64,
 }
 
 impl<O: PodOutput> PodSerializer<O> {
-    /// Writes a value to the end of an output. The answer is the output and the length of the value's encoding. A
-    /// refusal hands back no output.
+    /// Writes a value to the end of an output, and answers the output and the length of the value's encoding in bytes. Refused as the type
+    /// `P` refuses the value, or with an error of the output; the output isn't handed back then.
     pub fn serialize<P: PodSerialize>(out: O, pod: &P) -> Result<(O, u64), GenError> {
         encodings_read_back();
         let SerializeSuccess { out, len } = pod.serialize(PodSerializer { out })?;

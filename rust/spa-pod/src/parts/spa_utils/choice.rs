@@ -1,4 +1,4 @@
-//! Choices: a value that stands among others.
+//! Choices: a default, and the values that may be taken in its place.
 
 use crate::shims::prelude::*;
 use crate::shims::flags::{Flag, Flags, bitflag_items};
@@ -15,7 +15,7 @@ impl<T: Copy> TryClone for Choice<T> {
     }
 }
 
-/// The flags of a choice. None has a meaning yet, and all bits are kept.
+/// The flags word of a choice. No bit has a meaning yet, and all bits are kept.
 #[derive(Clone, Copy, Debug, PartialEq, Eq)]
 pub struct ChoiceFlags(u32);
 
@@ -133,7 +133,7 @@ impl<T: Copy> TryClone for ChoiceEnum<T> {
     }
 }
 
-/// The same elements, by the allocator of the given ones.
+/// A copy of the elements, in memory of the list's allocator. Refused only for want of memory.
 #[cfg_attr(not(debug_assertions), inline(always))]
 fn copy_of<T: Copy>(values: &Vec<T>) -> Result<Vec<T>, AllocError> {
     let mut copy = Vec::with_room(values.len())?;

@@ -12,7 +12,7 @@ impl Errno {
     /// There is no memory left: `ENOMEM`.
     pub const NOMEM: Errno = Errno(12);
 
-    /// An argument has no meaning here: `EINVAL`.
+    /// An argument isn't allowed here: `EINVAL`.
     pub const INVAL: Errno = Errno(22);
 
     /// There is no room left: `ENOSPC`.
@@ -21,7 +21,7 @@ impl Errno {
     /// Nothing is left to read: `EPIPE`.
     pub const PIPE: Errno = Errno(32);
 
-    /// What is there isn't what was asked for: `EPROTO`.
+    /// A value is of another type than the one asked for: `EPROTO`.
     pub const PROTO: Errno = Errno(71);
 
     /// The error of that number.

@@ -1,6 +1,6 @@
 //! Frames of parsers and builders.
 
 use crate::shims::prelude::*;
-/// The name of a struct, object, array or choice that is open: how many were open once it was pushed. The outermost is 1.
+/// The handle of an open struct, object, array or choice: how many are open with it. The outermost has 1.
 #[derive(Clone, Copy, Debug, PartialEq, Eq)]
 pub struct Frame(pub usize);

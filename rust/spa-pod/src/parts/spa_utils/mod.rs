@@ -1,4 +1,4 @@
-//! The small types that every part of the library speaks of: each is its number or its fields.
+//! The small types that every part of the library uses: each is its number or its fields.
 use crate::shims::prelude::*;
 mod choice;
 pub mod constants;

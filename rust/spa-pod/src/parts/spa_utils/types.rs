@@ -1,7 +1,7 @@
 //! The numbers of the pod types.
 
 use crate::shims::prelude::*;
-/// The number of a type, as it stands in a pod's header. The constants are the basic types; any other number is kept.
+/// The number of a type, as in a pod's header. The constants are the basic types; any other number is kept.
 #[derive(Clone, Copy, Debug, PartialEq, Eq)]
 pub struct SpaTypes(pub u32);
 
@@ -42,13 +42,13 @@ impl SpaTypes {
     /// A bitmap.
     pub const Bitmap: SpaTypes = SpaTypes(12);
 
-    /// Bodies of one kind in a row.
+    /// An array: elements of one kind.
     pub const Array: SpaTypes = SpaTypes(13);
 
-    /// Pods in a row.
+    /// A struct: members, which are pods.
     pub const Struct: SpaTypes = SpaTypes(14);
 
-    /// Properties, under a type and an id.
+    /// An object: properties, under a type and an id.
     pub const Object: SpaTypes = SpaTypes(15);
 
     /// Timed controls.

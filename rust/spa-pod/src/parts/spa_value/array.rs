@@ -1,11 +1,11 @@
-//! Arrays: values of one of the ten types of fixed size.
+//! Arrays: elements of one of the ten types of fixed size.
 use crate::shims::prelude::*;
 use crate::parts::spa_utils::{Fd, Float32, Float64, Fraction, Id, Rectangle};
 
-/// Values of one of the ten types of fixed size, in order.
+/// The elements of an array, in order, which are of one of the ten types of fixed size.
 #[derive(Debug)]
 pub enum ValueArray {
-    /// Units, which have no bytes: however many there are, they are written as an empty array, which is read as no units.
+    /// Units, which have no bytes: any number of them is written as an empty array, which is read as no units.
     None(Vec<()>),
     /// Truth values.
     Bool(Vec<bool>),

@@ -1,6 +1,6 @@
-//! A bitmap that lies elsewhere.
+//! A borrowed bitmap.
 
 use crate::shims::prelude::*;
-/// The bytes of a bitmap, borrowed from where they lie. `Value::Bitmap` holds its own.
+/// The borrowed bytes of a bitmap. `Value::Bitmap` owns its bytes.
 #[derive(Clone, Copy, Debug)]
 pub struct Bitmap<'a>(pub &'a [u8]);

@@ -1,22 +1,22 @@
-//! The values that lie directly in a struct or in an object, as `discard` takes them out.
+//! The members of a struct, or the properties of an object, as `discard` removes them.
 
 use crate::shims::prelude::*;
 use crate::parts::spa_value::object::{Object, Property};
 use crate::parts::spa_value::value::Value;
 
-/// The values that lie directly in a struct or in an object.
+/// The members of a struct, or the properties of an object.
 pub(crate) enum Children {
     Members(Vec<Value>),
     Properties(Vec<Property>),
 }
 
-/// Does the value hold others?
+/// Is the value a struct or an object?
 #[cfg_attr(not(debug_assertions), inline(always))]
 fn is_nested(value: &Value) -> bool {
     matches!(value, Value::Struct(_) | Value::Object(_))
 }
 
-/// How many members there are up to the last one that holds others.
+/// How many members there are up to and with the last one that is a struct or an object.
 #[cfg_attr(not(debug_assertions), inline(always))]
 fn nested_members(members: &[Value]) -> usize {
     let mut left = members;
@@ -29,7 +29,7 @@ fn nested_members(members: &[Value]) -> usize {
     0
 }
 
-/// How many properties there are up to the last one whose value holds others.
+/// How many properties there are up to and with the last one whose value is a struct or an object.
 #[cfg_attr(not(debug_assertions), inline(always))]
 fn nested_properties(properties: &[Property]) -> usize {
     let mut left = properties;
@@ -50,7 +50,8 @@ impl Children {
         }
     }
 
-    /// Drops what stands at the end and holds no others, and takes out the value before that, whose place stays free.
+    /// Removes and answers the last value that is a struct or an object, and drops the values behind it. Room for one value stays. None: there is
+    /// no such value.
     pub(crate) fn pop(&mut self) -> Option<Value> {
         match self {
             Children::Members(members) => {
@@ -67,7 +68,7 @@ impl Children {
         }
     }
 
-    /// Puts a value into a free place at the end.
+    /// Appends a value, in room that is there.
     pub(crate) fn put(&mut self, value: Value) {
         match self {
             Children::Members(members) => members.push(value),
@@ -75,7 +76,7 @@ impl Children {
         }
     }
 
-    /// Puts a value into the first place, and what stood there into a free place at the end.
+    /// Puts a value at the index 0, and the value that was there at the end, in room that is there.
     pub(crate) fn put_first(&mut self, value: Value) {
         match self {
             Children::Members(members) => {
@@ -91,7 +92,7 @@ impl Children {
         }
     }
 
-    /// A value that holds them.
+    /// A struct of these members, or an object of these properties.
     pub(crate) fn into_value(self) -> Value {
         match self {
             Children::Members(members) => Value::Struct(members),

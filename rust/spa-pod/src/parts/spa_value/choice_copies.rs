@@ -1,17 +1,17 @@
-//! Copies of choices, each put where it is kept as soon as it is made.
+//! Copies choices, each into the place where it will stay.
 
 use crate::shims::prelude::*;
 use crate::parts::spa_value::choice_value::ChoiceValue;
 use crate::parts::spa_value::copies::copy_elements;
 use crate::parts::spa_value::taking::Takes;
 use crate::parts::spa_value::value::Value;
-use crate::parts::spa_fixed::ChoiceElement;
+use crate::parts::spa_fixed_sized::ChoiceElement;
 use crate::parts::spa_utils::{Choice, ChoiceEnum, ChoiceFlags, Fd, Float32, Float64, Fraction, Id, Rectangle};
 use crate::shims::memory::AllocError;
 
 /// One of the nine types that a choice may be over.
 trait Chosen: ChoiceElement {
-    /// A choice over it, as one over any of the nine.
+    /// The choice over this type as a variant of `ChoiceValue`.
     fn among(choice: Choice<Self>) -> ChoiceValue;
 }
 
@@ -78,7 +78,7 @@ impl Chosen for Fd {
     }
 }
 
-/// Puts the copy of a choice.
+/// Puts the copy of a choice into `to`. Refused only for want of memory.
 #[inline(never)]
 pub(crate) fn put_choice<T: Takes>(choice: &ChoiceValue, to: &mut T) -> Result<(), AllocError> {
     match choice {
@@ -94,7 +94,8 @@ pub(crate) fn put_choice<T: Takes>(choice: &ChoiceValue, to: &mut T) -> Result<(
     }
 }
 
-/// The same of a choice over one of the nine. Each shape's copy is put by its own arm, so that none is moved twice.
+/// Puts the copy of a choice over one of the nine types into `to`. The copy of each shape is put by an arm of its own, so that no copy is moved
+/// twice.
 #[cfg_attr(not(debug_assertions), inline(always))]
 fn put_values<C: Chosen, T: Takes>(choice: &Choice<C>, to: &mut T) -> Result<(), AllocError> {
     let flags = choice.0;
@@ -130,9 +131,9 @@ fn put_values<C: Chosen, T: Takes>(choice: &Choice<C>, to: &mut T) -> Result<(),
     Ok(())
 }
 
-// Those with a list take memory: they stand apart so that nothing is set aside for it where there is none.
+// Copies with a list take memory: they are functions of their own, so that copies without one need no stack for them.
 
-/// Puts the copy of a choice of this default and these alternatives.
+/// Puts the copy of an Enum choice, with this default and these alternatives, into `to`. Refused only for want of memory.
 #[inline(never)]
 fn put_enum<C: Chosen, T: Takes>(
     flags: ChoiceFlags,
@@ -149,7 +150,7 @@ fn put_enum<C: Chosen, T: Takes>(
     Ok(())
 }
 
-/// Puts the copy of a choice of this default and these flags among its values.
+/// Puts the copy of a Flags choice, with this default and these values behind it, into `to`. Refused only for want of memory.
 #[inline(never)]
 fn put_flags<C: Chosen, T: Takes>(
     flags: ChoiceFlags,
@@ -166,7 +167,7 @@ fn put_flags<C: Chosen, T: Takes>(
     Ok(())
 }
 
-/// Puts a choice of these flags and values.
+/// Puts a choice with this flags word and these values into `to`.
 #[cfg_attr(not(debug_assertions), inline(always))]
 fn put_made<C: Chosen, T: Takes>(flags: ChoiceFlags, values: ChoiceEnum<C>, to: &mut T) {
     to.put(Value::Choice(C::among(Choice(flags, values))));

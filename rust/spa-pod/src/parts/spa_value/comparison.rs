@@ -1,36 +1,36 @@
-//! Two values compared up to the structs and objects in them.
+//! Compares two values up to the structs and objects in them.
 
 use crate::shims::prelude::*;
 use crate::parts::spa_value::object::{Object, Property};
 use crate::parts::spa_value::value::Value;
 
-/// What is left to compare of two structs or of two objects.
+/// What is left to compare of two containers of one type: two structs' members, or two objects' properties.
 #[derive(Clone, Copy)]
 pub(crate) enum Pair<'a> {
     Members(&'a [Value], &'a [Value]),
     Properties(&'a [Property], &'a [Property]),
 }
 
-/// How two values compare.
+/// How two values compare, without the contents of containers.
 #[derive(Clone, Copy)]
 pub(crate) enum Verdict<'a> {
-    /// They are equal, or they aren't.
+    /// It is settled: whether they are equal.
     Settled(bool),
-    /// They are equal where all that is in them is.
+    /// They are equal exactly where these contents of the two are.
     Inside(Pair<'a>),
 }
 
-/// How two structs or two objects compare, as far as they are gone through.
+/// How far a comparison of two structs' members, or of two objects' properties, has come.
 #[derive(Clone, Copy)]
 pub(crate) enum Step<'a> {
-    /// They are equal, or they aren't.
+    /// It is settled: whether they are equal.
     Ended(bool),
-    /// They are equal where two others in them are, and what is left behind those.
+    /// They are equal exactly where the contents of the next two containers in them are, and what is left behind those two.
     Inside(Pair<'a>, Pair<'a>),
 }
 
-/// The answer where the value has this variant, and false elsewhere. (Of a guard, as `matches!` has it, the proof would
-/// not learn that the value is of another variant.)
+/// The answer where the value has this variant, and false otherwise. (From a guard, as in `matches!`, the proof would not learn that the value
+/// is of another variant.)
 macro_rules! where_of {
     ($value:expr, $variant:pat => $answer:expr) => {
         match $value {
@@ -40,7 +40,7 @@ macro_rules! where_of {
     };
 }
 
-/// Compares two values. Of two structs, or of two objects of one type and one id, what is in them isn't looked at.
+/// Compares two values, but not the contents of two structs, or of two objects of one type and one id, which it answers.
 #[cfg_attr(not(debug_assertions), inline(always))]
 pub(crate) fn compare<'a>(value: &'a Value, other: &'a Value) -> Verdict<'a> {
     match value {
@@ -71,7 +71,7 @@ pub(crate) fn compare<'a>(value: &'a Value, other: &'a Value) -> Verdict<'a> {
     }
 }
 
-/// The same of two objects.
+/// Compares the types and the ids of two objects, and answers their properties where those are equal.
 #[cfg_attr(not(debug_assertions), inline(always))]
 pub(crate) fn compare_objects<'a>(object: &'a Object, other: &'a Object) -> Verdict<'a> {
     if object.type_ != other.type_ || object.id != other.id {
@@ -81,7 +81,7 @@ pub(crate) fn compare_objects<'a>(object: &'a Object, other: &'a Object) -> Verd
 }
 
 impl<'a> Pair<'a> {
-    /// Compares on, to the next two structs or objects, to a difference or to the end.
+    /// Compares up to the next two containers of one type, to a difference or to the end.
     #[cfg_attr(not(debug_assertions), inline(always))]
     pub(crate) fn step(self) -> Step<'a> {
         match self {
@@ -100,7 +100,7 @@ impl<'a> Pair<'a> {
     }
 }
 
-/// Compares members on.
+/// Compares members up to the next two containers of one type, to a difference or to the end.
 #[cfg_attr(not(debug_assertions), inline(always))]
 fn members_step<'a>(members: &'a [Value], others: &'a [Value]) -> Step<'a> {
     let mut left = members;
@@ -122,7 +122,7 @@ fn members_step<'a>(members: &'a [Value], others: &'a [Value]) -> Step<'a> {
     Step::Ended(others_left.is_empty())
 }
 
-/// Compares properties on.
+/// Compares properties up to the next two values that are containers of one type, to a difference or to the end.
 #[cfg_attr(not(debug_assertions), inline(always))]
 fn properties_step<'a>(properties: &'a [Property], others: &'a [Property]) -> Step<'a> {
     let mut left = properties;

@@ -1,4 +1,4 @@
-//! Clones, which have the trees of their sources. Each asks for the memory of the copy alone.
+//! Clones of values, with the trees of their sources. A clone is refused only where memory runs out.
 
 use crate::shims::prelude::*;
 use crate::parts::spa_value::array::ValueArray;
@@ -45,7 +45,7 @@ impl TryClone for ChoiceValue {
     }
 }
 
-// Those of the types that reach themselves are written out, since a derived one says nothing there.
+// Clones of recursive types are written out, since a derived one has no contract there.
 impl TryClone for Value {
     fn try_clone(&self) -> Result<Value, AllocError> {
         match self {
@@ -68,7 +68,7 @@ impl TryClone for Property {
     }
 }
 
-/// The same elements.
+/// A copy of a list of elements. Refused only for want of memory.
 #[cfg_attr(not(debug_assertions), inline(always))]
 pub(crate) fn copy_elements<T: Copy>(elements: &Vec<T>) -> Result<Vec<T>, AllocError> {
     let mut copy = Vec::with_room(elements.len())?;
@@ -76,7 +76,7 @@ pub(crate) fn copy_elements<T: Copy>(elements: &Vec<T>) -> Result<Vec<T>, AllocE
     Ok(copy)
 }
 
-/// Copies a value that holds no others: it stands apart so that nothing is set aside for it where an object is copied.
+/// Copies a value that is neither a struct nor an object. It is a function of its own, so that copying an object needs no stack for it.
 #[inline(never)]
 fn copy_lone(value: &Value) -> Result<Value, AllocError> {
     let mut copy = None;
@@ -126,7 +126,7 @@ fn copy_properties(properties: &[Property]) -> Result<Vec<Property>, AllocError>
     Ok(copied_properties)
 }
 
-/// Puts the copy of a property behind others.
+/// Appends the copy of a property to others. Refused only for want of memory.
 fn copy_next(property: &Property, copies: &mut Vec<Property>) -> Result<(), AllocError> {
     copies.make_room(1)?;
     let copy = copy_property(property)?;

@@ -1,16 +1,16 @@
-//! Lists of elements compared in blocks.
+//! Compares lists of elements in blocks.
 
 use crate::shims::prelude::*;
-/// How many elements are compared before the first look at how they compare: so many become vectors, with one branch for all.
+/// How many elements are compared before a branch on the outcome: the compiler makes vector instructions of a block.
 const BLOCK_COUNT: usize = 128;
 
-/// Whether two lists are equal element by element, as `==` tells.
+/// Whether two lists are of one length and equal element by element, by `==` of the elements.
 #[cfg_attr(not(debug_assertions), inline(always))]
 pub(crate) fn same_elements<T: PartialEq>(elements: &Vec<T>, others: &Vec<T>) -> bool {
     same_slices(elements.as_slice(), others.as_slice())
 }
 
-/// The same of slices.
+/// Whether two slices are of one length and equal element by element, by `==` of the elements.
 #[cfg_attr(not(debug_assertions), inline(always))]
 fn same_slices<T: PartialEq>(elements: &[T], others: &[T]) -> bool {
     if elements.len() != others.len() {
@@ -30,7 +30,7 @@ fn same_slices<T: PartialEq>(elements: &[T], others: &[T]) -> bool {
     left == others_left
 }
 
-/// Whether two blocks are equal element by element.
+/// Whether two blocks of `BLOCK_COUNT` elements are equal element by element.
 #[cfg_attr(not(debug_assertions), inline(always))]
 fn same_block<T: PartialEq>(block: &[T], other: &[T]) -> bool {
     let mut is_same = true;

@@ -1,16 +1,15 @@
-//! A value taken apart by a loop.
+//! Drops a value by a loop.
 
 use crate::shims::prelude::*;
 use crate::parts::spa_value::children::Children;
 use crate::parts::spa_value::object::Object;
 use crate::parts::spa_value::value::Value;
 
-/// Takes a value apart by a loop, so that one that is nested deep takes no more stack than any other.
+/// Drops a value by a loop, so that the stack it takes doesn't grow with the nesting depth.
 ///
-/// A value that goes out of scope is dropped by a function that calls itself for each level of nesting: some 75,000 levels use up
-/// a stack of 8 MB. So a value that was read from untrusted bytes is better handed to this function. It asks for no memory, and is
-/// never refused: the structs and objects that are begun are kept in one another, each but the last in the first place of the
-/// next.
+/// A value that goes out of scope is dropped by a function that calls itself for each level of nesting: some 75,000 levels use up a stack of
+/// 8 MB. So a value that was read from untrusted bytes is better handed to this function. It asks for no memory and is never refused: the
+/// containers that are begun are held in one another, each but the last as the first member of the next.
 pub fn discard(value: Value) {
     let Some(mut children) = into_children(value) else {
         return;
@@ -30,7 +29,7 @@ pub fn discard(value: Value) {
     }
 }
 
-/// What lies in a struct or in an object. Any other value is dropped.
+/// The members of a struct, or the properties of an object. Any other value is dropped, and None is answered.
 fn into_children(value: Value) -> Option<Children> {
     match value {
         Value::Struct(members) => Some(Children::Members(members)),

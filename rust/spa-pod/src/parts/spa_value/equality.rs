@@ -1,4 +1,4 @@
-//! `==`: two values are equal exactly where their trees are. Floats are compared by their bits.
+//! `==` of values: two are equal exactly where their trees are. Floats are compared by their bits.
 
 use crate::shims::prelude::*;
 use crate::parts::spa_value::array::ValueArray;
@@ -82,8 +82,8 @@ fn same_properties(property: &Property, other: &Property) -> bool {
         && same_values(&property.value, &other.value)
 }
 
-/// Compares what is left of two structs or of two objects. It calls itself for two in them, unless nothing is left behind
-/// those.
+/// Whether what is left of two structs, or of two objects, is equal. It calls itself for two containers in them, unless nothing is left behind
+/// these.
 fn same_pairs(first: Pair<'_>) -> bool {
     let mut pair = first;
     loop {
@@ -102,11 +102,10 @@ fn same_pairs(first: Pair<'_>) -> bool {
     }
 }
 
-/// Whether two values are equal, as `==` tells. It goes by a loop, so that two that are nested deep take no more stack than any
-/// others.
+/// Whether two values are equal, as by `==`. It is a loop, so the stack it takes doesn't grow with the nesting depth.
 ///
-/// `==` has no answer for want of memory, and so calls itself for each level of nesting that something follows. This takes
-/// memory for each such level, and is refused only where that is.
+/// `==` can't answer that memory ran out, and so calls itself for each level of nesting behind which something is left. This function takes memory
+/// for each such level, and its one refusal is `AllocError`, for want of it.
 pub fn same(value: &Value, other: &Value) -> Result<bool, AllocError> {
     match compare(value, other) {
         Verdict::Settled(is_same) => Ok(is_same),
@@ -114,7 +113,7 @@ pub fn same(value: &Value, other: &Value) -> Result<bool, AllocError> {
     }
 }
 
-/// Compares what is left of two structs or of two objects, by a loop.
+/// Whether what is left of two structs, or of two objects, is equal, by a loop. Refused only for want of memory.
 fn same_within(first: Pair<'_>) -> Result<bool, AllocError> {
     let mut around = Vec::new();
     let mut pair = first;

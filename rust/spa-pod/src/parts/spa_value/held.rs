@@ -1,13 +1,13 @@
-//! A value that is taken apart by a loop where it goes out of scope.
+//! A value that is dropped by a loop where it goes out of scope.
 
 use crate::shims::prelude::*;
 use crate::parts::spa_value::emptying::discard;
 use crate::parts::spa_value::value::Value;
 use core::ops::Deref;
 
-/// A value that is taken apart by `discard` where it goes out of scope: so it may be nested as deep as the bytes of others say.
+/// A value that is dropped by `discard`, a loop, where it goes out of scope: so its nesting depth may be whatever untrusted bytes made it.
 ///
-/// It lends its value by `*`. `into_inner` hands the value over, whose own drop calls itself for each level of nesting.
+/// `*` borrows the value. `into_inner` hands it over, after which its own drop calls itself for each level of nesting.
 pub struct Held {
     value: Value,
 }
@@ -19,7 +19,7 @@ impl From<Value> for Held {
 }
 
 impl Held {
-    /// The value itself, of which the caller disposes.
+    /// The value itself, which the caller has to drop.
     pub fn into_inner(mut self) -> Value {
         let value = core::mem::take(&mut self.value);
         value

@@ -1,4 +1,4 @@
-//! The properties of an object that is made one by one, taken apart by a loop where they go out of scope.
+//! The properties of an object that a macro makes one by one; they are dropped by a loop where they go out of scope.
 
 use crate::shims::prelude::*;
 use crate::parts::spa_value::emptying::discard;
@@ -6,22 +6,22 @@ use crate::parts::spa_value::object::{Object, Property};
 use crate::parts::spa_value::value::Value;
 use crate::parts::spa_utils::Errno;
 
-/// The properties that an object of a macro has so far, in order. What they hold may be nested deep: where they aren't handed over,
-/// they are taken apart by `discard`.
+/// The properties, in order, that an object of a macro has so far. Where they aren't handed over, `discard` drops their values, at any nesting
+/// depth.
 #[doc(hidden)]
 pub struct HeldProperties {
     properties: Vec<Property>,
 }
 
 impl HeldProperties {
-    /// None.
+    /// No properties.
     pub fn new() -> HeldProperties {
         HeldProperties {
             properties: Vec::new(),
         }
     }
 
-    /// Puts a property behind the others. Where there is no memory for it they stay, and the answer is NOMEM.
+    /// Appends a property. Refused as NOMEM where there is no memory for it: the properties stay as they were.
     pub fn put(&mut self, property: Property) -> Result<(), Errno> {
         if self.properties.make_room(1).is_err() {
             discard(property.value);
@@ -31,7 +31,7 @@ impl HeldProperties {
         Ok(())
     }
 
-    /// The object of these properties.
+    /// The object with this type, this id and these properties.
     pub fn into_object(mut self, type_: u32, id: u32) -> Object {
         let properties = core::mem::take(&mut self.properties);
         Object {

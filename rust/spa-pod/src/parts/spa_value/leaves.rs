@@ -1,4 +1,4 @@
-//! Copies of values that hold no others, each put where it is kept as soon as it is made.
+//! Copies values that are neither structs nor objects, each into the place where it will stay.
 
 use crate::shims::prelude::*;
 use crate::parts::spa_value::array::ValueArray;
@@ -9,8 +9,8 @@ use crate::parts::spa_value::taking::Takes;
 use crate::parts::spa_value::value::Value;
 use crate::shims::memory::AllocError;
 
-/// Puts the copy of a value that holds no others where there is room for it. A struct or an object is answered, and isn't
-/// copied.
+/// Puts the copy of a value that is neither a struct nor an object into `to`, which has room for it, and answers None. A struct or an object is
+/// answered itself and not copied. Refused only for want of memory.
 #[cfg_attr(not(debug_assertions), inline(always))]
 pub(crate) fn copy_leaf<'a, T: Takes>(
     value: &'a Value,
@@ -39,30 +39,30 @@ pub(crate) fn copy_leaf<'a, T: Takes>(
     Ok(None)
 }
 
-// What is put by these isn't small: they stand apart so that nothing is set aside for it where a number is copied.
+// The copies made by these aren't small: they are functions of their own, so that copying a number needs no stack for them.
 
-/// Puts the copy of a text.
+/// Puts the copy of a text into `to`. Refused only for want of memory, as those below are.
 #[inline(never)]
 fn put_text<T: Takes>(text: &String, to: &mut T) -> Result<(), AllocError> {
     to.put(Value::String(text.try_clone()?));
     Ok(())
 }
 
-/// Puts the copy of bytes.
+/// Puts the copy of bytes into `to`.
 #[inline(never)]
 fn put_bytes<T: Takes>(content: &Vec<u8>, to: &mut T) -> Result<(), AllocError> {
     to.put(Value::Bytes(copy_elements(content)?));
     Ok(())
 }
 
-/// Puts the copy of a bitmap.
+/// Puts the copy of a bitmap into `to`.
 #[inline(never)]
 fn put_bitmap<T: Takes>(content: &Vec<u8>, to: &mut T) -> Result<(), AllocError> {
     to.put(Value::Bitmap(copy_elements(content)?));
     Ok(())
 }
 
-/// Puts the copy of an array.
+/// Puts the copy of an array into `to`.
 #[inline(never)]
 fn put_array<T: Takes>(array: &ValueArray, to: &mut T) -> Result<(), AllocError> {
     to.put(Value::ValueArray(array.try_clone()?));

@@ -4,14 +4,14 @@ use crate::shims::prelude::*;
 use crate::shims::flags::Flags;
 use crate::parts::spa_utils::ChoiceFlags;
 
-/// The flags of a choice that a macro makes: none.
+/// The flags of a choice that a macro makes: 0.
 #[doc(hidden)]
 pub fn no_flags() -> ChoiceFlags {
     ChoiceFlags::empty()
 }
 
 /// A property without flags: `property!(key, ..)`. The key,
-/// and the ids below, are of types with a method `as_raw`, such as `Id`. Behind the key stands
+/// and the ids below, are of types with a method `as_raw`, such as `Id`. Behind the key comes
 ///
 /// - a value; or
 /// - `Id` and an id; or
@@ -112,11 +112,11 @@ macro_rules! choice_property {
 }
 
 /// An object: `object!(type, id, properties..)`. The type
-/// and the id are of types with a method `as_raw`, such as `Id`, and each property, of which there may be none, is a
-/// `Property`: behind each `property!` stands a `?`.
+/// and the id are of types with a method `as_raw`, such as `Id`. Each property, of which there may be none, is a
+/// `Property`: write a `?` behind each `property!`.
 ///
-/// It answers a `Result`, whose one refusal is NOMEM. The properties are made in their order, each put behind those before it
-/// once it is made; where there is no memory for one, those behind it aren't made.
+/// It answers a `Result`, whose one refusal is NOMEM. The properties are made in their order, and each is appended once it is
+/// made; where there is no memory for one, those behind it aren't made.
 #[macro_export]
 macro_rules! object {
     ($type_:expr, $id:expr $(,)?) => {{
@@ -129,9 +129,9 @@ macro_rules! object {
     }};
 }
 
-/// An object of the properties in a list, and of those that are put behind them.
-// Each property is handed over as soon as it is made, so that only the list is left over where the next one is refused: held side
-// by side, n of them would be dropped at n places, and the proof of the caller would grow with their square.
+/// An object of the properties in a list, and of further ones that are appended to it.
+// Each property is handed over as soon as it is made, so that only the list is left to drop where the next one is refused. Properties
+// in n variables would be dropped at n places, and the proof of the caller would grow with the square of n.
 #[doc(hidden)]
 #[macro_export]
 macro_rules! object_of {

@@ -1,4 +1,4 @@
-//! Values: what a pod says, as Rust types, and how they are seen as trees.
+//! Values: what a pod says, as Rust types, and their trees.
 use crate::shims::prelude::*;
 mod array;
 mod bitmap;

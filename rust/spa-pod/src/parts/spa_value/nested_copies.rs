@@ -1,4 +1,4 @@
-//! Copies of what lies in a struct or in an object, made by a loop over those that are begun.
+//! Copies structs and objects by a loop, with an explicit stack of the containers whose copies are begun.
 
 use crate::shims::prelude::*;
 use crate::parts::spa_value::emptying::discard;
@@ -10,13 +10,13 @@ use crate::shims::flags::Flags;
 use crate::shims::memory::AllocError;
 use core::mem;
 
-/// A struct that is copied: the copies so far, and what is left behind their sources.
+/// A struct whose copy is begun: the copies of its members so far, and the members that are left to copy.
 pub(crate) struct CopiedStruct<'a> {
     copies: Vec<Value>,
     left: &'a [Value],
 }
 
-/// The same of an object.
+/// An object whose copy is begun: the copies of its properties so far, and the properties that are left to copy.
 pub(crate) struct CopiedObject<'a> {
     type_: u32,
     id: u32,
@@ -28,13 +28,13 @@ pub(crate) struct CopiedObject<'a> {
     left: &'a [Property],
 }
 
-/// A struct or an object whose copy is begun.
+/// A container whose copy is begun.
 pub(crate) enum Copying<'a> {
     Struct(CopiedStruct<'a>),
     Object(CopiedObject<'a>),
 }
 
-/// A struct or an object that is to be copied.
+/// A borrowed container that is to be copied.
 #[derive(Clone, Copy)]
 pub(crate) enum Nested<'a> {
     Struct(&'a Vec<Value>),
@@ -98,7 +98,7 @@ fn begin_object(object: &Object) -> Result<CopiedObject<'_>, AllocError> {
 }
 
 impl<'a> CopiedStruct<'a> {
-    /// Copies on, to the next struct or object among the members, or to their end.
+    /// Copies members up to the next that is a struct or an object, which is answered, or all of them. Refused only for want of memory.
     #[cfg_attr(not(debug_assertions), inline(always))]
     fn copy_on(&mut self) -> Result<Option<Nested<'a>>, AllocError> {
         let mut left = self.left;
@@ -115,7 +115,7 @@ impl<'a> CopiedStruct<'a> {
 }
 
 impl<'a> CopiedObject<'a> {
-    /// Copies on, to the next struct or object among the values of the properties, or to their end.
+    /// Copies properties up to the next whose value is a struct or an object, which is answered, or all of them. Refused only for want of memory.
     #[cfg_attr(not(debug_assertions), inline(always))]
     fn copy_on(&mut self) -> Result<Option<Nested<'a>>, AllocError> {
         let mut left = self.left;
@@ -134,7 +134,7 @@ impl<'a> CopiedObject<'a> {
 }
 
 impl<'a> Copying<'a> {
-    /// Copies on, to the next struct or object in it, or to its end.
+    /// Copies up to the next container in this one, which is answered, or to its end. Refused only for want of memory.
     #[cfg_attr(not(debug_assertions), inline(always))]
     fn copy_on(&mut self) -> Result<Option<Nested<'a>>, AllocError> {
         match self {
@@ -143,7 +143,7 @@ impl<'a> Copying<'a> {
         }
     }
 
-    /// Makes room for one more copy.
+    /// Makes room for one more copy. Refused only for want of memory.
     #[cfg_attr(not(debug_assertions), inline(always))]
     fn make_room(&mut self) -> Result<(), AllocError> {
         match self {
@@ -152,7 +152,7 @@ impl<'a> Copying<'a> {
         }
     }
 
-    /// Puts the copy of the member or of the property's value that was begun behind the others.
+    /// Appends the copy of the member, or of the property's value, at which copying stopped.
     #[cfg_attr(not(debug_assertions), inline(always))]
     fn put(&mut self, value: Value) {
         match self {
@@ -165,7 +165,7 @@ impl<'a> Copying<'a> {
         }
     }
 
-    /// The value of the copies so far.
+    /// The struct or object of the copies so far.
     #[cfg_attr(not(debug_assertions), inline(always))]
     fn into_value(self) -> Value {
         match self {
@@ -179,16 +179,16 @@ impl<'a> Copying<'a> {
     }
 }
 
-/// Structs and objects whose copies are begun, each within the one before.
+/// The containers whose copies are begun, each inside the one before.
 pub(crate) struct Copies<'a> {
     inner: Copying<'a>,
-    /// Those around the innermost, the outermost first.
+    /// The containers around the innermost, the outermost first.
     around: Vec<Copying<'a>>,
 }
 
 impl<'a> Copies<'a> {
-    /// Copies on, to the next struct or object, which is begun, or to the end of the innermost, which is put into the one
-    /// around it. Whether something is left to copy: where not, the innermost is the outermost, and is copied.
+    /// Copies up to the next container, whose copy is begun, or to the end of the innermost, which is put into the one around it. Answers whether
+    /// there is more to do: if not, the innermost is the outermost, and is copied. Refused only for want of memory.
     #[cfg_attr(not(debug_assertions), inline(always))]
     fn step(&mut self) -> Result<bool, AllocError> {
         let Some(nested) = self.inner.copy_on()? else {
@@ -204,7 +204,7 @@ impl<'a> Copies<'a> {
         Ok(true)
     }
 
-    /// Puts the innermost, which is copied, into the one around it. Whether there is one.
+    /// Puts the innermost, whose copy is whole, into the one around it. Answers whether there is one around it.
     #[cfg_attr(not(debug_assertions), inline(always))]
     fn end(&mut self) -> Result<bool, AllocError> {
         let Some(outer) = self.around.pop() else {
@@ -220,7 +220,7 @@ impl<'a> Copies<'a> {
         Ok(true)
     }
 
-    /// Takes the copies apart, by loops: they may be nested deep.
+    /// Drops the copies by loops, at any nesting depth.
     #[cold]
     #[inline(never)]
     fn give_up(self) {
@@ -232,7 +232,7 @@ impl<'a> Copies<'a> {
     }
 }
 
-/// Copies a struct or an object.
+/// Copies a container. Refused only for want of memory.
 #[cfg_attr(not(debug_assertions), inline(always))]
 pub(crate) fn copy_nested(nested: Nested<'_>) -> Result<Value, AllocError> {
     match nested {
@@ -241,7 +241,7 @@ pub(crate) fn copy_nested(nested: Nested<'_>) -> Result<Value, AllocError> {
     }
 }
 
-/// Copies a struct: at once where no struct or object is in it.
+/// Copies a struct, without a stack where it has no container in it. Refused only for want of memory.
 #[inline(never)]
 pub(crate) fn struct_copy(members: &Vec<Value>) -> Result<Value, AllocError> {
     let mut begun = begin_struct(members)?;
@@ -251,7 +251,7 @@ pub(crate) fn struct_copy(members: &Vec<Value>) -> Result<Value, AllocError> {
     }
 }
 
-/// Copies an object: at once where no struct or object is in it.
+/// Copies an object, without a stack where it has no container in it. Refused only for want of memory.
 #[inline(never)]
 pub(crate) fn object_copy(object: &Object) -> Result<Value, AllocError> {
     let mut begun = begin_object(object)?;
@@ -265,7 +265,7 @@ pub(crate) fn object_copy(object: &Object) -> Result<Value, AllocError> {
     }
 }
 
-/// Copies the rest of a begun struct or object, from this one in it on, by a loop.
+/// Copies the container `nested` and what is left behind it of the one whose copy is begun, by a loop. Refused only for want of memory.
 #[inline(never)]
 fn copy_within<'a>(outermost: Copying<'a>, nested: Nested<'a>) -> Result<Value, AllocError> {
     let mut around = match Vec::with_room(1) {

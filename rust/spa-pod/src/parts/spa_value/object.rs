@@ -4,7 +4,7 @@ use crate::shims::prelude::*;
 use crate::parts::spa_value::value::Value;
 use crate::shims::flags::{Flag, Flags, bitflag_items};
 
-/// The flags of a property. Unknown bits are kept.
+/// The flags word of a property. Bits without a name are kept.
 #[derive(Clone, Copy, PartialEq, Eq, Debug)]
 pub struct PropertyFlags(u32);
 
@@ -13,7 +13,7 @@ bitflag_items! {
         /// The property can't be changed: bit 0.
         const READONLY = 1;
 
-        /// The property is one of the hardware: bit 1.
+        /// The property belongs to the hardware: bit 1.
         const HARDWARE = 2;
 
         /// The property holds a dictionary, as a struct of texts: bit 2.
@@ -22,7 +22,7 @@ bitflag_items! {
         /// PipeWire asks for the property on both sides where formats are filtered: bit 3.
         const MANDATORY = 8;
 
-        /// The property's choice is kept where its object is fixated: bit 4.
+        /// The property's choice stays as it is where its object is fixated: bit 4.
         const DONT_FIXATE = 16;
     }
 }
@@ -46,16 +46,16 @@ impl Flags for PropertyFlags {
 /// A property of an object: a key, flags and a value. Keys may repeat in an object.
 #[derive(Debug)]
 pub struct Property {
-    /// What the property is: the meaning of a key goes by the object's type.
+    /// The key. What it means depends on the object's type.
     pub key: u32,
     /// The property's flags.
     pub flags: PropertyFlags,
-    /// What it holds.
+    /// The value of the property.
     pub value: Value,
 }
 
 impl Property {
-    /// A property with empty flags.
+    /// A property with flags 0.
     pub fn new(key: u32, value: Value) -> Property {
         Property {
             key,
@@ -72,6 +72,6 @@ pub struct Object {
     pub type_: u32,
     /// The object's id: which one of its type it is.
     pub id: u32,
-    /// Its properties in order; a key may stand twice.
+    /// The properties in order. A key may repeat.
     pub properties: Vec<Property>,
 }

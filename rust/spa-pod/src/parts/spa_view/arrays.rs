@@ -1,15 +1,15 @@
-//! Views of arrays and choices, and their values, read where they lie.
+//! Zero-copy views of arrays and choices, and of their values.
 
 use crate::shims::prelude::*;
 use crate::parts::spa_view::pod::Pod;
 use crate::shims::flags::Flags;
 use crate::parts::spa_bytes::{HEADER_LEN, SECOND_WORD, u32_at};
-use crate::parts::spa_fixed::{CanonicalFixedSizedPod, NONE_SHAPE, RANGE_SHAPE, STEP_SHAPE, next_element};
+use crate::parts::spa_fixed_sized::{CanonicalFixedSizedPod, NONE_SHAPE, RANGE_SHAPE, STEP_SHAPE, next_element};
 use crate::parts::spa_utils::{ChoiceFlags, Errno, SpaTypes};
 use core::marker::PhantomData;
 
-/// A view of an array's elements, or of a choice's values: they have no headers, and share the child header before them, which has
-/// the size and the type of one.
+/// A zero-copy view of an array's elements, or of a choice's values: they have no headers of their own, and share the child header before
+/// them, which has the size and the type of one.
 #[derive(Clone, Copy, Debug)]
 pub struct PodArray<'a> {
     body: &'a [u8],
@@ -26,7 +26,7 @@ impl<'a> PodArray<'a> {
         u32_at(self.body, 0)
     }
 
-    /// How many whole elements are there; none where an element's size is 0.
+    /// How many whole elements there are; 0 where the size of an element is 0.
     pub fn len(&self) -> usize {
         let size = self.element_size() as usize;
         if size == 0 {
@@ -35,7 +35,7 @@ impl<'a> PodArray<'a> {
         (self.body.len() - HEADER_LEN) / size
     }
 
-    /// The elements in order, as long as whole ones are there. INVAL exactly where an element's type or size isn't that of `T`.
+    /// An iterator over the elements in order, up to the first that isn't whole. INVAL exactly where an element's type or size isn't that of `T`.
     pub fn elements<T: CanonicalFixedSizedPod>(&self) -> Result<PodElements<'a, T>, Errno> {
         if self.element_type().as_raw() != T::TYPE || self.element_size() as usize != T::SIZE {
             return Err(Errno::INVAL);
@@ -48,7 +48,7 @@ impl<'a> PodArray<'a> {
     }
 }
 
-/// The elements that are still to come. It ends for good at the first that isn't whole.
+/// An iterator over the elements. It ends for good at the first that isn't whole.
 #[derive(Clone, Copy, Debug)]
 pub struct PodElements<'a, T: CanonicalFixedSizedPod> {
     left: &'a [u8],
@@ -68,7 +68,7 @@ impl<'a, T: CanonicalFixedSizedPod> Iterator for PodElements<'a, T> {
     }
 }
 
-/// A view of a choice.
+/// A zero-copy view of a choice.
 #[derive(Clone, Copy, Debug)]
 pub struct PodChoice<'a> {
     pod: Pod<'a>,
@@ -85,7 +85,7 @@ impl<'a> PodChoice<'a> {
         u32_at(self.pod.body(), 0)
     }
 
-    /// The flags, which say nothing in a None choice.
+    /// The flags word, which means nothing in a None choice.
     pub fn flags(&self) -> ChoiceFlags {
         ChoiceFlags::from_bits_retain(u32_at(self.pod.body(), SECOND_WORD))
     }

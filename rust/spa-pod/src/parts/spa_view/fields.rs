@@ -1,4 +1,4 @@
-//! Views of structs, and their members.
+//! Zero-copy views of structs, and of their members.
 
 use crate::shims::prelude::*;
 use crate::parts::spa_view::pod::Pod;
@@ -15,7 +15,7 @@ impl<'a> PodStruct<'a> {
         self.pod
     }
 
-    /// The members in order, as long as whole pods are there.
+    /// An iterator over the members in order, up to the first that isn't a whole pod.
     pub fn fields(&self) -> PodStructIter<'a> {
         PodStructIter {
             left: self.pod.body(),
@@ -23,7 +23,7 @@ impl<'a> PodStruct<'a> {
     }
 }
 
-/// The members of a struct that are still to come. It ends for good at the first that isn't whole.
+/// An iterator over the members of a struct. It ends for good at the first that isn't whole.
 #[derive(Clone, Copy, Debug)]
 pub struct PodStructIter<'a> {
     left: &'a [u8],

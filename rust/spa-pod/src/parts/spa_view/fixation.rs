@@ -7,10 +7,10 @@ use crate::parts::spa_view::type_tests::CHOICE_SHAPE_AT;
 use crate::parts::spa_bytes::HEADER_LEN;
 use crate::parts::spa_utils::Errno;
 
-/// Where the properties of an object's pod begin: behind its header, its type and its id.
+/// The offset in an object's pod at which its properties begin: behind its header, its type and its id.
 const PROPERTIES_AT: usize = HEADER_LEN + HEADER_LEN;
 
-/// Where a property has the shape word of a choice, and where that ends.
+/// The offsets in a property at which the shape word of its choice begins and ends.
 const SHAPE_AT: usize = HEADER_LEN + CHOICE_SHAPE_AT;
 
 const SHAPE_END: usize = SHAPE_AT + 4;
@@ -23,7 +23,7 @@ fn fixate_prop(prop: &mut [u8]) {
     }
 }
 
-/// Does so for each property that the walk gives.
+/// Fixates each property that the walk over these bytes finds.
 fn fixate_props(props: &mut [u8]) {
     let mut at = 0;
     while let Some(extent) = prop_extent(&props[at..]) {

@@ -1,9 +1,9 @@
-//! The flags of a property, as a view shows them.
+//! The flags of a property in a view.
 
 use crate::shims::prelude::*;
 use crate::shims::flags::{Flag, Flags, bitflag_items};
 
-/// The flags of a property. Unknown bits are kept.
+/// The flags word of a property. Bits without a name are kept.
 #[derive(Clone, Copy, PartialEq, Eq, Debug)]
 pub struct PodPropFlags(pub(crate) u32);
 
@@ -15,7 +15,7 @@ bitflag_items! {
         /// The property can't be changed: bit 0.
         const READONLY = 1;
 
-        /// The property is one of the hardware: bit 1.
+        /// The property belongs to the hardware: bit 1.
         const HARDWARE = 2;
 
         /// The property holds a dictionary, as a struct of texts: bit 2.
@@ -24,7 +24,7 @@ bitflag_items! {
         /// PipeWire asks for the property on both sides where formats are filtered: bit 3.
         const MANDATORY = 8;
 
-        /// The property's choice is kept where its object is fixated: bit 4.
+        /// The property's choice stays as it is where its object is fixated: bit 4.
         const DONT_FIXATE = DONT_FIXATE;
     }
 }

@@ -1,17 +1,17 @@
-//! What a pod says, read from any bytes: each getter succeeds exactly where its test is true.
+//! Getters of a pod's content, over any bytes: each succeeds exactly where its test is true.
 
 use crate::shims::prelude::*;
 use crate::parts::spa_view::fields::PodStruct;
 use crate::parts::spa_view::pod::Pod;
 use crate::parts::spa_view::props::PodObject;
 use crate::parts::spa_bytes::{HEADER_LEN, SHORT_POINTER_LEN, u32_at, u64_at};
-use crate::parts::spa_fixed::CanonicalFixedSizedPod;
+use crate::parts::spa_fixed_sized::CanonicalFixedSizedPod;
 use crate::parts::spa_utils::{Errno, Fd, Float32, Float64, Fraction, Id, Rectangle};
 
 /// The byte behind a text.
 const NUL: u8 = 0;
 
-/// Where a pointer's body has the type word.
+/// The offset of the type word in a pointer's body.
 const POINTER_TYPE_AT: usize = 0;
 
 impl<'a> Pod<'a> {
@@ -130,7 +130,7 @@ impl<'a> Pod<'a> {
     }
 }
 
-/// The bytes before the first NUL, or all of them where none is there.
+/// The bytes before the first NUL, or all where there is none.
 fn before_nul(body: &[u8]) -> &[u8] {
     match nul_place(body) {
         Some(end) => &body[..end],
@@ -138,7 +138,7 @@ fn before_nul(body: &[u8]) -> &[u8] {
     }
 }
 
-/// Where the first NUL is.
+/// The offset of the first NUL. None: there is none.
 fn nul_place(body: &[u8]) -> Option<usize> {
     body.iter().position(|byte| *byte == NUL)
 }

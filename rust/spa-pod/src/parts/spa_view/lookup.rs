@@ -1,15 +1,15 @@
-//! Values looked up by key, whether each stands there as it is or as a None choice.
+//! Looks values up by key, also through None choices.
 
 use crate::shims::prelude::*;
 use crate::parts::spa_view::pod::Pod;
 use crate::parts::spa_view::props::PodObject;
-use crate::parts::spa_fixed::CanonicalFixedSizedPod;
+use crate::parts::spa_fixed_sized::CanonicalFixedSizedPod;
 use crate::parts::spa_utils::{Fd, Float32, Float64, Fraction, Id, Rectangle};
 use core::str;
 
-/// A type of values that are read where they lie: one of the ten types of fixed size, `&str` for texts, `&[u8]` for Bytes.
+/// A type of values that are read from a zero-copy view: one of the ten types of fixed size, `&str` for texts, `&[u8]` for Bytes.
 pub trait FromPod<'a>: Sized {
-    /// The value that the pod says. None exactly where it says none of this type.
+    /// The value of the pod. None exactly where the pod has none of this type.
     fn from_pod(pod: &Pod<'a>) -> Option<Self>;
 }
 
@@ -36,7 +36,7 @@ impl FixedPod for Fraction {}
 
 impl FixedPod for Fd {}
 
-/// The value of a body of its size.
+/// A value of fixed size: the body has to have the type's size.
 impl<'a, T: FixedPod> FromPod<'a> for T {
     fn from_pod(pod: &Pod<'a>) -> Option<T> {
         match pod.get::<T>() {
@@ -59,7 +59,7 @@ impl<'a> FromPod<'a> for &'a str {
     }
 }
 
-/// The bytes of Bytes.
+/// The bytes of a Bytes.
 impl<'a> FromPod<'a> for &'a [u8] {
     fn from_pod(pod: &Pod<'a>) -> Option<&'a [u8]> {
         match pod.get_bytes() {
@@ -70,8 +70,8 @@ impl<'a> FromPod<'a> for &'a [u8] {
 }
 
 impl<'a> PodObject<'a> {
-    /// The value under the key, which is that of the first property with it, or the value of the None choice there. None exactly
-    /// where no property has the key, or the first one's value is of another type.
+    /// The value of the first property with the key, or, where that is a None choice, the choice's value. None exactly where no
+    /// property has the key, or the first one's value is of another type.
     pub fn get<T: FromPod<'a>>(&self, key: Id) -> Option<T> {
         match self.find_prop(key) {
             Some(prop) => T::from_pod(&prop.value().settled()),

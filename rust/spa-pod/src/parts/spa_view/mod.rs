@@ -1,4 +1,4 @@
-//! Views of pods: borrowed bytes, their members and properties, and fixation in place.
+//! Zero-copy views of pods, their members and properties, and fixation in place.
 use crate::shims::prelude::*;
 mod arrays;
 mod conversions;

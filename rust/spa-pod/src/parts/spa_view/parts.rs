@@ -1,10 +1,10 @@
-//! Views and the bytes that they stand for, for crates that walk pods themselves.
+//! Views and their bytes, for crates that walk pods themselves.
 
 use crate::shims::prelude::*;
 use crate::parts::spa_view::pod::Pod;
 
-/// The pod at the front of the bytes, and what follows it: None where fewer than 8 bytes are there, or fewer than the
-/// whole pod takes.
+/// The pod at the front of the bytes, and the bytes that follow it. None: there are fewer than 8 bytes, or fewer than the whole
+/// pod has.
 pub fn split_first<'a>(bytes: &'a [u8]) -> Option<(Pod<'a>, &'a [u8])> {
     let pod = Pod::from_bytes(bytes)?;
     let (_, rest) = bytes.split_at(pod.bytes.len());

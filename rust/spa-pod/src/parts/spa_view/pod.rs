@@ -1,22 +1,22 @@
-//! Views of whole pods.
+//! Zero-copy views of whole pods.
 
 use crate::shims::prelude::*;
 use crate::parts::spa_bytes::{HEADER_LEN, extent_of, u32_at};
 use crate::parts::spa_utils::SpaTypes;
 
-/// Where the size word and the type word of a pod stand.
+/// The offsets of the size word and of the type word in a pod.
 pub(crate) const SIZE_AT: usize = 0;
 
 const TYPE_AT: usize = 4;
 
-/// A view of a whole pod, with its padding, in bytes that outlive it.
+/// A zero-copy view of a whole pod, with its padding, in bytes that outlive it.
 #[derive(Clone, Copy, Debug)]
 pub struct Pod<'a> {
     pub(crate) bytes: &'a [u8],
 }
 
 impl<'a> Pod<'a> {
-    /// The pod at the front of the bytes: None where fewer than 8 bytes are there, or fewer than the whole pod takes.
+    /// The pod at the front of the bytes. None: there are fewer than 8 bytes, or fewer than the whole pod has.
     pub fn from_bytes(bytes: &'a [u8]) -> Option<Pod<'a>> {
         if bytes.len() < HEADER_LEN {
             return None;
@@ -35,12 +35,12 @@ impl<'a> Pod<'a> {
         &self.bytes[..HEADER_LEN + self.size() as usize]
     }
 
-    /// How many bytes the pod takes, header and padding counted.
+    /// The length of the pod in bytes, with header and padding.
     pub fn extent(&self) -> usize {
         self.bytes.len()
     }
 
-    /// The type that the header names.
+    /// The type in the header.
     pub fn type_(&self) -> SpaTypes {
         SpaTypes(u32_at(self.bytes, TYPE_AT))
     }

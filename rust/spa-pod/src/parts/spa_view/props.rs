@@ -1,4 +1,4 @@
-//! Views of objects, and their properties.
+//! Zero-copy views of objects, and of their properties.
 
 use crate::shims::prelude::*;
 use crate::parts::spa_view::flags::{DONT_FIXATE, PodPropFlags};
@@ -6,12 +6,12 @@ use crate::parts::spa_view::pod::Pod;
 use crate::parts::spa_bytes::{HEADER_LEN, extent_of, u32_at};
 use crate::parts::spa_utils::{Id, SpaTypes};
 
-/// Where an object's body has its type and its id.
+/// The offsets of the type and of the id in an object's body.
 const OBJECT_TYPE_AT: usize = 0;
 
 const OBJECT_ID_AT: usize = 4;
 
-/// Where a property has its key, its flags and the size word of its value.
+/// The offsets of the key, the flags and the value's size word in a property.
 const KEY_AT: usize = 0;
 
 const FLAGS_AT: usize = 4;
@@ -40,13 +40,13 @@ impl<'a> PodObject<'a> {
         Id(u32_at(self.pod.body(), OBJECT_ID_AT))
     }
 
-    /// The properties in order, as long as whole ones are there.
+    /// An iterator over the properties in order, up to the first that isn't whole.
     pub fn props(&self) -> PodObjectIter<'a> {
         let (_, left) = self.pod.body().split_at(HEADER_LEN);
         PodObjectIter { left }
     }
 
-    /// The first property with the key.
+    /// The first property with the key. None: no property has it.
     pub fn find_prop(&self, key: Id) -> Option<PodProp<'a>> {
         for prop in self.props() {
             if prop.key() == key {
@@ -56,7 +56,7 @@ impl<'a> PodObject<'a> {
         None
     }
 
-    /// Whether no property's value is a choice of another shape than None.
+    /// Whether no property's value is a choice of a shape other than None.
     pub fn is_fixated(&self) -> bool {
         for prop in self.props() {
             if !prop.value().is_settled() {
@@ -96,7 +96,7 @@ impl<'a> PodProp<'a> {
     }
 }
 
-/// How many bytes the first property takes, where it is there.
+/// The length of the first property in bytes. None: there is no whole one.
 pub(crate) fn prop_extent(left: &[u8]) -> Option<usize> {
     if left.len() < HEADER_LEN + HEADER_LEN {
         return None;
@@ -108,7 +108,7 @@ pub(crate) fn prop_extent(left: &[u8]) -> Option<usize> {
     Some(extent)
 }
 
-/// The properties of an object that are still to come. It ends for good at the first that isn't whole.
+/// An iterator over the properties of an object. It ends for good at the first that isn't whole.
 #[derive(Clone, Copy, Debug)]
 pub struct PodObjectIter<'a> {
     left: &'a [u8],

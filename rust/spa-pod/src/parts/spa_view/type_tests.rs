@@ -3,19 +3,19 @@
 use crate::shims::prelude::*;
 use crate::parts::spa_view::pod::Pod;
 use crate::parts::spa_bytes::{POINTER_LEN, SHORT_POINTER_LEN, u32_at};
-use crate::parts::spa_fixed::{CanonicalFixedSizedPod, NONE_SHAPE};
+use crate::parts::spa_fixed_sized::{CanonicalFixedSizedPod, NONE_SHAPE};
 use crate::parts::spa_utils::{Fd, Float32, Float64, Fraction, Id, Rectangle, SpaTypes};
 
-/// A string's body has its NUL at least.
+/// The least size in bytes of a string's body, which has a NUL.
 const LEAST_STRING: u32 = 1;
 
-/// What stands before the elements of an array, and before an object's properties: two words.
+/// The size in bytes of what is before the elements of an array, and before an object's properties: two words.
 const TWO_WORDS: u32 = 8;
 
-/// What stands before a choice's values: its shape, its flags and the child header.
+/// The size in bytes of what is before a choice's values: its shape, its flags and the child header.
 pub(crate) const FOUR_WORDS: u32 = 16;
 
-/// Where a choice's pod has its shape word.
+/// The offset of the shape word in a choice's pod.
 pub(crate) const CHOICE_SHAPE_AT: usize = 8;
 
 impl<'a> Pod<'a> {
@@ -120,7 +120,7 @@ impl<'a> Pod<'a> {
             && (self.size() as usize == SHORT_POINTER_LEN || self.size() as usize == POINTER_LEN)
     }
 
-    /// Whether it is no choice, or one of the shape None.
+    /// Whether the pod is no choice, or a None choice.
     pub(crate) fn is_settled(&self) -> bool {
         !self.is_choice() || u32_at(self.bytes, CHOICE_SHAPE_AT) == NONE_SHAPE
     }

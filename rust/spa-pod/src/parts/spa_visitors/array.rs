@@ -1,7 +1,7 @@
 //! The visitor of arrays.
 
 use crate::shims::prelude::*;
-use crate::parts::spa_fixed::DeserializeError;
+use crate::parts::spa_fixed_sized::DeserializeError;
 use crate::parts::spa_typed_read::{ObjectPodDeserializer, StructPodDeserializer, Visit, Visitor};
 use core::marker::PhantomData;
 

@@ -1,10 +1,10 @@
 //! Visitors of texts, bytes, bitmaps and pointers.
 
 use crate::shims::prelude::*;
-use crate::parts::spa_fixed::DeserializeError;
+use crate::parts::spa_fixed_sized::DeserializeError;
 use crate::parts::spa_typed_read::{Never, ObjectPodDeserializer, StructPodDeserializer, Visit, Visitor};
 
-/// Answers the text that it is given, which is a part of the input.
+/// Answers the text that it is given, borrowed from the input.
 pub struct StringVisitor;
 
 impl<'de> Visitor<'de> for StringVisitor {
@@ -37,7 +37,7 @@ impl<'de> Visitor<'de> for StringVisitor {
     }
 }
 
-/// Answers the bytes that it is given, which are a part of the input.
+/// Answers the bytes that it is given, borrowed from the input.
 pub struct BytesVisitor;
 
 impl<'de> Visitor<'de> for BytesVisitor {
@@ -70,7 +70,7 @@ impl<'de> Visitor<'de> for BytesVisitor {
     }
 }
 
-/// Answers the bytes of the bitmap that it is given, which are a part of the input.
+/// Answers the bytes of the bitmap that it is given, borrowed from the input.
 pub struct BitmapVisitor;
 
 impl<'de> Visitor<'de> for BitmapVisitor {

@@ -1,17 +1,17 @@
-//! One visitor for all types that have a case of what is handed over.
+//! One visitor for all types that have a variant of `Visit`.
 
 use crate::shims::prelude::*;
-use crate::parts::spa_fixed::DeserializeError;
+use crate::parts::spa_fixed_sized::DeserializeError;
 use crate::parts::spa_typed_read::{Never, ObjectPodDeserializer, StructPodDeserializer, Visit, Visitor};
 use core::marker::PhantomData;
 
-/// A type that has a case of its own of what is handed over.
+/// A type that has a variant of its own of `Visit`.
 pub trait Handed: Sized {
-    /// What is handed over in that case, and None of any other.
+    /// The value of that variant. None: the content is of another one.
     fn of_visit(given: Visit<'_, Never>) -> Option<Self>;
 }
 
-/// Answers what it is given of one type.
+/// Answers the values of the type `T` that it is given.
 pub struct HandedVisitor<T>(pub(crate) PhantomData<T>);
 
 impl<'de, T: Handed> Visitor<'de> for HandedVisitor<T> {

@@ -1,5 +1,5 @@
-//! The library's own visitors: one for each sort of content, which declines any other as `UnsupportedType`, and one that makes a
-//! value of anything.
+//! The library's own visitors: one for each type of content, which declines any other as `UnsupportedType`, and one that makes a
+//! `Value` of any content.
 use crate::shims::prelude::*;
 mod array;
 mod bodies;

@@ -1,12 +1,12 @@
-//! The visitor that makes a value of whatever it is handed.
+//! The visitor that makes a `Value` of any content.
 
 use crate::shims::prelude::*;
-use crate::parts::spa_fixed::DeserializeError;
+use crate::parts::spa_fixed_sized::DeserializeError;
 use crate::parts::spa_typed_read::{Never, ObjectPodDeserializer, StructPodDeserializer, Visit, Visitor};
 use crate::parts::spa_value::{Object, Property, Value, discard};
 
-/// Makes a value of what it is handed, and of a struct's members and an object's properties. It declines the elements of an
-/// array, as `UnsupportedType`: `PodDeserializer::deserialize_any` reads those.
+/// Makes a `Value` of any content, of a struct's members and of an object's properties. It declines the elements of an array,
+/// as `UnsupportedType`: `PodDeserializer::deserialize_any` reads those.
 pub struct ValueVisitor {
 }
 
@@ -53,8 +53,7 @@ impl<'de> Visitor<'de> for ValueVisitor {
     }
 }
 
-/// The values of all members that are left. Where one is refused, those before it are taken apart by a loop: they may be nested
-/// deep.
+/// Reads all members that are left. Where one is refused, those before it are dropped by a loop, at any nesting depth.
 fn read_members<'de>(
     reader: &mut StructPodDeserializer<'de>,
 ) -> Result<Vec<Value>, DeserializeError<&'de [u8]>> {
@@ -78,7 +77,7 @@ fn read_members<'de>(
     }
 }
 
-/// All properties that are left. Where one is refused, those before it are taken apart by a loop.
+/// Reads all properties that are left. Where one is refused, those before it are dropped by a loop, at any nesting depth.
 fn read_properties<'de>(
     reader: &mut ObjectPodDeserializer<'de>,
 ) -> Result<Vec<Property>, DeserializeError<&'de [u8]>> {

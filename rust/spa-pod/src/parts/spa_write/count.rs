@@ -30,7 +30,7 @@ fn few_left(value: &Value, number: usize) -> usize {
     }
 }
 
-/// The same of the members of one struct.
+/// What is left of the number once the values in the members of one struct are counted off; 0 where it is too small.
 fn few_left_of_members(members: &[Value], number: usize) -> usize {
     let inner = innermost(members);
     if inner.len() >= number {
@@ -48,7 +48,7 @@ fn few_left_of_members(members: &[Value], number: usize) -> usize {
     left
 }
 
-/// The same of the properties of one object.
+/// What is left of the number once the values in the properties of one object are counted off; 0 where it is too small.
 fn few_left_of_properties(properties: &[Property], number: usize) -> usize {
     if properties.len() >= number {
         return 0;
@@ -108,7 +108,7 @@ pub(crate) fn left_of(value: &Value, number: usize) -> Option<usize> {
     }
 }
 
-/// The same of values one after another.
+/// What is left of the number once all values in these members are counted off; `None` where it is too small.
 fn left_of_members(members: &[Value], number: usize) -> Option<usize> {
     let mut left = number;
     for member in members {
@@ -120,7 +120,7 @@ fn left_of_members(members: &[Value], number: usize) -> Option<usize> {
     Some(left)
 }
 
-/// The same of properties one after another.
+/// What is left of the number once all values in these properties are counted off; `None` where it is too small.
 fn left_of_properties(properties: &[Property], number: usize) -> Option<usize> {
     let mut left = number;
     for property in properties {

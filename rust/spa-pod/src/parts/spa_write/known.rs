@@ -30,7 +30,7 @@ fn writable_members_len(members: &[Value]) -> u64 {
     outer + writable_all_len(left)
 }
 
-/// The same, one by one.
+/// How many bytes the encodings of these members have together, added up one by one.
 fn writable_all_len(members: &[Value]) -> u64 {
     let mut total = 0;
     for member in members {
@@ -48,7 +48,7 @@ fn writable_properties_len(properties: &[Property]) -> u64 {
     total
 }
 
-/// The same of a value that is neither a struct nor an object.
+/// The length of the encoding of a value that is no container, in bytes.
 #[cfg_attr(not(debug_assertions), inline(always))]
 fn writable_leaf_len(value: &Value) -> u64 {
     match value {
@@ -60,7 +60,7 @@ fn writable_leaf_len(value: &Value) -> u64 {
     }
 }
 
-/// The same of a text.
+/// The length of the encoding of a text, in bytes.
 #[cfg_attr(not(debug_assertions), inline(always))]
 fn writable_text_len(text: &str) -> u64 {
     let size = text.len() + 1;

@@ -1,14 +1,15 @@
-//! Values without members, written.
+//! Writes values that are neither structs nor objects.
 
 use crate::shims::prelude::*;
-use crate::parts::spa_leaf::{
+use crate::parts::spa_bodies::{
     put_alternatives, put_bitmap, put_bytes, put_elements, put_number, put_pointer, put_text,
 };
 use crate::parts::spa_sink::{GenError, PodSink};
 use crate::parts::spa_value::{ChoiceValue, Value, ValueArray};
 
-/// Appends the encoding of a value that is neither a struct nor an object. Where it is refused as `NulInText` or
-/// `TooLarge`, nothing is appended; where the sink refuses it, the sink has taken a beginning of it.
+/// Appends the encoding of a value that is neither a struct nor an object. It is refused as `NulInText` where it is a text with NUL, and as
+/// `TooLarge` where its body has 4294967296 bytes or more: nothing is appended then. Where the sink refuses it, the sink may have taken a
+/// beginning of the encoding.
 pub fn put_leaf<S: PodSink>(sink: &mut S, value: &Value) -> Result<(), GenError> {
     match value {
         Value::None => put_number(sink, &()),
@@ -32,7 +33,7 @@ pub fn put_leaf<S: PodSink>(sink: &mut S, value: &Value) -> Result<(), GenError>
     }
 }
 
-/// Appends the pod of an array.
+/// Appends the encoding of an array, with the refusals of `put_leaf`.
 fn put_value_array<S: PodSink>(sink: &mut S, array: &ValueArray) -> Result<(), GenError> {
     match array {
         ValueArray::None(units) => put_elements(sink, units.as_slice()),
@@ -48,7 +49,7 @@ fn put_value_array<S: PodSink>(sink: &mut S, array: &ValueArray) -> Result<(), G
     }
 }
 
-/// Appends the pod of a choice.
+/// Appends the encoding of a choice, with the refusals of `put_leaf`.
 fn put_choice_value<S: PodSink>(sink: &mut S, choice: &ChoiceValue) -> Result<(), GenError> {
     match choice {
         ChoiceValue::Bool(values) => put_alternatives(sink, values),

@@ -1,4 +1,4 @@
-//! The writer of any value: a value's encoding is appended to any output.
+//! The writer of values: appends a value's encoding to any sink.
 use crate::shims::prelude::*;
 mod count;
 mod known;

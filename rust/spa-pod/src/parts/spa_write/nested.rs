@@ -1,19 +1,20 @@
-//! Values with their members, written by a loop over those that are begun.
+//! Writes values with their members by a loop, with an explicit stack of the containers that are begun.
 //!
-//! The encoding is put together in a vector of its own, where each size word is written once what it counts is there.
+//! The encoding is put together in a vector of its own. A container's size word is written once all that it counts is there.
 
 use crate::shims::prelude::*;
 use crate::parts::spa_write::leaf::put_leaf;
 use crate::parts::spa_write::left::{Begun, Left, Nested, Stop};
 use crate::parts::spa_write::short::short_encoding;
 use crate::shims::flags::Flags;
-use crate::parts::spa_leaf::{begin, close};
+use crate::parts::spa_bodies::{begin, close};
 use crate::parts::spa_sink::{GenError, PodSink, put_two};
 use crate::parts::spa_utils::SpaTypes;
 use crate::parts::spa_value::{Object, Property, Value};
 
-/// The encoding of a value: also of one that is nested deep, since what is begun is kept in a
-/// list.
+/// The encoding of a value. The nesting depth is bounded by memory alone, since the containers that are begun are
+/// on a stack of their own, in that memory. Refused as `NulInText` where a text in the value holds NUL, as `TooLarge` where a size word would be
+/// 4294967296 or more, and as `OutOfMemory`.
 pub(crate) fn write_by_loop(value: &Value) -> Result<Vec<u8>, GenError> {
     let mut out = Vec::new();
     let Some(outermost) = put_or_pass(&mut out, value)? else {
@@ -42,7 +43,8 @@ pub(crate) fn write_by_loop(value: &Value) -> Result<Vec<u8>, GenError> {
     }
 }
 
-/// Appends a value that is neither a struct nor an object. One of these is answered, and nothing is appended.
+/// Appends the encoding of a value that is neither a struct nor an object, and answers None. A struct or an object is answered itself, and
+/// nothing is appended.
 #[cfg_attr(not(debug_assertions), inline(always))]
 fn put_or_pass<'a>(out: &mut Vec<u8>, value: &'a Value) -> Result<Option<Nested<'a>>, GenError> {
     match value {
@@ -53,7 +55,7 @@ fn put_or_pass<'a>(out: &mut Vec<u8>, value: &'a Value) -> Result<Option<Nested<
     Ok(None)
 }
 
-/// Appends a value that is neither a struct nor an object.
+/// Appends the encoding of a value that is neither a struct nor an object.
 #[cfg_attr(not(debug_assertions), inline(always))]
 fn put_any_leaf(out: &mut Vec<u8>, value: &Value) -> Result<(), GenError> {
     match short_encoding(value) {
@@ -62,7 +64,7 @@ fn put_any_leaf(out: &mut Vec<u8>, value: &Value) -> Result<(), GenError> {
     }
 }
 
-/// Appends the header of a struct or of an object, with a size word of 0.
+/// Appends the header of a struct, or the header, type and id of an object, with a size word of 0 for now. Refused only as `OutOfMemory`.
 #[cfg_attr(not(debug_assertions), inline(always))]
 fn begin_nested<'a>(out: &mut Vec<u8>, nested: Nested<'a>) -> Result<Begun<'a>, GenError> {
     match nested {
@@ -80,7 +82,7 @@ fn begin_nested<'a>(out: &mut Vec<u8>, nested: Nested<'a>) -> Result<Begun<'a>, 
     }
 }
 
-/// Appends what is left, to the next struct or object in it, or to its end.
+/// Appends what is left of a container up to the next container in it, which is answered, or up to its end.
 #[cfg_attr(not(debug_assertions), inline(always))]
 fn put_left<'a>(left: Left<'a>, out: &mut Vec<u8>) -> Result<Option<Stop<'a>>, GenError> {
     match left {
@@ -89,7 +91,7 @@ fn put_left<'a>(left: Left<'a>, out: &mut Vec<u8>) -> Result<Option<Stop<'a>>, G
     }
 }
 
-/// Appends members, to the next struct or object, or to their end.
+/// Appends members up to the next that is a struct or an object, which is answered, or all of them.
 #[cfg_attr(not(debug_assertions), inline(always))]
 fn put_members<'a>(members: &'a [Value], out: &mut Vec<u8>) -> Result<Option<Stop<'a>>, GenError> {
     let mut left = members;
@@ -103,7 +105,8 @@ fn put_members<'a>(members: &'a [Value], out: &mut Vec<u8>) -> Result<Option<Sto
     Ok(None)
 }
 
-/// Appends properties, each with its key and flags, to the next whose value is a struct or an object, or to their end.
+/// Appends properties, each with its key and flags, up to the next whose value is a struct or an object, which is answered, or all of them. Of
+/// that next one the key and the flags are appended.
 #[cfg_attr(not(debug_assertions), inline(always))]
 fn put_properties<'a>(
     properties: &'a [Property],

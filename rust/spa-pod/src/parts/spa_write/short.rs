@@ -1,10 +1,10 @@
-//! Values whose pods have sixteen bytes.
+//! Values whose pods have sixteen bytes: those of the nine types of fixed size whose bodies aren't empty.
 
 use crate::shims::prelude::*;
-use crate::parts::spa_fixed::{CanonicalFixedSizedPod, LONGEST_POD_LEN, pod_bytes, pod_len};
+use crate::parts::spa_fixed_sized::{CanonicalFixedSizedPod, LONGEST_POD_LEN, pod_bytes, pod_len};
 use crate::parts::spa_value::Value;
 
-/// The encoding of a value of one of the nine types whose pods have sixteen bytes. None: it is of another type.
+/// The encoding of a value of one of the nine types whose pods have sixteen bytes. None: the value is of another type.
 #[cfg_attr(not(debug_assertions), inline(always))]
 pub(crate) fn short_encoding(value: &Value) -> Option<[u8; LONGEST_POD_LEN]> {
     match value {
@@ -21,16 +21,16 @@ pub(crate) fn short_encoding(value: &Value) -> Option<[u8; LONGEST_POD_LEN]> {
     }
 }
 
-/// The pod of a value of fixed size, which isn't empty.
+/// The encoding of a value of a type of fixed size whose body isn't empty.
 #[cfg_attr(not(debug_assertions), inline(always))]
 fn short_pod<T: CanonicalFixedSizedPod>(value: &T) -> [u8; LONGEST_POD_LEN] {
     pod_bytes(value)
 }
 
-/// In so many places are many values looked at in turn, so that the memory in which they lie is read at several places at once.
+/// How many parts of a list of values are looked at in turn, so that memory is read at several places at once.
 const PLACES: usize = 4;
 
-/// Whether all of these are of one of these nine types.
+/// Whether the pod of each of these values has sixteen bytes. The contract states what a yes means; a no promises nothing.
 pub(crate) fn are_short(values: &[Value]) -> bool {
     let part = values.len() / PLACES;
     for index in 0..part {
@@ -49,7 +49,7 @@ pub(crate) fn are_short(values: &[Value]) -> bool {
     true
 }
 
-/// Whether it is of one of these nine types.
+/// Whether the pod of the value has sixteen bytes, which those of the nine types have.
 #[cfg_attr(not(debug_assertions), inline(always))]
 fn has_short_pod(value: &Value) -> bool {
     match value {
@@ -66,7 +66,7 @@ fn has_short_pod(value: &Value) -> bool {
     }
 }
 
-/// Whether the pod of this value of fixed size has sixteen bytes.
+/// Whether the pod of this value of a type of fixed size has sixteen bytes.
 #[cfg_attr(not(debug_assertions), inline(always))]
 fn is_short<T: CanonicalFixedSizedPod>(value: &T) -> bool {
     pod_len(value) == LONGEST_POD_LEN

@@ -1,21 +1,21 @@
-//! How long encodings are, before a byte of them is written.
+//! Computes how long encodings are, before a byte of them is written.
 
 use crate::shims::prelude::*;
 use crate::parts::spa_write::count::only_struct;
 use crate::parts::spa_write::short::are_short;
 use crate::parts::spa_bytes::{HEADER_LEN, POINTER_LEN, extent_of};
-use crate::parts::spa_fixed::{
+use crate::parts::spa_fixed_sized::{
     CanonicalFixedSizedPod, ChoiceElement, LONGEST_POD_LEN, array_size, choice_size, pod_len,
 };
 use crate::parts::spa_sink::GenError;
 use crate::parts::spa_utils::Choice;
 use crate::parts::spa_value::{ChoiceValue, Property, Value, ValueArray};
 
-/// A size word can't count so many bytes.
+/// The least number of bytes that a size word can't count.
 const SIZE_LIMIT: u64 = 1 << 32;
 
-/// How many bytes a value's encoding has. It is refused as `NulInText` where a text in it holds NUL, and as `TooLarge`
-/// where a size word would be 4294967296 or more.
+/// How many bytes a value's encoding has. Refused as `NulInText` where a text in the value holds NUL, and as `TooLarge` where a size word would
+/// be 4294967296 or more.
 #[cfg_attr(not(debug_assertions), inline(always))]
 pub(crate) fn encoded_len(value: &Value) -> Result<u64, GenError> {
     match value {
@@ -28,8 +28,8 @@ pub(crate) fn encoded_len(value: &Value) -> Result<u64, GenError> {
     }
 }
 
-/// How many bytes the encodings of these values have, which are to be the members of one struct. A struct that is the only
-/// member of another one takes no call.
+/// How many bytes the encodings of the members of one struct have, with the refusals of `encoded_len`. A struct that is the only member of
+/// another struct takes no call of its own.
 pub(crate) fn members_len(members: &[Value]) -> Result<u64, GenError> {
     let mut outer = 0;
     let mut left = members;
@@ -41,10 +41,11 @@ pub(crate) fn members_len(members: &[Value]) -> Result<u64, GenError> {
     sum_of(outer, len)
 }
 
-/// How many pods of sixteen bytes a size word can't count.
+/// The least number of pods of sixteen bytes that a size word can't count.
 const SHORT_LIMIT: usize = 1 << 28;
 
-/// How many bytes the encodings of these values have: at once where they are all short, and else measured one by one.
+/// How many bytes the encodings of the members of one struct have: by one multiplication where each pod has sixteen bytes, and else measured one
+/// by one.
 fn all_len(members: &[Value]) -> Result<u64, GenError> {
     if members.len() < SHORT_LIMIT && are_short(members) {
         return Ok((LONGEST_POD_LEN * members.len()) as u64);
@@ -57,7 +58,7 @@ fn all_len(members: &[Value]) -> Result<u64, GenError> {
     Ok(total)
 }
 
-/// How many bytes these properties have, which are to be in one object.
+/// How many bytes the properties of one object have, with their keys and flags, and with the refusals of `encoded_len`.
 pub(crate) fn properties_len(properties: &[Property]) -> Result<u64, GenError> {
     let mut total = 0;
     for property in properties {
@@ -67,7 +68,7 @@ pub(crate) fn properties_len(properties: &[Property]) -> Result<u64, GenError> {
     Ok(total)
 }
 
-/// The sum, where a size word can count so many bytes.
+/// The sum of two numbers of bytes. Refused as `TooLarge` where it is 4294967296 or more.
 #[cfg_attr(not(debug_assertions), inline(always))]
 fn sum_of(total: u64, more: u64) -> Result<u64, GenError> {
     match total.checked_add(more) {
@@ -76,7 +77,8 @@ fn sum_of(total: u64, more: u64) -> Result<u64, GenError> {
     }
 }
 
-/// The same by one comparison, which is faster in a loop that goes over properties.
+/// The sum of two numbers of bytes, refused as `TooLarge` where it is 4294967296 or more. It takes one comparison, which is faster than `sum_of`
+/// in a loop over properties.
 #[cfg_attr(not(debug_assertions), inline(always))]
 fn next_sum(total: u64, more: u64) -> Result<u64, GenError> {
     let sum = total.saturating_add(more);
@@ -87,7 +89,7 @@ fn next_sum(total: u64, more: u64) -> Result<u64, GenError> {
     }
 }
 
-/// The same of a value that is neither a struct nor an object.
+/// How many bytes the encoding of a value has that is neither a struct nor an object, with the refusals of `encoded_len`.
 #[cfg_attr(not(debug_assertions), inline(always))]
 pub(crate) fn leaf_len(value: &Value) -> Result<u64, GenError> {
     match value {
@@ -112,13 +114,13 @@ pub(crate) fn leaf_len(value: &Value) -> Result<u64, GenError> {
     }
 }
 
-/// The length of the pod of a value of fixed size.
+/// The length in bytes of the encoding of a value of fixed size.
 #[cfg_attr(not(debug_assertions), inline(always))]
 fn number_len<T: CanonicalFixedSizedPod>(value: &T) -> Result<u64, GenError> {
     Ok(pod_len(value) as u64)
 }
 
-/// The length of a pod whose body has so many bytes.
+/// The length in bytes of a pod whose body has `size` bytes. Refused as `TooLarge` where that is 4294967296 or more.
 fn framed_len(size: usize) -> Result<u64, GenError> {
     match u32::try_from(size) {
         Ok(size) => Ok(extent_of(size) as u64),
@@ -126,7 +128,7 @@ fn framed_len(size: usize) -> Result<u64, GenError> {
     }
 }
 
-/// The length of the pod of a text.
+/// The length in bytes of the encoding of a text. Refused as `NulInText` and as `TooLarge`.
 fn text_len(text: &str) -> Result<u64, GenError> {
     let bytes = text.as_bytes();
     if bytes.has_nul() {
@@ -135,22 +137,22 @@ fn text_len(text: &str) -> Result<u64, GenError> {
     framed_len(bytes.len() + 1)
 }
 
-/// The length of the pod of bytes.
+/// The length in bytes of the encoding of bytes. Refused as `TooLarge`.
 fn bytes_len(bytes: &[u8]) -> Result<u64, GenError> {
     framed_len(bytes.len())
 }
 
-/// The length of the pod of a bitmap.
+/// The length in bytes of the encoding of a bitmap. Refused as `TooLarge`.
 fn bitmap_len(bytes: &[u8]) -> Result<u64, GenError> {
     framed_len(bytes.len())
 }
 
-/// The length of the pod of a pointer.
+/// The length in bytes of the encoding of a pointer.
 fn pointer_len(type_: u32, address: u64) -> Result<u64, GenError> {
     Ok((HEADER_LEN + POINTER_LEN) as u64)
 }
 
-/// The length of the pod of elements of one type of fixed size.
+/// The length in bytes of the encoding of an array of these elements. Refused as `TooLarge`.
 fn elements_len<T: CanonicalFixedSizedPod>(values: &[T]) -> Result<u64, GenError> {
     match array_size(values) {
         Some(size) => Ok(extent_of(size) as u64),
@@ -158,7 +160,7 @@ fn elements_len<T: CanonicalFixedSizedPod>(values: &[T]) -> Result<u64, GenError
     }
 }
 
-/// The length of the pod of a choice over one type of fixed size.
+/// The length in bytes of the encoding of a choice over one type of fixed size. Refused as `TooLarge`.
 fn alternatives_len<T: ChoiceElement>(choice: &Choice<T>) -> Result<u64, GenError> {
     match choice_size(choice) {
         Some(size) => Ok(extent_of(size) as u64),
@@ -166,7 +168,7 @@ fn alternatives_len<T: ChoiceElement>(choice: &Choice<T>) -> Result<u64, GenErro
     }
 }
 
-/// The length of the pod of an array.
+/// The length in bytes of the encoding of an array over any type. Refused as `TooLarge`.
 #[cfg_attr(not(debug_assertions), inline(always))]
 fn array_len(array: &ValueArray) -> Result<u64, GenError> {
     match array {
@@ -183,7 +185,7 @@ fn array_len(array: &ValueArray) -> Result<u64, GenError> {
     }
 }
 
-/// The length of the pod of a choice.
+/// The length in bytes of the encoding of a choice over any type. Refused as `TooLarge`.
 #[cfg_attr(not(debug_assertions), inline(always))]
 fn choice_len(choice: &ChoiceValue) -> Result<u64, GenError> {
     match choice {

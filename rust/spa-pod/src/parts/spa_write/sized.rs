@@ -1,4 +1,4 @@
-//! Values with their members, written front to back: each size is computed before it is written.
+//! Writes values with their members front to back: each size is computed before it is written.
 
 use crate::shims::prelude::*;
 use crate::parts::spa_write::count::{is_beyond, is_nested, is_small, only_struct};
@@ -9,9 +9,9 @@ use crate::parts::spa_write::nested::write_by_loop;
 use crate::parts::spa_write::short::short_encoding;
 use crate::parts::spa_write::size::{encoded_len, members_len, properties_len};
 use crate::shims::flags::Flags;
+use crate::parts::spa_bodies::put_clean_text;
 use crate::parts::spa_bytes::{HEADER_LEN, joined, two_words};
-use crate::parts::spa_fixed::LONGEST_POD_LEN;
-use crate::parts::spa_leaf::put_clean_text;
+use crate::parts::spa_fixed_sized::LONGEST_POD_LEN;
 use crate::parts::spa_sink::{GenError, PodSink, put_two};
 use crate::parts::spa_utils::SpaTypes;
 use crate::parts::spa_value::{Property, Value};
@@ -19,15 +19,15 @@ use crate::parts::spa_value::{Property, Value};
 /// The length in bytes of a key, flags and a pod of sixteen bytes.
 const KEYED_LEN: usize = 24;
 
-/// Appends the encoding of a value to any sink, front to back, and answers its length. A text with NUL and a size of
-/// 4294967296 or more are refused before a byte is appended. Where the sink refuses it, the sink has taken a beginning of
-/// the encoding.
+/// Appends the encoding of a value to any sink, front to back, and answers its length in bytes. A text with NUL is refused as `NulInText`, and a
+/// size word of 4294967296 or more as `TooLarge`, before a byte is appended. Where the sink refuses it, with an error of the sink's, the sink
+/// may have taken a beginning of the encoding.
 ///
-/// Where the sink has memory of its own, the encoding of a struct or of an object in which more than 64 values lie is put
-/// together in memory of that one by a loop, and appended at once; structs that are the only member of another one aren't
-/// counted. A smaller one, and any into another sink, is written by functions that call themselves for each level of nesting
-/// but that of such structs, and takes no memory. Where such a sink knows how much room it has, no call is nested deeper than
-/// an eighth of it: a value that consists of more values than that is refused as `Full` before anything else is looked at.
+/// Where the sink takes memory, the encoding of a struct or an object with more than 64 values in it is put together in memory
+/// by a loop, and appended at once; a struct that is the only member of another one isn't counted. A smaller value, and any value into
+/// a sink that takes no memory, is written by functions that call themselves for each level of nesting, but not for such structs, and takes no
+/// memory. Where such a sink knows how many bytes it has room for, calls nest no deeper than an eighth of that number: a struct
+/// or an object that consists of more values than that is refused as `Full` before anything else is looked at.
 pub fn write_sized<S: PodSink>(sink: &mut S, value: &Value) -> Result<u64, GenError> {
     if !is_nested(value) {
         return write_measured(sink, value);
@@ -44,17 +44,17 @@ pub fn write_sized<S: PodSink>(sink: &mut S, value: &Value) -> Result<u64, GenEr
     write_measured(sink, value)
 }
 
-/// Appends the encoding of a value to any sink, at once, and answers its length. It is put together by a loop, in memory of
-/// memory: so a value may be nested as deep as it likes, whatever the sink is. A text with NUL, a size of 4294967296
-/// or more, and want of that memory are refused before a byte is appended. Where the sink refuses it, the sink has taken a
-/// beginning of the encoding.
+/// Appends the encoding of a value to any sink, at once, and answers its length in bytes. The encoding is put together by a loop, in memory of
+/// memory, so the nesting depth of the value is bounded by that memory alone, whatever the sink is. Refused before a byte is appended: a
+/// text with NUL as `NulInText`, a size word of 4294967296 or more as `TooLarge`, want of that memory as `OutOfMemory`. Where the sink refuses
+/// it, with an error of the sink's, the sink may have taken a beginning of the encoding.
 pub fn write_value<S: PodSink>(sink: &mut S, value: &Value) -> Result<u64, GenError> {
     let made = write_by_loop(value)?;
     sink.append(made.as_slice())?;
     Ok(made.len() as u64)
 }
 
-/// Appends the encoding of a value, whose sizes are computed before they are written.
+/// Appends the encoding of a value by calls, and answers its length in bytes. All sizes are computed before a byte is appended.
 #[cfg_attr(not(debug_assertions), inline(always))]
 fn write_measured<S: PodSink>(sink: &mut S, value: &Value) -> Result<u64, GenError> {
     let len = encoded_len(value)?;
@@ -62,7 +62,7 @@ fn write_measured<S: PodSink>(sink: &mut S, value: &Value) -> Result<u64, GenErr
     Ok(len)
 }
 
-/// Appends the encoding of a value, whose length may be known.
+/// Appends the encoding of a value that can be written. `known` is the length in bytes of its encoding, where the caller knows it.
 #[cfg_attr(not(debug_assertions), inline(always))]
 fn put_value<S: PodSink>(sink: &mut S, value: &Value, known: Option<u64>) -> Result<(), GenError> {
     match value {
@@ -86,7 +86,7 @@ fn put_value<S: PodSink>(sink: &mut S, value: &Value, known: Option<u64>) -> Res
     }
 }
 
-/// The length of a value's encoding, which is computed where it isn't known.
+/// The length in bytes of a value's encoding, which is computed where the caller doesn't know it.
 #[cfg_attr(not(debug_assertions), inline(always))]
 fn len_of(value: &Value, known: Option<u64>) -> u64 {
     match known {
@@ -95,10 +95,10 @@ fn len_of(value: &Value, known: Option<u64>) -> u64 {
     }
 }
 
-/// Appends the encodings of the members of one struct, which have so many bytes.
+/// Appends the encodings of the members of one struct, which have `size` bytes in all.
 ///
-/// Each size is computed but that of the largest member, which gets what the others leave: so a value is measured only as
-/// part of a smaller member, and nesting of any depth takes a time that grows with the number of values and its logarithm.
+/// Each member's size is computed but that of the largest, which has what the others leave of `size`. So a value is measured only as part of a
+/// member that isn't the largest, and at any nesting depth the time grows as the number of values times its logarithm.
 fn put_members<S: PodSink>(sink: &mut S, members: &[Value], size: u64) -> Result<(), GenError> {
     let mut left = members;
     let mut size = size;
@@ -110,7 +110,8 @@ fn put_members<S: PodSink>(sink: &mut S, members: &[Value], size: u64) -> Result
     put_all(sink, left, size)
 }
 
-/// The same of members of which none is a struct that stands alone. It stays apart from the loop above, which is faster so.
+/// Appends the encodings of members, which have `size` bytes in all, as `put_members` does for members other than a lone struct. It is a
+/// function of its own since the loop of `put_members` is faster so.
 #[inline(never)]
 fn put_all<S: PodSink>(sink: &mut S, members: &[Value], size: u64) -> Result<(), GenError> {
     if members.len() == 1 {
@@ -124,7 +125,7 @@ fn put_all<S: PodSink>(sink: &mut S, members: &[Value], size: u64) -> Result<(),
     Ok(())
 }
 
-/// How many bytes of the encodings of all members are left for this one.
+/// The length in bytes of this member's encoding: `size`, the length of all members' encodings, less that of the others. None: it isn't found so.
 fn left_for_member(members: &[Value], index: usize, size: u64) -> Option<u64> {
     if index >= members.len() {
         return None;
@@ -138,7 +139,7 @@ fn left_for_member(members: &[Value], index: usize, size: u64) -> Option<u64> {
     size.checked_sub(before + behind)
 }
 
-/// Appends the properties of one object, which have so many bytes. Sizes are computed as those of members are.
+/// Appends the properties of one object, which have `size` bytes in all. Sizes are computed as in `put_members`.
 fn put_properties<S: PodSink>(
     sink: &mut S,
     properties: &[Property],
@@ -159,7 +160,8 @@ fn put_properties<S: PodSink>(
     Ok(())
 }
 
-/// How many bytes of all properties are left for the value of this one.
+/// The length in bytes of the encoding of this property's value: `size`, the length of all properties, less that of the others, and of its key
+/// and flags. None: it isn't found so.
 fn left_for_property(properties: &[Property], index: usize, size: u64) -> Option<u64> {
     if index >= properties.len() {
         return None;
@@ -173,7 +175,7 @@ fn left_for_property(properties: &[Property], index: usize, size: u64) -> Option
     size.checked_sub(before + HEADER_LEN as u64 + behind)
 }
 
-/// What is known of the length of the value at this place, where it may be known at one.
+/// The length of the value at `index`, where one is known: that of the value at `place`.
 fn known_at(index: usize, place: usize, known: Option<u64>) -> Option<u64> {
     if index == place { known } else { None }
 }
@@ -196,7 +198,7 @@ fn put_checked_text<S: PodSink>(sink: &mut S, text: &str) -> Result<(), GenError
     put_clean_text(sink, text)
 }
 
-/// Appends a key, flags and a pod of sixteen bytes at once.
+/// Appends a key, flags and a pod of sixteen bytes, in one call of the sink.
 #[cfg_attr(not(debug_assertions), inline(always))]
 fn put_keyed<S: PodSink>(
     sink: &mut S,
@@ -207,7 +209,7 @@ fn put_keyed<S: PodSink>(
     sink.append(&keyed_pod(two_words(key, flags), pod))
 }
 
-/// Eight bytes, and a pod of sixteen.
+/// The eight bytes of a key and flags, and the sixteen of a pod behind them.
 #[cfg_attr(not(debug_assertions), inline(always))]
 fn keyed_pod(key: [u8; HEADER_LEN], pod: &[u8; LONGEST_POD_LEN]) -> [u8; KEYED_LEN] {
     let mut bytes = [0; KEYED_LEN];
@@ -217,7 +219,7 @@ fn keyed_pod(key: [u8; HEADER_LEN], pod: &[u8; LONGEST_POD_LEN]) -> [u8; KEYED_L
     bytes
 }
 
-/// Appends four words at once.
+/// Appends four words in one call of the sink.
 fn put_four<S: PodSink>(
     sink: &mut S,
     first: u32,

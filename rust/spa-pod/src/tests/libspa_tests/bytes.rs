@@ -1,7 +1,7 @@
 //! What the tests assert of bytes and numbers: each assertion is proved here, once.
 use crate::shims::prelude::*;
-use crate::tests::spa_spelling::bytes_spelled;
 use crate::shims::test::Fail;
+use crate::tests::test_bytes::bytes_spelled;
 
 /// Compares bytes with those that the words spell.
 pub(crate) fn assert_spelt(

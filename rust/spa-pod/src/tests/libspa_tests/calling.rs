@@ -2,8 +2,8 @@
 use crate::shims::prelude::*;
 use crate::tests::libspa_tests::bytes::assert_holds;
 use crate::tests::libspa_tests::calling::taking_apart::sample_rate;
-use crate::tests::spa_spelling::bytes_of;
 use crate::shims::test::Fail;
+use crate::tests::test_bytes::bytes_of;
 
 mod taking_apart {
     use crate::shims::prelude::*;

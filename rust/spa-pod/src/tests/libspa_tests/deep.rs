@@ -1,4 +1,4 @@
-//! Values that stand deep in one another: read and written by types, printed, rewritten, built and parsed.
+//! Deeply nested values: read and written by types, printed, rewritten, built and parsed.
 use crate::shims::prelude::*;
 mod bytes;
 mod calls;

@@ -1,4 +1,4 @@
-//! Tests of what README.md and docs/CALLING.md show, and of values that stand deep in one another, over the paths that a user of the
+//! Tests of what README.md and docs/CALLING.md show, and of deeply nested values, over the paths that a user of the
 //! library writes. There is nothing here but tests.
 use crate::shims::prelude::*;
 #[cfg(test)]

@@ -9,9 +9,9 @@ use crate::tests::libspa_tests::readme::read::count;
 use crate::tests::libspa_tests::readme::result_codes::told;
 use crate::tests::libspa_tests::readme::rewrite::{all_rewritten, say_the_same};
 use crate::tests::libspa_tests::readme::write::{encoded_int, encoded_pair};
-use crate::tests::spa_spelling::{bytes_spelled, nested_structs};
 use crate::shims::memory::AllocError;
 use crate::shims::test::Fail;
+use crate::tests::test_bytes::{bytes_spelled, nested_structs};
 
 mod read {
     use crate::shims::prelude::*;
@@ -133,7 +133,7 @@ const BUFFERS: &str = "
 4 0 4 4 4 0
 6 0 20 19 4 0 4 4 14 0";
 
-/// The same with the shape words of the choices at 0.
+/// `BUFFERS` with the shape words of the choices at 0.
 const FIXATED: &str = "
 192 15 262148 5
 1 0 28 19 0 0 4 4 2 1 32 0
@@ -142,7 +142,7 @@ const FIXATED: &str = "
 4 0 4 4 4 0
 6 0 20 19 0 0 4 4 14 0";
 
-/// The same without the values that aren't meant any more.
+/// `FIXATED` without the surplus values of its None choices.
 const REWRITTEN: &str = "
 176 15 262148 5
 1 0 20 19 0 0 4 4 2 0
@@ -163,7 +163,7 @@ fn reads_answers() -> Result<(), Fail> {
     Ok(())
 }
 
-/// How many structs stand in one another: more than a stack of 8 MB holds of a function that calls itself for each.
+/// How many structs are nested in one another: a function that calls itself for each needs more than a stack of 8 MB.
 const LEVELS: u32 = 100_000;
 
 #[test]

@@ -54,7 +54,7 @@ fn the_first_multiple_is_within_both_ends() {
     }
 }
 
-/// The same of numbers with signs.
+/// Bounds with signs, a step, and the first multiple of the step between the bounds.
 const SIGNED: &[(i64, i64, u64, Option<i64>)] = &[
     (-7, 30, 5, Some(-5)),
     (-10, -10, 5, Some(-10)),

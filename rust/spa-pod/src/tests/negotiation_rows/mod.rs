@@ -6,18 +6,18 @@
 //! - `settle`: what the one pod settles to;
 //! - `format`: behind the rows, each such pod is filtered with each, and what comes is settled.
 use crate::shims::prelude::*;
-use crate::tests::spa_callers::negotiate_by_values;
+use crate::tests::example_calls::negotiate_by_values;
 use crate::parts::spa_filter::{Side, filter, settle};
 use crate::parts::spa_filter_pods::{FilterError, filter_pods};
-use crate::parts::spa_fixed::Refusal;
+use crate::parts::spa_fixed_sized::Refusal;
 use crate::parts::spa_negotiate::{NegotiateError, negotiate_pods};
 use crate::parts::spa_read::read_value;
 use crate::parts::spa_sink::GenError;
-use crate::tests::spa_spelling::{SpellingError, bytes_spelled, push_spelling};
 use crate::parts::spa_value::{Object, Value};
 use crate::parts::spa_write::write_value;
 use crate::shims::memory::AllocError;
 use std::io::{self, Error, ErrorKind};
+use crate::tests::test_bytes::{SpellingError, bytes_spelled, push_spelling};
 
 /// Answers all rows, and then prints the answers.
 pub fn main() -> io::Result<()> {

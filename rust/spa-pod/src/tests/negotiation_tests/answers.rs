@@ -1,6 +1,6 @@
 //! What two pods meet in, by `negotiate_pods` and by way of values.
 use crate::shims::prelude::*;
-use crate::tests::spa_callers::negotiate_by_values;
+use crate::tests::example_calls::negotiate_by_values;
 use crate::parts::spa_negotiate::{NegotiateError, negotiate_pods};
 use crate::shims::memory::AllocError;
 use crate::shims::test::Fail;

@@ -1,9 +1,9 @@
-//! Objects of many keys, of Enums of many alternatives, and of values that stand deep in one another.
+//! Objects of many keys, of Enums of many alternatives, and of deeply nested values.
 use crate::shims::prelude::*;
 use crate::tests::negotiation_tests::answers::assert_meet;
-use crate::tests::spa_spelling::{bytes_of, push_words};
 use crate::shims::memory::AllocError;
 use crate::shims::test::Fail;
+use crate::tests::test_bytes::{bytes_of, push_words};
 
 /// How many keys an object has beside key 0, and how many alternatives an Enum beside the last one.
 const COUNT: u32 = 2000;
@@ -20,7 +20,7 @@ fn rising() -> Result<Vec<u8>, AllocError> {
     Ok(bytes)
 }
 
-/// The same downwards, with another id.
+/// The bytes of an object with the keys of `rising` in descending order, and another id.
 fn falling() -> Result<Vec<u8>, AllocError> {
     let mut bytes = bytes_of(&[8 + 24 * (COUNT + 1), 15, 5, 7])?;
     for below in 0..COUNT + 1 {
@@ -71,7 +71,7 @@ fn many_alternatives_answers() -> Result<(), Fail> {
     assert_meet((even, others.as_slice()), None)
 }
 
-/// An object whose key 1 is structs in one another, so many, with the pod of these words in the innermost.
+/// An object whose key 1 has this many nested structs, with the pod of these words in the innermost.
 fn nested(depth: u32, inner: &[u32]) -> Result<Vec<u8>, AllocError> {
     let size = depth.wrapping_mul(8);
     let mut bytes = bytes_of(&[size.wrapping_add(24), 15, 5, 3, 1, 0])?;

@@ -4,9 +4,9 @@
 //! What is given is spelled in words; `-` is an input that can't be read, and `""` an empty word of the program's.
 use crate::shims::prelude::*;
 use crate::tests::spa_pod_commands::run::run;
-use crate::tests::spa_spelling::{SpellingError, bytes_spelled};
 use crate::shims::memory::AllocError;
 use std::io::{self, Error, ErrorKind};
+use crate::tests::test_bytes::{SpellingError, bytes_spelled};
 use crate::tests::test_streams::{Device, OneLine, PIECE, Source, Words};
 
 /// Prints the answer of each row.

@@ -1,11 +1,11 @@
-//! Pods that stand deep in one another.
+//! Deeply nested pods.
 use crate::shims::prelude::*;
 use crate::tests::podtool_tests::streams::{Wanted, assert_run};
-use crate::tests::spa_spelling::nested_pods;
 use crate::shims::memory::AllocError;
+use crate::tests::test_bytes::nested_pods;
 use crate::tests::test_streams::{ALL, Device, Source};
 
-/// How many structs or objects stand in one another: more than a stack holds that grows with each level.
+/// How many structs or objects are nested in one another: a stack that grows with each level doesn't suffice for them.
 const DEEP: u32 = 20_000;
 
 /// Compares the run of a word over all these bytes with what is wanted.

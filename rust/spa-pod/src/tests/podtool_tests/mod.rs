@@ -1,4 +1,4 @@
-//! Tests of what `podtool` does over streams that break off, are full or can't be flushed, and of pods that stand deep in one another.
+//! Tests of what `podtool` does over streams that break off, are full or can't be flushed, and of deeply nested pods.
 //! There is nothing here but tests.
 use crate::shims::prelude::*;
 #[cfg(test)]

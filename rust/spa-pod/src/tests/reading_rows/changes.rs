@@ -5,7 +5,7 @@ use crate::tests::reading_rows::every_type::is_short_for_every_type;
 use crate::tests::reading_rows::front::{Front, before, front_of, push_front};
 use crate::tests::reading_rows::oracle::{Answer, answer_of, stands};
 use crate::tests::reading_rows::rewritten::{is_rewritten, is_rewritten_to_itself};
-use crate::parts::spa_leaf::error_at;
+use crate::parts::spa_bodies::error_at;
 use crate::parts::spa_parser::Parser;
 use crate::parts::spa_rewrite::{Rejected, is_canonical, look_at_pod, rewrite};
 use crate::parts::spa_view::Pod;

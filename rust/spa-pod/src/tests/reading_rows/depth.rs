@@ -5,8 +5,8 @@ use crate::tests::reading_rows::front::push_front;
 use crate::tests::reading_rows::headers::answer_headers;
 use crate::parts::spa_rewrite::{is_canonical, look_at_pod};
 use crate::parts::spa_scan::nests_within;
-use crate::tests::spa_spelling::{nested_pods, nested_structs, push_words};
 use crate::shims::memory::AllocError;
+use crate::tests::test_bytes::{nested_pods, nested_structs, push_words};
 
 /// The levels of the deep pods: past those that a look without memory goes into.
 const DEEP: u32 = 2000;
@@ -44,7 +44,7 @@ pub(crate) fn answer_depth(
 const INNER: usize = 4;
 
 /// The words of an input.
-fn words_of(input: &[u8]) -> Result<Vec<u32>, AllocError> {
+pub(crate) fn words_of(input: &[u8]) -> Result<Vec<u32>, AllocError> {
     let (words, _) = input.as_chunks::<4>();
     words
         .iter()

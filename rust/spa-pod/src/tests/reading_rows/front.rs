@@ -1,14 +1,14 @@
 //! What the reader finds at the front of an input.
 use crate::shims::prelude::*;
 use crate::tests::reading_rows::views::shows;
-use crate::parts::spa_fixed::DeserializeError;
+use crate::parts::spa_fixed_sized::DeserializeError;
 use crate::parts::spa_sink::GenError;
-use crate::tests::spa_spelling::push_spelling;
 use crate::parts::spa_typed_read::{DeserializeSuccess, PodDeserialize, PodDeserializer};
 use crate::parts::spa_typed_write::PodSerializer;
 use crate::parts::spa_value::{Held, Value, same};
 use crate::parts::spa_view::Pod;
 use crate::shims::memory::AllocError;
+use crate::tests::test_bytes::push_spelling;
 
 /// What the front of an input is read as.
 pub(crate) enum Front<'a> {
@@ -77,7 +77,7 @@ fn refused(error: DeserializeError<&[u8]>) -> Front<'_> {
 }
 
 /// The encoding of a value; nothing where the writer refuses it, or doesn't say how many bytes it wrote.
-fn encoding(value: &Value) -> Result<Vec<u8>, AllocError> {
+pub(crate) fn encoding(value: &Value) -> Result<Vec<u8>, AllocError> {
     match PodSerializer::serialize(Vec::new(), value) {
         Ok((bytes, count)) if bytes.len() as u64 == count => Ok(bytes),
         Err(GenError::OutOfMemory) => Err(AllocError),

@@ -1,10 +1,11 @@
 //! How many pod headers a read opens, and values that stand deep in one another, copied and compared.
 use crate::shims::prelude::*;
-use crate::parts::spa_fixed::DeserializeError;
-use crate::tests::spa_spelling::{nested_pods, push_words};
+use crate::tests::reading_rows::lenient::answer_leniently;
+use crate::parts::spa_fixed_sized::DeserializeError;
 use crate::parts::spa_typed_read::PodDeserializer;
 use crate::parts::spa_value::{Held, Value, same};
 use crate::shims::memory::AllocError;
+use crate::tests::test_bytes::{nested_pods, push_words};
 
 /// More levels than a stack of 8 MB holds of a drop that calls itself for each of them.
 const DEPTH: u32 = 100_000;
@@ -14,7 +15,7 @@ const INNER: usize = 2;
 
 /// Appends the answer to a row: of `headers` what a counted read of the input answers; of `opened` the same of pods in one another, as
 /// many as the first word says, with the words behind the size and the innermost pod behind it; of `same` whether pods so deep with
-/// either of the last two pods innermost are told to be the same; of `held` whether a value is lent and handed back.
+/// either of the last two pods innermost compare as `same`; of `held` whether a value is lent and handed back.
 pub(crate) fn answer_headers(
     word: &str,
     input: &[u8],
@@ -38,7 +39,7 @@ pub(crate) fn answer_headers(
             push_same(one.as_slice(), other.as_slice(), answers)
         }
         "held" => push_held(input, answers),
-        _ => answers.try_push_str(" no such row"),
+        _ => answer_leniently(word, input, words, answers),
     }
 }
 
@@ -100,7 +101,7 @@ fn deep_pods(head: &[u32], inner: &[u32]) -> Result<Vec<u8>, AllocError> {
     Ok(input)
 }
 
-/// Appends whether the values at the fronts of the two inputs are told to be the same, each way round.
+/// Appends whether `same` holds of the values at the fronts of the two inputs, each way round.
 fn push_same(
     one: &[u8],
     other: &[u8],

@@ -1,18 +1,18 @@
 //! Rewriting lists of pods, by the calls that take a list.
 use crate::shims::prelude::*;
 use crate::tests::reading_rows::rewritten::is_rewritten_in_parts;
-use crate::parts::spa_fixed::DeserializeError;
+use crate::parts::spa_bodies::error_at;
+use crate::parts::spa_fixed_sized::DeserializeError;
 use crate::parts::spa_in_place::rewrite_in_place;
-use crate::parts::spa_leaf::error_at;
 use crate::parts::spa_rewrite::{Rejected, accept_all, look_at_pods, rewrite_all, rewrite_in_parts};
-use crate::tests::spa_spelling::push_spelling;
 use crate::shims::memory::AllocError;
+use crate::tests::test_bytes::push_spelling;
 
 /// What a call answers to a list: nothing, or the fault for which it is refused, and how many bytes are left there.
-type Answer = Result<(), (&'static str, usize)>;
+pub(crate) type Answer = Result<(), (&'static str, usize)>;
 
 /// What an output holds before a list is appended.
-const BEFORE: &[u8] = &[1, 2];
+pub(crate) const BEFORE: &[u8] = &[1, 2];
 
 /// Appends the rewriting of a list, or why and where it is refused; and which calls answer something else.
 pub(crate) fn answer_list(
@@ -21,6 +21,17 @@ pub(crate) fn answer_list(
 ) -> Result<(), AllocError> {
     let mut out = Vec::try_from_slice(BEFORE)?;
     let answer = answer_of(rewrite_all(input, &mut out))?;
+    let encodings = push_appended(input, out.as_slice(), answer, answers)?;
+    push_others(input, encodings, answer, answers)
+}
+
+/// Appends the rewriting of a list, which stands in an output behind what that held, or why and where it is refused.
+pub(crate) fn push_appended<'a>(
+    input: &[u8],
+    out: &'a [u8],
+    answer: Answer,
+    answers: &mut String,
+) -> Result<&'a [u8], AllocError> {
     let (before, encodings) = out.split_at(BEFORE.len().min(out.len()));
     match answer {
         Ok(()) => push_spelling(answers, encodings)?,
@@ -32,11 +43,13 @@ pub(crate) fn answer_list(
     if before != BEFORE || answer.is_err() && !encodings.is_empty() {
         answers.try_push_str("; but the output is spoilt")?;
     }
-    push_others(input, encodings, answer, answers)
+    Ok(encodings)
 }
 
 /// The answer to a list, without what is given beside it.
-fn answer_of(answer: Result<(), (&[u8], DeserializeError<&[u8]>)>) -> Result<Answer, AllocError> {
+pub(crate) fn answer_of(
+    answer: Result<(), (&[u8], DeserializeError<&[u8]>)>,
+) -> Result<Answer, AllocError> {
     match answer {
         Ok(()) => Ok(Ok(())),
         Err((_, DeserializeError::OutOfMemory)) => Err(AllocError),
@@ -88,7 +101,19 @@ fn is_so_in_place(
     answer: Answer,
 ) -> Result<bool, AllocError> {
     let mut bytes = Vec::try_from_slice(input)?;
-    match rewrite_in_place(bytes.as_mut_slice()) {
+    let found = rewrite_in_place(bytes.as_mut_slice());
+    is_left_so(found, bytes.as_slice(), input, encodings, answer)
+}
+
+/// Whether a rewriting in place answered so, and left the bytes of the input so.
+pub(crate) fn is_left_so(
+    found: Result<usize, (usize, DeserializeError<()>)>,
+    bytes: &[u8],
+    input: &[u8],
+    encodings: &[u8],
+    answer: Answer,
+) -> Result<bool, AllocError> {
+    match found {
         Ok(len) => Ok(
             answer.is_ok()
                 && bytes.get(..len) == Some(encodings)
@@ -97,7 +122,7 @@ fn is_so_in_place(
         Err((_, DeserializeError::OutOfMemory)) => Err(AllocError),
         Err((place, error)) => {
             let left = input.len().saturating_sub(place);
-            Ok(answer == Err((error.kind(), left)) && bytes.as_slice() == input)
+            Ok(answer == Err((error.kind(), left)) && bytes == input)
         }
     }
 }

@@ -7,20 +7,22 @@
 //! - `view`: what the view of the front shows;
 //! - `levels`: how many structs and objects stand in one another;
 //! - `nested`, `waiting` and `deep`: pods that stand in many others;
-//! - `headers` and `opened`: how many headers a read opens; `same`: deep values compared; `held`: a value lent and handed back.
+//! - `headers` and `opened`: how many headers a read opens; `same`: deep values compared; `held`: a value lent and handed back;
+//! - `lenient`, `lenient-list` and `lenient-nested`: what a pod, a list and structs in one another are rewritten to in the lenient reading.
 use crate::shims::prelude::*;
 mod changes;
 mod depth;
 mod every_type;
 mod front;
 mod headers;
+mod lenient;
 mod lists;
 mod oracle;
 mod rewritten;
 mod views;
 
-use crate::tests::spa_spelling::{SpellingError, bytes_spelled};
 use std::io::{self, Error, ErrorKind};
+use crate::tests::test_bytes::{SpellingError, bytes_spelled};
 
 /// Answers all rows, and then prints the answers.
 pub fn main() -> io::Result<()> {

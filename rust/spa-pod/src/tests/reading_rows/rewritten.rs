@@ -1,7 +1,7 @@
 //! Rewritings of the front of an input.
 use crate::shims::prelude::*;
 use crate::tests::reading_rows::front::{Front, before, front_of};
-use crate::parts::spa_fixed::DeserializeError;
+use crate::parts::spa_fixed_sized::DeserializeError;
 use crate::parts::spa_rewrite::{is_canonical, rewrite, rewrite_in_parts};
 use crate::shims::memory::AllocError;
 
@@ -38,7 +38,7 @@ fn are_joined(first: &[u8], second: &[u8], both: &[u8]) -> bool {
     start == first && end == second
 }
 
-/// Whether an encoding is read as what it encodes, and is its own rewriting.
+/// Whether an encoding is read as what it encodes, and is canonical.
 pub(crate) fn is_rewritten_to_itself(
     encoding: &[u8],
     said: &str,

@@ -1,11 +1,11 @@
 //! Views: on accepted pods they show what the reader reads; on any bytes they end.
 use crate::shims::prelude::*;
 use crate::shims::flags::Flags;
-use crate::tests::spa_spelling::push_spelling;
 use crate::parts::spa_utils::{Errno, Id};
 use crate::parts::spa_value::{Object, Property, Value};
 use crate::parts::spa_view::{Pod, PodObject, PodProp, PodStruct};
 use crate::shims::memory::AllocError;
+use crate::tests::test_bytes::push_spelling;
 
 /// Does the view show the value?
 pub(crate) fn shows(pod: Pod<'_>, value: &Value) -> bool {

@@ -3,11 +3,11 @@ use crate::shims::prelude::*;
 use crate::tests::spa_builder_tests::bytes::{assert_holds, assert_holds_at};
 use crate::parts::spa_builder::Builder;
 use crate::builder_add;
-use crate::tests::spa_spelling::bytes_of;
 use crate::parts::spa_utils::Errno;
 use crate::parts::spa_value::{Held, Value};
 use crate::parts::spa_view::Pod;
 use crate::shims::memory::AllocError;
+use crate::tests::test_bytes::bytes_of;
 
 /// The words of a pod; whether an array takes what it says, as a struct does; and the words of what is built where it is added
 /// to a struct and to an array in that; by the rules of the format.

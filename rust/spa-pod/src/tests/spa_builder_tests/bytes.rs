@@ -1,7 +1,7 @@
 //! Bytes and words compared, and what the tests assert: each assertion is proved here, once.
 use crate::shims::prelude::*;
-use crate::tests::spa_spelling::bytes_of;
 use crate::shims::memory::AllocError;
+use crate::tests::test_bytes::bytes_of;
 
 /// Whether the bytes are these words.
 pub(crate) fn are_words(found: &[u8], words: &[u32]) -> Result<bool, AllocError> {

@@ -1,15 +1,15 @@
-//! Structs that stand deep in one another, built call by call.
+//! Builds deeply nested structs call by call.
 use crate::shims::prelude::*;
 use crate::tests::spa_builder_tests::bytes::assert_holds;
 use crate::parts::spa_builder::Builder;
-use crate::tests::spa_spelling::nested_structs;
 use crate::parts::spa_utils::{Errno, Frame};
 use crate::shims::memory::AllocError;
+use crate::tests::test_bytes::nested_structs;
 
 /// Few levels, and more than a stack of 8 MB holds of a function that calls itself for each.
 const DEPTHS: &[u32] = &[300, 100_000];
 
-/// Begins so many structs, puts a None into the innermost, and closes them from there.
+/// Opens this many structs, adds a None to the innermost, and closes them from there.
 fn build(builder: &mut Builder, depth: u32) -> Result<(), Errno> {
     for _ in 0..depth {
         let _ = builder.push_struct()?;
@@ -21,7 +21,7 @@ fn build(builder: &mut Builder, depth: u32) -> Result<(), Errno> {
     Ok(())
 }
 
-/// Whether so many structs are built as these bytes.
+/// Whether this many structs are built as these bytes.
 fn is_built(depth: u32) -> Result<bool, AllocError> {
     let wanted = nested_structs(depth, &[0, 1])?;
     let mut builder = Builder::new(Vec::new());

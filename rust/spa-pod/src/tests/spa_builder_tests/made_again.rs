@@ -8,13 +8,13 @@ use crate::tests::spa_builder_tests::rows::{ACCEPTED, Answer, EVERY_ADD, INVAL, 
 use crate::shims::flags::Flags;
 use crate::parts::spa_builder::BuildCall::{Pop, PushArray, PushStruct};
 use crate::parts::spa_builder::{BuildCall, Builder};
-use crate::parts::spa_fixed::DeserializeError;
-use crate::tests::spa_spelling::bytes_of;
+use crate::parts::spa_fixed_sized::DeserializeError;
 use crate::parts::spa_typed_read::PodDeserializer;
 use crate::parts::spa_utils::{Choice, ChoiceEnum, ChoiceFlags, Errno, Frame};
 use crate::parts::spa_value::{ChoiceValue, Held, Value, ValueArray};
 use crate::parts::spa_view::Pod;
 use crate::shims::memory::AllocError;
+use crate::tests::test_bytes::bytes_of;
 
 /// A call: one that lists have, or one that adds a value, a pod or an array of Ints whole, or an array over the bodies of Bools or Longs.
 #[derive(Clone, Copy)]

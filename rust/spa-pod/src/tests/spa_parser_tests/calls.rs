@@ -2,12 +2,12 @@
 use crate::shims::prelude::*;
 use crate::tests::spa_parser_tests::compare::assert_same;
 use crate::parts::spa_parser::Parser;
-use crate::tests::spa_spelling::{bytes_of, bytes_spelled};
 use crate::parts::spa_utils::{Errno, Frame, Id};
 use crate::parts::spa_view::Pod;
 use crate::shims::memory::AllocError;
 use core::fmt::Debug;
 use crate::shims::test::Fail;
+use crate::tests::test_bytes::{bytes_of, bytes_spelled};
 
 /// Words of an input; calls, each with its number where it takes one; and what each answers: a pod by its type and its
 /// size. The words 6422625 and 1684234849 are the bytes `a`, NUL, `b`, NUL and the bytes `abcd`.
@@ -176,10 +176,10 @@ fn a_parser_of_a_pod_begins_with_it_answers() -> Result<(), Fail> {
     Ok(())
 }
 
-/// How deep the structs stand in one another.
+/// The nesting depth of the structs.
 const DEPTH: u32 = 300;
 
-/// So many structs, each but the innermost with one struct in it.
+/// This many structs, each but the innermost with one struct in it.
 fn nested_structs() -> Result<Vec<u8>, AllocError> {
     let mut bytes = Vec::new();
     for outer in 0..DEPTH {

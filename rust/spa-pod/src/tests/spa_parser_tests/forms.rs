@@ -3,11 +3,11 @@ use crate::shims::prelude::*;
 use crate::tests::spa_parser_tests::compare::{assert_holds, assert_same};
 use crate::parts::spa_parser::Parser;
 use crate::parser_get;
-use crate::tests::spa_spelling::bytes_of;
 use crate::parts::spa_utils::{Errno, Float32, Float64, Fraction, Frame, Id, Rectangle};
 use crate::parts::spa_view::Pod;
 use crate::shims::memory::AllocError;
 use crate::shims::test::Fail;
+use crate::tests::test_bytes::bytes_of;
 
 fn bool_at(input: &[u8]) -> Result<bool, Errno> {
     let mut value = false;

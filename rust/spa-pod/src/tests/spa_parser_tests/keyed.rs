@@ -1,13 +1,13 @@
-//! Forms of `parser_get!` with texts, with an object, and with what a None may stand for.
+//! Forms of `parser_get!` with texts, with an object, and with a None in place of a value.
 use crate::shims::prelude::*;
 use crate::tests::spa_parser_tests::compare::{assert_holds, assert_same};
 use crate::parts::spa_parser::Parser;
 use crate::parser_get;
-use crate::tests::spa_spelling::bytes_of;
 use crate::parts::spa_utils::{Errno, Fraction, Id, Rectangle};
 use crate::shims::memory::AllocError;
+use crate::tests::test_bytes::bytes_of;
 
-/// What the properties of a format say.
+/// The values of a format's properties.
 #[derive(Clone, Copy)]
 struct Format {
     id: Id,

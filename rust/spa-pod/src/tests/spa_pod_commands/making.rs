@@ -3,7 +3,7 @@
 use crate::shims::prelude::*;
 use crate::tests::spa_pod_commands::answer::Failure;
 use crate::tests::spa_pod_commands::pods::fixate_all;
-use crate::parts::spa_fixed::DeserializeError;
+use crate::parts::spa_fixed_sized::DeserializeError;
 use crate::parts::spa_in_place::rewrite_in_place;
 use crate::parts::spa_rewrite::accept_all;
 

@@ -3,6 +3,6 @@ use crate::shims::prelude::*;
 pub mod answer;
 mod listing;
 pub mod making;
-mod output;
+pub mod output;
 mod pods;
 pub mod run;

@@ -5,7 +5,7 @@ use crate::tests::spa_pod_commands::answer::{Answer, Failure};
 use std::io::{ErrorKind, Write};
 
 /// Writes these bytes; a write that is interrupted is made again. Where one fails, the device has taken a beginning of them.
-pub(crate) fn write<W: Write>(device: &mut W, bytes: &[u8]) -> Result<(), Failure> {
+pub fn write<W: Write>(device: &mut W, bytes: &[u8]) -> Result<(), Failure> {
     let mut left = bytes;
     // Far more often than a write is interrupted or takes a part.
     for _ in 0..u64::MAX {

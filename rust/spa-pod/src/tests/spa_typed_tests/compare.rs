@@ -1,8 +1,8 @@
 //! Comparisons of what was written with what is wanted.
 use crate::shims::prelude::*;
 use crate::parts::libspa::pod::serialize::{GenError, PodSerialize, PodSerializer};
-use crate::tests::spa_spelling::bytes_spelled;
 use crate::shims::test::Fail;
+use crate::tests::test_bytes::bytes_spelled;
 
 /// The pod behind what the output holds. It is refused as `Io` where the answer isn't the pod's length.
 pub(crate) fn put<P: PodSerialize>(out: Vec<u8>, pod: &P) -> Result<Vec<u8>, GenError> {

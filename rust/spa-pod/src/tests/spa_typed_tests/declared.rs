@@ -2,13 +2,13 @@
 use crate::shims::prelude::*;
 use crate::tests::spa_typed_tests::compare::{assert_refused, assert_words, assert_written, put};
 use crate::shims::array::ArrayVec;
+use crate::tests::example_types::{AudioFormat, Curve, put_curve, put_format};
 use crate::parts::libspa::pod::deserialize::{DeserializeError, PodDeserialize, PodDeserializer};
 use crate::parts::libspa::pod::serialize::{GenError, PodSerialize};
 use crate::parts::libspa::utils::{Float32, Id};
-use crate::tests::spa_spelling::bytes_spelled;
-use crate::tests::spa_uses::{AudioFormat, Curve, put_curve, put_format};
 use crate::shims::memory::AllocError;
 use crate::shims::test::Fail;
+use crate::tests::test_bytes::bytes_spelled;
 
 /// A curve, in words: `up`, -2, the id 7 and three points.
 const CURVE: &str =
@@ -52,17 +52,33 @@ fn format_written(channels: Option<i32>) -> Result<Vec<u8>, GenError> {
     put(Vec::new(), &format(channels)?)
 }
 
+/// Compares what is written of the format with as many channels with these words.
+fn assert_format(
+    channels: Option<i32>,
+    words: &str,
+) -> Result<(), Fail> {
+    let written = format_written(channels)?;
+    assert_words(written.as_slice(), words)
+}
+
 #[test]
 fn declared_types_are_written() {
     crate::shims::test::run(declared_types_are_written_answers())
 }
 
 fn declared_types_are_written_answers() -> Result<(), Fail> {
-    assert_written(&curve()?, CURVE)?;
-    let written = format_written(Some(2))?;
-    assert_words(written.as_slice(), FORMAT)?;
-    let written = format_written(None)?;
-    assert_words(written.as_slice(), WITHOUT_CHANNELS)
+    let curve = curve()?;
+    assert_written(&curve, CURVE)
+}
+
+#[test]
+fn declared_objects_are_written() {
+    crate::shims::test::run(declared_objects_are_written_answers())
+}
+
+fn declared_objects_are_written_answers() -> Result<(), Fail> {
+    assert_format(Some(2), FORMAT)?;
+    assert_format(None, WITHOUT_CHANNELS)
 }
 
 /// How many bytes follow what is read, and that written again; or why it isn't read.
@@ -109,6 +125,15 @@ fn assert_again(
     }
 }
 
+/// Compares what is read of these words as a format, written again, with the wanted words.
+fn assert_format_again(
+    words: &str,
+    wanted: &str,
+) -> Result<(), Fail> {
+    let input = bytes_spelled(words)?;
+    assert_again(format_again(input.as_slice()), wanted)
+}
+
 #[test]
 fn declared_types_come_back() {
     crate::shims::test::run(declared_types_come_back_answers())
@@ -116,12 +141,8 @@ fn declared_types_come_back() {
 
 fn declared_types_come_back_answers() -> Result<(), Fail> {
     let curve = bytes_spelled(CURVE)?;
-    let format = bytes_spelled(FORMAT)?;
-    let without = bytes_spelled(WITHOUT_CHANNELS)?;
-    assert_again(curve_again(curve.as_slice()), CURVE)?;
-    assert_again(format_again(format.as_slice()), FORMAT)?;
-    let found = format_again(without.as_slice());
-    assert_again(found, WITHOUT_CHANNELS)
+    let found = curve_again(curve.as_slice());
+    assert_again(found, CURVE)
 }
 
 #[test]
@@ -130,9 +151,9 @@ fn properties_stand_in_any_order() {
 }
 
 fn properties_stand_in_any_order_answers() -> Result<(), Fail> {
-    let input = bytes_spelled(MIXED)?;
-    let found = format_again(input.as_slice());
-    assert_again(found, FORMAT)
+    assert_format_again(FORMAT, FORMAT)?;
+    assert_format_again(WITHOUT_CHANNELS, WITHOUT_CHANNELS)?;
+    assert_format_again(MIXED, FORMAT)
 }
 
 fn assert_kind(found: &str, wanted: &str, at: usize) {
@@ -156,20 +177,41 @@ fn assert_refusal(
     Ok(())
 }
 
-#[test]
-fn cut_pods_are_refused() {
-    crate::shims::test::run(cut_pods_are_refused_answers())
-}
-
-fn cut_pods_are_refused_answers() -> Result<(), Fail> {
-    let curve = bytes_spelled(CURVE)?;
+/// Each beginning of a curve is refused as short.
+fn assert_short_curves(curve: &[u8]) -> Result<(), AllocError> {
     for len in 0..curve.len() {
         assert_refusal(curve_again(&curve[..len]), "Short", len)?;
     }
-    let format = bytes_spelled(FORMAT)?;
+    Ok(())
+}
+
+/// Each beginning of a format is refused as short.
+fn assert_short_formats(format: &[u8]) -> Result<(), AllocError> {
     for len in 0..format.len() {
         assert_refusal(format_again(&format[..len]), "Short", len)?;
     }
+    Ok(())
+}
+
+#[test]
+fn cut_structs_are_refused() {
+    crate::shims::test::run(cut_structs_are_refused_answers())
+}
+
+fn cut_structs_are_refused_answers() -> Result<(), Fail> {
+    let curve = bytes_spelled(CURVE)?;
+    assert_short_curves(curve.as_slice())?;
+    Ok(())
+}
+
+#[test]
+fn cut_objects_are_refused() {
+    crate::shims::test::run(cut_objects_are_refused_answers())
+}
+
+fn cut_objects_are_refused_answers() -> Result<(), Fail> {
+    let format = bytes_spelled(FORMAT)?;
+    assert_short_formats(format.as_slice())?;
     Ok(())
 }
 

@@ -1,12 +1,12 @@
 //! Properties that are found by their keys: in any order, more than once, and among others that are malformed.
 use crate::shims::prelude::*;
 use crate::tests::spa_typed_tests::compare::{assert_holds, assert_said, put};
+use crate::tests::example_types::{Latency, read_latency};
 use crate::parts::libspa::pod::deserialize::DeserializeError;
 use crate::parts::libspa::utils::Float32;
-use crate::tests::spa_spelling::bytes_spelled;
-use crate::tests::spa_uses::{Latency, read_latency};
 use crate::shims::memory::AllocError;
 use crate::shims::test::Fail;
+use crate::tests::test_bytes::bytes_spelled;
 
 /// The latency of each row that is read.
 const LATENCY: Latency = Latency {

@@ -4,10 +4,12 @@ use crate::shims::prelude::*;
 use crate::tests::spa_typed_tests::compare::{assert_refused, assert_words, assert_written};
 use crate::shims::array::ArrayVec;
 use crate::shims::flags::Flags;
+use crate::tests::example_types::{
+    Cover, Device, Level, Mode, Pair, Screen, Size, Song, put_mode, tagged_number,
+};
 use crate::parts::libspa::pod::serialize::{GenError, PodOutput, PodSerialize, PodSerializer, SerializeSuccess};
 use crate::parts::libspa::pod::{FixedSizedPod, PropertyFlags};
 use crate::parts::libspa::utils::{Float32, Id, Rectangle};
-use crate::tests::spa_uses::{Cover, Device, Level, Mode, Pair, Screen, Size, Song, put_mode, tagged_number};
 use crate::shims::test::Fail;
 
 /// A type of one's own that says nothing.

@@ -1,15 +1,15 @@
 //! What types of a program's own are read as.
 use crate::shims::prelude::*;
-use crate::tests::spa_typed_tests::compare::assert_words;
-use crate::parts::libspa::pod::deserialize::{DeserializeError, PodDeserialize, PodDeserializer};
-use crate::parts::libspa::utils::Float32;
-use crate::tests::spa_spelling::bytes_spelled;
-use crate::tests::spa_uses::{
+use crate::tests::spa_typed_tests::compare::{assert_holds, assert_said, assert_words};
+use crate::tests::example_types::{
     Capture, Device, Gain, Level, Mode, Screen, Size, Song, Tagged, is_number, read_mode, sent,
     with_volume,
 };
+use crate::parts::libspa::pod::deserialize::{DeserializeError, PodDeserialize, PodDeserializer};
+use crate::parts::libspa::utils::Float32;
 use crate::shims::memory::AllocError;
 use crate::shims::test::Fail;
+use crate::tests::test_bytes::bytes_spelled;
 
 /// What a test compares.
 trait Told {
@@ -71,82 +71,53 @@ fn read_told<'de, P: PodDeserialize<'de> + Told>(
     }
 }
 
+/// The answer of a read by the type of a program's own that has this name.
+pub(crate) fn used(name: &str, input: &[u8]) -> Result<String, AllocError> {
+    match name {
+        "mode" => read_told::<Mode>(input),
+        "song" => read_told::<Song>(input),
+        "tagged" => read_told::<Tagged>(input),
+        "named device" => read_told::<Device>(input),
+        "mode on a screen" => read_told::<Screen<Mode>>(input),
+        "level" => read_told::<Level>(input),
+        _ => String::try_from_str("no such type"),
+    }
+}
+
+/// Structs, an object whose second property has flags, an object of a struct, and a number; then a struct whose end is missing, one whose first
+/// member is of another type, and a number where an object is asked for.
+pub(crate) const USED: &str =
+    r#"mode | 56 14 32 14 4 4 640 0 4 4 4294966816 0 8 5 4294967236 4294967295 | 640 -480 -60, 0
+song | 56 14 4 4 313 0 4 8 7303014 0 16 14 8 10 31 14 | 313 foo 31 14, 0
+tagged | 32 14 4 3 9 0 4 4 313 0 | 9 true, 0
+named device | 56 15 5 3 1 0 5 8 809138024 0 2 1 4 6 1138491392 0 | hw:0 1138491392, 0
+mode on a screen | 80 15 5 3 1 0 56 14 32 14 4 4 640 0 4 4 4294966816 0 8 5 4294967236 4294967295 | 640 -480 -60, 0
+mode | 56 14 32 14 | Short
+song | 32 14 4 3 9 0 4 4 313 0 | Tag"#;
+
+/// A number with half of another one behind it.
+const LEVEL: &str = "4 4 4294967289 0 4 4";
+
+/// Compares what the type of this name reads of that.
+fn assert_level(name: &str, wanted: &str) -> Result<(), Fail> {
+    let input = bytes_spelled(LEVEL)?;
+    let found = used(name, input.as_slice())?;
+    assert_said(found.as_str(), wanted, LEVEL);
+    Ok(())
+}
+
+#[test]
+fn what_follows_a_number_is_left() {
+    crate::shims::test::run(what_follows_a_number_is_left_answers())
+}
+
+fn what_follows_a_number_is_left_answers() -> Result<(), Fail> {
+    assert_level("level", "-7, 8")?;
+    assert_level("named device", "Tag")
+}
+
 /// A mode, in words.
 const MODE: &str = "56 14 32 14 4 4 640 0 4 4 4294966816 0 8 5 4294967236 4294967295";
-
-/// A song.
-const SONG: &str = "56 14 4 4 313 0 4 8 7303014 0 16 14 8 10 31 14";
-
-/// A device, whose second property has flags.
-const DEVICE: &str = "56 15 5 3 1 0 5 8 809138024 0 2 1 4 6 1138491392 0";
-
-/// A screen with that mode.
-const SCREEN: &str =
-    "80 15 5 3 1 0 56 14 32 14 4 4 640 0 4 4 4294966816 0 8 5 4294967236 4294967295";
-
-/// A number under an id.
-const TAGGED: &str = "32 14 4 3 9 0 4 4 313 0";
-
-/// Compares what was found with what is wanted.
-fn assert_told(
-    found: Result<String, AllocError>,
-    wanted: &str,
-) -> Result<(), AllocError> {
-    let found = found?;
-    assert_eq!(found.as_str(), wanted);
-    Ok(())
-}
-
-#[test]
-fn structs_of_ones_own_are_read() {
-    crate::shims::test::run(structs_of_ones_own_are_read_answers())
-}
-
-fn structs_of_ones_own_are_read_answers() -> Result<(), Fail> {
-    let mode = bytes_spelled(MODE)?;
-    let song = bytes_spelled(SONG)?;
-    let tagged = bytes_spelled(TAGGED)?;
-    let short = bytes_spelled("56 14 32 14")?;
-    assert_told(
-        read_told::<Mode>(mode.as_slice()),
-        "640 -480 -60, 0",
-    )?;
-    assert_told(
-        read_told::<Song>(song.as_slice()),
-        "313 foo 31 14, 0",
-    )?;
-    assert_told(
-        read_told::<Tagged>(tagged.as_slice()),
-        "9 true, 0",
-    )?;
-    // The end is missing, and the first member is of another type.
-    assert_told(read_told::<Mode>(short.as_slice()), "Short")?;
-    assert_told(read_told::<Song>(tagged.as_slice()), "Tag")?;
-    Ok(())
-}
-
-#[test]
-fn objects_and_numbers_of_ones_own_are_read() {
-    crate::shims::test::run(objects_and_numbers_of_ones_own_are_read_answers())
-}
-
-fn objects_and_numbers_of_ones_own_are_read_answers() -> Result<(), Fail> {
-    let device = bytes_spelled(DEVICE)?;
-    let screen = bytes_spelled(SCREEN)?;
-    let level = bytes_spelled("4 4 4294967289 0 4 4")?;
-    assert_told(
-        read_told::<Device>(device.as_slice()),
-        "hw:0 1138491392, 0",
-    )?;
-    assert_told(
-        read_told::<Screen<Mode>>(screen.as_slice()),
-        "640 -480 -60, 0",
-    )?;
-    assert_told(read_told::<Level>(level.as_slice()), "-7, 8")?;
-    // A number is no object.
-    assert_told(read_told::<Device>(level.as_slice()), "Tag")?;
-    Ok(())
-}
 
 /// Is it this mode?
 fn is_the_mode(mode: &Mode) -> bool {
@@ -170,10 +141,21 @@ fn a_mode_comes_back_answers() -> Result<(), Fail> {
     Ok(())
 }
 
-/// Properties of an audio device with this volume, as PipeWire's C builder made them, and one before it.
-fn volume_words(volume: u32) -> Result<String, AllocError> {
-    crate::try_format!("104 15 262146 2 65537 7 4 3 2 0 65539 0 4 6 {volume} 0 65540 0 4 2 1 0 65539 0 4 6 1063675494 0"
-    )
+/// Properties of an audio device with a volume of a tenth, as PipeWire's C builder made them, and one before it.
+const QUIET: &str =
+    "104 15 262146 2 65537 7 4 3 2 0 65539 0 4 6 1036831949 0 65540 0 4 2 1 0 65539 0 4 6 1063675494 0";
+
+/// The same properties with a volume of 1.
+const LOUD: &str =
+    "104 15 262146 2 65537 7 4 3 2 0 65539 0 4 6 1065353216 0 65540 0 4 2 1 0 65539 0 4 6 1063675494 0";
+
+/// Properties of another object, without a volume.
+const NO_VOLUME: &str = "56 15 5 3 1 0 5 8 809138024 0 2 1 4 6 1138491392 0";
+
+/// The object of these words with a volume of 1, where it has a volume.
+fn louder(words: &str) -> Result<Option<Vec<u8>>, Fail> {
+    let input = bytes_spelled(words)?;
+    Ok(with_volume(input.as_slice(), Float32(1065353216))?)
 }
 
 #[test]
@@ -182,16 +164,20 @@ fn what_is_not_known_is_kept() {
 }
 
 fn what_is_not_known_is_kept_answers() -> Result<(), Fail> {
-    let words = volume_words(1036831949)?;
-    let input = bytes_spelled(words.as_str())?;
-    let Some(found) = with_volume(input.as_slice(), Float32(1065353216))? else {
-        return Err(Fail::new("no volume"));
-    };
-    let wanted = volume_words(1065353216)?;
-    assert_words(found.as_slice(), wanted.as_str())?;
-    let other = bytes_spelled(DEVICE)?;
-    let none = with_volume(other.as_slice(), Float32(0))?;
-    assert!(none.is_none());
+    match louder(QUIET)? {
+        Some(found) => assert_words(found.as_slice(), LOUD),
+        None => Err(Fail::new("no volume")),
+    }
+}
+
+#[test]
+fn another_object_has_no_volume() {
+    crate::shims::test::run(another_object_has_no_volume_answers())
+}
+
+fn another_object_has_no_volume_answers() -> Result<(), Fail> {
+    let found = louder(NO_VOLUME)?;
+    assert_holds(found.is_none(), "there is no volume");
     Ok(())
 }
 

@@ -8,7 +8,7 @@ use crate::shims::memory::AllocError;
 /// How many sequence numbers there are.
 const COUNT: i32 = 1073741824;
 
-/// What a code says: done with a number, to be done under a sequence number, or an error with its number.
+/// The meaning of a code: completed with a number, to complete later under a sequence number, or an error with its number.
 #[derive(Clone, Copy, Debug, PartialEq)]
 enum Meaning {
     Done(i32),
@@ -16,7 +16,7 @@ enum Meaning {
     Failed(u32),
 }
 
-/// Codes, and what they say.
+/// Codes, and their meanings.
 const CODES: &[(i32, Meaning)] = &[
     (0, Meaning::Done(0)),
     (1, Meaning::Done(1)),
@@ -99,7 +99,7 @@ fn sequence_numbers_are_the_low_bits() -> Result<(), AllocError> {
     Ok(())
 }
 
-/// What a code is taken as where it is to be done at once. Nothing where it is for later.
+/// The meaning of a code of a call that completes at once. None: the call completes later.
 fn done(code: i32) -> Option<Meaning> {
     let result = SpaResult::from_c(code);
     if result.is_async() {
@@ -111,7 +111,7 @@ fn done(code: i32) -> Option<Meaning> {
     }
 }
 
-/// What a code is taken as where it is to be done later. Nothing where it is done.
+/// The meaning of a code of a call that completes later. None: the call has completed.
 fn later(code: i32) -> Option<Meaning> {
     let result = SpaResult::from_c(code);
     if code >= 0 && !result.is_async() {
@@ -123,7 +123,7 @@ fn later(code: i32) -> Option<Meaning> {
     }
 }
 
-/// What the error of a code prints. Nothing where it is none.
+/// The text of the error of a code; empty where it is no error.
 fn printed(code: i32) -> Result<String, AllocError> {
     match SpaResult::from_c(code).into_result() {
         Ok(_) => Ok(String::new()),

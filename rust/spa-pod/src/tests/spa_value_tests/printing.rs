@@ -84,7 +84,7 @@ fn prints_as_a_call_does() -> Result<(), AllocError> {
 /// More levels than a stack of 8 MB holds of a print that calls itself for each of them.
 const DEPTH: usize = 100_000;
 
-/// A None in so many structs, or in so many objects of one property.
+/// A None in this many structs, or in this many objects of one property.
 fn deep(in_objects: bool) -> Result<Held, AllocError> {
     let mut value = Held::from(Value::None);
     for _ in 0..DEPTH {
@@ -121,7 +121,7 @@ const STRUCT: &str = "Struct([])";
 const OBJECT: &str =
     "Object(Object { type_: 5, id: 3, properties: [Property { key: 1, flags: PropertyFlags(0), value:  }] })";
 
-/// Compares the length of a text with that of so many levels around a None.
+/// Compares the length of a text with that of this many levels around a None.
 fn assert_len(found: usize, level: &str) {
     let wanted = DEPTH.wrapping_mul(level.len()).wrapping_add("None".len());
     assert_eq!(found, wanted, "{level}");

@@ -29,7 +29,7 @@ fn struct_of(members: Result<Vec<Value>, AllocError>) -> Result<Value, AllocErro
     Ok(Value::Struct(members?))
 }
 
-/// The same elements.
+/// A copy of the elements.
 fn copied<T: Copy>(elements: &[T]) -> Result<Vec<T>, AllocError> {
     let mut copy = Vec::new();
     copy.try_extend_from_slice(elements)?;
@@ -451,7 +451,7 @@ pub(crate) fn objects() -> Result<Vec<Object>, AllocError> {
     single(object)
 }
 
-/// So many structs, each but the innermost holding one.
+/// This many structs, each nested in the one before.
 fn nested_structs(count: usize) -> Result<Value, AllocError> {
     let mut value = Value::Struct(Vec::new());
     for _ in 1..count {
@@ -460,7 +460,7 @@ fn nested_structs(count: usize) -> Result<Value, AllocError> {
     Ok(value)
 }
 
-/// How many structs stand in one another, and one alone.
+/// How many structs are nested in one another, and one alone.
 const DEPTHS: &[usize] = &[301, 1];
 
 /// Structs nested deep, and one struct.

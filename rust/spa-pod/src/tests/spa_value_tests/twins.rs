@@ -42,7 +42,7 @@ fn assert_distinct<T: PartialEq>(
     Ok(())
 }
 
-/// The places of the first value and twin that `same` wrongly tells to be equal, or not to be.
+/// The indexes of the first value and twin for which `same` gives the wrong answer.
 fn wrongly_told(
     values: &[Value],
     twins: &[Value],
@@ -57,7 +57,7 @@ fn wrongly_told(
     Ok(None)
 }
 
-/// Each of these is told to be the same as its twin alone.
+/// Checks that each of these is equal to its twin and to no other.
 fn assert_told(
     values: Result<Vec<Value>, AllocError>,
     twins: Result<Vec<Value>, AllocError>,

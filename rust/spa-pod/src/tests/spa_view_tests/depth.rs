@@ -1,14 +1,14 @@
-//! Structs that stand deep in one another, looked into.
+//! Looks into deeply nested structs.
 use crate::shims::prelude::*;
 use crate::tests::spa_view_tests::compare::assert_holds;
-use crate::tests::spa_spelling::nested_structs;
 use crate::parts::spa_view::Pod;
 use crate::shims::memory::AllocError;
+use crate::tests::test_bytes::nested_structs;
 
 /// Few levels, and more than a stack of 8 MB holds of a function that calls itself for each.
 const DEPTHS: &[u32] = &[300, 100_000];
 
-/// How many structs stand in one another, each first in the one around it.
+/// How many structs are nested in one another, each first in the one around it.
 fn levels_of(bytes: &[u8]) -> u32 {
     let mut levels = 0u32;
     let mut inner = Pod::from_bytes(bytes);

@@ -35,7 +35,7 @@ const WANTED: &[Fields] = &[
     (3, 4, 0, 80, NO_PARENT),
 ];
 
-/// Whether the events are the first so many of the wanted ones.
+/// Whether the events are the first `count` of the wanted ones.
 fn are_wanted(events: &[Event], count: usize) -> bool {
     for (event, wanted) in events.iter().zip(WANTED) {
         let found = (event.type_, event.size, event.depth, event.at, event.parent);

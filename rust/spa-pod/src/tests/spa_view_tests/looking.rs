@@ -1,13 +1,13 @@
-//! What stands behind None choices, and the values of arrays and choices. A table is a text with a row a line.
+//! The values of None choices, of arrays and of choices. A table is a text with a row a line.
 use crate::shims::prelude::*;
 use crate::tests::spa_view_tests::compare::{assert_bytes, assert_holds, assert_said};
 use crate::shims::flags::Flags;
-use crate::tests::spa_spelling::bytes_spelled;
 use crate::parts::spa_utils::{Errno, Fd, Float32, Float64, Fraction, Id, Rectangle};
 use crate::parts::spa_view::{FromPod, Pod, PodArray, PodChoice, PodElements, PodObject, whole_bytes};
 use crate::shims::memory::AllocError;
 use core::fmt::Debug;
 use crate::shims::test::Fail;
+use crate::tests::test_bytes::bytes_spelled;
 
 /// Words of a pod, and those of the pod that it is settled.
 const SETTLED: &str = r#"4 4 3 0 | 4 4 3 0

@@ -1,4 +1,4 @@
-//! Tests of views, of fixation, and of what lies inside an input, told pod by pod. There is nothing here but tests.
+//! Tests of views, of fixation, and of the events of an input's nested pods. There is nothing here but tests.
 use crate::shims::prelude::*;
 #[cfg(test)]
 mod compare;

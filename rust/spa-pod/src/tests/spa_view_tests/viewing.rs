@@ -2,12 +2,12 @@
 use crate::shims::prelude::*;
 use crate::tests::spa_view_tests::compare::{assert_bytes, assert_holds, assert_said};
 use crate::shims::flags::Flags;
-use crate::tests::spa_spelling::bytes_spelled;
 use crate::parts::spa_utils::{Errno, Id};
 use crate::parts::spa_view::{Pod, PodObject, PodObjectIter, PodProp, PodPropFlags, PodStruct, PodStructIter};
 use crate::shims::memory::AllocError;
 use core::fmt::Debug;
 use crate::shims::test::Fail;
+use crate::tests::test_bytes::bytes_spelled;
 
 /// Words of a pod; the types whose tests it passes; and the types whose getters read it, with what they give. The words
 /// 6422625, 6513249 and 1684234849 are the bytes `a`, NUL, `b`, NUL, the bytes `abc`, NUL, and the bytes `abcd`.

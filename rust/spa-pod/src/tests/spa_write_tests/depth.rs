@@ -1,16 +1,16 @@
-//! Structs and objects that stand deep in one another, through each call that writes or copies them.
+//! Deeply nested structs and objects, through each call that writes or copies them.
 use crate::shims::prelude::*;
 use crate::tests::spa_write_tests::compare::assert_holds;
 use crate::tests::spa_write_tests::nested::read;
 use crate::shims::array::ArrayVec;
 use crate::parts::spa_device::IoSink;
 use crate::parts::spa_sink::GenError;
-use crate::tests::spa_spelling::{nested_objects, nested_structs};
 use crate::parts::spa_typed_write::PodSerializer;
 use crate::parts::spa_value::{Held, Value, same};
 use crate::parts::spa_write::{write_sized, write_value};
 use crate::shims::memory::AllocError;
 use crate::shims::test::Fail;
+use crate::tests::test_bytes::{nested_objects, nested_structs};
 
 /// Few levels, and more than a stack of 8 MB holds of a function that calls itself for each.
 const DEPTHS: &[u32] = &[300, 100_000];

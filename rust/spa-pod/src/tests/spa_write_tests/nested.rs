@@ -1,6 +1,6 @@
-//! Pods that stand deep in one another, and what is read of them.
+//! Deeply nested pods, and the values that are read of them.
 use crate::shims::prelude::*;
-use crate::parts::spa_fixed::DeserializeError;
+use crate::parts::spa_fixed_sized::DeserializeError;
 use crate::parts::spa_typed_read::PodDeserializer;
 use crate::parts::spa_value::Value;
 use crate::shims::memory::AllocError;

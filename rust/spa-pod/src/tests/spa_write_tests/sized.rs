@@ -5,12 +5,12 @@ use crate::tests::spa_write_tests::writing::{rows, three, three_and_nul, value_o
 use crate::shims::array::ArrayVec;
 use crate::parts::spa_device::IoSink;
 use crate::parts::spa_sink::GenError;
-use crate::tests::spa_spelling::bytes_spelled;
 use crate::parts::spa_value::Value;
 use crate::parts::spa_write::write_sized;
 use crate::shims::memory::AllocError;
 use std::io::{self, Error, ErrorKind, Write};
 use crate::shims::test::Fail;
+use crate::tests::test_bytes::bytes_spelled;
 
 /// A device that takes few bytes at a time, and answers an error at one of its writes. It takes no memory.
 struct Device {
@@ -57,7 +57,7 @@ fn found_three<W: Write>(device: W) -> Result<Found<W>, AllocError> {
     Ok(found)
 }
 
-/// A device that takes so many bytes at a time, and fails at this write.
+/// A device that takes this many bytes at a time, and fails at this write.
 fn limited(most: usize, failing: u32) -> Device {
     Device {
         taken: ArrayVec::new(),
@@ -145,7 +145,7 @@ fn a_device_takes_all_of_it_answers() -> Result<(), Fail> {
     Ok(())
 }
 
-/// Whether the write failed when the device held so many bytes, the first ones of the encoding.
+/// Whether the write failed when the device had this many bytes, which are the first of the encoding.
 fn is_cut_at(found: &Found<Device>, count: u64, encoding: &[u8]) -> bool {
     is_cut(found, encoding) && found.1 == count
 }

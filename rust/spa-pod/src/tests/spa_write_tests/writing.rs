@@ -4,15 +4,15 @@ use crate::tests::spa_write_tests::compare::{assert_bytes, assert_holds, assert_
 use crate::tests::spa_write_tests::nested::read;
 use crate::shims::array::ArrayVec;
 use crate::shims::flags::Flags;
-use crate::parts::spa_leaf::{put_bitmap, put_bytes, put_pointer, put_text};
+use crate::parts::spa_bodies::{put_bitmap, put_bytes, put_pointer, put_text};
 use crate::parts::spa_sink::GenError;
-use crate::tests::spa_spelling::bytes_spelled;
 use crate::parts::spa_typed_write::{PodSerializer, laws};
 use crate::parts::spa_utils::{Choice, ChoiceEnum, ChoiceFlags};
 use crate::parts::spa_value::{ChoiceValue, Value, ValueArray};
 use crate::parts::spa_write::{put_leaf, write_sized};
 use crate::shims::memory::AllocError;
 use crate::shims::test::Fail;
+use crate::tests::test_bytes::bytes_spelled;
 
 /// Values as their `Debug` text, and the words of their encodings.
 const ROWS: &[(&str, &str)] = &[
@@ -177,7 +177,7 @@ fn assert_written(
     Ok(())
 }
 
-/// The same of a row's value.
+/// Checks that the value of a row is written as the row's words.
 fn assert_row(row: &(&str, &str)) -> Result<(), Fail> {
     let value = value_of(row)?;
     let compared = assert_written(&value, row);

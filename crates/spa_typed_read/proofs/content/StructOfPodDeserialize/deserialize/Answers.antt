@@ -1,5 +1,5 @@
 use Rattle.std.proofs.Common.{subst}
-use Rattle.spa_leaf.specs.Reading.{OnMemory}
+use Rattle.spa_bodies.specs.Reading.{OnMemory}
 use Rattle.spa_typed_read.specs.Exactly.{not_struct}
 use Rattle.spa_typed_read.proofs.Exactly.{members_of, struct_unopened, struct_unread}
 use Rattle.spa_typed_read.proofs.Fronts.{struct_read}

@@ -3,7 +3,7 @@ use Rattle.spa_format.specs.Tree.{array, array_type}
 use Rattle.spa_typed_read.specs.Asking.{array_of}
 use Rattle.spa_typed_read.proofs.Asking.{body_refused_as}
 use Rattle.spa_typed_read.proofs.Fronts.{read_as}
-use Rattle.spa_leaf.proofs.Refusals.{array_refused}
+use Rattle.spa_bodies.proofs.Refusals.{array_refused}
 use Rattle.spa_typed_read.proofs.deserializer.PodDeserializer.array_pod.Goals as goal
 
 pub returns-in-Ok-clause-read : goal.returns-in-Ok-clause-read

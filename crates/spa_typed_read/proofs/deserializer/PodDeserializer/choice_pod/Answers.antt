@@ -1,12 +1,12 @@
 use Rattle.std.proofs.Common.{refl, sym, subst, ◌∙◌, ◌<◌}
 use Rattle.std.proofs.lemmas.Result.{err_from_is_err_and}
 use Rattle.spa_format.specs.Tree.{choice_type}
-use Rattle.spa_fixed.specs.Choices.{choice_tree}
+use Rattle.spa_fixed_sized.specs.Choices.{choice_tree}
 use Rattle.spa_typed_read.specs.Asking.{choice_of}
 use Rattle.spa_typed_read.proofs.Asking.{body_refused_as, front_refused}
 use Rattle.spa_typed_read.proofs.Fronts.{other_choice_refused, read_as, short_choice_refused}
-use Rattle.spa_leaf.proofs.Refusals.{choice_refused}
-use Rattle.spa_leaf.proofs.Steps.{type_of_choice}
+use Rattle.spa_bodies.proofs.Refusals.{choice_refused}
+use Rattle.spa_bodies.proofs.Steps.{type_of_choice}
 use Rattle.spa_typed_read.proofs.deserializer.PodDeserializer.choice_pod.Goals as goal
 
 pub returns-in_err-front-clause-refused : goal.returns-in_err-front-clause-refused

@@ -1,9 +1,9 @@
 use Rattle.std.proofs.Common.{sym, subst}
 use Rattle.spa_format.specs.Opened.{OpensHeaders}
-use Rattle.spa_leaf.specs.Reading.{OnFault, RefusesInput}
+use Rattle.spa_bodies.specs.Reading.{OnFault, RefusesInput}
 use Rattle.spa_typed_read.proofs.Placed.{opened_as, without_count}
-use Rattle.spa_leaf.proofs.Refusals.{refused_as}
-use Rattle.spa_leaf.proofs.Steps.{only_value}
+use Rattle.spa_bodies.proofs.Refusals.{refused_as}
+use Rattle.spa_bodies.proofs.Steps.{only_value}
 use Rattle.spa_typed_read.proofs.deserializer.PodDeserializer.deserialize_any_counted.Goals as goal
 
 pub returns-in-Ok-clause-one : goal.returns-in-Ok-clause-one

@@ -3,7 +3,7 @@ use Rattle.std.proofs.lemmas.Result.{err_from_is_err_and}
 use Rattle.spa_typed_read.specs.Asking.{of_type}
 use Rattle.spa_typed_read.specs.Visiting.{declined, unread}
 use Rattle.spa_typed_read.proofs.Asking.{body_refused_as, front_refused}
-use Rattle.spa_leaf.proofs.Steps.{pod_read}
+use Rattle.spa_bodies.proofs.Steps.{pod_read}
 use Rattle.spa_typed_read.proofs.deserializer.PodDeserializer.deserialize_as.Goals as goal
 
 pub returns-in_err-front-clause-refused : goal.returns-in_err-front-clause-refused

@@ -1,6 +1,6 @@
 use Rattle.std.proofs.Common.{refl}
 use Rattle.std.proofs.lemmas.Result.{err_from_is_err_and}
-use Rattle.spa_fixed.specs.declared.fault.Refusal.TheVariants as refusal
+use Rattle.spa_fixed_sized.specs.declared.fault.Refusal.TheVariants as refusal
 use Rattle.spa_format.specs.Tree.{string, string_type}
 use Rattle.spa_typed_read.specs.Asking.{of_type}
 use Rattle.spa_typed_read.proofs.Asking.{body_refused_as, front_refused}

@@ -1,6 +1,6 @@
 use Rattle.std.proofs.Common.{◌≡◌, ◌∙◌, ap, inl, inr, refl, sym}
 use Rattle.spa_format.specs.Tree.{object}
-use Rattle.spa_fixed.specs.declared.fault.DeserializeError.TheVariants as error
+use Rattle.spa_fixed_sized.specs.declared.fault.DeserializeError.TheVariants as error
 use Rattle.spa_typed_read.specs.Lookup.{AreNoProperties, NoneRead, asked_for, not_object, other_object, passed}
 use Rattle.spa_typed_read.specs.ExactlyLaws.{fault_to}
 use Rattle.spa_typed_read.proofs.Exactly.{asked_takes, object_unopened, object_unread, passed_takes}

@@ -1,4 +1,4 @@
-use Rattle.spa_fixed.specs.declared.fault.DeserializeError.TheVariants as error
+use Rattle.spa_fixed_sized.specs.declared.fault.DeserializeError.TheVariants as error
 use Rattle.spa_format.specs.Words.{header_size}
 use Rattle.spa_typed_read.specs.Members.{key_missing, key_other, key_short, value_refused, wrong_key}
 use Rattle.std.proofs.Common.{[], ◌≢◌, length, refl, ap, ◌∙◌, ⊎_elim}

@@ -1,10 +1,10 @@
-//! Bytes of structs that stand in one another, and values read from them.
+//! Bytes of nested structs, and values read from them.
 use crate::shims::prelude::*;
 use crate::parts::libspa::pod::Held;
 use crate::parts::libspa::pod::deserialize::{DeserializeError, PodDeserializer};
-use crate::tests::spa_spelling::push_words;
 use crate::shims::memory::AllocError;
 use crate::shims::test::Fail;
+use crate::tests::test_bytes::push_words;
 
 /// Few levels, and more than a stack of 8 MB holds of a function that calls itself for each of them.
 pub(crate) const DEPTHS: &[u32] = &[300, 100_000];

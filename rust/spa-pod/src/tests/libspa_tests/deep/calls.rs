@@ -1,4 +1,4 @@
-//! Structs that stand deep in one another, printed, added to a builder, and opened and closed by a parser.
+//! Deeply nested structs, printed, added to a builder, and opened and closed by a parser.
 use crate::shims::prelude::*;
 use crate::tests::libspa_tests::deep::bytes::{DEPTHS, NONE, assert_holds, between, read};
 use crate::parts::libspa::pod::builder::Builder;
@@ -8,7 +8,7 @@ use crate::parts::libspa::utils::Errno;
 use crate::shims::memory::AllocError;
 use crate::shims::test::Fail;
 
-/// Whether the text of a value is that of so many structs around a None.
+/// Whether the text of a value is that of this many structs around a None.
 fn is_printed(value: &Value, depth: u32) -> Result<bool, AllocError> {
     let printed = Printed::new(value);
     let found = crate::try_format!("{printed:?}")?;
@@ -64,7 +64,7 @@ fn depth_ends_no_addition_answers() -> Result<(), Fail> {
     Ok(())
 }
 
-/// Opens so many structs, and closes them from the innermost, in which no number is.
+/// Opens this many structs, and closes them from the innermost, in which no number is.
 fn is_opened(parser: &mut Parser, depth: u32) -> Result<bool, Errno> {
     for _ in 0..depth {
         let _ = parser.push_struct()?;

@@ -1,10 +1,10 @@
-//! A choice that gets shorter, deep in structs or objects that end where it does, rewritten where it lies.
+//! A choice that gets shorter, in tail position deep in structs or objects, rewritten in place.
 use crate::shims::prelude::*;
 use crate::tests::libspa_tests::deep::bytes::{DEPTHS, assert_holds};
 use crate::parts::libspa::pod::rewrite_in_place;
-use crate::tests::spa_spelling::push_words;
 use crate::shims::memory::AllocError;
 use crate::shims::test::Fail;
+use crate::tests::test_bytes::push_words;
 
 /// What stands before the pod in a struct, behind its size word, and in an object.
 const STRUCT: &[u32] = &[14];
@@ -26,7 +26,7 @@ fn byte_count(words: &[u32]) -> u32 {
     }
 }
 
-/// The pod in so many structs or objects.
+/// The pod in this many structs or objects.
 fn inside(depth: u32, header: &[u32], pod: &[u32]) -> Result<Vec<u8>, AllocError> {
     let mut bytes = Vec::new();
     let step = byte_count(header).wrapping_add(4);

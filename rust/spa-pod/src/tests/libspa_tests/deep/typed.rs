@@ -1,4 +1,4 @@
-//! Types that hold a value which stands deep in itself: read, written again, and let go where something behind it is refused.
+//! Types that hold a deeply nested value: read, written again, and dropped where something behind it is refused.
 use crate::shims::prelude::*;
 use crate::tests::libspa_tests::deep::bytes::{DEPTHS, NONE, assert_holds, between};
 use crate::parts::libspa::pod::Held;

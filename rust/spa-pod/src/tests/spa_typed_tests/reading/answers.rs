@@ -8,15 +8,16 @@ use crate::tests::spa_typed_tests::reading::objects::{Asking, device_said};
 use crate::tests::spa_typed_tests::reading::settled::{SETTLED, settled_said, stream_said};
 use crate::tests::spa_typed_tests::reading::structs::{Idle, Stubborn, screen_said};
 use crate::tests::spa_typed_tests::reading::visitors::called;
-use crate::parts::spa_fixed::DeserializeError;
-use crate::tests::spa_spelling::bytes_spelled;
+use crate::tests::spa_typed_tests::reads::{USED, used};
+use crate::tests::example_types::{Capture, Gain};
+use crate::parts::spa_fixed_sized::DeserializeError;
 use crate::parts::spa_typed_read::{PodDeserialize, PodDeserializer, StructOf};
-use crate::tests::spa_uses::{Capture, Gain};
 use crate::parts::spa_utils::{Choice, Fd, Float32, Float64, Fraction, Id, Rectangle};
 use crate::parts::spa_value::Bitmap;
 use crate::shims::memory::AllocError;
 use core::fmt::Debug;
 use crate::shims::test::Fail;
+use crate::tests::test_bytes::bytes_spelled;
 
 /// What a read by a type answers: the text of its value, or the refusal's name.
 fn answer<'de, P: PodDeserialize<'de> + Debug>(
@@ -124,11 +125,11 @@ fn own(name: &str, input: &[u8]) -> Result<String, AllocError> {
     }
 }
 
-/// The answer of the call of this number.
+/// The answer of the call of this number, or of a read by a type that programs use.
 fn call_said(name: &str, input: &[u8]) -> Result<String, AllocError> {
     match name.strip_prefix("call ").unwrap_or("").parse::<u8>() {
         Ok(call) => called(call, input),
-        Err(_) => String::try_from_str("no such type"),
+        Err(_) => used(name, input),
     }
 }
 
@@ -280,7 +281,7 @@ gain | 16 14 4 4 3 0 | Tag
 capture and gain | 64 14 16 14 8 10 640 480 32 15 262146 2 65539 16 4 6 1036831949 0 | accepted
 capture and gain | 64 14 16 14 8 10 640 480 32 15 262146 2 65540 16 4 6 1036831949 0 | not 65540"#;
 
-const TABLES: &[&str] = &[READ, CALLS, OWN, VISITED, SETTLED, BUILT];
+const TABLES: &[&str] = &[READ, CALLS, OWN, VISITED, SETTLED, BUILT, USED];
 
 /// The tables: they are named here alone, as a function that names a long table is proved with all of it.
 fn tables() -> &'static [&'static str] {

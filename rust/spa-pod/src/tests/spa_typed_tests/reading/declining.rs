@@ -1,8 +1,7 @@
 //! What the library's visitors answer to a struct and to an object.
 
 use crate::shims::prelude::*;
-use crate::parts::spa_fixed::DeserializeError;
-use crate::tests::spa_spelling::bytes_of;
+use crate::parts::spa_fixed_sized::DeserializeError;
 use crate::parts::spa_typed_read::{DeserializeSuccess, PodDeserialize, PodDeserializer};
 use crate::parts::spa_visitors::{
     BitmapVisitor, BoolVisitor, BytesVisitor, ChoiceBoolVisitor, ChoiceDoubleVisitor,
@@ -12,6 +11,7 @@ use crate::parts::spa_visitors::{
     RectangleVisitor, StringVisitor, VecVisitor,
 };
 use crate::shims::test::Fail;
+use crate::tests::test_bytes::bytes_of;
 
 /// A read by a visitor, by the visitor's number.
 struct ReadBy<const VISITOR: u8>;

@@ -2,7 +2,7 @@
 
 use crate::shims::prelude::*;
 use crate::tests::spa_typed_tests::reading::answers::refused;
-use crate::parts::spa_fixed::{CanonicalFixedSizedPod, DeserializeError, FixedSizedPod};
+use crate::parts::spa_fixed_sized::{CanonicalFixedSizedPod, DeserializeError, FixedSizedPod};
 use crate::parts::spa_typed_read::{ArrayPodDeserializer, DeserializeSuccess, PodDeserialize, PodDeserializer};
 use crate::shims::memory::AllocError;
 

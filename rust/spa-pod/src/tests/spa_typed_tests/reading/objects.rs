@@ -3,7 +3,7 @@
 use crate::shims::prelude::*;
 use crate::tests::spa_typed_tests::reading::answers::refused;
 use crate::tests::spa_typed_tests::reading::telling::declined;
-use crate::parts::spa_fixed::DeserializeError;
+use crate::parts::spa_fixed_sized::DeserializeError;
 use crate::parts::spa_typed_read::{
     DeserializeSuccess, Never, ObjectPodDeserializer, PodDeserialize, PodDeserializer,
     StructPodDeserializer, Visit, Visitor,

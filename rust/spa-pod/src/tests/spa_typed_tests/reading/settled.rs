@@ -1,10 +1,10 @@
 //! What reads through None choices answer.
 use crate::shims::prelude::*;
 use crate::tests::spa_typed_tests::reading::answers::refused;
+use crate::tests::example_types::read_stream_format;
 use crate::parts::libspa::pod::FixedPod;
-use crate::parts::spa_fixed::DeserializeError;
+use crate::parts::spa_fixed_sized::DeserializeError;
 use crate::parts::spa_typed_read::{PodDeserializer, Settled};
-use crate::tests::spa_uses::read_stream_format;
 use crate::shims::memory::AllocError;
 use core::fmt::Debug;
 

@@ -1,7 +1,7 @@
 //! A visitor that tells what the readers of members and of properties answer.
 
 use crate::shims::prelude::*;
-use crate::parts::spa_fixed::DeserializeError;
+use crate::parts::spa_fixed_sized::DeserializeError;
 use crate::parts::spa_typed_read::{Never, ObjectPodDeserializer, StructPodDeserializer, Visit, Visitor};
 
 /// Lets go of what is handed over, and declines it.

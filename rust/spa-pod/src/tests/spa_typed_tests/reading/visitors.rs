@@ -4,8 +4,7 @@ use crate::shims::prelude::*;
 use crate::tests::spa_typed_tests::compare::assert_said;
 use crate::tests::spa_typed_tests::reading::answers::refused;
 use crate::tests::spa_typed_tests::reading::telling::TellingVisitor;
-use crate::parts::spa_fixed::DeserializeError;
-use crate::tests::spa_spelling::bytes_of;
+use crate::parts::spa_fixed_sized::DeserializeError;
 use crate::parts::spa_typed_read::{DeserializeSuccess, PodDeserialize, PodDeserializer};
 use crate::parts::spa_visitors::{
     BitmapVisitor, BoolVisitor, BytesVisitor, ChoiceBoolVisitor, ChoiceDoubleVisitor,
@@ -17,6 +16,7 @@ use crate::parts::spa_visitors::{
 use crate::shims::memory::AllocError;
 use core::fmt::Debug;
 use crate::shims::test::Fail;
+use crate::tests::test_bytes::bytes_of;
 
 /// The answer of a call, by its number, as a text. The first numbers are those of the pods' types.
 struct Answer<const CALL: u8>(String);

@@ -1,6 +1,6 @@
 use Rattle.std.proofs.Common.{subst, sym}
 use Rattle.spa_typed_read.specs.Members.{IsMadeOf}
-use Rattle.spa_leaf.specs.Reading.{IsRead}
+use Rattle.spa_bodies.specs.Reading.{IsRead}
 use Rattle.spa_typed_read.proofs.Elements.{all_elements}
 use Rattle.spa_typed_tests.proofs.reading.elements.ListPodDeserialize.deserialize.Goals as goal
 

@@ -1,0 +1,140 @@
+-- The objects at the fronts of two inputs, and that in which they meet.
+use Rattle.std.proofs.Common.{◌≡◌, ◌≢◌, ◌∙◌, ℕ, zero, suc, List, [], ◌∷◌, take, inl, inr, arith, refl, sym, Ok, Err, Vec, Global}
+use Rattle.std.specs.Prelude.{IfErr, IfOk, IsErrAnd, Result}
+use Rattle.std.proofs.lemmas.Result.{err_from_is_err_and}
+use Rattle.libspa.specs.Encoding.{encoding_of}
+use Rattle.libspa.specs.Front.{Begins, front_of}
+use Rattle.libspa.specs.Normal.{normal_of}
+use Rattle.libspa.specs.Pod.{IsPod}
+use Rattle.libspa.specs.Tree.{Tree, object, array_type, choice_type, object_type, type_of}
+use Rattle.libspa.specs.Typed.{IsBytes}
+use Rattle.libspa.specs.Words.{word_at, extent}
+use Rattle.libspa.specs.ChoiceValue.{ChoiceValue}
+use Rattle.libspa.specs.Value.{Value}
+use Rattle.libspa.specs.ValueArray.{ValueArray}
+use Rattle.libspa.specs.Values as V
+use Rattle.libspa.specs.View.{array_view, choice_view, view}
+use Rattle.libspa.specs.Writable.{IsWritable}
+use Rattle.spa_negotiate.specs.Sides.{First, Second}
+use Rattle.spa_negotiate.specs.NegotiateError.{NegotiateError}
+use Rattle.spa_negotiate.specs.NegotiateErrors.{TypeMismatch, Unsupported, Disjoint, Unread, NotObject, TooLarge, OutOfMemory}
+use Rattle.spa_negotiate.specs.Meeting.{Meet}
+use Rattle.spa_negotiate.specs.Refusals.{AreRefused}
+use Rattle.spa_negotiate.specs.Fronts.{BeginBoth, BeginsObject, IsObject, IsFrontRefused, AreFrontsRefused, MeetIn}
+use Rattle.example_calls.specs.Meeting.{IsWriteRefused, ReadsBack}
+
+-- a tree of another type than an object's is none,
+no_object-type_of : (t : Tree) → type_of t ≢ object_type → ¬ (IsObject t)
+no_object-type_of (object t i ps) n = λ h. n refl
+no_object-type_of _ n = λ h. h
+
+-- and so is the tree of another value than an object
+pub not_object : ((a : ValueArray) → type_of (array_view a) ≡ array_type) →
+    ((c : ChoiceValue) → type_of (choice_view c) ≡ choice_type) → (v : Value) →
+    ((o : _) → v ≢ V.Object o) → ¬ (IsObject (view v))
+not_object arrays choices (V.Object o) n = absurd (n o refl)
+not_object arrays choices (V.ValueArray a) n =
+    no_object-type_of (view (V.ValueArray a)) (λ e. omega (arith, sym (arrays a) ∙ e))
+not_object arrays choices (V.Choice c) n =
+    no_object-type_of (view (V.Choice c)) (λ e. omega (arith, sym (choices c) ∙ e))
+not_object arrays choices _ n = λ h. h
+
+-- the first side's refusal,
+pub first_refused : (a b : List ℕ) (e : NegotiateError) → IsFrontRefused First a e → AreFrontsRefused a b e
+first_refused a b (Unread First) h = h.1
+first_refused a b (Unread Second) h = let no : Second ≡ First = h.0 in cc
+first_refused a b (NotObject First) h = h.1
+first_refused a b (NotObject Second) h = let no : Second ≡ First = h.0 in cc
+first_refused a b OutOfMemory h = inl h
+first_refused a b _ h = absurd h
+
+-- and the second's, behind a first side that is an object
+pub second_refused : (a b : List ℕ) → BeginsObject a → (e : NegotiateError) →
+    IsFrontRefused Second b e → AreFrontsRefused a b e
+second_refused a b first (Unread First) h = let no : First ≡ Second = h.0 in cc
+second_refused a b first (Unread Second) h = (first, h.1)
+second_refused a b first (NotObject First) h = let no : First ≡ Second = h.0 in cc
+second_refused a b first (NotObject Second) h = (first, h.1)
+second_refused a b first OutOfMemory h = inr (inl (first, h))
+second_refused a b first _ h = absurd h
+
+IsBytes-take : (n : ℕ) (b : List ℕ) → IsBytes b → IsBytes (take n b)
+IsBytes-take zero b h i = omega arith
+IsBytes-take (suc n) [] h i = omega arith
+IsBytes-take (suc n) (x ∷ xs) h zero = h zero
+IsBytes-take (suc n) (x ∷ xs) h (suc i) = IsBytes-take n xs (λ j. h (suc j)) i
+
+-- what was read reads back
+pub ReadsBack-begun : ((b : List ℕ) (v : Tree) → IsPod b v → normal_of v ≡ v) →
+    ((b : List ℕ) (v : Tree) → IsBytes b → IsPod b v → IsWritable v) → (b : List ℕ) → IsBytes b →
+    (v : Tree) → Begins b v → ReadsBack v
+ReadsBack-begun normal writable b h v begins =
+    let front = front_of b in
+    let bytes = IsBytes-take (extent (word_at b 0)) b h in
+    record {
+      no_nul = (writable front v bytes begins.pod).no_nul;
+      normal = normal front v begins.pod;
+    }
+
+-- what two objects at two fronts are refused for
+pub objects_refused : (a b : List ℕ) (v w : Tree) → Begins a v → Begins b w → (e : NegotiateError) →
+    AreRefused v w e → AreFrontsRefused a b e
+objects_refused a b v w first second TypeMismatch h =
+    record { ours = v; theirs = w; first = first; second = second; holds = h }
+objects_refused a b v w first second (Unsupported k) h =
+    record { ours = v; theirs = w; first = first; second = second; holds = h }
+objects_refused a b v w first second (Disjoint k) h =
+    record { ours = v; theirs = w; first = first; second = second; holds = h }
+objects_refused a b (object t i ps) (object u j qs) first second (Unread s) h = absurd h.1
+objects_refused a b (object t i ps) (object u j qs) first second (NotObject s) h = absurd h.1
+objects_refused a b (object t i ps) (object u j qs) first second TooLarge h = absurd h.1
+objects_refused a b v w first second OutOfMemory h =
+    inr (inr (record { ours = v; theirs = w; first = first; second = second; holds = h }))
+objects_refused a b (object t i ps) w first second e h = absurd h
+objects_refused a b v w first second e h = absurd h
+
+-- memory may run out for two that meet
+lacks_memory : (v w x : Tree) → Meet v w x → AreRefused v w OutOfMemory
+lacks_memory (object t i ps) (object u j qs) (object c d rs) m = (m.0, tt)
+lacks_memory (object t i ps) (object u j qs) x m = absurd m
+lacks_memory (object t i ps) w x m = absurd m
+lacks_memory v w x m = absurd m
+
+-- why that in which they meet isn't written
+pub unwritten : (a b : List ℕ) (v w x : Tree) → Begins a v → Begins b w → Meet v w x →
+    (e : NegotiateError) → IsWriteRefused x e → AreFrontsRefused a b e
+unwritten a b v w x first second met TooLarge h =
+    record {
+      ours = v;
+      theirs = w;
+      first = first;
+      second = second;
+      holds = record { met = x; meet = met; large = h };
+    }
+unwritten a b v w x first second met OutOfMemory h =
+    objects_refused a b v w first second OutOfMemory (lacks_memory v w x met)
+unwritten a b v w x first second met _ h = absurd h
+
+-- and how it is written
+pub written : (a b : List ℕ) (v w x : Tree) → Begins a v → Begins b w → Meet v w x →
+    (r : Result (Vec ℕ Global) NegotiateError) → IfOk r (λ bytes. bytes.items ≡ encoding_of x) →
+    IfOk r (λ bytes. IsPod bytes.items x) → IfOk r (λ bytes. BeginBoth a b (MeetIn bytes.items))
+written a b v w x first second met (Ok bytes) e p =
+    record {
+      ours = v;
+      theirs = w;
+      first = first;
+      second = second;
+      holds = record { met = x; meet = met; encoding = e; pod = p };
+    }
+written a b v w x first second met (Err why) e p = tt
+
+-- what a result says of its value is said of it by another name,
+pub if_ok : {T E : Type 0} {P Q : T → Type 0} (r : Result T E) → ((v : T) → P v → Q v) → IfOk r P → IfOk r Q
+if_ok (Ok v) f h = f v h
+if_ok (Err e) f h = tt
+
+-- and a refusal is passed on by a `?`
+pub passed_on : {T E : Type 0} (r : Result T E) (e : E) (Q : E → Type 0) → IsErrAnd r (λ y. y ≡ e) →
+    Q e → IfErr r Q
+passed_on r e Q h q = let p = err_from_is_err_and r h in rw (p.1, p.2) q

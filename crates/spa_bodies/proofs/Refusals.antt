@@ -1,0 +1,167 @@
+-- What a refusal of a part says of the whole, and what the public refusal says.
+use Rattle.std.proofs.Common.{◌≡◌, ℕ, ◌<◌, ◌≤◌, List, ◌++◌, length, drop, refl, sym, ap, ◌∙◌, subst, arith, inl, inr}
+use Rattle.std.specs.Prelude.{⊤}
+use Rattle.std.specs.Borrow.{Bor}
+use Rattle.spa_format.specs.Words.{word_at, body_of, header_size}
+use Rattle.spa_format.specs.Kind.{Kind, body_size}
+use Rattle.spa_format.specs.Tree.{array_type, choice_type, struct_type, object_type}
+use Rattle.spa_format.specs.Front.{HasFront, IsRefused}
+use Rattle.spa_format.specs.Faults.{Fault, Short, Text, InvalidType, InvalidChoiceType, MissingChoiceValues, WrongSize, of_array, of_choice, choice_header_size, short_object, IsWrongArray, StandsAtFront, Stands, at_front, in_member, in_key, in_property}
+use Rattle.spa_format.proofs.Refused as format
+use Rattle.spa_fixed_sized.specs.declared.fault.Refusal.{Refusal}
+use Rattle.spa_fixed_sized.specs.declared.fault.Refusal.TheVariants as refusal
+use Rattle.spa_fixed_sized.specs.Reading.{RefusesArray, RefusesChoice}
+use Rattle.spa_bytes.specs.Opening.{Opens}
+use Rattle.spa_bodies.specs.Reading.{TakesMemory, MayLackMemory, OnFault, OnMemory, IsShortAt, Names, RefusesInput}
+use Rattle.spa_bodies.specs.Refusing.{Says, StandsInBody, RefusesBody, StandsInMembers, StandsInProperties, RefusesPod, error_of}
+
+-- a refusal says of the whole what follows there
+pub says_through : (stands stands' : Fault → Type 0) (memory memory' : Type 0) →
+    ((k : Fault) → stands k → stands' k) → (memory → memory') →
+    (why : Refusal) → Says stands memory why → Says stands' memory' why
+says_through stands stands' memory memory' f g refusal.Short h = f Short h
+says_through stands stands' memory memory' f g refusal.Text h = f Text h
+says_through stands stands' memory memory' f g refusal.InvalidType h = f InvalidType h
+says_through stands stands' memory memory' f g refusal.InvalidChoiceType h = f InvalidChoiceType h
+says_through stands stands' memory memory' f g refusal.MissingChoiceValues h = f MissingChoiceValues h
+says_through stands stands' memory memory' f g refusal.WrongSize h = f WrongSize h
+says_through stands stands' memory memory' f g refusal.OutOfMemory h = g h
+
+-- a fault of the body stands at the front
+pub at_front_of : (b : List ℕ) (k : Fault) →
+    HasFront b → StandsInBody (word_at b 4) (body_of b) k → StandsAtFront k b
+at_front_of b Short h s = absurd s
+at_front_of b Text h s = (h, s.0, s.1)
+at_front_of b InvalidType h s = (h, s)
+at_front_of b InvalidChoiceType h s = (h, s.0, s.1, s.2)
+at_front_of b MissingChoiceValues h s = (h, s.0, s.1)
+at_front_of b WrongSize h s = (h, s)
+
+-- where the body is refused
+pub body_refused : (input body rest : List ℕ) (type : ℕ) (why : Refusal) →
+    Opens input type body rest → RefusesBody type body why → RefusesPod input input why
+body_refused input body rest type why o s =
+    let its_fault : (k : Fault) → StandsInBody type body k → StandsInBody (word_at input 4) (body_of input) k = λ k i.
+    subst (λ b. StandsInBody (word_at input 4) b k) o.its_body (subst (λ t. StandsInBody t body k) o.its_type i) in
+    let stands : (k : Fault) → StandsInBody type body k → Stands k input input = λ k i.
+    at_front input refl (at_front_of input k o.there (its_fault k i)) in
+    says_through _ _ _ _ stands (λ m. (o.there, subst TakesMemory o.its_type m)) why s
+
+-- where a member is refused
+pub members_refused : (input place body rest : List ℕ) (type : ℕ) (why : Refusal) →
+    Opens input type body rest → type ≡ struct_type →
+    Says (StandsInMembers body place) ⊤ why → RefusesPod input place why
+members_refused input place body rest type why o t s =
+    let its_type : word_at input 4 ≡ struct_type = sym o.its_type ∙ t in
+    let stands : (k : Fault) → StandsInMembers body place k → Stands k place input = λ k m.
+    in_member input m.0 m.1 m.2 o.there its_type (sym o.its_body ∙ m.3) m.4 m.5 m.6 in
+    says_through _ _ _ _ stands (λ _. (o.there, inr (inr (inr (inr (inl its_type)))))) why s
+
+-- where an object lacks its type or its id
+pub short_object_refused : (input body rest : List ℕ) (type : ℕ) →
+    Opens input type body rest → type ≡ object_type → length body < header_size →
+    RefusesPod input input refusal.WrongSize
+short_object_refused input body rest type o t l =
+    body_refused input body rest type refusal.WrongSize o (short_object t l)
+
+-- where a property is refused
+pub properties_refused : (input place body rest behind : List ℕ) (type : ℕ) (why : Refusal) →
+    Opens input type body rest → type ≡ object_type → header_size ≤ length body → behind ≡ drop header_size body →
+    Says (StandsInProperties behind place) ⊤ why → RefusesPod input place why
+properties_refused input place body rest behind type why o t l d s =
+    let its_type : word_at input 4 ≡ object_type = sym o.its_type ∙ t in
+    let long : header_size ≤ length (body_of input) = omega (arith, ap length o.its_body) in
+    let its_behind : drop header_size (body_of input) ≡ behind = ap (drop header_size) (sym o.its_body) ∙ sym d in
+    let stands : (k : Fault) → StandsInProperties behind place k → Stands k place input =
+    in_object input place behind o.there its_type long its_behind in
+    says_through _ _ _ _ stands (λ _. (o.there, inr (inr (inr (inr (inr (inl its_type))))))) why s
+  where
+    in_object : (input place behind : List ℕ) →
+        HasFront input → word_at input 4 ≡ object_type → header_size ≤ length (body_of input) →
+        drop header_size (body_of input) ≡ behind →
+        (k : Fault) → StandsInProperties behind place k → Stands k place input
+    in_object input place behind h t l d k m =
+        elim m.5 [
+          | inl x ↦
+              let here : drop header_size (body_of input) ≡ m.1 ++ place = d ∙ m.3 ∙ ap (λ y. m.1 ++ y) (sym x.1) in
+              let short : length place < header_size = omega (arith, x.3, ap length x.1) in
+              in_key input m.0 m.1 h t l here m.4 (λ n. x.2 (sym x.1 ∙ n)) short x.0
+          | inr x ↦ in_property input m.0 m.1 m.2 h t l (d ∙ m.3) m.4 x.0 x.1
+        ]
+
+-- the refusal of an array of elements of this kind
+pub array_refused : (k : Kind) (b : List ℕ) (why : Refusal) →
+    RefusesArray (IsWrongArray k b) why → RefusesBody array_type b why
+array_refused k b refusal.Short r = absurd r
+array_refused k b refusal.Text r = absurd r
+array_refused k b refusal.InvalidType r = absurd r
+array_refused k b refusal.InvalidChoiceType r = absurd r
+array_refused k b refusal.MissingChoiceValues r = absurd r
+array_refused k b refusal.WrongSize r = of_array k refl r
+array_refused k b refusal.OutOfMemory r = inr (inr (inr (inl refl)))
+
+-- the refusal of a choice over values of this kind
+pub choice_refused : (k : Kind) (b : List ℕ) (why : Refusal) →
+    choice_header_size ≤ length b → 0 < body_size k → RefusesChoice k b why → RefusesBody choice_type b why
+choice_refused k b refusal.Short l p r = absurd r
+choice_refused k b refusal.Text l p r = absurd r
+choice_refused k b refusal.InvalidType l p r = absurd r
+choice_refused k b refusal.InvalidChoiceType l p r = (refl, l, r)
+choice_refused k b refusal.MissingChoiceValues l p r = (refl, r)
+choice_refused k b refusal.WrongSize l p r = of_choice k refl p r
+choice_refused k b refusal.OutOfMemory l p r = inr (inr (inr (inr (inr (inr refl)))))
+
+-- The public refusal that is made of one at a place.
+
+said_refused : (input : List ℕ) (place : Bor (List ℕ)) (why : Refusal) →
+    RefusesPod input place.now why → OnFault (IsRefused input) (error_of place why)
+said_refused input place refusal.Short s = format.refused Short place.now input s
+said_refused input place refusal.Text s = format.refused Text place.now input s
+said_refused input place refusal.InvalidType s = format.refused InvalidType place.now input s
+said_refused input place refusal.InvalidChoiceType s = format.refused InvalidChoiceType place.now input s
+said_refused input place refusal.MissingChoiceValues s = format.refused MissingChoiceValues place.now input s
+said_refused input place refusal.WrongSize s = format.refused WrongSize place.now input s
+said_refused input place refusal.OutOfMemory s = tt
+
+said_memory : (input : List ℕ) (place : Bor (List ℕ)) (why : Refusal) →
+    RefusesPod input place.now why → OnMemory (MayLackMemory input) (error_of place why)
+said_memory input place refusal.OutOfMemory s = s
+said_memory input place _ s = tt
+
+-- where the front isn't there, no fault stands but that it is short
+only_short : (k : Fault) (place input : List ℕ) → Stands k place input → ¬ (HasFront input) → (k ≡ Short) × (place ≡ input)
+only_short Short place _ (at_front b e s) n = (refl, e)
+only_short Text place _ (at_front b e s) n = absurd (n s.0)
+only_short InvalidType place _ (at_front b e s) n = absurd (n s.0)
+only_short InvalidChoiceType place _ (at_front b e s) n = absurd (n s.0)
+only_short MissingChoiceValues place _ (at_front b e s) n = absurd (n s.0)
+only_short WrongSize place _ (at_front b e s) n = absurd (n s.0)
+only_short k place _ (in_member b vs first left h _ _ _ _ _) n = absurd (n h)
+only_short k place _ (in_key b ps first h _ _ _ _ _ _ _) n = absurd (n h)
+only_short k place _ (in_property b ps first left h _ _ _ _ _ _) n = absurd (n h)
+
+said_short : (input : List ℕ) (place : Bor (List ℕ)) (why : Refusal) →
+    RefusesPod input place.now why → ¬ (HasFront input) → IsShortAt input (error_of place why)
+said_short input place refusal.Short s n = (refl, (only_short Short place.now input s n).1)
+said_short input place refusal.Text s n = cc ((only_short Text place.now input s n).0)
+said_short input place refusal.InvalidType s n = cc ((only_short InvalidType place.now input s n).0)
+said_short input place refusal.InvalidChoiceType s n = cc ((only_short InvalidChoiceType place.now input s n).0)
+said_short input place refusal.MissingChoiceValues s n = cc ((only_short MissingChoiceValues place.now input s n).0)
+said_short input place refusal.WrongSize s n = cc ((only_short WrongSize place.now input s n).0)
+said_short input place refusal.OutOfMemory s n = absurd (n s.0)
+
+said_fault : (input : List ℕ) (place : Bor (List ℕ)) (why : Refusal) →
+    RefusesPod input place.now why → Names (λ k at. Stands k at input) (error_of place why)
+said_fault input place refusal.Short s = s
+said_fault input place refusal.Text s = s
+said_fault input place refusal.OutOfMemory s = tt
+said_fault input place _ s = (place.now, s)
+
+pub refused_as : (input : List ℕ) (place : Bor (List ℕ)) (why : Refusal) →
+    RefusesPod input place.now why → RefusesInput input (error_of place why)
+refused_as input place why s = record {
+  refused = said_refused input place why s;
+  memory = said_memory input place why s;
+  short_first = said_short input place why s;
+  named = said_fault input place why s;
+}

@@ -1,7 +1,0 @@
-use Rattle.spa_fixed.proofs.ElementWriting.{IsFilled}
-use Rattle.spa_fixed.proofs.choice.first_bodies.Given as goal
-
-abbrev pub invariant-loop-value : goal.invariant-loop-value
-invariant-loop-value g l =
-    IsFilled g.T.CanonicalFixedSizedPod.kind (λ x. g.T.CanonicalFixedSizedPod.fixed x.now)
-    g.T.CanonicalFixedSizedPod.SIZE l.at l.value-index l.bodies l.values

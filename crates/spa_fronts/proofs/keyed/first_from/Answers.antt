@@ -1,5 +1,0 @@
-use Rattle.spa_fronts.proofs.KeyOrders.{first_after}
-use Rattle.spa_fronts.proofs.keyed.first_from.Goals as goal
-
-pub returns-in-Err : goal.returns-in-Err
-returns-in-Err c = first_after _ _ _ c.in-Err.ensures.position c.requires

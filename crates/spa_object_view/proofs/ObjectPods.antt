@@ -1,0 +1,152 @@
+-- The pods of objects at the fronts of inputs.
+use Rattle.std.proofs.Common.{inl, inr, ◌≡◌, ◌≢◌, ℕ, ◌-◌, ◌≤◌, List, length, take, drop, refl, sym, ap, ◌∙◌, subst, arith, length-drop}
+use Rattle.std.proofs.lemmas.List.{take_all, take-take}
+use Rattle.spa_format.specs.Words.{word_at, extent, body_of}
+use Rattle.spa_format.specs.Tree.{Tree, struct, object, object_type, type_of}
+use Rattle.spa_format.specs.Pod.{IsPod}
+use Rattle.spa_format.specs.Encoding.{encoding_of}
+use Rattle.spa_format.specs.Front.{Begins, HasFront, IsRefused, front_of, rest_of}
+use Rattle.spa_format.specs.Typed.{IsBytes}
+use Rattle.spa_format.proofs.Fronts.{size_of_front, type_of_front}
+use Rattle.spa_format.proofs.Shapes.{object_only}
+use Rattle.spa_format.proofs.Unique.{one_value}
+use Rattle.spa_format.specs.Faults.{Stands}
+use Rattle.spa_bytes.specs.Opening.{Opens}
+use Rattle.spa_fixed_sized.specs.declared.fault.Refusal.{Refusal}
+use Rattle.spa_fixed_sized.specs.declared.fault.Refusal.TheVariants as refusal
+use Rattle.spa_bodies.specs.Reading.{TakesMemory}
+use Rattle.spa_bodies.specs.Refusing.{Says}
+use Rattle.spa_scan.specs.Canonical.{BeginsCanonical}
+use Rattle.spa_rewrite.specs.Look.{IsRejected, IsTooDeep}
+use Rattle.spa_rewrite.specs.Rewriting.{IsRewriting}
+use Rattle.spa_rewrite.specs.Steady.{IsInside}
+use Rattle.spa_rewrite.specs.declared.look.Rejected.{Rejected}
+use Rattle.spa_rewrite.specs.declared.look.Rejected.TheVariants as rejected
+use Rattle.spa_rewrite.proofs.Accepted.{fault_front}
+use Rattle.std.specs.Borrow.{Bor}
+use Rattle.std.specs.Prelude.{Bool, true, false, IfOk, Result, Ok, Err}
+use Rattle.spa_object_view.specs.Fronts.{BeginsObject, BeginsObjectIn, BeginsOther, IsNoObject, IsObject, IsUnread}
+use Rattle.spa_object_view.specs.declared.front.NoObject.{NoObject}
+use Rattle.spa_object_view.specs.declared.front.NoObject.TheVariants.{Unread, Other, OutOfMemory}
+use Rattle.spa_object_view.specs.Written.{BeginsWritten}
+use Rattle.spa_object_view.proofs.Opening.{begins_written}
+
+-- the type of the value with which an input begins
+pub begun_type : (input : List ℕ) (v : Tree) → Begins input v → type_of v ≡ word_at input 4
+begun_type input v b = sym b.pod.its_type ∙ type_of_front input
+
+no_object : (v : Tree) → type_of v ≢ object_type → ¬ (IsObject v)
+no_object (object t i ps) n h = n refl
+no_object _ n h = h
+
+-- an input with the pod of an object begins with one
+pub begins_object : (input pod : List ℕ) → BeginsObjectIn input pod → BeginsObject input
+begins_object input pod b = record { value = object b.type b.id b.values; begins = b.begins; is_object = tt }
+
+-- a canonical front
+pub lying_object : (input rest pod : List ℕ) → (c : BeginsCanonical input rest) → word_at input 4 ≡ object_type → pod ≡ front_of input → BeginsObjectIn input pod
+lying_object input rest pod c t e =
+    let i = object_only c.value (begun_type input c.value c.begins.begins ∙ t) in
+    record {
+      type = i.0;
+      id = i.1;
+      values = i.2;
+      begins = subst (Begins input) i.3 c.begins.begins;
+      written = record {
+        its_pod = subst (λ b. IsPod b (object i.0 i.1 i.2)) (sym e) (subst (IsPod (front_of input)) i.3 c.begins.begins.pod);
+        same = e ∙ c.same ∙ ap encoding_of i.3;
+      };
+    }
+
+-- the rewriting of a front
+pub rewritten_object : (input out : List ℕ) → (r : IsRewriting input out) → word_at input 4 ≡ object_type → BeginsObjectIn input out
+rewritten_object input out r t =
+    let i = object_only r.value (begun_type input r.value r.begins ∙ t) in
+    record {
+      type = i.0;
+      id = i.1;
+      values = i.2;
+      begins = subst (Begins input) i.3 r.begins;
+      written = record { its_pod = subst (IsPod out) i.3 r.again; same = r.written ∙ ap encoding_of i.3 };
+    }
+
+-- what stands before the rest
+pub front_before : (input rest : List ℕ) → HasFront input → rest ≡ rest_of input → take (length input - length rest) input ≡ front_of input
+front_before input rest h e =
+    let n = extent (word_at input 0) in
+    let whole = h.whole in
+    let behind : length rest ≡ length input - n = ap length e ∙ length-drop n input in
+    let same : length input - length rest ≡ n = omega arith in
+    ap (λ m. take m input) same
+
+front_twice : (input : List ℕ) → front_of (front_of input) ≡ front_of input
+front_twice input =
+    ap (λ n. take (extent n) (front_of input)) (size_of_front input) ∙ take-take (extent (word_at input 0)) (extent (word_at input 0)) input (omega arith)
+
+-- a pod is at its own front
+pub pod_there : (pod : List ℕ) (v : Tree) → IsPod pod v → HasFront pod
+pod_there pod v p = let w = p.whole in record { header = omega arith; whole = omega arith }
+
+-- an object of its pod, opened
+pub object_inside : (input pod body behind properties : List ℕ) (type : ℕ) → IsBytes pod → Opens pod type body behind → properties ≡ drop 8 body →
+    BeginsObjectIn input pod → BeginsWritten input (word_at body 0) (word_at body 4) properties
+object_inside input pod body behind properties type h o d b =
+    let v = object b.type b.id b.values in
+    let p = b.written.its_pod in
+    let whole : front_of pod ≡ pod = take_all (extent (word_at pod 0)) pod (omega (arith, p.whole)) in
+    let begins : Begins pod v = record { there = pod_there pod v p; pod = subst (λ c. IsPod c v) (sym whole) p } in
+    let canonical : BeginsCanonical pod (rest_of pod) =
+    record { value = v; begins = record { begins = begins; follows = refl }; same = whole ∙ b.written.same } in
+    let m = begins_written pod (rest_of pod) body behind properties type h canonical o (o.its_type ∙ p.its_type) d in
+    let same = one_value (front_of pod) v (object (word_at body 0) (word_at body 4) m.values) begins.pod m.begins.pod in
+    record { values = m.values; begins = subst (Begins input) same b.begins; written = m.written }
+
+-- the body of an object's pod has its type and id
+pub object_long : (input pod : List ℕ) → BeginsObjectIn input pod → 8 ≤ length (body_of pod)
+object_long input pod b = b.written.its_pod.content.0
+
+-- the rewriting of a front that is no object's
+pub other_rewritten : (input out : List ℕ) → word_at input 4 ≢ object_type → (r : IsRewriting input out) → BeginsOther input
+other_rewritten input out t r =
+    record { value = r.value; begins = r.begins; no_object = no_object r.value (λ e. t (sym (begun_type input r.value r.begins) ∙ e)) }
+
+pub no_object_of : (input : List ℕ) (why : NoObject) → IsUnread input why → IsNoObject input why
+no_object_of input Unread h = h
+no_object_of input Other h = absurd h
+no_object_of input OutOfMemory h = h
+
+-- a result that is no refusal
+pub of_ok : {T E P : Type 0} {Q : T → Type 0} (r : Result T E) → ((e : E) → r ≡ Err e → ⊥) → ((v : T) → Q v → P) → IfOk r Q → P
+of_ok (Ok v) n f h = f v h
+of_ok (Err e) n f h = absurd (n e refl)
+
+-- a front that is a pod of another type than an object's
+pub begins_other : (input : List ℕ) (v : Tree) → word_at input 4 ≢ object_type → Begins input v → BeginsOther input
+begins_other input v t b = record { value = v; begins = b; no_object = no_object v (λ e. t (sym (begun_type input v b) ∙ e)) }
+
+-- a fault that stands refuses the front
+of_fault : (input : List ℕ) (place : Bor (List ℕ)) (why : Refusal) → Says (λ k. Stands k place.now input) ⊥ why → IsRefused input
+of_fault input place refusal.Short s = (fault_front input place refusal.Short s).refused
+of_fault input place refusal.Text s = (fault_front input place refusal.Text s).refused
+of_fault input place refusal.InvalidType s = (fault_front input place refusal.InvalidType s).refused
+of_fault input place refusal.InvalidChoiceType s = (fault_front input place refusal.InvalidChoiceType s).refused
+of_fault input place refusal.MissingChoiceValues s = (fault_front input place refusal.MissingChoiceValues s).refused
+of_fault input place refusal.WrongSize s = (fault_front input place refusal.WrongSize s).refused
+of_fault input place refusal.OutOfMemory s = absurd s
+
+pub refused_front : (input : List ℕ) (r : Rejected) (place : Bor (List ℕ)) (why : Refusal) → r ≡ rejected.Fault place why → IsRejected input r → IsRefused input
+refused_front input r place why e h = of_fault input place why (subst (IsRejected input) e h)
+
+pub too_deep : (input : List ℕ) (r : Rejected) → r ≡ rejected.TooDeep → IsRejected input r → IsTooDeep input
+too_deep input r e h = subst (IsRejected input) e h
+
+-- a pod that nests deep is a struct or an object
+pub deep_takes_memory : (input : List ℕ) → IsTooDeep input → TakesMemory (word_at input 4)
+deep_takes_memory input d = inside_type d.inner d.opens.its_inside
+  where
+    same : word_at input 4 ≡ d.opens.type
+    same = sym (d.opens.opens.its_type ∙ ap (λ b. word_at b 4) d.opens.its_key)
+
+    inside_type : (inner : Bool) → IsInside d.opens.type d.opens.body inner d.inside → TakesMemory (word_at input 4)
+    inside_type true i = inr (inr (inr (inr (inr (inl (same ∙ i.0))))))
+    inside_type false i = inr (inr (inr (inr (inl (same ∙ i.0)))))

@@ -1,0 +1,65 @@
+-- Objects at the fronts of inputs, and their canonical pods: docs/NEGOTIATION.md, "From bytes to bytes".
+use Rattle.std.specs.Prelude.{⊤, ℕ, List}
+use Rattle.spa_format.specs.Tree.{Tree, object, Properties}
+use Rattle.spa_format.specs.Front.{Begins, IsRefused}
+use Rattle.spa_bodies.specs.Reading.{MayLackMemory}
+use Rattle.spa_object_view.specs.Written.{BeginsWritten, IsWritten}
+use Rattle.spa_object_view.specs.declared.object_view.ObjectView.{ObjectView}
+use Rattle.spa_object_view.specs.declared.front.ObjectPod.{ObjectPod}
+use Rattle.spa_object_view.specs.declared.front.ObjectPod.TheVariants.{Lying, Rewritten}
+use Rattle.spa_object_view.specs.declared.front.NoObject.{NoObject}
+use Rattle.spa_object_view.specs.declared.front.NoObject.TheVariants.{Unread, Other, OutOfMemory}
+
+-- the front of the input is a pod of an object, and this is that object's canonical pod
+pub record BeginsObjectIn (input pod : List ℕ) : Type 0 where
+  pub type : ℕ
+  pub id : ℕ
+  pub values : Properties
+  pub begins : Begins input (object type id values)
+  pub written : IsWritten (object type id values) pod
+
+-- the front of the input is a pod of the object of this view
+abbrev pub BeginsView : List ℕ → ObjectView → Type 0
+BeginsView input view = BeginsWritten input view.type_ view.id view.properties.now
+
+-- the bytes of the pod
+abbrev pub bytes_of : ObjectPod → List ℕ
+bytes_of (Lying pod) = pod.now
+bytes_of (Rewritten bytes) = bytes.items
+
+-- the value is an object
+abbrev pub IsObject : Tree → Type 0
+IsObject (object type id ps) = ⊤
+IsObject _ = ⊥
+
+-- the front of the input is a pod of an object
+pub record BeginsObject (input : List ℕ) : Type 0 where
+  pub value : Tree
+  pub begins : Begins input value
+  pub is_object : IsObject value
+
+-- the front of the input is a pod of a value other than an object
+pub record BeginsOther (input : List ℕ) : Type 0 where
+  pub value : Tree
+  pub begins : Begins input value
+  pub no_object : ¬ (IsObject value)
+
+-- the fronts of two inputs are pods of two values of which the fact holds
+pub record BeginBoth (a b : List ℕ) (Holds : Tree → Tree → Type 0) : Type 0 where
+  pub ours : Tree
+  pub theirs : Tree
+  pub first : Begins a ours
+  pub second : Begins b theirs
+  pub holds : Holds ours theirs
+
+-- why no object is at the front of the input
+abbrev pub IsNoObject : List ℕ → NoObject → Type 0
+IsNoObject input Unread = IsRefused input
+IsNoObject input Other = BeginsOther input
+IsNoObject input OutOfMemory = MayLackMemory input
+
+-- why there is no canonical pod of the front
+abbrev pub IsUnread : List ℕ → NoObject → Type 0
+IsUnread input Unread = IsRefused input
+IsUnread input Other = ⊥
+IsUnread input OutOfMemory = MayLackMemory input

@@ -1,0 +1,18 @@
+use Rattle.std.proofs.Common.{arith, refl, false}
+use Rattle.std.proofs.lemmas.Option.{IfSome_then}
+use Rattle.spa_format.specs.Typed.{IsBytes}
+use Rattle.spa_rewrite.proofs.Looks.{behind_shorter, passes_pod, some_left, steady_shorter}
+use Rattle.spa_rewrite.proofs.SteadyFound.{never}
+use Rattle.spa_rewrite.proofs.look.short_leaf.Goals as goal
+
+pub returns-clause-passed : goal.returns-clause-passed
+returns-clause-passed c =
+    let bytes : IsBytes c.args.left.now = λ i. omega (arith, c.type_inv.left i) in
+    let key = c.in-Some.ensures.there in
+    IfSome_then c.short_front.result c.short_front.ensures.taken (λ rest t.
+    passes_pod _ _ _ _ _ 0 bytes (some_left _ _ _ key t.begins.begins.there) key (steady_shorter _ _ t) (λ e. absurd (never false e refl)))
+
+pub returns-clause-shorter : goal.returns-clause-shorter
+returns-clause-shorter c =
+    let less = behind_shorter _ _ _ c.in-Some.ensures.there in
+    IfSome_then c.short_front.result c.short_front.ensures.shorter (λ rest s. omega (arith, less, s))

@@ -1,5 +1,0 @@
-//! Bytes with room behind them.
-use crate::shims::prelude::*;
-mod written;
-
-pub use written::Written;

@@ -92,6 +92,7 @@ cut_off name input old new place (Pods n w) t to = (to.out, (t.0, t.1, to.lines)
 cut_off name input old new place (Texts n w) t to = absurd t
 cut_off name input old new place (Pair n w) t to = absurd t
 cut_off name input old new place (Lists n m w) t to = absurd t
+cut_off name input old new place (Stopped n p k) t to = absurd t
 cut_off name input old new place (Unread n) t to = absurd t
 cut_off name input old new place (Unwritten n) t to = absurd t
 

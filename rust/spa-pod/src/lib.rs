@@ -67,7 +67,7 @@ pub mod negotiation {
 
 /// Filtering: the object that admits exactly what two objects both admit.
 pub mod filtering {
-    pub use crate::parts::spa_filter::{FilterError, Side, filter};
+    pub use crate::parts::spa_filter::{FilterError, Side, filter, settle};
     pub use crate::parts::spa_filter_pods::filter_pods;
 }
 
@@ -76,8 +76,9 @@ pub mod events {
     pub use crate::parts::spa_events::{Event, NO_PARENT, list_events};
 }
 
-/// The names that PipeWire gives types, keys and ids.
+/// The names that PipeWire gives types, keys, ids and shapes: as constants with C's names, such as `keys::FORMAT_AUDIO_RATE`, and as tables.
 pub mod names {
+    pub use crate::parts::spa_names::{ids, keys, shapes, types};
     pub use crate::parts::spa_names::{Expected, Table, expected_under, ids_of, keys_of, name_of, number_of, path_of};
 }
 

@@ -13,6 +13,17 @@ pub enum NestedReadError<I> {
     Refused(DeserializeError<I>),
 }
 
+impl NestedReadError<&[u8]> {
+    /// The refusal with the byte of `input`, which is what was read, in place of the bytes from there on: so that it outlives them. The same for a
+    /// `DeserializeError`: [`placed_in`](DeserializeError::placed_in).
+    pub fn placed_in(self, input: &[u8]) -> NestedReadError<usize> {
+        match self {
+            NestedReadError::TooDeep => NestedReadError::TooDeep,
+            NestedReadError::Refused(error) => NestedReadError::Refused(error.placed_in(input)),
+        }
+    }
+}
+
 impl<I> From<DeserializeError<I>> for NestedReadError<I> {
     fn from(error: DeserializeError<I>) -> NestedReadError<I> {
         NestedReadError::Refused(error)
@@ -48,6 +59,18 @@ impl<'de> PodDeserializer<'de> {
     /// assert!(PodDeserializer::deserialize_any_within(2, &bytes).is_ok());
     /// assert_eq!(PodDeserializer::deserialize_any_within(1, &bytes), Err(NestedReadError::TooDeep));
     /// # Ok::<(), Box<dyn std::error::Error>>(())
+    /// ```
+    ///
+    /// An error borrows the input. Where that is gone before the error is, `?` needs [`placed_in`](NestedReadError::placed_in):
+    ///
+    /// ```
+    /// # use spa_pod::pod::deserialize::PodDeserializer;
+    /// fn count(path: &str) -> Result<usize, Box<dyn std::error::Error>> {
+    ///     let bytes = std::fs::read(path)?;
+    ///     let (rest, _) = PodDeserializer::deserialize_any_within(16, &bytes).map_err(|error| error.placed_in(&bytes))?;
+    ///     Ok(bytes.len() - rest.len())
+    /// }
+    /// # assert!(count("").is_err());
     /// ```
     ///
     /// # Errors

@@ -5,7 +5,7 @@ replay.py TABLE CRATE ..: what a change of these crates costs, each alone.
 
 TABLE is what `.ci/seconds` prints or writes after a run from nothing. A change pays for the proof and the tests of each crate whose
 files in src/, specs/ or proofs/, or whose rows, it changed, and of each crate above one of these, as crates.txt has them today. Files of
-crates of tests that were since cut up count for the crates that have their tests now (MOVED); those of other crates that are gone count
+crates that were since cut up or renamed count for those that have them now (MOVED); those of other crates that are gone count
 for none. The last line of a replay is the mean."""
 
 import collections
@@ -38,6 +38,18 @@ MOVED = {
     "crates/spa_read_tests/src/comparing": ("reading_rows",),
     "crates/spa_tests/": ("reading_rows",),
     "crates/spa_negotiate/": ("spa_negotiate_objects",),
+    "crates/spa_lenient_tests": ("reading_rows",),
+    "crates/spa_leaf/": ("spa_bodies",),
+    "crates/spa_fixed/": ("spa_fixed_sized",),
+    "crates/spa_fixed_tests/": ("spa_fixed_sized_tests",),
+    "crates/spa_room/": ("spa_spare_capacity",),
+    "crates/spa_fronts/": ("spa_object_view",),
+    "crates/spa_offers/": ("spa_filter_offers",),
+    "crates/spa_steps/": ("spa_filter_steps",),
+    "crates/spa_orders/": ("spa_filter_order",),
+    "crates/spa_spelling/": ("test_bytes",),
+    "crates/spa_uses/": ("example_types",),
+    "crates/spa_callers/": ("example_calls",),
 }
 
 

@@ -107,30 +107,38 @@ static void refuse_in_place(int32_t (*rewrite)(void *, size_t, size_t *, size_t 
 	SEE(may_ask == (refuse_at > 1));
 }
 
-/* Objects so deep in one another that is_canonical has to ask for memory. */
-static void refuse_deep(void) {
-	enum { LEVELS = 1200, LEN = 24 * LEVELS - 8 };
-	static uint32_t deep[LEN / 4];
+/* Objects deep in one another: where each of these ends with the one around it, is_canonical asks for no memory; where an Int follows each, it
+ * has to. */
+static void refuse_deep(bool may_ask) {
+	enum { LEVELS = 1200, MANY = 48 * LEVELS - 32 };
+	static const uint32_t number[] = { 2, 0, 4, 4, 7, 0 };
+	static uint32_t deep[MANY / 4];
+	uint32_t each = may_ask ? 48 : 24;
+	size_t len = each * (LEVELS - 1) + 16;
+	memset(deep, 0, sizeof deep);
 	for (uint32_t i = 0; i < LEVELS; i++) {
 		uint32_t *pod = deep + 6 * i;
-		pod[0] = LEN - 24 * i - 8;
+		pod[0] = each * (LEVELS - 1 - i) + 8;
 		pod[1] = 15;
 		pod[2] = 5;
 		pod[3] = 3;
 		if (i + 1 < LEVELS)
 			pod[4] = 1; /* the key */
 	}
-	SEE(spav_nests_within(deep, LEN, 1000) == 0 && spav_nests_within(deep, LEN, 1001) == -ELOOP && spav_nests_within(deep, LEN, UINT32_MAX) == -ELOOP);
+	for (uint32_t i = 0; may_ask && i + 1 < LEVELS; i++)
+		memcpy(deep + 6 * (LEVELS - 1) + 4 + 6 * i, number, sizeof number);
+	SEE(spav_nests_within(deep, len, 1000) == 0 && spav_nests_within(deep, len, 1001) == -ELOOP && spav_nests_within(deep, len, UINT32_MAX) == -ELOOP);
 	for (refuse_at = 1;; refuse_at++) {
 		asked = 0;
-		int32_t answer = spav_is_canonical(deep, LEN);
+		int32_t answer = spav_is_canonical(deep, len);
 		SEE(held == 0);
 		if (asked < refuse_at) {
-			SEE(answer == 1 && refuse_at > 1);
+			SEE(answer == 1);
 			break;
 		}
 		SEE(answer == -ENOMEM || (answer == 1 && !and_after));
 	}
+	SEE(may_ask == (refuse_at > 1));
 }
 
 /* A choice that gets shorter, deep in structs: where each of these ends with the one around it, it is rewritten without memory; where an Int
@@ -235,7 +243,8 @@ int main(void) {
 		refuse_in_place(spav_rewrite_in_place_leniently, dirty, sizeof dirty, false);
 		refuse_in_place(spav_rewrite_in_place_leniently, lenient, sizeof lenient, true);
 		refuse_deep_in_place();
-		refuse_deep();
+		refuse_deep(false);
+		refuse_deep(true);
 		refuse_joining(false);
 		refuse_joining(true);
 		refuse_building();

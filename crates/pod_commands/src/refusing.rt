@@ -36,6 +36,7 @@ pub(crate) fn either_refused<'a>(
 {
     match first_refusal(alloc, Reading::Exact, first) {
         Ok(Some(why)) => Failure::Pods(ours, why),
-        _ => refused(alloc, Reading::Exact, theirs, second),
+        Ok(None) => refused(alloc, Reading::Exact, theirs, second),
+        Err(_) => Failure::OutOfMemory,
     }
 }

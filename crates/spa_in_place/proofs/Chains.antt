@@ -17,13 +17,13 @@ use Rattle.spa_format.proofs.Short.{length-framed, short_members, short_props, s
 use Rattle.spa_format.proofs.WordLemmas.{IsBytes-drop}
 use Rattle.spa_bytes.specs.Opening.{Opens}
 use Rattle.spa_rewrite.specs.Shorter.{AreShorter, AreShorterInside, IsShorterBody}
-use Rattle.spa_in_place.specs.Placed.{ArePlaced, HoldsWhole, IsInner, IsPlaced, PutsHeader, PutsKey, WritesOn, WritesPod, type_inside}
+use Rattle.spa_rewrite.specs.Placed.{ArePlaced, HoldsWhole, IsInner, IsPlaced, PutsHeader, PutsKey, WritesOn, WritesPod, type_inside}
 use Rattle.spa_rewrite.specs.Steady.{IsBehindKey, IsPodOf, key_size}
 use Rattle.spa_in_place.proofs.Moves.{PlacesOn, places_before, places_more, pod_here, pod_places}
 use Rattle.spa_rewrite.proofs.Patches.{length_put}
-use Rattle.spa_in_place.proofs.Places.{few_placed, inner_placed, pods_placed}
+use Rattle.spa_rewrite.proofs.Places.{few_placed, inner_placed, pods_placed}
 use Rattle.spa_rewrite.proofs.ShorterLemmas.{whole_keyed, whole_list}
-use Rattle.spa_in_place.proofs.WrittenAcross.{further_behind, here_is, opened_here}
+use Rattle.spa_rewrite.proofs.WrittenAcross.{further_behind, here_is, opened_here}
 
 -- the first pod, and by how much its rewriting is shorter
 pub record FirstShorter (keyed : Bool) (here body rest : List ℕ) (type s : ℕ) : Type 0 where

@@ -25,8 +25,8 @@ use Rattle.spa_rewrite.specs.Steady.{ArePatched, AreSteady}
 use Rattle.spa_rewrite.proofs.Patches.{length_put, put_end}
 use Rattle.spa_rewrite.proofs.FirstPods.{accepted_behind, left_behind_pods}
 use Rattle.spa_rewrite.proofs.Stretches.{both_rewritten, list_refused, member_encodings-join}
-use Rattle.spa_rewrite.proofs.TailLemmas.{written_behind}
-use Rattle.spa_in_place.proofs.WrittenAcross.{drop_past, take_past}
+use Rattle.spa_rewrite.proofs.Appended.{written_behind}
+use Rattle.spa_rewrite.proofs.WrittenAcross.{drop_past, take_past}
 
 -- two parts of a rewriting take no more than the pods
 pub parts_fit : (input first out : List ℕ) → AreRewritten input [] (first ++ out) → length first + length out ≤ length input

@@ -11,14 +11,14 @@ use Rattle.spa_format.specs.Typed.{IsBytes}
 use Rattle.spa_format.proofs.Sequences.{members_left, props_left}
 use Rattle.spa_format.proofs.WordLemmas.{IsBytes-drop}
 use Rattle.spa_in_place.specs.MovedRuns.{AreRun, BeginsRun, IsRunWritten, MovesRun, PutsRun}
-use Rattle.spa_in_place.specs.Placed.{ArePlaced}
+use Rattle.spa_rewrite.specs.Placed.{ArePlaced}
 use Rattle.spa_rewrite.specs.Shorter.{AreShorterInside}
 use Rattle.spa_rewrite.specs.Steady.{ArePatched, AreSteadyInside}
 use Rattle.spa_in_place.proofs.Chains.{ChainsOn}
 use Rattle.spa_in_place.proofs.Moves.{PlacesOn, places_before}
-use Rattle.spa_rewrite.proofs.Runs.{property_encodings-join}
+use Rattle.spa_rewrite.proofs.Stretches.{property_encodings-join}
 use Rattle.spa_rewrite.proofs.Stretches.{member_encodings-join}
-use Rattle.spa_in_place.proofs.WrittenAcross.{further_behind}
+use Rattle.spa_rewrite.proofs.WrittenAcross.{further_behind}
 
 -- what is written of a run is its rewriting
 record RunIs (keyed : Bool) (run written : List ℕ) : Type 0 where

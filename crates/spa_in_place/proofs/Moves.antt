@@ -10,10 +10,10 @@ use Rattle.spa_format.specs.Words.{extent, word_at}
 use Rattle.spa_format.specs.Typed.{IsBytes}
 use Rattle.spa_format.proofs.WordLemmas.{IsBytes-drop, IsBytes-take}
 use Rattle.spa_bytes.specs.Opening.{Opens}
-use Rattle.spa_in_place.specs.Placed.{ArePlaced, IsPlaced, PutsKey, WritesOn, WritesPod, WritesPods}
+use Rattle.spa_rewrite.specs.Placed.{ArePlaced, IsPlaced, PutsKey, WritesOn, WritesPod, WritesPods}
 use Rattle.spa_rewrite.specs.Steady.{IsBehindKey, IsPodOf, key_size}
 use Rattle.spa_rewrite.proofs.Patches.{length_put}
-use Rattle.spa_in_place.proofs.WrittenAcross.{further_behind, here_is, opened_here, writes_all, writes_none, writes_one}
+use Rattle.spa_rewrite.proofs.WrittenAcross.{further_behind, here_is, opened_here, writes_all, writes_none, writes_one}
 
 -- the pods from a place on are left: once their rewritings are behind what is written, those of all are there
 pub record PlacesOn (all keyed : Bool) (old now : List ℕ) (gap from to : ℕ) : Type 0 where

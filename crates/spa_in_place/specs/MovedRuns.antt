@@ -1,6 +1,6 @@
 -- Runs of pods that are as long as their rewritings, moved at once: docs/FORMAT.md, "The encoding of a value".
 use Rattle.std.specs.Prelude.{◌≡◌, ◌+◌, ◌<◌, ◌≤◌, ◌++◌, ℕ, List, length, drop, take, Bool, true, false}
-use Rattle.spa_rewrite.specs.Nesting.{AreCanonicalInside}
+use Rattle.spa_rewrite.specs.Look.{AreCanonicalInside}
 use Rattle.spa_rewrite.specs.Steady.{ArePatched, AreSteady}
 
 -- pods that are canonical, or as long as their encodings

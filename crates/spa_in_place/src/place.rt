@@ -5,14 +5,13 @@ ghost use Rattle.spa_format.specs.Typed.{IsBytes};
 ghost use Rattle.spa_format.specs.Words.{header_size, size_limit};
 ghost use Rattle.spa_in_place.specs.MovedRuns.{AreRun, BeginsRun, MovesRun, PutsRun};
 ghost use Rattle.spa_rewrite.specs.Shorter.{AreShorter};
-ghost use Rattle.spa_in_place.specs.Placed.{HoldsWhole, IsInner, PutsHeader, PutsKey, WritesPod, WritesPods};
+ghost use Rattle.spa_rewrite.specs.Placed.{HoldsWhole, IsInner, PutsHeader, PutsKey, WritesPod, WritesPods};
 ghost use Rattle.spa_rewrite.specs.Steady.{IsPodOf, key_size};
 
-use crate::across::{holds_whole, inner_type};
 use spa_bytes::{HEADER_LEN, extent_of, open, two_words, u32_at};
 use spa_rewrite::{
-    SECOND_HEADER, behind_key, canonical_stretch, patch_all, patch_leaf, patch_values,
-    place_behind, steady_stretch, taken_len,
+    SECOND_HEADER, behind_key, canonical_stretch, holds_whole, inner_type, patch_all, patch_leaf,
+    patch_values, place_behind, steady_stretch, taken_len,
 };
 use spa_scan::{leaf_members, leaf_properties};
 use spa_utils::SpaTypes;

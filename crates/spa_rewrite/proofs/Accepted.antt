@@ -35,12 +35,11 @@ use Rattle.spa_rewrite.proofs.FirstPods.{accepted_behind, left_behind_pods}
 use Rattle.spa_rewrite.proofs.Levels.{deep_begun}
 use Rattle.spa_rewrite.proofs.Looks.{Awaits, first_own, goes_on, inside_own, own_opened, passes_pod, some_left, stands_opened}
 use Rattle.spa_rewrite.proofs.Refusals.{front_refused}
-use Rattle.spa_rewrite.proofs.Rewritten.{member_encodings-push}
+use Rattle.spa_rewrite.proofs.Rewritten.{member_encodings-push, parted}
 use Rattle.spa_rewrite.proofs.ShorterLemmas.{CountsOn, counts_all, counts_more, counts_none, first_within, shorter_inside, shorter_opened, within_behind}
 use Rattle.spa_rewrite.proofs.Stretches.{FirstMembers, list_refused, no_first_member}
 use Rattle.spa_rewrite.proofs.SteadyFound.{leaf_depth, never}
 use Rattle.spa_rewrite.proofs.SteadyLemmas.{left_shorter}
-use Rattle.spa_rewrite.proofs.Steps.{parted}
 
 -- no struct or object begins there
 pub leaf_shallow : (here body rest : List ℕ) (type : ℕ) → Opens here type body rest → type ≢ struct_type → (type ≡ object_type → length body < header_size) →

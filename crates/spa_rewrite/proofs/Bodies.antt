@@ -1,34 +1,21 @@
 -- The bodies of arrays and choices, part by part.
-use Rattle.std.proofs.Common.{◌≡◌, ◌≢◌, ℕ, suc, zero, ◌+◌, ◌*◌, ◌/◌, ◌%◌, ◌<◌, ◌≤◌, inl, inr, List, [], ◌∷◌, ◌++◌, length, drop, take, refl, sym, ap, ◌∙◌, subst, arith, append_assoc, length-append, length-drop, Option, Some, None, Result, Err}
-use Rattle.std.specs.Prelude.{IfErr, IfNone, IfSome}
+use Rattle.std.proofs.Common.{◌≡◌, ◌≢◌, ℕ, suc, zero, ◌+◌, ◌*◌, ◌/◌, ◌%◌, ◌<◌, ◌≤◌, List, [], ◌∷◌, ◌++◌, length, drop, take, refl, sym, ap, ◌∙◌, subst, arith, append_assoc, length-drop, Option, Some, None}
+use Rattle.std.specs.Prelude.{IfNone, IfSome}
 use Rattle.std.specs.Borrow.{Bor}
 use Rattle.std.proofs.lemmas.List.{drop-take, length-take-le, nil_from_length, take-take, take_all}
-use Rattle.std.proofs.lemmas.Result.{IfErr-at_err, IfErr-weaker}
-use Rattle.spa_format.specs.Words.{header_size, padding, word_at, word_bytes}
-use Rattle.spa_format.specs.Kind.{Kind, Fixed, IsFixedBody, body_size, bool_kind, content, type_number}
-use Rattle.spa_format.specs.Tree.{Shape, none_choice, range_choice, step_choice, enum_choice, flags_choice, shape_number, array, array_type, choice, choice_type}
+use Rattle.spa_format.specs.Words.{header_size, word_at}
+use Rattle.spa_format.specs.Kind.{Kind, Fixed, IsFixedBody, body_size, content}
+use Rattle.spa_format.specs.Tree.{Shape, none_choice, range_choice, step_choice, enum_choice, flags_choice, shape_number, array, choice}
 use Rattle.spa_format.specs.Normal.{kept_flags}
 use Rattle.spa_format.specs.Pod.{AreElements, IsArray, IsChoice, least_count, values_taken}
-use Rattle.spa_format.specs.Encoding.{array_body, fixed_bodies, framed}
-use Rattle.spa_format.specs.Typed.{IsBytes}
 use Rattle.spa_format.specs.Faults.{choice_header_size}
 use Rattle.spa_format.proofs.Choices.{same_shape}
-use Rattle.spa_format.proofs.Elements.{array_length, elements_length, length_of_elements, same_array_length, same_elements}
-use Rattle.spa_format.proofs.FixedKinds.{same_kind}
-use Rattle.spa_format.proofs.WordLemmas.{length-word_bytes, word_at-drop}
+use Rattle.spa_format.proofs.Elements.{length_of_elements}
 use Rattle.spa_fixed_sized.specs.Reading.{AreWhole}
-use Rattle.spa_fixed_sized.specs.declared.fault.Refusal.{Refusal}
 use Rattle.spa_fixed_sized.specs.declared.fault.Refusal.TheVariants as refusal
-use Rattle.spa_sink.specs.declared.gen_error.GenError.{GenError}
-use Rattle.spa_sink.specs.declared.gen_error.GenError.TheVariants.{OutOfMemory}
-use Rattle.std.proofs.lemmas.Bool.{cases_lt}
 use Rattle.std.proofs.Math.Nat.{mul-mod_left}
-use Rattle.spa_scan.specs.Canonical.{AreCanonicalElements, IsFixedLen}
-use Rattle.spa_scan.proofs.Parts.{no_elements, whole_elements}
-use Rattle.spa_rewrite.specs.Elements.{AreOfNumber, HasElements, HasValues, IsBeginning, LacksMemory, TakesElements, TakesParts}
-use Rattle.spa_rewrite.specs.Rewriting.{LeavesBody, TakesBody}
-use Rattle.spa_rewrite.specs.Tails.{TailAppends, appends_both}
-use Rattle.spa_rewrite.specs.declared.tail.Tail.{Tail}
+use Rattle.spa_scan.specs.Canonical.{IsFixedLen}
+use Rattle.spa_rewrite.specs.Elements.{HasElements, HasValues, IsBeginning}
 
 whole_parts : (n s : ℕ) → n % s ≡ 0 → n ≡ n / s * s
 whole_parts n s e = grind arith
@@ -305,123 +292,6 @@ same_flags step_choice f n z e = refl
 same_flags enum_choice f n z e = refl
 same_flags flags_choice f n z e = refl
 
-array_parts : (a b c d e p : List ℕ) → ((a ++ b) ++ (c ++ d)) ++ (e ++ p) ≡ a ++ (b ++ ((c ++ (d ++ e)) ++ p))
-array_parts a b c d e p = simp append_assoc
-
 pub choice_parts : (a b c d e f g p : List ℕ) →
     ((a ++ b) ++ (c ++ d)) ++ ((e ++ f) ++ (g ++ p)) ≡ a ++ (b ++ ((c ++ (d ++ (e ++ (f ++ g)))) ++ p))
 choice_parts a b c d e f g p = simp append_assoc
-
--- the values that a choice takes are of its child type
-pub of_child_type : (body kept : List ℕ) (number : ℕ) → HasValues body kept → number ≡ word_at body 12 → AreOfNumber number kept
-of_child_type body kept number h e =
-    let is = h.its_choice in
-    record { kind = h.kind; its_number = e ∙ sym (word_at-drop 8 4 body) ∙ is.values.child_type; whole = h.whole }
-
--- the parts of an array are its encoding,
-pub array_taken : (body elements header : List ℕ) (number : ℕ) (a b : Tail) → HasElements body elements →
-    header ≡ (word_bytes (length body) ++ word_bytes array_type) ++ (word_bytes (word_at body 0) ++ word_bytes number) →
-    number ≡ word_at body 4 → TakesParts header number elements (length body) a b → TakesBody array_type body a b
-array_taken body elements header number a b h e w t =
-    let k = t.kind in
-    let same : h.its.kind ≡ k = same_kind h.its.kind k (sym h.its.its_number ∙ sym w ∙ t.its_number) in
-    let size : word_at body 0 ≡ body_size k = h.child_size ∙ ap body_size same in
-    let is : IsArray k t.values body = record {
-      header = h.header;
-      child_size = size;
-      child_type = sym w ∙ t.its_number;
-      elements = subst (AreElements k t.values) h.behind t.its_values;
-    } in
-    let bodies = fixed_bodies t.values in
-    let inside = array_body k t.values in
-    let n = length body in
-    let long : length inside ≡ n = same_array_length k t.values body is in
-    let header_is : header ≡ (word_bytes n ++ word_bytes array_type) ++ (word_bytes (body_size k) ++ word_bytes (type_number k)) =
-    e ∙ ap (λ x. (word_bytes n ++ word_bytes array_type) ++ (word_bytes x ++ word_bytes number)) size
-    ∙ ap (λ x. (word_bytes n ++ word_bytes array_type) ++ (word_bytes (body_size k) ++ word_bytes x)) t.its_number in
-    let bytes : header ++ (bodies ++ padding n) ≡ framed array_type inside =
-    ap (λ x. x ++ (bodies ++ padding n)) header_is
-    ∙ array_parts (word_bytes n) (word_bytes array_type) (word_bytes (body_size k)) (word_bytes (type_number k)) bodies (padding n)
-    ∙ ap (λ m. word_bytes m ++ (word_bytes array_type ++ (inside ++ padding m))) (sym long) in
-    record {
-      value = array k t.values;
-      its_type = refl;
-      its_body = is;
-      encoding = subst (λ x. TailAppends a x b) bytes t.encoding;
-    }
-
--- and those of a choice
-pub choice_taken : (body kept first second : List ℕ) (shape flags number size : ℕ) (a b c : Tail) → HasValues body kept →
-    shape ≡ word_at body 0 → ((s : Shape) → shape ≡ shape_number s → flags ≡ kept_flags s (word_at body 4)) →
-    number ≡ word_at body 12 → size ≡ choice_header_size + length kept →
-    first ≡ (word_bytes size ++ word_bytes choice_type) ++ (word_bytes shape ++ word_bytes flags) →
-    second ≡ word_bytes (word_at body 8) ++ word_bytes number → TailAppends a first b → TakesParts second number kept size b c →
-    TakesBody choice_type body a c
-choice_taken body kept first second shape flags number size a b c h w0 w4 w12 z e0 e1 p t =
-    let is = h.its_choice in
-    let k = h.kind in
-    let s = h.shape in
-    let f = kept_flags s (word_at body 4) in
-    let number_is : number ≡ type_number k = w12 ∙ sym (word_at-drop 8 4 body) ∙ is.values.child_type in
-    let kinds : t.kind ≡ k = same_kind t.kind k (sym t.its_number ∙ number_is) in
-    let xs = h.default ∷ h.values in
-    let values : t.values ≡ xs = same_elements k t.values xs kept (subst (λ x. AreElements x t.values kept) kinds t.its_values) h.its_values in
-    let bodies = fixed_bodies xs in
-    let shape_is : shape ≡ shape_number s = w0 ∙ is.shape in
-    let flags_is : flags ≡ f = w4 s shape_is in
-    let child : word_at body 8 ≡ body_size k = sym (word_at-drop 8 0 body) ∙ is.values.child_size in
-    let inside = word_bytes (shape_number s) ++ (word_bytes f ++ array_body k xs) in
-    let l0 = length-append (word_bytes (shape_number s)) (word_bytes f ++ array_body k xs) in
-    let l1 = length-append (word_bytes f) (array_body k xs) in
-    let l2 = length-word_bytes (shape_number s) in
-    let l3 = length-word_bytes f in
-    let l4 = array_length k xs in
-    let l5 = elements_length k xs kept h.its_values in
-    let long : length inside ≡ size = omega arith in
-    let first_is : first ≡ (word_bytes size ++ word_bytes choice_type) ++ (word_bytes (shape_number s) ++ word_bytes f) =
-    e0 ∙ ap (λ x. (word_bytes size ++ word_bytes choice_type) ++ (word_bytes x ++ word_bytes flags)) shape_is
-    ∙ ap (λ x. (word_bytes size ++ word_bytes choice_type) ++ (word_bytes (shape_number s) ++ word_bytes x)) flags_is in
-    let second_is : second ≡ word_bytes (body_size k) ++ word_bytes (type_number k) =
-    e1 ∙ ap (λ x. word_bytes x ++ word_bytes number) child ∙ ap (λ x. word_bytes (body_size k) ++ word_bytes x) number_is in
-    let bytes : first ++ (second ++ (fixed_bodies t.values ++ padding size)) ≡ framed choice_type inside =
-    ap (λ x. x ++ (second ++ (fixed_bodies t.values ++ padding size))) first_is
-    ∙ ap (λ x. ((word_bytes size ++ word_bytes choice_type) ++ (word_bytes (shape_number s) ++ word_bytes f)) ++ (x ++ (fixed_bodies t.values ++ padding size))) second_is
-    ∙ ap (λ x. ((word_bytes size ++ word_bytes choice_type) ++ (word_bytes (shape_number s) ++ word_bytes f)) ++ ((word_bytes (body_size k) ++ word_bytes (type_number k)) ++ (fixed_bodies x ++ padding size))) values
-    ∙ choice_parts (word_bytes size) (word_bytes choice_type) (word_bytes (shape_number s)) (word_bytes f)
-    (word_bytes (body_size k)) (word_bytes (type_number k)) bodies (padding size)
-    ∙ ap (λ m. word_bytes m ++ (word_bytes choice_type ++ (inside ++ padding m))) (sym long) in
-    record {
-      value = choice s f k h.default h.values;
-      its_type = refl;
-      its_body = is;
-      encoding = subst (λ x. TailAppends a x c) bytes
-          (appends_both a b c first (second ++ (fixed_bodies t.values ++ padding size)) p t.encoding);
-    }
-
--- elements other than truth values are written as they are
-pub as_they_are : (number : ℕ) (elements : List ℕ) (a b : Tail) → IsBytes elements → number ≢ type_number bool_kind →
-    AreOfNumber number elements → TailAppends a elements b → TakesElements number elements a b
-as_they_are number elements a b h n w t =
-    let k = w.kind in
-    let other : ¬ (k ≡ bool_kind) = λ e. n (w.its_number ∙ ap type_number e) in
-    let many = w.whole.count in
-    let c : AreCanonicalElements k elements = elim (cases_lt 0 (body_size k)) [
-      | inl p ↦ whole_elements k w.whole.many elements h other p many
-      | inr z ↦ no_elements k elements (let e : length elements ≡ 0 = grind arith in e)
-    ] in
-    record {
-      kind = k;
-      its_number = w.its_number;
-      values = c.values;
-      its_values = c.elements;
-      encoding = subst (λ x. TailAppends a x b) c.same t;
-    }
-
--- a body for whose encoding there is no memory
-pub body_unwritten : {T : Type 0} (r : Result T GenError) (q : Result T Refusal) (type : ℕ) (body : List ℕ) (a b : Tail) →
-    IfErr r (λ e. LacksMemory e a b) → IfErr q (λ why. (why ≡ refusal.OutOfMemory) × (r ≡ Err OutOfMemory)) →
-    IfErr q (λ why. LeavesBody type body why a b)
-body_unwritten r q type body a b h e =
-    IfErr-weaker q _ _ (λ why x.
-    let kept = (IfErr-at_err (λ y. LacksMemory y a b) x.1 h).1 in
-    subst (λ w. LeavesBody type body w a b) (sym x.0) (record { says = tt; kept = kept })) e

@@ -1,4 +1,4 @@
--- Refusals for lack of memory.
+-- Refusals of the pod at the front, and what memory is asked for.
 use Rattle.std.proofs.Common.{◌≡◌, ℕ, ◌<◌, List, ◌++◌, length, refl, sym, ap, ◌∙◌, subst, arith, append_assoc}
 use Rattle.std.specs.Borrow.{Bor}
 use Rattle.spa_format.specs.Faults.{Stands}
@@ -6,15 +6,11 @@ use Rattle.spa_format.specs.Front.{Begins, HasFront}
 use Rattle.spa_format.specs.Pod.{AreMembers, IsBody, IsPod}
 use Rattle.spa_format.specs.Tree.{Tree, Trees, no_trees, member, type_of}
 use Rattle.spa_format.proofs.Fronts.{front_of_whole}
-use Rattle.spa_fixed_sized.specs.declared.fault.DeserializeError.{DeserializeError}
 use Rattle.spa_fixed_sized.specs.declared.fault.Refusal.{Refusal}
 use Rattle.spa_fixed_sized.specs.declared.fault.Refusal.TheVariants as refusal
-use Rattle.spa_bodies.specs.Reading.{OnMemory}
 use Rattle.spa_bodies.specs.Refusing.{Says, error_of}
-use Rattle.spa_rewrite.specs.Look.{IsRejected, IsTooDeep}
-use Rattle.spa_rewrite.specs.Memory.{FrontAsksMemory}
-use Rattle.spa_rewrite.specs.Rewriting.{RefusesFront, RefusesFrontAt}
-use Rattle.spa_rewrite.specs.declared.look.Rejected.{Rejected}
+use Rattle.spa_rewrite.specs.Memory.{FrontAsksMemory, IsRefusal}
+use Rattle.spa_rewrite.specs.Rewriting.{RefusesFrontAt}
 use Rattle.spa_rewrite.specs.declared.look.Rejected.TheVariants as rejected
 use Rattle.spa_rewrite.proofs.Accepted.{fault_front}
 use Rattle.spa_rewrite.proofs.Refusals.{front_refused}
@@ -26,53 +22,30 @@ begins_with (member v vs) input first rest e m l =
     let f = front_of_whole input m.0 (m.1 ++ rest) (type_of v) (IsBody v) (e ∙ ap (λ x. x ++ rest) m.2 ∙ append_assoc m.0 m.1 rest) m.3 in
     (v, record { there = f.0; pod = subst (λ b. IsPod b v) f.1 m.3 })
 
--- the public refusal of the pod at the front, and what memory was asked for
-pub record IsRefusal (input : List ℕ) (told : DeserializeError (Bor (List ℕ))) : Type 0 where
-  pub refused : RefusesFront input told
-  pub asks : OnMemory (FrontAsksMemory input) told
-
 -- memory ran out
-pub lacks : (input : List ℕ) (place : Bor (List ℕ)) (why : Refusal) (told : DeserializeError (Bor (List ℕ))) → told ≡ error_of place why →
-    why ≡ refusal.OutOfMemory → HasFront input → FrontAsksMemory input → IsRefusal input told
-lacks input place why told e w h a =
-    let same : told ≡ error_of place refusal.OutOfMemory = e ∙ ap (error_of place) w in
-    subst (IsRefusal input) (sym same) (record { refused = front_refused input place refusal.OutOfMemory h; asks = a })
+pub lacks : (input : List ℕ) (place : Bor (List ℕ)) (why : Refusal) → why ≡ refusal.OutOfMemory → HasFront input → FrontAsksMemory input →
+    IsRefusal input (error_of place why)
+lacks input place why w h a =
+    subst (λ x. IsRefusal input (error_of place x)) (sym w) (record { refused = front_refused input place refusal.OutOfMemory h; asks = a })
 
--- and a look tells a fault
-of_fault : (input : List ℕ) (place : Bor (List ℕ)) (why : Refusal) → Says (λ k. Stands k place.now input) ⊥ why →
-    OnMemory (FrontAsksMemory input) (error_of place why)
-of_fault input place refusal.Short s = tt
-of_fault input place refusal.Text s = tt
-of_fault input place refusal.InvalidType s = tt
-of_fault input place refusal.InvalidChoiceType s = tt
-of_fault input place refusal.MissingChoiceValues s = tt
-of_fault input place refusal.WrongSize s = tt
-of_fault input place refusal.OutOfMemory s = absurd s
+-- a fault stands
+pub is_fault : (input : List ℕ) (place : Bor (List ℕ)) (why : Refusal) → Says (λ k. Stands k place.now input) ⊥ why →
+    IsRefusal input (error_of place why)
+is_fault input place refusal.Short s = record { refused = fault_front input place refusal.Short s; asks = tt }
+is_fault input place refusal.Text s = record { refused = fault_front input place refusal.Text s; asks = tt }
+is_fault input place refusal.InvalidType s = record { refused = fault_front input place refusal.InvalidType s; asks = tt }
+is_fault input place refusal.InvalidChoiceType s = record { refused = fault_front input place refusal.InvalidChoiceType s; asks = tt }
+is_fault input place refusal.MissingChoiceValues s = record { refused = fault_front input place refusal.MissingChoiceValues s; asks = tt }
+is_fault input place refusal.WrongSize s = record { refused = fault_front input place refusal.WrongSize s; asks = tt }
+is_fault input place refusal.OutOfMemory s = absurd s
 
-pub tells_fault : (input : List ℕ) (r : Rejected) (place : Bor (List ℕ)) (why : Refusal) (told : DeserializeError (Bor (List ℕ))) →
-    told ≡ error_of place why → r ≡ rejected.Fault place why → IsRejected input r → IsRefusal input told
-tells_fault input r place why told e q h =
-    let says = subst (IsRejected input) q h in
-    subst (IsRefusal input) (sym e) (record { refused = fault_front input place why says; asks = of_fault input place why says })
-
-pub too_deep : (input : List ℕ) (r : Rejected) → r ≡ rejected.TooDeep → IsRejected input r → IsTooDeep input
-too_deep input r e h = subst (IsRejected input) e h
-
--- another refusal than that for lack of memory
-of_other : (input : List ℕ) (place : Bor (List ℕ)) (why : Refusal) → (why ≡ refusal.OutOfMemory → ⊥) → OnMemory (FrontAsksMemory input) (error_of place why)
-of_other input place refusal.Short n = tt
-of_other input place refusal.Text n = tt
-of_other input place refusal.InvalidType n = tt
-of_other input place refusal.InvalidChoiceType n = tt
-of_other input place refusal.MissingChoiceValues n = tt
-of_other input place refusal.WrongSize n = tt
-of_other input place refusal.OutOfMemory n = absurd (n refl)
-
-pub tells_other : (input : List ℕ) (place : Bor (List ℕ)) (why : Refusal) (told : DeserializeError (Bor (List ℕ))) → told ≡ error_of place why →
-    (why ≡ refusal.OutOfMemory → ⊥) → RefusesFrontAt input place.now why → IsRefusal input told
-tells_other input place why told e n h =
-    subst (IsRefusal input) (sym e) (record { refused = front_refused input place why h; asks = of_other input place why n })
-
--- the front is there where memory runs out
-pub front_there : (input place : List ℕ) (why : Refusal) → why ≡ refusal.OutOfMemory → RefusesFrontAt input place why → HasFront input
-front_there input place why e h = subst (RefusesFrontAt input place) e h
+-- a front that asks for memory is refused
+pub is_refusal : (input : List ℕ) (place : Bor (List ℕ)) (why : Refusal) → RefusesFrontAt input place.now why → FrontAsksMemory input →
+    IsRefusal input (error_of place why)
+is_refusal input place refusal.Short h a = is_fault input place refusal.Short h
+is_refusal input place refusal.Text h a = is_fault input place refusal.Text h
+is_refusal input place refusal.InvalidType h a = is_fault input place refusal.InvalidType h
+is_refusal input place refusal.InvalidChoiceType h a = is_fault input place refusal.InvalidChoiceType h
+is_refusal input place refusal.MissingChoiceValues h a = is_fault input place refusal.MissingChoiceValues h
+is_refusal input place refusal.WrongSize h a = is_fault input place refusal.WrongSize h
+is_refusal input place refusal.OutOfMemory h a = lacks input place refusal.OutOfMemory refl h a

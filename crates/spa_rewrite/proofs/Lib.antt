@@ -1,12 +1,7 @@
-pub mod TailLemmas
-pub mod Steps
 pub mod Refusals
 pub mod Rewritten
-pub mod OpenPods
-pub mod Nesting
 pub mod Stretches
 pub mod Own
-pub mod Runs
 pub mod Bodies
 pub mod Truths
 pub mod SteadyLemmas
@@ -21,3 +16,8 @@ pub mod Looks
 pub mod Faulted
 pub mod Accepted
 pub mod Lacking
+pub mod Appended
+pub mod Places
+pub mod PlacedBodies
+pub mod WrittenAcross
+pub mod Appending

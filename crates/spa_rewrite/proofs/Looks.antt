@@ -19,7 +19,7 @@ use Rattle.spa_scan.proofs.Frames.{body_bytes, canonical_front, none_left, none_
 use Rattle.spa_scan.proofs.Made.{made_body, made_members, made_properties}
 use Rattle.spa_scan.proofs.Opened.{object_inside, struct_inside}
 use Rattle.spa_rewrite.specs.Look.{AreLooked, IsFound, NestMore, OpensInside, Passes, StandsInside, nest_behind, nest_inside, nest_last}
-use Rattle.spa_rewrite.specs.Nesting.{AreCanonicalInside}
+use Rattle.spa_rewrite.specs.Look.{AreCanonicalInside}
 use Rattle.spa_rewrite.specs.Shorter.{AreShorterInside, BeginsShorter}
 use Rattle.spa_rewrite.specs.Steady.{AreSteadyInside, BeginsSteady, IsBehindKey, IsInside}
 use Rattle.spa_rewrite.specs.declared.look.Found.{Found}
@@ -27,7 +27,7 @@ use Rattle.spa_rewrite.specs.declared.look.Found.TheVariants as found
 use Rattle.spa_rewrite.specs.declared.steady.Inside.{Inside}
 use Rattle.spa_rewrite.proofs.ShorterLemmas.{shorter_inside, shorter_none, shorter_opened, shorter_room, shorter_step, whole_keyed, whole_list}
 use Rattle.spa_rewrite.proofs.SteadyFound.{first_body, first_steady, inside_steady, never}
-use Rattle.spa_rewrite.proofs.Steps.{parted}
+use Rattle.spa_rewrite.proofs.Rewritten.{parted}
 
 -- a canonical pod in front of others
 own_step : (keyed : Bool) (left here rest : List ℕ) → IsBytes left → IsBehindKey keyed left here → BeginsCanonical here rest →

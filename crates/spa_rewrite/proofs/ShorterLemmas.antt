@@ -26,7 +26,7 @@ use Rattle.spa_rewrite.specs.Steady.{BeginsSteady, IsBehindKey, IsInside, IsStea
 use Rattle.spa_format.proofs.Sequences.{members_joined}
 use Rattle.spa_rewrite.proofs.Stretches.{member_encodings-join}
 use Rattle.spa_rewrite.proofs.SteadyLemmas.{kept_length}
-use Rattle.spa_rewrite.proofs.Steps.{parted}
+use Rattle.spa_rewrite.proofs.Rewritten.{parted}
 
 -- lists of pods are as long as a multiple of 8
 pub whole_list : (vs : Trees) (b : List ℕ) → AreMembers vs b → length b % 8 ≡ 0

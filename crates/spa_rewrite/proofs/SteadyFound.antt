@@ -19,7 +19,7 @@ use Rattle.spa_bytes.specs.Opening.{Opens}
 use Rattle.spa_scan.specs.Canonical.{IsCanonicalText}
 use Rattle.spa_scan.specs.Depth.{depth_of, member_depth}
 use Rattle.spa_rewrite.specs.Elements.{HasValues}
-use Rattle.spa_rewrite.specs.Nesting.{AreCanonicalInside}
+use Rattle.spa_rewrite.specs.Look.{AreCanonicalInside}
 use Rattle.spa_rewrite.specs.Shorter.{AreShorterInside, BeginsShorter}
 use Rattle.spa_rewrite.specs.Steady.{AreSteady, AreSteadyInside, AreSteadyProperties, AreSteadyWithin, BeginsSteady, IsBehindKey, IsInside, IsSteadyBody}
 use Rattle.spa_rewrite.proofs.SteadyLemmas.{kept_length}

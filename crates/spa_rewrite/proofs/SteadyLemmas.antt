@@ -24,7 +24,7 @@ use Rattle.spa_rewrite.specs.Elements.{HasElements, HasValues}
 use Rattle.spa_rewrite.specs.Steady.{AreSteady, AreSteadyInside, BeginsSteady, IsBehindKey, IsInside, IsSteadyBody}
 use Rattle.spa_rewrite.proofs.Bodies.{listed}
 use Rattle.spa_rewrite.proofs.Stretches.{member_encodings-join}
-use Rattle.spa_rewrite.proofs.Steps.{parted}
+use Rattle.spa_rewrite.proofs.Rewritten.{parted}
 
 -- a pod that is opened
 pub steady_opened : (input body rest : List ℕ) (type : ℕ) → Opens input type body rest → IsSteadyBody type body → BeginsSteady input rest

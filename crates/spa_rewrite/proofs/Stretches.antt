@@ -1,19 +1,19 @@
--- Pods that are canonical, among those of a list.
-use Rattle.std.proofs.Common.{◌≡◌, ◌≢◌, ◌≤◌, arith, length-append, ℕ, List, [], ◌++◌, length, refl, sym, ap, ◌∙◌, subst, append_assoc}
+-- Pods that are rewritten one after another: canonical ones, accepted ones, and what follows them.
+use Rattle.std.proofs.Common.{◌≡◌, ◌≢◌, ◌<◌, arith, length-append, ℕ, List, [], ◌++◌, length, refl, sym, ap, ◌∙◌, subst, append_assoc}
 use Rattle.std.proofs.lemmas.List.{append-nil, nil_from_length}
 use Rattle.std.specs.Borrow.{Bor}
-use Rattle.spa_format.specs.Tree.{Trees, no_trees, member, join_members}
+use Rattle.spa_format.specs.Words.{word_bytes}
+use Rattle.spa_format.specs.Tree.{Trees, no_trees, member, Properties, no_properties, property, join_members, join_properties}
 use Rattle.spa_format.specs.Pod.{AreMembers}
-use Rattle.spa_format.specs.Encoding.{encoding_of, member_encodings}
+use Rattle.spa_format.specs.Encoding.{encoding_of, member_encodings, property_encodings}
+use Rattle.spa_format.specs.Front.{front_of}
 use Rattle.spa_format.proofs.Sequences.{members_joined}
 use Rattle.spa_fixed_sized.specs.declared.fault.DeserializeError.{DeserializeError}
 use Rattle.spa_scan.specs.Canonical.{AreCanonical}
-use Rattle.spa_rewrite.specs.Rewriting.{AreRewritten, AreRewrittenInParts, IsLeft, RefusesFront, RefusesList, TakesMembers, TakesStretch}
-use Rattle.spa_rewrite.specs.Steady.{AppendsPatched, AreSteady, TakesSteady}
-use Rattle.spa_rewrite.specs.Tails.{TailAppends, appends_both, start_bytes, tail_bytes}
-use Rattle.spa_rewrite.specs.declared.tail.Tail.{Tail}
-use Rattle.spa_rewrite.proofs.Rewritten.{no_members}
-use Rattle.spa_rewrite.proofs.Steps.{MembersSoFar, appends_none}
+use Rattle.spa_rewrite.specs.Rewriting.{AppendsEncodings, AppendsFirst, AppendsFront, AreRewritten, AreRewrittenInParts, IsLeft, IsSection, RefusesFront, RefusesList}
+use Rattle.spa_rewrite.specs.Shorter.{AreShorter}
+use Rattle.spa_rewrite.specs.declared.rewriting.Section.{Section}
+use Rattle.spa_rewrite.proofs.Rewritten.{no_members, parted}
 
 pub member_encodings-join : (vs ws : Trees) →
     member_encodings (join_members vs ws) ≡ member_encodings vs ++ member_encodings ws
@@ -22,40 +22,19 @@ member_encodings-join (member v vs) ws =
     ap (λ l. encoding_of v ++ l) (member_encodings-join vs ws)
     ∙ sym (append_assoc (encoding_of v) (member_encodings vs) (member_encodings ws))
 
--- some first pods, and those behind them that are canonical
-pub next_stretch : (body left rest : List ℕ) (a b c : Tail) → MembersSoFar body left a b →
-    TakesStretch left b rest c → MembersSoFar body rest a c
-next_stretch body left rest a b c h t =
-    let k = t.canonical in
-    let both = appends_both a b c (member_encodings h.values) t.stretch h.encodings t.encoding in
-    let same : member_encodings h.values ++ t.stretch ≡ member_encodings (join_members h.values k.values) =
-    ap (λ l. member_encodings h.values ++ l) k.same ∙ sym (member_encodings-join h.values k.values) in
-    record {
-      values = join_members h.values k.values;
-      first = h.first ++ t.stretch;
-      parts = h.parts ∙ ap (λ l. h.first ++ l) t.parts ∙ sym (append_assoc h.first t.stretch rest);
-      members = members_joined h.values k.values h.first t.stretch h.members k.members;
-      encodings = subst (λ l. TailAppends a l c) same both;
-    }
-
-pub left_of : (body left : List ℕ) (a b : Tail) → MembersSoFar body left a b → left ≢ [] →
-    IsLeft body left
-left_of body left a b h n = (h.values, h.first, h.parts, h.members, n)
-
--- canonical pods, and those behind them
-pub both_taken : (input rest : List ℕ) (a b c : Tail) → TakesStretch input a rest b →
-    TakesMembers rest b c → TakesMembers input a c
-both_taken input rest a b c t m =
-    let k = t.canonical in
-    let both = appends_both a b c t.stretch (member_encodings m.values) t.encoding m.encodings in
-    let same : t.stretch ++ member_encodings m.values ≡ member_encodings (join_members k.values m.values) =
-    ap (λ l. l ++ member_encodings m.values) k.same ∙ sym (member_encodings-join k.values m.values) in
-    record {
-      values = join_members k.values m.values;
-      members = subst (AreMembers (join_members k.values m.values)) (sym t.parts)
-          (members_joined k.values m.values t.stretch rest k.members m.members);
-      encodings = subst (λ l. TailAppends a l c) same both;
-    }
+pub property_encodings-join : (ps qs : Properties) →
+    property_encodings (join_properties ps qs) ≡ property_encodings ps ++ property_encodings qs
+property_encodings-join no_properties qs = refl
+property_encodings-join (property k f v ps) qs =
+    let key = word_bytes k in
+    let flags = word_bytes f in
+    let pod = encoding_of v in
+    let first = property_encodings ps in
+    let others = property_encodings qs in
+    ap (λ l. key ++ (flags ++ (pod ++ l))) (property_encodings-join ps qs)
+    ∙ ap (λ l. key ++ (flags ++ l)) (sym (append_assoc pod first others))
+    ∙ ap (λ l. key ++ l) (sym (append_assoc flags (pod ++ first) others))
+    ∙ sym (append_assoc key (flags ++ (pod ++ first)) others)
 
 pub both_rewritten : (input first rest out : List ℕ) → input ≡ first ++ rest → AreCanonical first →
     AreRewritten rest [] out → AreRewritten input [] (first ++ out)
@@ -102,52 +81,64 @@ no_first_member input = record { values = no_trees; first = []; parts = refl; me
 pub first_left : (input left : List ℕ) → FirstMembers input left → left ≢ [] → IsLeft input left
 first_left input left h n = (h.values, h.first, h.parts, h.members, n)
 
--- the rewritings that are all that a vector holds
-pub rewritten_apart : (input out : List ℕ) (a b : Tail) → start_bytes a ≡ [] → tail_bytes a ≡ [] →
-    out ≡ start_bytes b ++ tail_bytes b → TakesMembers input a b → AreRewritten input [] out
-rewritten_apart input out a b s t e m =
-    let bytes : out ≡ member_encodings m.values =
-    e ∙ ap (λ l. l ++ tail_bytes b) (m.encodings.kept.bytes ∙ s)
-    ∙ m.encodings.grown ∙ ap (λ l. l ++ member_encodings m.values) t in
-    (m.values, m.members, bytes)
+-- First pods whose encodings were appended.
 
--- some first pods, and those behind them whose rewritings are as long
-pub next_steady : (body left rest : List ℕ) (a b c : Tail) → MembersSoFar body left a b →
-    TakesSteady left b rest c → MembersSoFar body rest a c
-next_steady body left rest a b c h t =
-    let vs = t.steady.values in
-    let both = appends_both a b c (member_encodings h.values) (member_encodings vs) h.encodings t.encodings in
-    record {
-      values = join_members h.values vs;
-      first = h.first ++ t.first;
-      parts = h.parts ∙ ap (λ l. h.first ++ l) t.parts ∙ sym (append_assoc h.first t.first rest);
-      members = members_joined h.values vs h.first t.first h.members t.steady.members;
-      encodings = subst (λ l. TailAppends a l c) (sym (member_encodings-join h.values vs)) both;
-    }
+pub none_appended : (input old : List ℕ) → AppendsFirst input input old old
+none_appended input old = ([], refl, (no_trees, refl, sym (append-nil old)))
 
-pub steady_taken : (input first rest : List ℕ) (a b : Tail) → input ≡ first ++ rest → AreSteady first → AppendsPatched a first b →
-    TakesSteady input a rest b
-steady_taken input first rest a b e k p = record {
-  first = first;
-  parts = e;
-  steady = k;
-  encodings = subst (λ l. TailAppends a l b) (p.its k.values k.members k.long) p.appended;
-}
-
-pub nothing_steady : (input : List ℕ) (a : Tail) → TakesSteady input a input a
-nothing_steady input a = record {
-  first = [];
-  parts = refl;
-  steady = record { values = no_trees; members = refl; long = refl };
-  encodings = appends_none a;
-}
-
--- what is left is no longer than what it was left of
-pub steady_no_longer : (input rest : List ℕ) (a b : Tail) → TakesSteady input a rest b → length rest ≤ length input
-steady_no_longer input rest a b t = let e = ap length t.parts ∙ length-append t.first rest in omega arith
+pub first_appended : (input left rest old now new : List ℕ) → AppendsFirst input left old now → AppendsFirst left rest now new →
+    AppendsFirst input rest old new
+first_appended input left rest old now new a b =
+    let r : AreRewritten a.0 old now = a.2 in
+    let s : AreRewritten b.0 now new = b.2 in
+    let vs = join_members r.0 s.0 in
+    let first = a.0 ++ b.0 in
+    let parts : input ≡ first ++ rest = a.1 ∙ ap (λ l. a.0 ++ l) b.1 ∙ sym (append_assoc a.0 b.0 rest) in
+    let written : new ≡ old ++ member_encodings vs =
+    s.2 ∙ ap (λ l. l ++ member_encodings s.0) r.2 ∙ append_assoc old (member_encodings r.0) (member_encodings s.0)
+    ∙ ap (λ l. old ++ l) (sym (member_encodings-join r.0 s.0)) in
+    (first, parts, (vs, members_joined r.0 s.0 a.0 b.0 r.1 s.1, written))
 
 -- all of them
-pub members_taken : (body left : List ℕ) (a b : Tail) → MembersSoFar body left a b → length left ≡ 0 → TakesMembers body a b
-members_taken body left a b h e =
-    let same : body ≡ h.first = h.parts ∙ ap (λ l. h.first ++ l) (nil_from_length left e) ∙ append-nil h.first in
-    record { values = h.values; members = subst (AreMembers h.values) (sym same) h.members; encodings = h.encodings }
+pub all_appended : (input left old now : List ℕ) → AppendsFirst input left old now → length left ≡ 0 → AreRewritten input old now
+all_appended input left old now a z =
+    let r : AreRewritten a.0 old now = a.2 in
+    let same : input ≡ a.0 = a.1 ∙ ap (λ l. a.0 ++ l) (nil_from_length left z) ∙ append-nil a.0 in
+    (r.0, subst (AreMembers r.0) (sym same) r.1, r.2)
+
+-- what is left
+pub left_appended : (input left old now : List ℕ) → AppendsFirst input left old now → left ≢ [] → IsLeft input left
+left_appended input left old now a n =
+    let r : AreRewritten a.0 old now = a.2 in
+    (r.0, a.0, a.1, r.1, n)
+
+-- one pod
+pub front_appended : (input rest old new : List ℕ) → AppendsFront input rest old new → AppendsFirst input rest old new
+front_appended input rest old new a =
+    let v = a.0 in
+    let front = front_of input in (
+      front,
+      parted input v rest a.1,
+      (
+        member v no_trees,
+        (front, [], sym (append-nil front), a.1.begins.pod, refl),
+        a.2 ∙ ap (λ l. old ++ l) (sym (append-nil (encoding_of v))),
+      ),
+    )
+
+-- canonical ones
+pub canonical_appended : (left first rest old new : List ℕ) → left ≡ first ++ rest → AreCanonical first → new ≡ old ++ first →
+    AppendsFirst left rest old new
+canonical_appended left first rest old new e k w = (first, e, (k.values, k.members, w ∙ ap (λ l. old ++ l) k.same))
+
+-- accepted ones, and a canonical one behind them
+pub pods_appended : (pods first rest old new : List ℕ) (n : ℕ) → pods ≡ first ++ rest → AreShorter first n → AppendsEncodings first old new →
+    AppendsFirst pods rest old new
+pods_appended pods first rest old new n e s a = (first, e, (s.values, s.members, a s.values s.members))
+
+pub section_appended : (pods old now new : List ℕ) (s : Section) → IsSection pods s → AppendsEncodings s.pods.now old now → new ≡ now ++ s.canonical.now →
+    AppendsFirst pods s.rest.now old new
+section_appended pods old now new s h a e =
+    let behind = s.canonical.now ++ s.rest.now in
+    first_appended pods behind s.rest.now old now new (pods_appended pods s.pods.now behind old now s.surplus h.parts h.shorter a)
+    (canonical_appended behind s.canonical.now s.rest.now now new refl h.canonical e)

@@ -1,20 +1,15 @@
--- The bodies of truth values, a block at a time.
-use Rattle.std.proofs.Common.{◌≡◌, ℕ, ◌+◌, ◌*◌, ◌%◌, ◌<◌, ◌≤◌, List, [], ◌∷◌, ◌++◌, length, drop, take, refl, sym, ap, ◌∙◌, subst, arith, append_assoc, length-drop}
-use Rattle.std.specs.Prelude.{min}
+-- The bodies of truth values.
+use Rattle.std.proofs.Common.{◌≡◌, ℕ, ◌+◌, ◌*◌, ◌<◌, ◌≤◌, List, [], ◌∷◌, ◌++◌, length, drop, take, refl, sym, ap, ◌∙◌, subst, arith, length-drop}
 use Rattle.std.proofs.Math.Seq.{take-add}
-use Rattle.std.proofs.lemmas.List.{append-nil, drop-drop, length-take-le, nil_from_length, take-append-drop, take_all}
+use Rattle.std.proofs.lemmas.List.{drop-drop, length-take-le, take_all}
 use Rattle.std.proofs.lemmas.Slice.{drop-put_mid, take-put_mid}
 use borrow.Rule.Slice.PartMut.{put_mid}
 use Rattle.spa_format.specs.Kind.{Fixed, bool_kind, content, fixed_body}
 use Rattle.spa_format.specs.Pod.{AreElements}
 use Rattle.spa_format.specs.Encoding.{fixed_bodies}
-use Rattle.spa_format.proofs.Elements.{bodies_push, elements_joined, elements_push, fixed_bodies-append}
+use Rattle.spa_format.proofs.Elements.{bodies_push, elements_push}
 use Rattle.spa_fixed_sized.specs.Reading.{AreWhole}
-use Rattle.spa_rewrite.specs.Elements.{AreTruths, TakesTruths}
-use Rattle.spa_rewrite.specs.Tails.{TailAppends, appends_both}
-use Rattle.spa_rewrite.specs.declared.tail.Tail.{Tail}
-use Rattle.spa_rewrite.proofs.Bodies.{whole_of}
-use Rattle.spa_rewrite.proofs.Steps.{appends_none}
+use Rattle.spa_rewrite.specs.Elements.{AreTruths}
 
 -- the first words stand in the block as they are written
 pub record AreFilled (words block : List ℕ) (at : ℕ) : Type 0 where
@@ -61,60 +56,6 @@ all_filled words block at h l =
       values = h.values;
       its_values = subst (AreElements bool_kind h.values) (take_all at words l) h.its_values;
       bodies = ap (λ n. take n block) (sym same) ∙ h.bodies;
-    }
-
--- the first words were appended as they are written, and these are left
-pub record TruthsSoFar (words left : List ℕ) (old new : Tail) : Type 0 where
-  pub values : List Fixed
-  pub first : List ℕ
-  pub parts : words ≡ first ++ left
-  pub its_values : AreElements bool_kind values first
-  pub encoding : TailAppends old (fixed_bodies values) new
-  pub whole : AreWhole 4 left
-
-pub no_truth_yet : (words : List ℕ) (a : Tail) → AreWhole 4 words → TruthsSoFar words words a a
-no_truth_yet words a w =
-    record { values = []; first = []; parts = refl; its_values = refl; encoding = appends_none a; whole = w }
-
--- a block of whole words, and those behind it
-whole_block : (m n : ℕ) → n ≡ min (m * 4) 256 → n % 4 ≡ 0
-whole_block m n e = grind arith
-
-pub block_whole : (left some : List ℕ) (n : ℕ) → AreWhole 4 left → n ≡ min (length left) 256 → some ≡ take n left →
-    AreWhole 4 some
-block_whole left some n w e s =
-    let short : n ≤ length left = grind arith in
-    let long : length some ≡ n = ap length s ∙ length-take-le n left short in
-    let even : n % 4 ≡ 0 = whole_block w.many n (e ∙ ap (λ m. min m 256) w.count) in
-    whole_of 4 some (ap (λ m. m % 4) long ∙ even)
-
-pub next_truths : (words left some rest bytes : List ℕ) (n : ℕ) (a b c : Tail) → TruthsSoFar words left a b →
-    n ≡ min (length left) 256 → some ≡ take n left → rest ≡ drop n left → AreTruths some bytes → TailAppends b bytes c →
-    TruthsSoFar words rest a c
-next_truths words left some rest bytes n a b c h e s r t p =
-    let here : left ≡ some ++ rest =
-    sym (take-append-drop n left) ∙ ap (λ l. l ++ drop n left) (sym s) ∙ ap (λ l. some ++ l) (sym r) in
-    let even : n % 4 ≡ 0 = whole_block h.whole.many n (e ∙ ap (λ m. min m 256) h.whole.count) in
-    let all = h.whole.count in
-    let d = ap length r ∙ length-drop n left in
-    record {
-      values = h.values ++ t.values;
-      first = h.first ++ some;
-      parts = h.parts ∙ ap (λ l. h.first ++ l) here ∙ sym (append_assoc h.first some rest);
-      its_values = elements_joined bool_kind h.values t.values h.first some h.its_values t.its_values;
-      encoding = subst (λ l. TailAppends a l c) (sym (fixed_bodies-append h.values t.values))
-          (appends_both a b c (fixed_bodies h.values) (fixed_bodies t.values) h.encoding
-          (subst (λ l. TailAppends b l c) t.bodies p));
-      whole = whole_of 4 rest (let z : length rest % 4 ≡ 0 = omega arith in z);
-    }
-
-pub all_truths : (words left : List ℕ) (a b : Tail) → TruthsSoFar words left a b → length left ≡ 0 → TakesTruths words a b
-all_truths words left a b h e =
-    let same : words ≡ h.first = h.parts ∙ ap (λ l. h.first ++ l) (nil_from_length left e) ∙ append-nil h.first in
-    record {
-      values = h.values;
-      its_values = subst (AreElements bool_kind h.values) (sym same) h.its_values;
-      encoding = h.encoding;
     }
 
 -- the first words are as they are written, and the others as they were

@@ -1,17 +1,13 @@
 -- The bodies of arrays and choices, and what of them is written.
-use Rattle.std.specs.Prelude.{◌≡◌, ◌<◌, ◌≤◌, ◌+◌, ◌++◌, ◌∷◌, ℕ, List, length, drop, take}
+use Rattle.std.specs.Prelude.{◌≡◌, ◌<◌, ◌≤◌, ◌+◌, ◌∷◌, ℕ, List, length, drop, take}
 use Rattle.spa_fixed_sized.specs.Reading.{AreWhole}
-use Rattle.spa_format.specs.Words.{header_size, padding, word_at}
+use Rattle.spa_format.specs.Words.{header_size, word_at}
 use Rattle.spa_format.specs.Kind.{Kind, Fixed, body_size, bool_kind, type_number}
 use Rattle.spa_format.specs.Tree.{Shape}
 use Rattle.spa_format.specs.Normal.{kept_flags}
 use Rattle.spa_format.specs.Pod.{AreElements, IsChoice}
 use Rattle.spa_format.specs.Encoding.{fixed_bodies}
 use Rattle.spa_format.specs.Faults.{choice_header_size}
-use Rattle.spa_sink.specs.declared.gen_error.GenError.{GenError}
-use Rattle.spa_sink.specs.declared.gen_error.GenError.TheVariants.{OutOfMemory}
-use Rattle.spa_rewrite.specs.Tails.{KeepsStart, TailAppends}
-use Rattle.spa_rewrite.specs.declared.tail.Tail.{Tail}
 
 -- whole bodies of the kind that has this type number
 pub record AreOfNumber (number : ℕ) (elements : List ℕ) : Type 0 where
@@ -42,32 +38,6 @@ pub record IsBeginning (first all : List ℕ) (size : ℕ) : Type 0 where
   pub some : 0 < size
   pub room : size ≤ length all
   pub same : first ≡ take size all
-
--- there is no memory, and the bytes that stay are the same
-abbrev pub LacksMemory : GenError → Tail → Tail → Type 0
-LacksMemory e old new = (e ≡ OutOfMemory) × KeepsStart old new
-
--- these bodies say some values of the kind that has this type number, and the output got these as they are written
-pub record TakesElements (number : ℕ) (elements : List ℕ) (old new : Tail) : Type 0 where
-  pub kind : Kind
-  pub its_number : number ≡ type_number kind
-  pub values : List Fixed
-  pub its_values : AreElements kind values elements
-  pub encoding : TailAppends old (fixed_bodies values) new
-
--- the same behind some bytes, and zeros behind a body of this size
-pub record TakesParts (header : List ℕ) (number : ℕ) (elements : List ℕ) (size : ℕ) (old new : Tail) : Type 0 where
-  pub kind : Kind
-  pub its_number : number ≡ type_number kind
-  pub values : List Fixed
-  pub its_values : AreElements kind values elements
-  pub encoding : TailAppends old (header ++ (fixed_bodies values ++ padding size)) new
-
--- bodies of truth values, which the output got as they are written
-pub record TakesTruths (words : List ℕ) (old new : Tail) : Type 0 where
-  pub values : List Fixed
-  pub its_values : AreElements bool_kind values words
-  pub encoding : TailAppends old (fixed_bodies values) new
 
 -- bodies of truth values, and these as they are written
 pub record AreTruths (words written : List ℕ) : Type 0 where

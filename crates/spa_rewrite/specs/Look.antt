@@ -6,9 +6,8 @@ use Rattle.spa_format.specs.Opened.{OpensHeaderAlone}
 use Rattle.spa_format.specs.Typed.{IsBytes}
 use Rattle.spa_bytes.specs.Opening.{Opens}
 use Rattle.spa_bodies.specs.Refusing.{Says, StandsInMembers, StandsInProperties}
-use Rattle.spa_scan.specs.Canonical.{AreCanonical, BeginsCanonical}
+use Rattle.spa_scan.specs.Canonical.{AreCanonical, AreCanonicalProperties, BeginsCanonical}
 use Rattle.spa_scan.specs.Depth.{NestsDeeper, levels_looked_into}
-use Rattle.spa_rewrite.specs.Nesting.{AreCanonicalInside}
 use Rattle.spa_rewrite.specs.Shorter.{AreShorter, AreShorterInside, BeginsShorter}
 use Rattle.spa_rewrite.specs.Steady.{AreSteadyInside, IsBehindKey, IsInside}
 use Rattle.spa_rewrite.specs.declared.look.AcceptedPod.{AcceptedPod}
@@ -19,6 +18,11 @@ use Rattle.spa_rewrite.specs.declared.look.Met.{Met}
 use Rattle.spa_rewrite.specs.declared.look.Met.TheVariants as met
 use Rattle.spa_rewrite.specs.declared.look.Rejected.{Rejected}
 use Rattle.spa_rewrite.specs.declared.look.Rejected.TheVariants as rejected
+
+-- properties that are as their values are written, or members
+abbrev pub AreCanonicalInside : Bool → List ℕ → Type 0
+AreCanonicalInside true body = AreCanonicalProperties body
+AreCanonicalInside false body = AreCanonical body
 
 -- the fault stands at this place in one of the properties, or of the members
 abbrev pub StandsInside : Bool → List ℕ → List ℕ → Fault → Type 0

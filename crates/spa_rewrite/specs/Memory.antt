@@ -1,9 +1,27 @@
 -- What memory is asked for: docs/FORMAT.md, "The encoding of a value".
 use Rattle.std.specs.Prelude.{◌⊎◌, ℕ, List}
+use Rattle.std.specs.Borrow.{Bor}
+use Rattle.spa_fixed_sized.specs.declared.fault.DeserializeError.{DeserializeError}
+use Rattle.spa_format.specs.Faults.{Stands}
 use Rattle.spa_format.specs.Front.{Begins}
 use Rattle.spa_format.specs.Tree.{Tree}
+use Rattle.spa_bodies.specs.Reading.{OnMemory}
+use Rattle.spa_bodies.specs.Refusing.{Says}
 use Rattle.spa_rewrite.specs.Look.{IsTooDeep}
+use Rattle.spa_rewrite.specs.Rewriting.{RefusesFront}
+use Rattle.spa_rewrite.specs.declared.look.Rejected.{Rejected}
+use Rattle.spa_rewrite.specs.declared.look.Rejected.TheVariants as rejected
 
 -- the front is a pod, whose encoding takes memory, or nests too deep to be looked into
 abbrev pub FrontAsksMemory : List ℕ → Type 0
 FrontAsksMemory input = ((v : Tree) × Begins input v) ⊎ IsTooDeep input
+
+-- Why the front isn't rewritten, and what memory was asked for.
+pub record IsRefusal (input : List ℕ) (e : DeserializeError (Bor (List ℕ))) : Type 0 where
+  pub refused : RefusesFront input e
+  pub asks : OnMemory (FrontAsksMemory input) e
+
+-- why the front isn't written by calls: a fault that stands, or it asks for memory
+abbrev pub IsUnwritten : List ℕ → Rejected → Type 0
+IsUnwritten input (rejected.Fault place why) = Says (λ k. Stands k place.now input) ⊥ why
+IsUnwritten input rejected.TooDeep = FrontAsksMemory input

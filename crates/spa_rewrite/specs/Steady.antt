@@ -9,8 +9,6 @@ use Rattle.spa_format.specs.Front.{front_of}
 use Rattle.spa_format.specs.Typed.{IsBytes}
 use Rattle.spa_bodies.specs.Reading.{BeginsWith}
 use Rattle.spa_scan.specs.Depth.{member_depth}
-use Rattle.spa_rewrite.specs.Tails.{TailAppends}
-use Rattle.spa_rewrite.specs.declared.tail.Tail.{Tail}
 
 -- pods one after another whose rewritings are together as long as they are
 pub record AreSteady (body : List ℕ) : Type 0 where
@@ -116,16 +114,3 @@ bytes_taken flags_choice size all = all
 abbrev pub TakesValues : ℕ → ℕ → List ℕ → List ℕ → Type 0
 TakesValues shape n old new = (pod : List ℕ) (size : ℕ) → IsPodOf pod choice_type size → drop 8 pod ≡ drop 8 old → 16 ≤ size → n ≤ size - 16 →
     shape ≡ word_at pod 8 → ((s : Shape) → shape ≡ shape_number s → n ≡ bytes_taken s (word_at pod 16) (size - 16)) → IsPatched pod new
-
--- pods were appended, and became their rewritings, if those are as long
-pub record AppendsPatched (old : Tail) (pods : List ℕ) (new : Tail) : Type 0 where
-  pub patched : List ℕ
-  pub its : ArePatched false pods patched
-  pub appended : TailAppends old patched new
-
--- some first pods have rewritings as long as they are, these were appended, and this follows the pods
-pub record TakesSteady (input : List ℕ) (old : Tail) (rest : List ℕ) (new : Tail) : Type 0 where
-  pub first : List ℕ
-  pub parts : input ≡ first ++ rest
-  pub steady : AreSteady first
-  pub encodings : TailAppends old (member_encodings steady.values) new

@@ -1,24 +1,15 @@
-//! The bodies of arrays and choices, rewritten as they lie: only truth values, surplus values and the flags of a choice without
-//! alternatives change in them.
-ghost use Rattle.std.specs.Prelude.{◌≡◌, ◌%◌, ◌*◌, ◌<◌, ◌≤◌, ◌++◌, IfErr, IfNone, IfSome, List, OnOk, length, take, true, ℕ};
-ghost use Rattle.spa_fixed_sized.specs.Reading.{AreWhole};
+//! The values in the bodies of arrays and choices.
+ghost use Rattle.std.specs.Prelude.{◌≡◌, ◌%◌, ◌*◌, ◌<◌, IfNone, IfSome, List, length, true, ℕ};
 ghost use Rattle.spa_format.specs.Kind.{Fixed, Kind};
 ghost use Rattle.spa_format.specs.Normal.{kept_flags};
 ghost use Rattle.spa_format.specs.Pod.{IsArray, IsChoice};
-ghost use Rattle.spa_format.specs.Tree.{Shape, array_type, choice_type, shape_number};
-ghost use Rattle.spa_format.specs.Words.{size_limit};
-ghost use Rattle.spa_rewrite.specs.Elements.{AreOfNumber, AreTruths, HasElements, HasValues, IsBeginning, LacksMemory, TakesElements, TakesParts, TakesTruths};
-ghost use Rattle.spa_rewrite.specs.Rewriting.{TakesBody};
+ghost use Rattle.spa_format.specs.Tree.{Shape, shape_number};
+ghost use Rattle.spa_rewrite.specs.Elements.{HasElements, HasValues, IsBeginning};
 ghost use Rattle.spa_scan.specs.Canonical.{IsFixedLen};
 
-use crate::tail::Tail;
-use spa_bytes::{HEADER_LEN, SECOND_WORD, joined, two_words, u32_at};
-use spa_fixed_sized::{
-    CanonicalFixedSizedPod, ENUM_SHAPE, FLAGS_SHAPE, NONE_SHAPE, RANGE_SHAPE, STEP_SHAPE,
-};
+use spa_bytes::{HEADER_LEN, SECOND_WORD, u32_at};
+use spa_fixed_sized::{ENUM_SHAPE, FLAGS_SHAPE, NONE_SHAPE, RANGE_SHAPE, STEP_SHAPE};
 use spa_scan::fixed_len;
-use spa_sink::{GenError, PodSink, put_padding};
-use spa_utils::SpaTypes;
 
 /// The length in bytes of the longest body of fixed size.
 const WIDE_LEN: u32 = 8;
@@ -113,46 +104,6 @@ fn all_values(elements: &[u8]) -> Option<&[u8]>
     Some(elements)
 }
 
-/// Appends the pod that is written for the body of an array with these elements.
-pub(crate) fn put_array(body: &[u8], elements: &[u8], out: &mut Tail) -> Result<(), GenError>
-    requires elements { HasElements body.now elements.now }
-    requires fits { length body.now < size_limit }
-    ensures taken { OnOk result (TakesBody array_type body.now out.old out.new) }
-    ensures refused { IfErr result (λ e. LacksMemory e out.old out.new) }
-{
-    let type_ = u32_at(body, SECOND_WORD);
-    let header = joined(
-        two_words(body.len() as u32, SpaTypes::Array.0),
-        two_words(u32_at(body, 0), type_),
-    );
-    put_parts(&header, type_, elements, body.len(), out)
-}
-
-/// Appends the pod that is written for the body of a choice which takes these values.
-pub(crate) fn put_choice(body: &[u8], kept: &[u8], out: &mut Tail) -> Result<(), GenError>
-    requires values { HasValues body.now kept.now }
-    requires fits { length body.now < size_limit }
-    ensures taken { OnOk result (TakesBody choice_type body.now out.old out.new) }
-    ensures refused { IfErr result (λ e. LacksMemory e out.old out.new) }
-{
-    let shape = u32_at(body, 0);
-    let flags = written_flags(shape, u32_at(body, SECOND_WORD));
-    let size = 2 * HEADER_LEN + kept.len();
-    let header = joined(
-        two_words(size as u32, SpaTypes::Choice.0),
-        two_words(shape, flags),
-    );
-    out.append(&header)?;
-    let type_ = u32_at(body, HEADER_LEN + SECOND_WORD);
-    put_parts(
-        &two_words(u32_at(body, HEADER_LEN), type_),
-        type_,
-        kept,
-        size,
-        out,
-    )
-}
-
 /// The flags that are written of a choice of this shape.
 pub(crate) fn written_flags(shape: u32, flags: u32) -> u32
     ensures { (s : Shape) → shape ≡ shape_number s → result ≡ kept_flags s flags }
@@ -163,68 +114,5 @@ pub(crate) fn written_flags(shape: u32, flags: u32) -> u32
     flags
 }
 
-/// Appends a header, the bodies of elements as they are written, and zeros behind a body of this size.
-fn put_parts(
-    header: &[u8],
-    type_: u32,
-    elements: &[u8],
-    size: usize,
-    out: &mut Tail,
-) -> Result<(), GenError>
-    requires { AreOfNumber type_ elements.now }
-    ensures taken { OnOk result (TakesParts header.now type_ elements.now size out.old out.new) }
-    ensures refused { IfErr result (λ e. LacksMemory e out.old out.new) }
-{
-    out.append(header)?;
-    put_elements(type_, elements, out)?;
-    put_padding(out, size)
-}
-
-/// Appends the bodies of elements of this type as they are written.
-fn put_elements(type_: u32, elements: &[u8], out: &mut Tail) -> Result<(), GenError>
-    requires { AreOfNumber type_ elements.now }
-    ensures taken { OnOk result (TakesElements type_ elements.now out.old out.new) }
-    ensures refused { IfErr result (λ e. LacksMemory e out.old out.new) }
-{
-    if type_ == SpaTypes::Bool.0 {
-        return put_truths(elements, out);
-    }
-    out.append(elements)
-}
-
 /// The length in bytes of a truth value's body.
 const WORD_LEN: usize = 4;
-
-/// How many bytes of truth values are handed to the output at once, at most.
-const BLOCK_LEN: usize = 256;
-
-/// Appends the bodies of truth values as they are written, in blocks.
-fn put_truths(words: &[u8], out: &mut Tail) -> Result<(), GenError>
-    requires { AreWhole WORD_LEN words.now }
-    ensures taken { OnOk result (TakesTruths words.now out.old out.new) }
-    ensures refused { IfErr result (λ e. LacksMemory e out.old out.new) }
-{
-    let mut block = [0; BLOCK_LEN];
-    let mut left = words;
-    while !left.is_empty() {
-        let (some, rest) = left.split_at(left.len().min(BLOCK_LEN));
-        fill_truths(&mut block, some);
-        out.append(&block[..some.len()])?;
-        left = rest;
-    }
-    Ok(())
-}
-
-/// Puts the bodies of truth values as they are written at the front of a block.
-fn fill_truths(block: &mut [u8], words: &[u8])
-    requires whole { AreWhole WORD_LEN words.now }
-    requires room { length words.now ≤ length block.old }
-    ensures { AreTruths words.now (take (length words.now) block.new) }
-{
-    let mut at = 0;
-    while at < words.len() {
-        let truth = bool::of_body(&words[at..at + WORD_LEN]);
-        block[at..at + WORD_LEN].copy_from_slice(&truth.padded_body()[..WORD_LEN]);
-        at += WORD_LEN;
-    }
-}

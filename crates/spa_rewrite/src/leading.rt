@@ -39,9 +39,22 @@ pub fn canonical_stretch(input: &[u8]) -> (&[u8], &[u8])
         keyed: false,
         pods: input,
     };
-    let mut frames = [list; FEW];
+    canonical_pods(input, &mut [list; FEW])
+}
+
+/// Answers what `canonical_stretch` does, with an array in which lists can wait.
+#[inline(always)]
+pub(crate) fn canonical_pods<'a>(
+    input: &'a [u8],
+    frames: &mut [Inside<'a>],
+) -> (&'a [u8], &'a [u8])
+    ensures parts { input.now ≡ result.0.now ++ result.1.now }
+    ensures canonical { AreCanonical result.0.now }
+    ensures front { 0 < length result.0.now → HasFront input.now }
+    ensures all { AreShallow levels_looked_into input.now → result.1.now ≡ [] }
+{
     let mut left = input;
-    while let Some(rest) = next_canonical(left, &mut frames) {
+    while let Some(rest) = next_canonical(left, frames) {
         left = rest;
     }
     input.split_at(input.len() - left.len())

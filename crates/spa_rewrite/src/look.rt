@@ -204,7 +204,7 @@ fn last_inside<'a>(type_: u32, body: &'a [u8], rest: &[u8]) -> Option<Inside<'a>
 
 /// How many bytes the body of a pod has at least in which more than `LEVELS` structs and objects stand in one another: each of these in it has a
 /// header.
-const DEEP_BODY: usize = LEVELS as usize * HEADER_LEN;
+pub(crate) const DEEP_BODY: usize = LEVELS as usize * HEADER_LEN;
 
 /// Whether at most `LEVELS` structs and objects stand in one another in each of the pods.
 fn are_shallow(pods: &[u8]) -> bool
@@ -234,7 +234,7 @@ fn canonical_len(canonical: usize, are_all: bool, end: usize) -> usize
 /// Looks at the pod at the front of the input as `look_at_pod` does, with an array in which lists can wait. Where `canonical` isn't set it isn't
 /// asked whether the pod is canonical, and the answer says that it isn't.
 #[inline(always)]
-fn look_at_front<'a>(
+pub(crate) fn look_at_front<'a>(
     canonical: bool,
     input: &'a [u8],
     frames: &mut [Inside<'a>],

@@ -1,5 +1,5 @@
 //! Pods canonicalized in place whose encodings are as long as they are: only padding and words that mean nothing change.
-ghost use Rattle.std.specs.Prelude.{Bool, List, false, true, ℕ, ◌≡◌, ◌≢◌, ◌+◌, ◌-◌, ◌^◌, ◌<◌, ◌≤◌, ◌++◌, ◌*◌, IfNone, IfSome, drop, length, replicate, take};
+ghost use Rattle.std.specs.Prelude.{Bool, List, false, true, ℕ, ◌≡◌, ◌≢◌, ◌+◌, ◌-◌, ◌<◌, ◌≤◌, ◌++◌, ◌*◌, IfNone, IfSome, drop, length, replicate, take};
 ghost use Rattle.spa_fixed_sized.specs.Reading.{AreWhole};
 ghost use Rattle.spa_format.specs.Pod.{IsPointer};
 ghost use Rattle.spa_format.specs.Tree.{Shape, array_type, choice_type, object_type, pointer_type, shape_number, struct_type};

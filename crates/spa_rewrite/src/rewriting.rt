@@ -1,27 +1,38 @@
 //! The rewriting of a pod is the encoding of its value.
-ghost use Rattle.std.specs.Prelude.{◌≡◌, ◌++◌, [], IfErr, IfNone, IfOk, IfSome, IsErrAnd, OnErr, OnOk};
+//!
+//! Pods are looked at first. Canonical ones are copied, those that are as long as their encodings patched in the copy, and those that get shorter
+//! written over it. What nests too deep for that is read as a value, which is written.
+ghost use Rattle.std.specs.Prelude.{◌≡◌, ◌<◌, ◌++◌, [], true, IfErr, IfOk, IfSome, IfNone, IsErrAnd, OnErr, OnOk, length};
+ghost use Rattle.spa_fixed_sized.specs.declared.fault.Refusal.TheVariants as refusal;
+ghost use Rattle.spa_format.specs.Encoding.{encoding_of};
 ghost use Rattle.spa_format.specs.Faults.{Stands};
-ghost use Rattle.spa_format.specs.Front.{Begins, HasFront, IsRefused, rest_of};
+ghost use Rattle.spa_format.specs.Front.{HasFront, IsRefused, rest_of};
 ghost use Rattle.spa_format.specs.Pod.{AreMembers};
 ghost use Rattle.spa_format.specs.Tree.{Tree, Trees};
+ghost use Rattle.spa_format.specs.Writable.{IsWritable};
 ghost use Rattle.spa_bodies.specs.Reading.{BeginsWith, IsShortAt, Names, OnFault, OnMemory};
-ghost use Rattle.spa_rewrite.specs.Look.{IsTooDeep};
-ghost use Rattle.spa_rewrite.specs.Memory.{FrontAsksMemory};
-ghost use Rattle.spa_rewrite.specs.Rewriting.{AreRewritten, AreRewrittenInParts, IsLeft, IsRewriting, RefusesFront, RefusesFrontAt, RefusesList, TakesMembers, TakesStretch};
-ghost use Rattle.spa_rewrite.specs.Shorter.{ArePodsWithin};
-ghost use Rattle.spa_rewrite.specs.Steady.{TakesSteady};
-ghost use Rattle.spa_rewrite.specs.Tails.{KeepsStart};
+ghost use Rattle.spa_bodies.specs.Refusing.{error_of};
+ghost use Rattle.spa_rewrite.specs.Look.{IsAcceptedAsked, IsTooDeep};
+ghost use Rattle.spa_rewrite.specs.Memory.{FrontAsksMemory, IsRefusal, IsUnwritten};
+ghost use Rattle.spa_rewrite.specs.Rewriting.{AppendsEncodings, AppendsFirst, AppendsFront, AreRewritten, AreRewrittenInParts, IsLeft, IsLookedOver, IsRewriting, IsSection, RefusesFront, RefusesList};
+ghost use Rattle.spa_rewrite.specs.Shorter.{ArePodsWithin, AreShorter};
+ghost use Rattle.spa_scan.specs.Canonical.{AreCanonical, IsStretch};
 ghost use Rattle.spa_scan.specs.Depth.{levels_looked_into};
+ghost use Rattle.spa_value.specs.View.{view};
 
-use crate::leading::{canonical_stretch, steady_stretch};
-use crate::look::{Rejected, look_at_pod, look_at_pods};
-use crate::pod::rewrite_pod;
-use crate::tail::Tail;
+use crate::across::write_all;
+use crate::leading::{canonical_pods, canonical_stretch};
+use crate::look::{AcceptedPod, DEEP_BODY, FEW, Rejected, look_at_front, look_at_pods};
+use crate::patch::patch_all;
+use crate::steady::Inside;
 use spa_bodies::error_at;
 use spa_fixed_sized::{DeserializeError, Refusal};
-use spa_sink::PodSink;
-use std::alloc::Global;
-use std::mem;
+use spa_read::{Refused, read_value};
+use spa_scan::{LEVELS, nests_within};
+use spa_sink::GenError;
+use spa_value::{Value, discard};
+use spa_write::write_value;
+use std::alloc::{AllocError, Global};
 
 /// The encoding of the value that the front of the input says, and what follows that front.
 ///
@@ -42,31 +53,14 @@ pub fn rewrite(alloc: Global, input: &[u8]) -> Result<(&[u8], Vec<u8>), Deserial
     // and is a pod, or nests too deep to be looked into.
     ensures asks { IfErr result (OnMemory (FrontAsksMemory input.now)) }
 {
-    let mut left = input;
-    let mut tail = Tail::behind(Vec::new(alloc));
-    match rewrite_pod(alloc, &mut Vec::new(alloc), &mut left, &mut tail) {
-        Ok(()) => Ok((left, tail.into_whole())),
-        Err(why) => Err(refusal(input, left, why)),
-    }
-}
-
-/// The refusal of the pod at the front. Where memory ran out for its encoding, a look tells its fault, if it is malformed.
-#[cold]
-#[inline(never)]
-fn refusal<'a>(input: &'a [u8], place: &'a [u8], why: Refusal) -> DeserializeError<&'a [u8]>
-    requires { RefusesFrontAt input.now place.now why }
-    ensures refused { RefusesFront input.now result }
-    ensures asks { OnMemory (FrontAsksMemory input.now) result }
-{
-    match why {
-        Refusal::OutOfMemory => match look_at_pod(input) {
-            Ok(_) => error_at(input, why),
-            Err(rejected) => match rejected {
-                Rejected::Fault(inner, fault) => error_at(inner, fault),
-                Rejected::TooDeep => error_at(input, why),
-            },
-        },
-        _ => error_at(place, why),
+    let list = Inside {
+        keyed: false,
+        pods: input,
+    };
+    let mut out = Vec::new(alloc);
+    match append_front(input, &mut [list; FEW], &mut out) {
+        Ok(rest) => Ok((rest, out)),
+        Err(refused) => Err(error_at(refused.place, refused.why)),
     }
 }
 
@@ -95,20 +89,11 @@ pub fn rewrite_all<'a>(
     // and is a pod, or nests too deep to be looked into.
     ensures asks { IfErr result (λ refusal. OnMemory (FrontAsksMemory refusal.0.now) refusal.1) }
 {
-    let alloc = *out.allocator();
-    let mut bytes = mem::replace(out, Vec::new(alloc));
     // No rewriting is longer than its pod. Where so much memory isn't there at once, each growth asks for its own.
-    let _ = bytes.reserve(input.len());
-    let mut tail = Tail::behind(bytes);
-    match rewrite_pods(alloc, input, &mut tail) {
-        Ok(()) => {
-            *out = tail.into_whole();
-            Ok(())
-        }
-        Err(refusal) => {
-            *out = tail.into_start();
-            Err(refusal)
-        }
+    let _ = out.reserve(input.len());
+    match append_all(input, out) {
+        Ok(()) => Ok(()),
+        Err((left, refused)) => Err((left, error_at(refused.place, refused.why))),
     }
 }
 
@@ -127,10 +112,10 @@ pub fn rewrite_in_parts(
     ensures asks { IfErr result (λ refusal. OnMemory (FrontAsksMemory refusal.0.now) refusal.1) }
 {
     let (first, rest) = canonical_stretch(input);
-    let mut tail = Tail::behind(Vec::new(alloc));
-    match rewrite_others(alloc, rest, &mut tail) {
-        Ok(()) => Ok((first, tail.into_whole())),
-        Err(refusal) => Err(refusal),
+    let mut out = Vec::new(alloc);
+    match append_all(rest, &mut out) {
+        Ok(()) => Ok((first, out)),
+        Err((left, refused)) => Err((left, error_at(refused.place, refused.why))),
     }
 }
 
@@ -161,98 +146,290 @@ pub fn accept_all(alloc: Global, input: &[u8]) -> Result<(), (&[u8], Deserialize
     }
 }
 
-/// What follows the pod at the front, which is rewritten to see whether it is accepted.
+/// What follows the pod at the front, which is read to see whether it is accepted.
 fn behind_deep(alloc: Global, pod: &[u8]) -> Result<&[u8], DeserializeError<&[u8]>>
     ensures accepted { IfOk result (λ rest. (v : Tree) × BeginsWith pod.now v rest.now) }
     ensures refused { IfErr result (RefusesFront pod.now) }
 {
-    let mut left = pod;
-    let mut tail = Tail::behind(Vec::new(alloc));
-    if let Err(why) = rewrite_pod(alloc, &mut Vec::new(alloc), &mut left, &mut tail) {
-        return Err(error_at(left, why));
+    let mut opened = 0;
+    match read_value(alloc, pod, &mut opened) {
+        Ok((rest, value)) => {
+            discard(value);
+            Ok(rest)
+        }
+        Err(refused) => Err(error_at(refused.place, refused.why)),
     }
-    Ok(left)
 }
 
-/// Appends the rewritings of all pods that the input consists of, behind the bytes that stay.
-fn rewrite_pods<'a>(
-    alloc: Global,
+/// Appends the encodings of all pods that the input consists of. A refusal gives what is left from the refused pod on, and that pod's refusal.
+fn append_all<'a>(
     input: &'a [u8],
-    tail: &mut Tail,
-) -> Result<(), (&'a [u8], DeserializeError<&'a [u8]>)>
-    ensures rewritten { OnOk result (TakesMembers input.now tail.old tail.new) }
-    ensures start { OnErr result (KeepsStart tail.old tail.new) }
+    out: &mut Vec<u8>,
+) -> Result<(), (&'a [u8], Refused<'a>)>
+    ensures rewritten { OnOk result (AreRewritten input.now out.old.items out.new.items) }
+    ensures unchanged { OnErr result (out.new.items ≡ out.old.items) }
     ensures left { IfErr result (λ refusal. IsLeft input.now refusal.0.now) }
-    ensures refused { IfErr result (λ refusal. RefusesFront refusal.0.now refusal.1) }
-    ensures asks { IfErr result (λ refusal. OnMemory (FrontAsksMemory refusal.0.now) refusal.1) }
+    ensures refused { IfErr result (λ refusal. IsRefusal refusal.0.now (error_of refusal.1.place refusal.1.why)) }
 {
-    let Some(rest) = put_stretch(input, tail) else {
-        return Err((input, error_at(input, Refusal::OutOfMemory)));
+    let list = Inside {
+        keyed: false,
+        pods: input,
     };
-    rewrite_others(alloc, rest, tail)
-}
-
-/// Appends the rewritings of pods behind the bytes that stay, where the first pod isn't canonical: whether it is isn't asked again.
-fn rewrite_others<'a>(
-    alloc: Global,
-    input: &'a [u8],
-    tail: &mut Tail,
-) -> Result<(), (&'a [u8], DeserializeError<&'a [u8]>)>
-    ensures rewritten { OnOk result (TakesMembers input.now tail.old tail.new) }
-    ensures start { OnErr result (KeepsStart tail.old tail.new) }
-    ensures left { IfErr result (λ refusal. IsLeft input.now refusal.0.now) }
-    ensures refused { IfErr result (λ refusal. RefusesFront refusal.0.now refusal.1) }
-    ensures asks { IfErr result (λ refusal. OnMemory (FrontAsksMemory refusal.0.now) refusal.1) }
-{
+    let mut frames = [list; FEW];
+    let start = out.len();
     let mut left = input;
-    let mut outer = Vec::new(alloc);
     loop {
-        let Some(others) = put_steady(left, tail) else {
-            return Err((left, error_at(left, Refusal::OutOfMemory)));
+        let Some(others) = append_canonical(left, &mut frames, out) else {
+            out.truncate(start);
+            return Err((left, lacking_memory(left)));
         };
         if others.is_empty() {
             return Ok(());
         }
-        let mut behind = others;
-        if let Err(why) = rewrite_pod(alloc, &mut outer, &mut behind, tail) {
-            return Err((others, refusal(others, behind, why)));
+        match append_others(others, &mut frames, out) {
+            Ok(rest) => left = rest,
+            Err(refused) => {
+                out.truncate(start);
+                return Err((others, refused));
+            }
         }
-        let Some(rest) = put_stretch(behind, tail) else {
-            return Err((behind, error_at(behind, Refusal::OutOfMemory)));
-        };
-        left = rest;
     }
 }
 
-/// Appends the rewritings of the first pods, as many as are found to be as long as their pods, and gives what follows these. `None` says
-/// that memory ran out.
-fn put_steady<'a>(left: &'a [u8], tail: &mut Tail) -> Option<&'a [u8]>
-    ensures taken { IfSome result (λ rest. TakesSteady left.now tail.old rest.now tail.new) }
-    ensures pod { IfNone result ((v : Tree) × Begins left.now v) }
-    ensures kept { IfNone result (KeepsStart tail.old tail.new) }
+/// The refusal of the pod at the front of these bytes for want of memory.
+fn lacking_memory(pod: &[u8]) -> Refused<'_>
+    ensures { result.why ≡ refusal.OutOfMemory }
 {
-    let (steady, rest) = steady_stretch(left);
-    if steady.is_empty() {
-        return Some(left);
-    }
-    match tail.append_patched(steady) {
-        Some(()) => Some(rest),
-        None => None,
+    Refused {
+        place: pod,
+        why: Refusal::OutOfMemory,
     }
 }
 
-/// Appends the first pods, as many as are canonical, and gives what follows them. `None` says that memory ran out.
-fn put_stretch<'a>(left: &'a [u8], tail: &mut Tail) -> Option<&'a [u8]>
-    ensures taken { IfSome result (λ rest. TakesStretch left.now tail.old rest.now tail.new) }
-    ensures pod { IfNone result ((v : Tree) × Begins left.now v) }
-    ensures kept { IfNone result (KeepsStart tail.old tail.new) }
+/// Appends the first pods, as many as are canonical, and answers what follows them. `None`: memory ran out, and nothing was appended.
+#[inline(always)]
+fn append_canonical<'a>(
+    left: &'a [u8],
+    frames: &mut [Inside<'a>],
+    out: &mut Vec<u8>,
+) -> Option<&'a [u8]>
+    ensures appended { IfSome result (λ rest. AppendsFirst left.now rest.now out.old.items out.new.items) }
+    ensures unchanged { IfNone result (out.new.items ≡ out.old.items) }
+    ensures asks { IfNone result (HasFront left.now × FrontAsksMemory left.now) }
 {
-    let (stretch, rest) = canonical_stretch(left);
+    let (stretch, rest) = canonical_pods(left, frames);
     if stretch.is_empty() {
         return Some(left);
     }
-    match tail.append(stretch) {
+    match out.extend_from_slice(stretch) {
         Ok(()) => Some(rest),
         Err(_) => None,
+    }
+}
+
+/// Accepted pods that are written together.
+#[derive(Clone, Copy)]
+struct Section<'a> {
+    /// The pods: each is as long as its encoding, or each is longer.
+    pods: &'a [u8],
+    /// By how many bytes their encodings are shorter.
+    surplus: usize,
+    /// A canonical pod behind them, or nothing.
+    canonical: &'a [u8],
+    /// What follows.
+    rest: &'a [u8],
+}
+
+/// How many bytes of pods that aren't canonical are looked at before they are written: so many fit into a processor's cache.
+const BLOCK: usize = 65536;
+
+/// Appends the encodings of pods the first of which isn't canonical, and answers what follows them. Refused is the first of them.
+fn append_others<'a>(
+    pods: &'a [u8],
+    frames: &mut [Inside<'a>],
+    out: &mut Vec<u8>,
+) -> Result<&'a [u8], Refused<'a>>
+    ensures appended { IfOk result (λ rest. AppendsFirst pods.now rest.now out.old.items out.new.items) }
+    ensures fewer { IfOk result (λ rest. length rest.now < length pods.now) }
+    ensures unchanged { OnErr result (out.new.items ≡ out.old.items) }
+    ensures refused { IfErr result (λ refused. IsRefusal pods.now (error_of refused.place refused.why)) }
+{
+    let section = look_over(pods, frames);
+    if section.pods.is_empty() {
+        return append_front(pods, frames, out);
+    }
+    let Some(()) = append_pods(section.pods, section.surplus, out) else {
+        return Err(lacking_memory(pods));
+    };
+    let (_, behind) = pods.split_at(section.pods.len());
+    match out.extend_from_slice(section.canonical) {
+        Ok(()) => Ok(section.rest),
+        Err(_) => Ok(behind),
+    }
+}
+
+/// Looks at the first pods, as long as they are accepted and alike: each as long as its encoding, or each longer.
+#[inline(always)]
+fn look_over<'a>(pods: &'a [u8], frames: &mut [Inside<'a>]) -> Section<'a>
+    ensures { IsSection pods.now result }
+{
+    let mut left = pods;
+    let mut surplus = 0;
+    loop {
+        if pods.len() - left.len() >= BLOCK {
+            return cut_section(pods, left, left, surplus);
+        }
+        let Ok(pod) = look_to_write(surplus > 0, left, frames) else {
+            return cut_section(pods, left, left, surplus);
+        };
+        if left.len() < pods.len() && differ(surplus, pod.surplus) {
+            if pod.canonical {
+                return cut_section(pods, left, pod.rest, surplus);
+            }
+            return cut_section(pods, left, left, surplus);
+        }
+        surplus += pod.surplus;
+        left = pod.rest;
+    }
+}
+
+/// Whether one of two numbers is 0, and the other isn't.
+#[inline(always)]
+fn differ(one: usize, other: usize) -> bool {
+    if one > 0 { other == 0 } else { other > 0 }
+}
+
+/// The pods up to what is left of them, whose encodings are so many bytes shorter, and a canonical one up to the rest.
+#[inline(always)]
+fn cut_section<'a>(pods: &'a [u8], left: &'a [u8], rest: &'a [u8], surplus: usize) -> Section<'a>
+    requires looked { IsLookedOver pods.now left.now surplus }
+    requires canonical { IsStretch left.now rest.now }
+    ensures { IsSection pods.now result }
+{
+    let (some, _) = pods.split_at(pods.len() - left.len());
+    let (canonical, _) = left.split_at(left.len() - rest.len());
+    Section {
+        pods: some,
+        surplus,
+        canonical,
+        rest,
+    }
+}
+
+/// Looks at the pod at the front as `look_at_front` does, and rejects pods as too deep that get shorter and hold more than `LEVELS` structs and
+/// objects in one another, wherever these end: what writes such a pod calls itself for each.
+#[inline(always)]
+fn look_to_write<'a>(
+    canonical: bool,
+    input: &'a [u8],
+    frames: &mut [Inside<'a>],
+) -> Result<AcceptedPod<'a>, Rejected<'a>>
+    ensures accepted { IfOk result (IsAcceptedAsked canonical input.now) }
+    ensures rejected { IfErr result (IsUnwritten input.now) }
+{
+    let pod = look_at_front(canonical, input, frames)?;
+    if pod.surplus > 0 && input.len() - pod.rest.len() >= DEEP_BODY {
+        if !nests_within(input, LEVELS) {
+            return Err(Rejected::TooDeep);
+        }
+    }
+    Ok(pod)
+}
+
+/// Appends the encodings of accepted pods, which are so many bytes shorter. `None`: memory ran out, and nothing was appended.
+fn append_pods(pods: &[u8], surplus: usize, out: &mut Vec<u8>) -> Option<()>
+    requires { AreShorter pods.now surplus }
+    ensures appended { IfSome result (λ _. AppendsEncodings pods.now out.old.items out.new.items) }
+    ensures unchanged { IfNone result (out.new.items ≡ out.old.items) }
+{
+    let at = out.len();
+    let Ok(()) = out.extend_from_slice(pods) else {
+        return None;
+    };
+    if surplus > 0 {
+        let len = write_all(pods, &mut out[at..]);
+        out.truncate(at + len);
+    } else {
+        patch_all(&mut out[at..]);
+    }
+    Some(())
+}
+
+/// Appends the encoding of the pod at the front of the input, and answers what follows that pod.
+fn append_front<'a>(
+    input: &'a [u8],
+    frames: &mut [Inside<'a>],
+    out: &mut Vec<u8>,
+) -> Result<&'a [u8], Refused<'a>>
+    ensures appended { IfOk result (λ rest. AppendsFront input.now rest.now out.old.items out.new.items) }
+    ensures unchanged { OnErr result (out.new.items ≡ out.old.items) }
+    ensures refused { IfErr result (λ refused. IsRefusal input.now (error_of refused.place refused.why)) }
+{
+    match look_to_write(true, input, frames) {
+        Ok(pod) => {
+            let (front, _) = input.split_at(input.len() - pod.rest.len());
+            match append_pod(pod.canonical, front, pod.surplus, out) {
+                Some(()) => Ok(pod.rest),
+                None => Err(lacking_memory(input)),
+            }
+        }
+        Err(rejected) => match rejected {
+            Rejected::Fault(place, why) => Err(Refused { place, why }),
+            Rejected::TooDeep => append_by_value(input, out),
+        },
+    }
+}
+
+/// Appends the encoding of an accepted pod, which is so many bytes shorter. `None`: memory ran out, and nothing was appended.
+#[inline(always)]
+fn append_pod(canonical: bool, pod: &[u8], surplus: usize, out: &mut Vec<u8>) -> Option<()>
+    requires shorter { AreShorter pod.now surplus }
+    requires canonical { canonical ≡ true → AreCanonical pod.now }
+    ensures appended { IfSome result (λ _. AppendsEncodings pod.now out.old.items out.new.items) }
+    ensures unchanged { IfNone result (out.new.items ≡ out.old.items) }
+{
+    if !canonical {
+        return append_pods(pod, surplus, out);
+    }
+    match out.extend_from_slice(pod) {
+        Ok(()) => Some(()),
+        Err(_) => None,
+    }
+}
+
+/// Reads the pod at the front of the input, appends the value's encoding, and answers what follows that pod.
+#[cold]
+#[inline(never)]
+fn append_by_value<'a>(input: &'a [u8], out: &mut Vec<u8>) -> Result<&'a [u8], Refused<'a>>
+    requires { FrontAsksMemory input.now }
+    ensures appended { IfOk result (λ rest. AppendsFront input.now rest.now out.old.items out.new.items) }
+    ensures unchanged { OnErr result (out.new.items ≡ out.old.items) }
+    ensures refused { IfErr result (λ refused. IsRefusal input.now (error_of refused.place refused.why)) }
+{
+    let mut opened = 0;
+    let (rest, value) = read_value(*out.allocator(), input, &mut opened)?;
+    let written = append_value(&value, out);
+    discard(value);
+    match written {
+        Ok(()) => Ok(rest),
+        Err(_) => Err(lacking_memory(input)),
+    }
+}
+
+/// Appends the encoding of a value that can be written. Refused only for want of memory: nothing is appended then.
+pub fn append_value(value: &Value, out: &mut Vec<u8>) -> Result<(), AllocError>
+    requires { IsWritable (view value.now) }
+    ensures appended { OnOk result (out.new.items ≡ out.old.items ++ encoding_of (view value.now)) }
+    ensures unchanged { OnErr result (out.new.items ≡ out.old.items) }
+{
+    let start = out.len();
+    let alloc = *out.allocator();
+    match write_value(alloc, out, value) {
+        Ok(_) => Ok(()),
+        Err(GenError::OutOfMemory) => {
+            out.truncate(start);
+            Err(AllocError)
+        }
+        Err(_) => unreachable!(),
     }
 }

@@ -1,5 +1,5 @@
 use Rattle.std.proofs.Common.{arith}
-use Rattle.spa_in_place.proofs.WrittenAcross.{rest_written}
+use Rattle.spa_rewrite.proofs.WrittenAcross.{rest_written}
 use Rattle.spa_in_place.proofs.in_place.place_rest.Goals as goal
 
 pub returns : goal.returns

@@ -4,7 +4,7 @@ use Rattle.std.specs.Prelude.{◌++◌}
 use Rattle.spa_format.specs.Words.{word_bytes}
 use Rattle.spa_in_place.proofs.MovedRuns.{places_run}
 use Rattle.spa_in_place.proofs.Moves.{inner_pods, moves_pod, places_all, places_before, places_less, places_more, pod_places}
-use Rattle.spa_in_place.proofs.WrittenAcross.{inner_written, no_front, no_key}
+use Rattle.spa_rewrite.proofs.WrittenAcross.{inner_written, no_front, no_key}
 use Rattle.spa_in_place.proofs.place.+placing.Goals as goal
 
 pub place-returns-in_default-behind_key : goal.place-returns-in_default-behind_key

@@ -6,8 +6,8 @@ use Rattle.spa_rewrite.specs.Steady.{IsBehindKey}
 use Rattle.spa_in_place.proofs.Chains.{ChainsOn, chain_moves, enters, last_inside}
 use Rattle.spa_in_place.proofs.MovedRuns.{chain_run}
 use Rattle.spa_in_place.proofs.Moves.{moves_pod, places_all, places_before, places_less, pod_places}
-use Rattle.spa_in_place.proofs.Places.{few_placed}
-use Rattle.spa_in_place.proofs.WrittenAcross.{no_front, no_key}
+use Rattle.spa_rewrite.proofs.Places.{few_placed}
+use Rattle.spa_rewrite.proofs.WrittenAcross.{no_front, no_key}
 use Rattle.spa_in_place.proofs.place.place_all.Goals as goal
 
 pub returns-then-is_empty : goal.returns-then-is_empty

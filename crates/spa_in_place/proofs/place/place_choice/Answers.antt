@@ -1,7 +1,7 @@
 use Rattle.std.proofs.Common.{◌+◌, ◌≤◌, ◌∙◌, arith, sym}
 use Rattle.spa_format.proofs.WordLemmas.{word_at-drop}
 use Rattle.spa_rewrite.proofs.PatchedBodies.{no_few_values}
-use Rattle.spa_in_place.proofs.PlacedBodies.{choice_moved, nothing_written, values_room}
+use Rattle.spa_rewrite.proofs.PlacedBodies.{choice_moved, nothing_written, values_room}
 use Rattle.spa_in_place.proofs.place.place_choice.Goals as goal
 
 pub returns-then-len-all : goal.returns-then-len-all

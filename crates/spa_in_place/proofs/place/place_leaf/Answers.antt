@@ -1,9 +1,9 @@
 use Rattle.std.proofs.Common.{◌≡◌, drop, length-drop, rules, subst, sym}
 use Rattle.spa_format.specs.Tree.{object_type, struct_type}
-use Rattle.spa_in_place.specs.Placed.{HoldsWhole}
+use Rattle.spa_rewrite.specs.Placed.{HoldsWhole}
 use Rattle.spa_rewrite.specs.Steady.{IsPodOf}
-use Rattle.spa_in_place.proofs.Places.{no_object, no_struct}
-use Rattle.spa_in_place.proofs.PlacedBodies.{leaf_moved, nothing_written}
+use Rattle.spa_rewrite.proofs.Places.{no_object, no_struct}
+use Rattle.spa_rewrite.proofs.PlacedBodies.{leaf_moved, nothing_written}
 use Rattle.spa_in_place.proofs.place.place_leaf.Goals as goal
 
 pub returns-in_default : goal.returns-in_default

@@ -1,0 +1,58 @@
+use Rattle.std.proofs.Common.{◌≡◌, ◌<◌, ◌-◌, ◌∙◌, sym, subst, arith, refl, inl, inr, length}
+use Rattle.std.proofs.lemmas.Bool.{cases_lt}
+use Rattle.std.proofs.lemmas.List.{drop_all}
+use Rattle.spa_format.specs.Front.{HasFront, rest_of}
+use Rattle.spa_scan.specs.Canonical.{AreCanonical}
+use Rattle.spa_scan.proofs.Frames.{more_stretch, no_stretch, rest_bytes, stretch_front, stretch_parts}
+use Rattle.spa_scan.proofs.Made.{made_members}
+use Rattle.spa_scan.proofs.Opened.{shallow_rest}
+use Rattle.spa_rewrite.proofs.leading.canonical_pods.Goals as goal
+
+pub loop-rest-init : goal.loop-rest-init
+loop-rest-init c = (omega arith, λ r s. s, λ i. omega (arith, c.type_inv.input i), λ s. s)
+
+pub loop-rest-preserved : goal.loop-rest-preserved
+loop-rest-preserved c =
+    let shorter = c.in-Some.ensures.shorter in
+    let before = c.loop-rest.invariant.0 in
+    let bytes = c.loop-rest.invariant.2 in
+    let taken = c.in-Some.ensures.taken in (
+      omega arith,
+      λ r s.
+          c.loop-rest.invariant.1 r (more_stretch _ _ r taken s),
+      rest_bytes _ _ bytes taken,
+      λ s.
+          shallow_rest _ _ _ bytes (omega arith) taken.begins.follows (c.loop-rest.invariant.3 s),
+    )
+
+pub returns-clause-canonical : goal.returns-clause-canonical
+returns-clause-canonical c =
+    let left = c.loop-rest.left.now in
+    subst AreCanonical (sym c.split_at.ensures.front)
+    (stretch_parts c.args.input.now left _ (c.loop-rest.invariant.1 left (no_stretch left)) refl).1
+
+pub returns-clause-front : goal.returns-clause-front
+returns-clause-front c =
+    let left = c.loop-rest.left.now in
+    let parts =
+    stretch_parts c.args.input.now left _ (c.loop-rest.invariant.1 left (no_stretch left)) refl in
+    subst (λ l. 0 < length l → HasFront c.args.input.now) (sym c.split_at.ensures.front)
+    (stretch_front _ _ _ (sym parts.0) parts.1)
+
+pub returns-clause-all : goal.returns-clause-all
+returns-clause-all c = λ s.
+    let left = c.loop-rest.left.now in
+    let bytes = c.loop-rest.invariant.2 in
+    let shallow = c.loop-rest.invariant.3 s in
+    let k = shallow.shallow in
+    let empty : length left ≡ 0 =
+    elim (cases_lt 0 (length left)) [
+      | inl some ↦
+          let m = made_members left bytes some shallow.pods in
+          let d = m.depth in
+          let deep = c.in_default.ensures.missed (rest_of left) m.first in
+          absurd (omega arith)
+      | inr none ↦ omega arith
+    ] in
+    c.split_at.ensures.back
+    ∙ drop_all (length c.args.input.now - length left) c.args.input.now (omega arith)

@@ -1,0 +1,27 @@
+use Rattle.std.proofs.Common.{subst, sym, ◌∙◌}
+use Rattle.std.specs.Prelude.{true}
+use Rattle.spa_scan.specs.Canonical.{AreCanonical}
+use Rattle.spa_rewrite.specs.Memory.{IsUnwritten}
+use Rattle.spa_rewrite.specs.Shorter.{AreShorter}
+use Rattle.spa_rewrite.proofs.Appending.{accepted_canonical, before_rest, front_canonical, front_shorter, front_written}
+use Rattle.spa_rewrite.proofs.Lacking.{is_fault}
+use Rattle.spa_rewrite.proofs.rewriting.append_front.Goals as goal
+
+pub append_pod-requires-clause-shorter : goal.append_pod-requires-clause-shorter
+append_pod-requires-clause-shorter c =
+    let s = c.in-Ok.ensures.accepted.shorter in
+    subst (λ x. AreShorter x c.in-Ok.pod.surplus) (sym (c.split_at.ensures.front ∙ before_rest _ _ _ s.begins)) (front_shorter _ _ _ s)
+
+pub append_pod-requires-clause-canonical : goal.append_pod-requires-clause-canonical
+append_pod-requires-clause-canonical c = λ e.
+    let a = c.in-Ok.ensures.accepted in
+    subst AreCanonical (sym (c.split_at.ensures.front ∙ before_rest _ _ _ a.shorter.begins))
+    (front_canonical _ _ (accepted_canonical true _ c.in-Ok.pod a e))
+
+pub returns-in-Some-clause-appended : goal.returns-in-Some-clause-appended
+returns-in-Some-clause-appended c =
+    front_written _ _ _ _ _ _ c.in-Ok.ensures.accepted.shorter c.split_at.ensures.front c.in-Some.ensures.appended
+
+pub returns-in-Fault-clause-refused : goal.returns-in-Fault-clause-refused
+returns-in-Fault-clause-refused c =
+    is_fault _ _ _ (subst (IsUnwritten c.args.input.now) c.in-Fault.is c.in-Err.ensures.rejected)

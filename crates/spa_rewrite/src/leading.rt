@@ -111,7 +111,7 @@ pub fn steady_stretch(input: &[u8]) -> (&[u8], &[u8])
 
 /// What follows the pod at the front, where its encoding is found to be as long as it is.
 #[inline(always)]
-fn steady_front<'a>(input: &'a [u8], frames: &mut [Inside<'a>]) -> Option<&'a [u8]>
+pub(crate) fn steady_front<'a>(input: &'a [u8], frames: &mut [Inside<'a>]) -> Option<&'a [u8]>
     ensures taken { IfSome result (λ rest. BeginsSteady input.now rest.now) }
     ensures shorter { IfSome result (λ rest. length rest.now + 8 ≤ length input.now) }
     ensures missed { IfNone result ((rest : List ℕ) (c : BeginsSteady input.now rest) → levels_looked_into < depth_of c.value) }

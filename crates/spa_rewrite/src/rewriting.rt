@@ -21,7 +21,7 @@ ghost use Rattle.spa_scan.specs.Depth.{levels_looked_into};
 ghost use Rattle.spa_value.specs.View.{view};
 
 use crate::across::write_all;
-use crate::leading::{canonical_pods, canonical_stretch};
+use crate::leading::{canonical_pods, canonical_stretch, steady_front};
 use crate::look::{AcceptedPod, DEEP_BODY, FEW, Rejected, look_at_front, look_at_pods};
 use crate::patch::patch_all;
 use crate::steady::Inside;
@@ -273,6 +273,10 @@ fn append_others<'a>(
 fn look_over<'a>(pods: &'a [u8], frames: &mut [Inside<'a>]) -> Section<'a>
     ensures { IsSection pods.now result }
 {
+    let others = behind_steady_pods(pods, frames);
+    if others.len() < pods.len() {
+        return cut_section(pods, others, others, 0);
+    }
     let mut left = pods;
     let mut surplus = 0;
     loop {
@@ -282,7 +286,7 @@ fn look_over<'a>(pods: &'a [u8], frames: &mut [Inside<'a>]) -> Section<'a>
         let Ok(pod) = look_to_write(surplus > 0, left, frames) else {
             return cut_section(pods, left, left, surplus);
         };
-        if left.len() < pods.len() && differ(surplus, pod.surplus) {
+        if pod.surplus == 0 {
             if pod.canonical {
                 return cut_section(pods, left, pod.rest, surplus);
             }
@@ -293,10 +297,21 @@ fn look_over<'a>(pods: &'a [u8], frames: &mut [Inside<'a>]) -> Section<'a>
     }
 }
 
-/// Whether one of two numbers is 0, and the other isn't.
+/// What follows the first pods that are as long as their encodings.
 #[inline(always)]
-fn differ(one: usize, other: usize) -> bool {
-    if one > 0 { other == 0 } else { other > 0 }
+fn behind_steady_pods<'a>(pods: &'a [u8], frames: &mut [Inside<'a>]) -> &'a [u8]
+    ensures { IsLookedOver pods.now result.now 0 }
+{
+    let mut left = pods;
+    loop {
+        if pods.len() - left.len() >= BLOCK {
+            return left;
+        }
+        let Some(rest) = steady_front(left, frames) else {
+            return left;
+        };
+        left = rest;
+    }
 }
 
 /// The pods up to what is left of them, whose encodings are so many bytes shorter, and a canonical one up to the rest.

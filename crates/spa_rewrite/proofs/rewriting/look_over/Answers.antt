@@ -18,9 +18,13 @@ cut_section-requires-then-pod-clause-canonical c =
     let rest = c.in-Ok.pod.rest.now in
     more_stretch _ rest rest (accepted_canonical _ _ c.in-Ok.pod c.in-Ok.ensures.accepted c.if-pod.true) (no_stretch rest)
 
-pub cut_section-requires-then-differ-clause-canonical :
-    goal.cut_section-requires-then-differ-clause-canonical
-cut_section-requires-then-differ-clause-canonical c = no_stretch _
+pub cut_section-requires-then-pod-eq0-clause-canonical :
+    goal.cut_section-requires-then-pod-eq0-clause-canonical
+cut_section-requires-then-pod-eq0-clause-canonical c = no_stretch _
 
 pub loop-left-preserved : goal.loop-left-preserved
 loop-left-preserved c = one_looked_over _ _ _ _ _ c.loop-left.invariant c.in-Ok.ensures.accepted.shorter
+
+pub cut_section-requires-then-pods-left-ge-BLOCK-clause-canonical :
+    goal.cut_section-requires-then-pods-left-ge-BLOCK-clause-canonical
+cut_section-requires-then-pods-left-ge-BLOCK-clause-canonical c = no_stretch _

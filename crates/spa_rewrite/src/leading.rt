@@ -43,7 +43,7 @@ pub fn canonical_stretch(input: &[u8]) -> (&[u8], &[u8])
 }
 
 /// Answers what `canonical_stretch` does, with an array in which lists can wait.
-#[inline(always)]
+#[inline(never)]
 pub(crate) fn canonical_pods<'a>(
     input: &'a [u8],
     frames: &mut [Inside<'a>],
@@ -101,9 +101,25 @@ pub fn steady_stretch(input: &[u8]) -> (&[u8], &[u8])
         keyed: false,
         pods: input,
     };
-    let mut frames = [list; FEW];
+    steady_pods(input.len(), input, &mut [list; FEW])
+}
+
+/// Answers what `steady_stretch` does, with an array in which lists can wait, but of at least so many bytes no more.
+#[inline(never)]
+pub(crate) fn steady_pods<'a>(
+    enough: usize,
+    input: &'a [u8],
+    frames: &mut [Inside<'a>],
+) -> (&'a [u8], &'a [u8])
+    ensures parts { input.now ≡ result.0.now ++ result.1.now }
+    ensures steady { AreSteady result.0.now }
+    ensures all { length input.now ≤ enough → AreSteadyWithin levels_looked_into input.now → result.1.now ≡ [] }
+{
     let mut left = input;
-    while let Some(rest) = steady_front(left, &mut frames) {
+    while input.len() - left.len() < enough {
+        let Some(rest) = steady_front(left, frames) else {
+            return input.split_at(input.len() - left.len());
+        };
         left = rest;
     }
     input.split_at(input.len() - left.len())
@@ -111,7 +127,7 @@ pub fn steady_stretch(input: &[u8]) -> (&[u8], &[u8])
 
 /// What follows the pod at the front, where its encoding is found to be as long as it is.
 #[inline(always)]
-pub(crate) fn steady_front<'a>(input: &'a [u8], frames: &mut [Inside<'a>]) -> Option<&'a [u8]>
+fn steady_front<'a>(input: &'a [u8], frames: &mut [Inside<'a>]) -> Option<&'a [u8]>
     ensures taken { IfSome result (λ rest. BeginsSteady input.now rest.now) }
     ensures shorter { IfSome result (λ rest. length rest.now + 8 ≤ length input.now) }
     ensures missed { IfNone result ((rest : List ℕ) (c : BeginsSteady input.now rest) → levels_looked_into < depth_of c.value) }

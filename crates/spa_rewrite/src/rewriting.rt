@@ -21,7 +21,7 @@ ghost use Rattle.spa_scan.specs.Depth.{levels_looked_into};
 ghost use Rattle.spa_value.specs.View.{view};
 
 use crate::across::write_all;
-use crate::leading::{canonical_pods, canonical_stretch, steady_front};
+use crate::leading::{canonical_pods, canonical_stretch, steady_pods};
 use crate::look::{AcceptedPod, DEEP_BODY, FEW, Rejected, look_at_front, look_at_pods};
 use crate::patch::patch_all;
 use crate::steady::Inside;
@@ -273,8 +273,8 @@ fn append_others<'a>(
 fn look_over<'a>(pods: &'a [u8], frames: &mut [Inside<'a>]) -> Section<'a>
     ensures { IsSection pods.now result }
 {
-    let others = behind_steady_pods(pods, frames);
-    if others.len() < pods.len() {
+    let (steady, others) = steady_pods(BLOCK, pods, frames);
+    if !steady.is_empty() {
         return cut_section(pods, others, others, 0);
     }
     let mut left = pods;
@@ -294,23 +294,6 @@ fn look_over<'a>(pods: &'a [u8], frames: &mut [Inside<'a>]) -> Section<'a>
         }
         surplus += pod.surplus;
         left = pod.rest;
-    }
-}
-
-/// What follows the first pods that are as long as their encodings.
-#[inline(always)]
-fn behind_steady_pods<'a>(pods: &'a [u8], frames: &mut [Inside<'a>]) -> &'a [u8]
-    ensures { IsLookedOver pods.now result.now 0 }
-{
-    let mut left = pods;
-    loop {
-        if pods.len() - left.len() >= BLOCK {
-            return left;
-        }
-        let Some(rest) = steady_front(left, frames) else {
-            return left;
-        };
-        left = rest;
     }
 }
 

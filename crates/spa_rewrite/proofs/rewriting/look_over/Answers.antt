@@ -1,5 +1,5 @@
 use Rattle.spa_scan.proofs.Frames.{more_stretch, no_stretch}
-use Rattle.spa_rewrite.proofs.Appending.{accepted_canonical, nothing_looked_over, one_looked_over}
+use Rattle.spa_rewrite.proofs.Appending.{accepted_canonical, nothing_looked_over, one_looked_over, steady_looked_over}
 use Rattle.spa_rewrite.proofs.rewriting.look_over.Goals as goal
 
 pub loop-left-init : goal.loop-left-init
@@ -28,3 +28,6 @@ loop-left-preserved c = one_looked_over _ _ _ _ _ c.loop-left.invariant c.in-Ok.
 pub cut_section-requires-then-pods-left-ge-BLOCK-clause-canonical :
     goal.cut_section-requires-then-pods-left-ge-BLOCK-clause-canonical
 cut_section-requires-then-pods-left-ge-BLOCK-clause-canonical c = no_stretch _
+
+pub cut_section-requires-clause-looked : goal.cut_section-requires-clause-looked
+cut_section-requires-clause-looked c = steady_looked_over _ _ _ c.steady_pods.ensures.parts c.steady_pods.ensures.steady

@@ -6,38 +6,24 @@ use Rattle.std.proofs.lemmas.List.{drop-drop, drop_at, nil_from_length, take_at}
 use Rattle.spa_format.proofs.Short.{short_members}
 use Rattle.spa_fixed_sized.specs.declared.fault.DeserializeError.{DeserializeError}
 use Rattle.spa_fixed_sized.specs.declared.fault.DeserializeError.TheVariants as error
-use Rattle.spa_fixed_sized.specs.declared.fault.Refusal.{Refusal}
 use Rattle.spa_fixed_sized.specs.declared.fault.Refusal.TheVariants as refusal
-use Rattle.spa_format.specs.Faults.{Fault}
 use Rattle.spa_bodies.specs.Reading.{OnFault, OnMemory}
-use Rattle.spa_bodies.specs.Refusing.{Says, error_of}
-use Rattle.spa_in_place.specs.InPlace.{AsksMemory, IsFaultOf, RefusesListAt}
-use Rattle.std.proofs.lemmas.Slice.{drop-put_mid, take-put_mid}
+use Rattle.spa_in_place.specs.InPlace.{IsFaultOf, RefusesListAt}
+use Rattle.spa_rewrite.specs.Memory.{AsksMemory}
 use borrow.Rule.Slice.PartMut.{put_mid}
 use Rattle.spa_format.specs.Tree.{join_members}
 use Rattle.spa_format.specs.Pod.{AreMembers}
 use Rattle.spa_format.specs.Encoding.{member_encodings}
 use Rattle.spa_format.proofs.Sequences.{members_joined}
 use Rattle.spa_scan.specs.Canonical.{AreCanonical}
-use Rattle.spa_rewrite.specs.Rewriting.{AreRewritten, AreRewrittenInParts, IsLeft, RefusesFront, RefusesList}
+use Rattle.spa_rewrite.specs.Rewriting.{AreRewritten, IsLeft, RefusesFront, RefusesList}
 use Rattle.spa_rewrite.specs.Shorter.{AreShorter}
 use Rattle.spa_rewrite.specs.Steady.{ArePatched, AreSteady}
-use Rattle.spa_rewrite.proofs.Patches.{length_put, put_end}
+use Rattle.spa_rewrite.proofs.Patches.{put_end}
 use Rattle.spa_rewrite.proofs.FirstPods.{accepted_behind, left_behind_pods}
 use Rattle.spa_rewrite.proofs.Stretches.{both_rewritten, list_refused, member_encodings-join}
 use Rattle.spa_rewrite.proofs.Appended.{written_behind}
 use Rattle.spa_rewrite.proofs.WrittenAcross.{drop_past, take_past}
-
--- two parts of a rewriting take no more than the pods
-pub parts_fit : (input first out : List ℕ) → AreRewritten input [] (first ++ out) → length first + length out ≤ length input
-parts_fit input first out r =
-    let s = short_members r.0 input r.1 in
-    let l = ap length r.2 in
-    let a = length-append first out in
-    omega arith
-
-pub first_part : (input first out : List ℕ) → AreRewrittenInParts input first out → take (length first) input ≡ first
-first_part input first out p = ap (take (length first)) p.1 ∙ take_at first p.0 (length first) refl
 
 -- what is left begins behind so many bytes
 pub left_at : (input left : List ℕ) (at : ℕ) → IsLeft input left → at ≡ length input - length left → drop at input ≡ left
@@ -109,91 +95,12 @@ steady_rewritten rest steady others patched out e s p r =
     ∙ sym (member_encodings-join s.values r.0) in
     (vs, subst (AreMembers vs) (sym e) members, same)
 
--- what became of the bytes
-pub record IsPlaced (input first steady patched kept written : List ℕ) (from to start end : ℕ) : Type 0 where
-  pub others : List ℕ
-  pub parts : input ≡ first ++ (steady ++ (kept ++ others))
-  pub before : from ≡ length first
-  pub behind : to ≡ from + length steady
-  pub begins : start ≡ to + length kept
-  pub ends : end ≡ start + length written
-  pub long : length patched ≡ length steady
-  pub fits : length written ≤ length others
-
-patched_bytes : (input first steady patched kept written : List ℕ) (from to start end : ℕ) (p : IsPlaced input first steady patched kept written from to start end) →
-    put_mid from (to - from) input patched ≡ ((first ++ patched) ++ kept) ++ p.others
-patched_bytes input first steady patched kept written from to start end p =
-    let tail = kept ++ p.others in
-    let b = p.before in
-    let t = p.behind in
-    let front : take from input ≡ first = ap (take from) p.parts ∙ take_at first (steady ++ tail) from (sym b) in
-    let rest : drop (to - from) (drop from input) ≡ tail =
-    ap (λ x. drop (to - from) (drop from x)) p.parts ∙ ap (drop (to - from)) (drop_at first (steady ++ tail) from (sym b))
-    ∙ drop_at steady tail (to - from) (omega arith) in
-    ap (λ x. x ++ (patched ++ drop (to - from) (drop from input))) front ∙ ap (λ x. first ++ (patched ++ x)) rest
-    ∙ sym (append_assoc first patched tail) ∙ sym (append_assoc (first ++ patched) kept p.others)
-
-pub placed_front : (input first steady patched kept written : List ℕ) (from to start end k : ℕ) → IsPlaced input first steady patched kept written from to start end →
-    take end (put_mid start k (put_mid from (to - from) input patched) written) ≡ (first ++ (patched ++ kept)) ++ written
-placed_front input first steady patched kept written from to start end k p =
-    let x = (first ++ patched) ++ kept in
-    let e = patched_bytes input first steady patched kept written from to start end p in
-    let l0 = length-append (first ++ patched) kept in
-    let l1 = length-append first patched in
-    let l2 = length-append x p.others in
-    let b = p.before in
-    let t = p.behind in
-    let s = p.begins in
-    let n = p.ends in
-    let g = p.long in
-    let room : start ≤ length (x ++ p.others) = omega arith in
-    ap (λ y. take end (put_mid start k y written)) e ∙ take-put_mid start k (x ++ p.others) written end n room
-    ∙ ap (λ y. y ++ written) (take_at x p.others start (omega arith) ∙ append_assoc first patched kept)
-
-pub placed_behind : (input first steady patched kept written : List ℕ) (from to start end k : ℕ) → IsPlaced input first steady patched kept written from to start end →
-    k ≡ length written → drop end (put_mid start k (put_mid from (to - from) input patched) written) ≡ drop end input
-placed_behind input first steady patched kept written from to start end k p z =
-    let e = ap length (patched_bytes input first steady patched kept written from to start end p) in
-    let x = (first ++ patched) ++ kept in
-    let l0 = length-append (first ++ patched) kept in
-    let l1 = length-append first patched in
-    let l2 = length-append x p.others in
-    let i = ap length p.parts in
-    let i0 = length-append first (steady ++ (kept ++ p.others)) in
-    let b = p.before in
-    let t = p.behind in
-    let s = p.begins in
-    let n = p.ends in
-    let g = p.long in
-    drop-put_mid start k (put_mid from (to - from) input patched) written end (omega arith) (omega arith) (sym z)
-    ∙ drop-put_mid from (to - from) input patched end (omega arith) (omega arith) (omega arith)
-
-pub placed_rewritten : (input first rest steady others patched kept written new : List ℕ) → input ≡ first ++ rest → AreCanonical first →
-    rest ≡ steady ++ others → AreSteady steady → ArePatched false steady patched → AreRewritten others [] (kept ++ written) →
-    new ≡ (first ++ (patched ++ kept)) ++ written → AreRewritten input [] new
-placed_rewritten input first rest steady others patched kept written new i k r s p w e =
-    let same : new ≡ first ++ (patched ++ (kept ++ written)) =
-    e ∙ append_assoc first (patched ++ kept) written ∙ ap (λ x. first ++ x) (append_assoc patched kept written) in
-    subst (AreRewritten input []) (sym same)
-    (both_rewritten input first rest (patched ++ (kept ++ written)) i k (steady_rewritten rest steady others patched (kept ++ written) r s p w))
-
-pub is_placed : (input first rest steady others patched kept written : List ℕ) (from to start end : ℕ) → input ≡ first ++ rest →
-    rest ≡ steady ++ others → AreRewrittenInParts others kept written → AreRewritten others [] (kept ++ written) →
-    from ≡ length first → to ≡ from + length steady → start ≡ to + length kept → end ≡ start + length written →
-    length patched ≡ length steady → IsPlaced input first steady patched kept written from to start end
-is_placed input first rest steady others patched kept written from to start end i r a w b t s n l =
-    let f = parts_fit others kept written w in
-    let o = ap length a.1 ∙ length-append kept a.0 in
-    record {
-      others = a.0;
-      parts = i ∙ ap (λ x. first ++ x) (r ∙ ap (λ x. steady ++ x) a.1);
-      before = b;
-      behind = t;
-      begins = s;
-      ends = n;
-      long = l;
-      fits = omega arith;
-    }
+placed_rewritten : (input first rest steady others patched written new : List ℕ) → input ≡ first ++ rest → AreCanonical first →
+    rest ≡ steady ++ others → AreSteady steady → ArePatched false steady patched → AreRewritten others [] written →
+    new ≡ (first ++ patched) ++ written → AreRewritten input [] new
+placed_rewritten input first rest steady others patched written new i k r s p w e =
+    subst (AreRewritten input []) (sym (e ∙ append_assoc first patched written))
+    (both_rewritten input first rest (patched ++ written) i k (steady_rewritten rest steady others patched written r s p w))
 
 -- the pods that are to be made their rewritings
 pub steady_slice : (input first rest steady others : List ℕ) → input ≡ first ++ rest → rest ≡ steady ++ others →
@@ -203,56 +110,9 @@ steady_slice input first rest steady others i r =
     ap (λ m. take m (drop (length first) input)) n ∙ ap (λ x. take (length steady) (drop (length first) x)) i
     ∙ ap (take (length steady)) (drop_at first rest (length first) refl ∙ r) ∙ take_at steady others (length steady) refl
 
--- where the rewritings of the others begin
-abbrev pub start_of : List ℕ → List ℕ → List ℕ → ℕ
-start_of first steady kept = length first + length steady + length kept
-
--- the bytes once the first pods became their rewritings, and once the rewritings of the others stand there
+-- the bytes once the first pods became their rewritings
 abbrev pub patched_of : List ℕ → List ℕ → List ℕ → List ℕ → List ℕ
 patched_of input first steady patched = put_mid (length first) (length first + length steady - length first) input patched
-
-pub record AllPlaced (input first steady patched kept written : List ℕ) (l : ℕ) : Type 0 where
-  pub rewritten : AreRewritten input [] (take (start_of first steady kept + l)
-      (put_mid (start_of first steady kept) (start_of first steady kept + l - start_of first steady kept) (patched_of input first steady patched) written))
-  pub behind : drop (start_of first steady kept + l)
-      (put_mid (start_of first steady kept) (start_of first steady kept + l - start_of first steady kept) (patched_of input first steady patched) written)
-      ≡ drop (start_of first steady kept + l) input
-
-pub all_placed : (input first rest steady others patched kept written : List ℕ) (l : ℕ) → input ≡ first ++ rest → AreCanonical first →
-    rest ≡ steady ++ others → AreSteady steady → AreRewrittenInParts others kept written → AreRewritten others [] (kept ++ written) →
-    ArePatched false (take (length first + length steady - length first) (drop (length first) input)) patched →
-    length patched ≡ length (take (length first + length steady - length first) (drop (length first) input)) → l ≡ length written →
-    AllPlaced input first steady patched kept written l
-all_placed input first rest steady others patched kept written l i k r s a w p len e =
-    let from = length first in
-    let to = length first + length steady in
-    let start = start_of first steady kept in
-    let end = start + l in
-    let slice = steady_slice input first rest steady others i r in
-    let q : ArePatched false steady patched = subst (λ x. ArePatched false x patched) slice p in
-    let long : length patched ≡ length steady = len ∙ ap length slice in
-    let n : start + l - start ≡ length written = omega arith in
-    let is = is_placed input first rest steady others patched kept written from to start end i r a w refl refl refl (ap (λ m. start + m) e) long in
-    let front = placed_front input first steady patched kept written from to start end (start + l - start) is in
-    record {
-      rewritten = placed_rewritten input first rest steady others patched kept written
-          (take end (put_mid start (start + l - start) (put_mid from (to - from) input patched) written)) i k r s q w front;
-      behind = placed_behind input first steady patched kept written from to start end (start + l - start) is n;
-    }
-
--- there is room for them
-pub placed_room : (input first rest steady others patched kept written : List ℕ) (l : ℕ) → input ≡ first ++ rest → rest ≡ steady ++ others →
-    AreRewritten others [] (kept ++ written) →
-    length patched ≡ length (take (length first + length steady - length first) (drop (length first) input)) → l ≡ length written →
-    start_of first steady kept + l ≤ length (patched_of input first steady patched)
-placed_room input first rest steady others patched kept written l i r w len e =
-    let f = parts_fit others kept written w in
-    let i0 = ap length i ∙ length-append first rest in
-    let r0 = ap length r ∙ length-append steady others in
-    let long : length patched ≡ length steady = len ∙ ap length (steady_slice input first rest steady others i r) in
-    let n : length first + length steady - length first ≡ length steady = omega arith in
-    let same = length_put (length first) (length first + length steady - length first) input patched (omega arith) (long ∙ sym n) in
-    omega arith
 
 -- the bytes behind the first pods that became their rewritings
 patched_is : (input first rest steady others patched : List ℕ) → input ≡ first ++ rest → rest ≡ steady ++ others →
@@ -274,6 +134,16 @@ others_left input first rest steady others patched i r l =
     ap (drop (length first + length steady)) (patched_is input first rest steady others patched i r)
     ∙ drop_past first (patched ++ others) (length first) (length steady) refl
     ∙ drop_at patched others (length steady) (l ∙ ap length (steady_slice input first rest steady others i r))
+
+-- no rewriting is longer
+pub rewritten_room : (pods out : List ℕ) → AreRewritten pods [] out → length out ≤ length pods
+rewritten_room pods out w = let s = short_members w.0 pods w.1 in let l = ap length w.2 in omega arith
+
+pub rewritten_shorter : (pods out : List ℕ) → AreRewritten pods [] out → AreShorter pods (length pods - length out)
+rewritten_shorter pods out w =
+    let s = short_members w.0 pods w.1 in
+    let l = ap length w.2 in
+    record { values = w.0; members = w.1; long = omega arith }
 
 -- the rewritings of the others are where these began
 pub record RestPlaced (input new : List ℕ) (n : ℕ) : Type 0 where
@@ -310,16 +180,51 @@ rest_placed input first rest steady others patched sub_old sub k n i c r s h p l
     let taken : take (length input - n) (put_mid to k now sub) ≡ (first ++ patched) ++ take m sub =
     ap (take (length input - n)) new ∙ ap (λ j. take j ((first ++ patched) ++ sub)) at ∙ take_past (first ++ patched) sub to m (omega arith) in
     let others_written : AreRewritten others [] (take m sub) = subst (λ x. AreRewritten x [] (take m sub)) left w in
-    let whole : take (length input - n) (put_mid to k now sub) ≡ (first ++ (patched ++ [])) ++ take m sub =
-    taken ∙ ap (λ x. (first ++ x) ++ take m sub) (sym (append-nil patched)) in
     let same : drop to now ≡ drop to input =
     others_left input first rest steady others patched i r l
     ∙ sym (ap (drop to) i ∙ drop_past first rest (length first) (length steady) refl ∙ ap (drop (length steady)) r ∙ drop_at steady others (length steady) refl) in
     record {
-      rewritten = placed_rewritten input first rest steady others patched [] (take m sub) (take (length input - n) (put_mid to k now sub)) i c r s q
-          others_written whole;
+      rewritten = placed_rewritten input first rest steady others patched (take m sub) (take (length input - n) (put_mid to k now sub)) i c r s q
+          others_written taken;
       behind = ap (drop (length input - n)) new ∙ ap (λ j. drop j ((first ++ patched) ++ sub)) at ∙ drop_past (first ++ patched) sub to m (omega arith) ∙ b
           ∙ ap (drop m) (so ∙ same) ∙ drop-drop m to input ∙ ap (λ j. drop j input) (sym at);
+    }
+
+-- what was written elsewhere of the others is copied there
+pub record CopiedBehind (input new : List ℕ) (end : ℕ) : Type 0 where
+  pub rewritten : AreRewritten input [] (take end new)
+  pub within : end ≤ length input
+  pub behind : drop end new ≡ drop end input
+
+pub copied_behind : (input first rest steady others patched written sub_old sub : List ℕ) (k l : ℕ) → input ≡ first ++ rest → AreCanonical first →
+    rest ≡ steady ++ others → AreSteady steady → AreRewritten others [] written → l ≡ length written →
+    ArePatched false (take (length first + length steady - length first) (drop (length first) input)) patched →
+    length patched ≡ length (take (length first + length steady - length first) (drop (length first) input)) →
+    k ≡ length (patched_of input first steady patched) - (length first + length steady) →
+    sub_old ≡ drop (length first + length steady) (patched_of input first steady patched) → sub ≡ written ++ drop (length written) sub_old →
+    CopiedBehind input (put_mid (length first + length steady) k (patched_of input first steady patched) sub) (length first + length steady + l)
+copied_behind input first rest steady others patched written sub_old sub k l i c r s w z p lp kl so b =
+    let n = length others - length written in
+    let h = rewritten_shorter others written w in
+    let few = rewritten_room others written w in
+    let old_is = ap length (so ∙ others_left input first rest steady others patched i r lp) in
+    let many : length sub_old - n ≡ length written = omega arith in
+    let front : take (length sub_old - n) sub ≡ written = ap (λ m. take m sub) many ∙ ap (take (length written)) b ∙ take_at written (drop (length written) sub_old) (length written) refl in
+    let back : drop (length sub_old - n) sub ≡ drop (length sub_old - n) sub_old =
+    ap (λ m. drop m sub) many ∙ ap (drop (length written)) b ∙ drop_at written (drop (length written) sub_old) (length written) refl
+    ∙ ap (λ m. drop m sub_old) (sym many) in
+    let there : AreRewritten sub_old [] (take (length sub_old - n) sub) =
+    subst (AreRewritten sub_old []) (sym front)
+    (subst (λ x. AreRewritten x [] written) (sym (so ∙ others_left input first rest steady others patched i r lp)) w) in
+    let all = rest_placed input first rest steady others patched sub_old sub k n i c r s h p lp kl so there back in
+    let i0 = ap length i ∙ length-append first rest in
+    let r0 = ap length r ∙ length-append steady others in
+    let at : length input - n ≡ length first + length steady + l = omega arith in
+    let new = put_mid (length first + length steady) k (patched_of input first steady patched) sub in
+    record {
+      rewritten = subst (λ m. AreRewritten input [] (take m new)) at all.rewritten;
+      within = omega arith;
+      behind = subst (λ m. drop m new ≡ drop m input) at all.behind;
     }
 
 -- pods that are canonical, or were made so
@@ -334,16 +239,6 @@ across_rewritten input first rest steady others all patched at k e i c r s o n m
     subst (AreRewritten input []) (sym w.same)
     (both_rewritten input first rest patched i c (s.values, subst (AreMembers s.values) (sym same) s.members, q s.values s.members s.long))
 
--- a fault is no lack of memory
-pub fault_told : (stands : Fault → Type 0) (place : Bor (List ℕ)) (why : Refusal) → Says stands ⊥ why → OnMemory ⊥ (error_of place why)
-fault_told stands place refusal.Short s = tt
-fault_told stands place refusal.Text s = tt
-fault_told stands place refusal.InvalidType s = tt
-fault_told stands place refusal.InvalidChoiceType s = tt
-fault_told stands place refusal.MissingChoiceValues s = tt
-fault_told stands place refusal.WrongSize s = tt
-fault_told stands place refusal.OutOfMemory s = s
-
 on_memory : {I : Type 0} (P : Type 0) (e : DeserializeError I) → (e ≡ error.OutOfMemory → P) → OnMemory P e
 on_memory P (error.Nom f) h = tt
 on_memory P error.UnsupportedType h = tt
@@ -357,11 +252,6 @@ on_memory P error.UnreadMembers h = tt
 on_memory P error.NoElementLeft h = tt
 on_memory P error.FailedReader h = tt
 on_memory P error.OutOfMemory h = h refl
-
--- nor is the refusal that is made of it
-pub fault_memory : (P : Type 0) (told : DeserializeError (Bor (List ℕ))) (e : DeserializeError ⊤) → OnMemory ⊥ told →
-    (e ≡ error.OutOfMemory → told ≡ error.OutOfMemory) → OnMemory P e
-fault_memory P told e f m = on_memory P e (λ z. absurd (subst (OnMemory ⊥) (m z) f))
 
 -- what memory is asked for behind the first pods
 pub asks_behind : (input first rest steady others : List ℕ) → input ≡ first ++ rest → AreCanonical first → rest ≡ steady ++ others → AreSteady steady →

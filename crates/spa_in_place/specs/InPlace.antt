@@ -1,12 +1,11 @@
 -- Refusals of a rewriting where the input lies: docs/FORMAT.md, "Faults".
-use Rattle.std.specs.Prelude.{⊤, ◌≡◌, ◌⊎◌, ℕ, List, drop}
+use Rattle.std.specs.Prelude.{⊤, ◌≡◌, ℕ, List, drop}
 use Rattle.std.specs.Borrow.{Bor}
 use Rattle.spa_fixed_sized.specs.declared.fault.DeserializeError.{DeserializeError}
 use Rattle.spa_fixed_sized.specs.Faults.{kind_text}
 use Rattle.spa_format.specs.Tree.{Trees}
 use Rattle.spa_format.specs.Pod.{AreMembers}
 use Rattle.spa_bodies.specs.Reading.{OnFault}
-use Rattle.spa_rewrite.specs.Look.{IsTooDeep}
 use Rattle.spa_rewrite.specs.Rewriting.{IsLeft, RefusesFront}
 
 -- the same refusal, of which only the place isn't told
@@ -20,7 +19,3 @@ pub record RefusesListAt (input : List ℕ) (at : ℕ) (e : DeserializeError ⊤
   pub told : DeserializeError (Bor (List ℕ))
   pub front : RefusesFront (drop at input) told
   pub same : IsFaultOf e told
-
--- What memory is asked for: pods one after another, or one behind such pods that nests too deep to be looked into.
-abbrev pub AsksMemory : List ℕ → Type 0
-AsksMemory input = ((vs : Trees) × AreMembers vs input) ⊎ ((left : List ℕ) × IsLeft input left × IsTooDeep left)

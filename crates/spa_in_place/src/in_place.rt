@@ -1,19 +1,20 @@
 //! Rewriting where the input lies.
-ghost use Rattle.std.specs.Prelude.{◌≡◌, ◌-◌, ◌≤◌, [], IfErr, IfNone, IfOk, IfSome, OnErr, drop, false, length, take, true};
+ghost use Rattle.std.specs.Prelude.{◌≡◌, ◌-◌, ◌≤◌, [], IfErr, IfOk, OnErr, drop, false, length, take, true};
 ghost use Rattle.spa_fixed_sized.specs.declared.fault.DeserializeError.TheVariants as refused;
-ghost use Rattle.spa_in_place.specs.InPlace.{AsksMemory, IsFaultOf, RefusesListAt};
+ghost use Rattle.spa_in_place.specs.InPlace.{IsFaultOf, RefusesListAt};
 ghost use Rattle.spa_bodies.specs.Reading.{OnMemory};
-ghost use Rattle.spa_rewrite.specs.Rewriting.{AreRewritten, RefusesList};
+ghost use Rattle.spa_rewrite.specs.Memory.{AsksMemory};
+ghost use Rattle.spa_rewrite.specs.Rewriting.{AreRewritten};
 ghost use Rattle.spa_rewrite.specs.Shorter.{ArePodsWithin, AreShorter};
 ghost use Rattle.spa_rewrite.specs.Steady.{AreSteadyWithin};
 ghost use Rattle.spa_scan.specs.Depth.{levels_looked_into};
 
+use crate::into::put_first;
 use crate::place::place_all;
 use spa_bodies::error_at;
 use spa_fixed_sized::{DeserializeError, Fault};
 use spa_rewrite::{
-    Rejected, canonical_stretch, look_at_pods, patch_all, rewrite_in_parts, steady_stretch,
-    surplus_of_all,
+    Rejected, canonical_stretch, patch_all, rewrite_all, steady_stretch, surplus_of_all,
 };
 use std::alloc::Global;
 
@@ -23,11 +24,9 @@ use std::alloc::Global;
 /// The call is refused exactly as `rewrite_all`, and then no byte is changed. A refusal gives how many bytes stand before the refused
 /// pod, and what is wrong with that one, without the place inside it: `accept_all` tells that too.
 ///
-/// A look tells first which pods get shorter; then those are moved, and the others are patched where they lie. That takes no memory where structs
-/// and objects stand at most `LEVELS` deep in one another, not counting those that end where the one around them does. Where they stand deeper
-/// in a pod that gets shorter, or behind one, memory is asked for as `rewrite_in_parts` does. A malformed pod in which they don't is refused before
-/// any is asked for.
-#[tactic(auto, using(crate::proofs::InPlaceLemmas::parts_fit))]
+/// All pods are looked at first. Then those that get shorter are moved, and the others are patched in place. That takes no memory where structs and
+/// objects stand at most `LEVELS` deep in one another, not counting those that end where the one around them does. Where they stand deeper in a pod
+/// that gets shorter, or behind one, memory is asked for as `rewrite_all` does. A malformed pod in which they don't is refused before any is asked for.
 pub fn rewrite_in_place(
     alloc: Global,
     bytes: &mut [u8],
@@ -47,41 +46,30 @@ pub fn rewrite_in_place(
     let (steady, others) = steady_stretch(rest);
     let from = first.len();
     let to = from + steady.len();
-    if let Some(surplus) = surplus_of_all(others) {
-        patch_all(&mut bytes[from..to]);
-        place_rest(surplus, &mut bytes[to..]);
-        return Ok(len - surplus);
-    }
-    if let Some((pod, error)) = malformed(others) {
-        return Err((len - pod.len(), without_place(error)));
-    }
-    let (start, written) = match rewrite_in_parts(alloc, others) {
-        Ok((kept, written)) => (to + kept.len(), written),
-        Err((left, error)) => return Err((len - left.len(), without_place(error))),
-    };
-    patch_all(&mut bytes[from..to]);
-    let end = start + written.len();
-    bytes[start..end].copy_from_slice(written.as_slice());
-    Ok(end)
-}
-
-/// What is left of pods from a malformed one on, and its refusal: of the first that isn't accepted or nests too deep to be looked into, if it is
-/// malformed and doesn't.
-fn malformed(pods: &[u8]) -> Option<(&[u8], DeserializeError<&[u8]>)>
-    ensures refused { IfSome result (λ refusal. RefusesList pods.now refusal.0.now refusal.1) }
-    ensures fault { IfSome result (λ refusal. OnMemory ⊥ refusal.1) }
-    ensures asks { IfNone result (AsksMemory pods.now) }
-{
-    let Err((pod, rejected)) = look_at_pods(pods) else {
-        return None;
-    };
-    match rejected {
-        Rejected::Fault(place, why) => Some((pod, error_at(place, why))),
-        Rejected::TooDeep => None,
+    match surplus_of_all(others) {
+        Ok(surplus) => {
+            patch_all(&mut bytes[from..to]);
+            place_rest(surplus, &mut bytes[to..]);
+            Ok(len - surplus)
+        }
+        Err((pod, rejected)) => match rejected {
+            Rejected::Fault(place, why) => {
+                Err((len - pod.len(), without_place(error_at(place, why))))
+            }
+            Rejected::TooDeep => {
+                let mut written = Vec::new(alloc);
+                if let Err((left, error)) = rewrite_all(others, &mut written) {
+                    return Err((len - left.len(), without_place(error)));
+                }
+                patch_all(&mut bytes[from..to]);
+                put_first(written.as_slice(), &mut bytes[to..]);
+                Ok(to + written.len())
+            }
+        },
     }
 }
 
-/// Makes pods that are so many bytes shorter then their rewritings, at their front.
+/// Replaces pods by their encodings, which are so many bytes shorter, at their front.
 #[inline(always)]
 fn place_rest(surplus: usize, pods: &mut [u8])
     requires shorter { AreShorter pods.old surplus }

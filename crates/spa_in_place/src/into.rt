@@ -1,10 +1,10 @@
 //! Pods rewritten into another buffer, where they may get shorter.
-ghost use Rattle.std.specs.Prelude.{◌≡◌, ◌-◌, ◌<◌, ◌≤◌, ◌++◌, IfNone, IfSome, [], drop, length, take};
+ghost use Rattle.std.specs.Prelude.{◌≡◌, ◌-◌, ◌<◌, ◌≤◌, ◌++◌, IfErr, IfNone, IfOk, IfSome, [], drop, length, take};
 ghost use Rattle.spa_rewrite.specs.Rewriting.{AreRewritten};
 ghost use Rattle.spa_rewrite.specs.Shorter.{ArePodsWithin, AreRewrittenAs, AreShorter};
 ghost use Rattle.spa_scan.specs.Depth.{levels_looked_into};
 
-use spa_rewrite::{canonical_stretch, patch_all, surplus_of_each, write_all};
+use spa_rewrite::{Rejected, canonical_stretch, patch_all, surplus_of_each, write_all};
 
 /// Writes the rewritings of all pods of the input to the front of an output that is at least as long as the input, and answers how many
 /// bytes they take; what is behind them stays as it was. To a shorter output it writes nothing, and answers the length alone. It takes no memory.
@@ -20,7 +20,7 @@ pub fn rewrite_into(input: &[u8], out: &mut [u8]) -> Option<usize>
     ensures short { length out.old < length input.now → out.new ≡ out.old }
 {
     let (first, rest) = canonical_stretch(input);
-    let Some(surplus) = surplus_behind(rest) else {
+    let Ok(surplus) = surplus_behind(rest) else {
         return None;
     };
     let len = input.len() - surplus;
@@ -34,7 +34,7 @@ pub fn rewrite_into(input: &[u8], out: &mut [u8]) -> Option<usize>
 
 /// Copies bytes to the front of an output, where there are any.
 #[inline(always)]
-fn put_first(bytes: &[u8], out: &mut [u8])
+pub(crate) fn put_first(bytes: &[u8], out: &mut [u8])
     requires { length bytes.now ≤ length out.old }
     ensures { out.new ≡ bytes.now ++ drop (length bytes.now) out.old }
 {
@@ -43,14 +43,14 @@ fn put_first(bytes: &[u8], out: &mut [u8])
     }
 }
 
-/// By how many bytes the rewritings of all pods are shorter than these. `None` says what `surplus_of_each` says by it.
+/// What `surplus_of_each` answers, which for no pods is 0.
 #[inline(always)]
-pub(crate) fn surplus_behind(pods: &[u8]) -> Option<usize>
-    ensures there { IfSome result (λ surplus. AreShorter pods.now surplus) }
-    ensures missed { IfNone result (¬ (ArePodsWithin levels_looked_into pods.now)) }
+fn surplus_behind(pods: &[u8]) -> Result<usize, (&[u8], Rejected<'_>)>
+    ensures there { IfOk result (λ surplus. AreShorter pods.now surplus) }
+    ensures missed { IfErr result (λ _. ¬ (ArePodsWithin levels_looked_into pods.now)) }
 {
     if pods.is_empty() {
-        return Some(0);
+        return Ok(0);
     }
     surplus_of_each(pods)
 }

@@ -4,11 +4,12 @@ use Rattle.std.specs.Borrow.{Bor}
 use Rattle.spa_fixed_sized.specs.declared.fault.DeserializeError.{DeserializeError}
 use Rattle.spa_format.specs.Faults.{Stands}
 use Rattle.spa_format.specs.Front.{Begins}
-use Rattle.spa_format.specs.Tree.{Tree}
+use Rattle.spa_format.specs.Pod.{AreMembers}
+use Rattle.spa_format.specs.Tree.{Tree, Trees}
 use Rattle.spa_bodies.specs.Reading.{OnMemory}
 use Rattle.spa_bodies.specs.Refusing.{Says}
 use Rattle.spa_rewrite.specs.Look.{IsTooDeep}
-use Rattle.spa_rewrite.specs.Rewriting.{RefusesFront}
+use Rattle.spa_rewrite.specs.Rewriting.{IsLeft, RefusesFront}
 use Rattle.spa_rewrite.specs.declared.look.Rejected.{Rejected}
 use Rattle.spa_rewrite.specs.declared.look.Rejected.TheVariants as rejected
 
@@ -25,3 +26,12 @@ pub record IsRefusal (input : List ℕ) (e : DeserializeError (Bor (List ℕ))) 
 abbrev pub IsUnwritten : List ℕ → Rejected → Type 0
 IsUnwritten input (rejected.Fault place why) = Says (λ k. Stands k place.now input) ⊥ why
 IsUnwritten input rejected.TooDeep = FrontAsksMemory input
+
+-- What memory is asked for: pods one after another, or one behind such pods that nests too deep to be looked into.
+abbrev pub AsksMemory : List ℕ → Type 0
+AsksMemory input = ((vs : Trees) × AreMembers vs input) ⊎ ((left : List ℕ) × IsLeft input left × IsTooDeep left)
+
+-- why pods aren't written by calls: a fault stands in the one at the front of what is left, or they ask for memory
+abbrev pub AreUnwritten : List ℕ → List ℕ → Rejected → Type 0
+AreUnwritten pods left (rejected.Fault place why) = IsLeft pods left × Says (λ k. Stands k place.now left) ⊥ why
+AreUnwritten pods left rejected.TooDeep = AsksMemory pods

@@ -9,6 +9,7 @@ ghost use Rattle.spa_format.specs.Tree.{Tree, array_type, choice_type, object_ty
 ghost use Rattle.spa_format.specs.Words.{header_size};
 ghost use Rattle.spa_bodies.specs.Refusing.{Says, StandsInBody};
 ghost use Rattle.spa_rewrite.specs.Look.{AreAccepted, IsAccepted, IsAcceptedAsked, IsFound, IsMet, IsRejected, Passes};
+ghost use Rattle.spa_rewrite.specs.Memory.{AreUnwritten};
 ghost use Rattle.spa_rewrite.specs.Rewriting.{IsLeft};
 ghost use Rattle.spa_rewrite.specs.Shorter.{ArePodsWithin, AreShorter, BeginsShorter};
 ghost use Rattle.spa_rewrite.specs.Steady.{IsInside};
@@ -128,44 +129,48 @@ pub fn look_at_pods(pods: &[u8]) -> Result<AcceptedPods, (&[u8], Rejected<'_>)>
     Ok(AcceptedPods { canonical, surplus })
 }
 
-/// By how many bytes the encodings of all pods of an input are shorter than these. `None` says that the bytes aren't pods one after another, or that
-/// structs and objects stand more than `LEVELS` deep in one another in them: what writes pods that get shorter calls itself for each.
-pub fn surplus_of_each(pods: &[u8]) -> Option<usize>
-    ensures there { IfSome result (λ surplus. AreShorter pods.now surplus) }
-    ensures missed { IfNone result (¬ (ArePodsWithin levels_looked_into pods.now)) }
+/// By how many bytes the encodings of all pods of an input are shorter than these. It is refused as `look_at_pods` is, and as too deep also where
+/// pods get shorter and more than `LEVELS` structs and objects stand in one another, wherever these end: what writes such pods calls itself for each.
+pub fn surplus_of_each(pods: &[u8]) -> Result<usize, (&[u8], Rejected<'_>)>
+    ensures there { IfOk result (λ surplus. AreShorter pods.now surplus) }
+    ensures missed { IfErr result (λ _. ¬ (ArePodsWithin levels_looked_into pods.now)) }
+    ensures rejected { IfErr result (λ refusal. AreUnwritten pods.now refusal.0.now refusal.1) }
 {
     surplus_of(false, pods)
 }
 
-/// By how many bytes the encodings of all pods of an input are shorter than these. `None` says what it says of `surplus_of_each`, but that structs and
-/// objects may stand at any depth that end where the input does.
-pub fn surplus_of_all(pods: &[u8]) -> Option<usize>
-    ensures there { IfSome result (λ surplus. AreShorter pods.now surplus) }
-    ensures missed { IfNone result (¬ (ArePodsWithin levels_looked_into pods.now)) }
+/// By how many bytes the encodings of all pods of an input are shorter than these. It is refused as `surplus_of_each` is, but that structs and objects
+/// don't count that end where the input does.
+pub fn surplus_of_all(pods: &[u8]) -> Result<usize, (&[u8], Rejected<'_>)>
+    ensures there { IfOk result (λ surplus. AreShorter pods.now surplus) }
+    ensures missed { IfErr result (λ _. ¬ (ArePodsWithin levels_looked_into pods.now)) }
+    ensures rejected { IfErr result (λ refusal. AreUnwritten pods.now refusal.0.now refusal.1) }
 {
     surplus_of(true, pods)
 }
 
 /// By how many bytes the encodings of all pods of an input are shorter, as both say: `ends_deep` tells whether structs and objects may stand at any
 /// depth that end where the input does.
-fn surplus_of(ends_deep: bool, pods: &[u8]) -> Option<usize>
-    ensures there { IfSome result (λ surplus. AreShorter pods.now surplus) }
-    ensures missed { IfNone result (¬ (ArePodsWithin levels_looked_into pods.now)) }
+fn surplus_of(ends_deep: bool, pods: &[u8]) -> Result<usize, (&[u8], Rejected<'_>)>
+    ensures there { IfOk result (λ surplus. AreShorter pods.now surplus) }
+    ensures missed { IfErr result (λ _. ¬ (ArePodsWithin levels_looked_into pods.now)) }
+    ensures rejected { IfErr result (λ refusal. AreUnwritten pods.now refusal.0.now refusal.1) }
 {
-    let Ok(all) = look_at_pods(pods) else {
-        return None;
+    let all = match look_at_pods(pods) {
+        Ok(all) => all,
+        Err(refusal) => return Err(refusal),
     };
     if all.surplus > 0 {
         if !are_shallow(pods) {
             if !ends_deep {
-                return None;
+                return Err((pods, Rejected::TooDeep));
             }
             if !are_shallow_but_at_end(pods) {
-                return None;
+                return Err((pods, Rejected::TooDeep));
             }
         }
     }
-    Some(all.surplus)
+    Ok(all.surplus)
 }
 
 /// Whether at most `LEVELS` structs and objects stand in one another in each of the pods, not counting those that end where the input does.

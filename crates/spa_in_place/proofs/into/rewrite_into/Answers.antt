@@ -14,15 +14,15 @@ returns-in_default-clause-missed c = λ w.
 
 pub returns-then-out-input-clause-told : goal.returns-then-out-input-clause-told
 returns-then-out-input-clause-told c =
-    into_told _ _ _ (shorter_behind _ _ _ _ c.canonical_stretch.ensures.parts c.canonical_stretch.ensures.canonical c.in-Some.ensures.there) refl
+    into_told _ _ _ (shorter_behind _ _ _ _ c.canonical_stretch.ensures.parts c.canonical_stretch.ensures.canonical c.in-Ok.ensures.there) refl
 
 pub returns-clause-told : goal.returns-clause-told
 returns-clause-told c =
-    into_told _ _ _ (shorter_behind _ _ _ _ c.canonical_stretch.ensures.parts c.canonical_stretch.ensures.canonical c.in-Some.ensures.there) refl
+    into_told _ _ _ (shorter_behind _ _ _ _ c.canonical_stretch.ensures.parts c.canonical_stretch.ensures.canonical c.in-Ok.ensures.there) refl
 
 pub returns-clause-rewritten : goal.returns-clause-rewritten
 returns-clause-rewritten c = λ room.
-    let w = into_written _ _ _ _ _ _ _ _ _ _ c.canonical_stretch.ensures.parts c.canonical_stretch.ensures.canonical c.in-Some.ensures.there refl
+    let w = into_written _ _ _ _ _ _ _ _ _ _ c.canonical_stretch.ensures.parts c.canonical_stretch.ensures.canonical c.in-Ok.ensures.there refl
     c.put_first.ensures refl room (take_rest c.put_first.new.out (length c.canonical_stretch.result.0.now)) c.write_rest.ensures.rewritten c.write_rest.ensures.behind in
     w.rewritten
 
@@ -30,6 +30,6 @@ pub returns-clause-behind : goal.returns-clause-behind
 returns-clause-behind c =
     let no = c.if-out-input.false in
     let room : length c.args.input.now ≤ length c.args.out.now = omega arith in
-    let w = into_written _ _ _ _ _ _ _ _ _ _ c.canonical_stretch.ensures.parts c.canonical_stretch.ensures.canonical c.in-Some.ensures.there refl
+    let w = into_written _ _ _ _ _ _ _ _ _ _ c.canonical_stretch.ensures.parts c.canonical_stretch.ensures.canonical c.in-Ok.ensures.there refl
     c.put_first.ensures refl room (take_rest c.put_first.new.out (length c.canonical_stretch.result.0.now)) c.write_rest.ensures.rewritten c.write_rest.ensures.behind in
     w.behind

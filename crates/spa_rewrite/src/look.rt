@@ -504,12 +504,19 @@ fn behind_alike(keyed: bool, pods: &[u8]) -> &[u8]
     left
 }
 
+/// The length in bytes of a key, flags and a pod whose body is one or two words.
+const KEYED_LEN: usize = 24;
+
 /// What follows the first one.
 #[inline(always)]
 fn canonical_leaf(keyed: bool, left: &[u8]) -> Option<&[u8]>
     ensures passed { IfSome result (λ rest. Passes keyed true left.now rest.now 0) }
     ensures shorter { IfSome result (λ rest. length rest.now + 8 ≤ length left.now) }
 {
+    // One test of the length for both; what is shorter is looked at where the loop ends.
+    if keyed && left.len() < KEYED_LEN {
+        return None;
+    }
     let Some(here) = behind_key(keyed, left) else {
         return None;
     };
@@ -565,6 +572,9 @@ fn short_leaf(keyed: bool, left: &[u8]) -> Option<&[u8]>
     ensures passed { IfSome result (λ rest. Passes keyed false left.now rest.now 0) }
     ensures shorter { IfSome result (λ rest. length rest.now + 8 ≤ length left.now) }
 {
+    if keyed && left.len() < KEYED_LEN {
+        return None;
+    }
     let Some(here) = behind_key(keyed, left) else {
         return None;
     };

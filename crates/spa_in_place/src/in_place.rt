@@ -3,18 +3,19 @@ ghost use Rattle.std.specs.Prelude.{◌≡◌, ◌-◌, ◌≤◌, [], IfErr, If
 ghost use Rattle.spa_fixed_sized.specs.declared.fault.DeserializeError.TheVariants as refused;
 ghost use Rattle.spa_in_place.specs.InPlace.{IsFaultOf, RefusesListAt};
 ghost use Rattle.spa_bodies.specs.Reading.{OnMemory};
+ghost use Rattle.spa_rewrite.specs.Look.{AreChanged};
 ghost use Rattle.spa_rewrite.specs.Memory.{AsksMemory};
 ghost use Rattle.spa_rewrite.specs.Rewriting.{AreRewritten};
-ghost use Rattle.spa_rewrite.specs.Shorter.{ArePodsWithin, AreShorter};
+ghost use Rattle.spa_rewrite.specs.Shorter.{ArePodsWithin};
 ghost use Rattle.spa_rewrite.specs.Steady.{AreSteadyWithin};
 ghost use Rattle.spa_scan.specs.Depth.{levels_looked_into};
 
 use crate::into::put_first;
-use crate::place::place_all;
+use crate::place::{move_run, place_all};
 use spa_bodies::error_at;
 use spa_fixed_sized::{DeserializeError, Fault};
 use spa_rewrite::{
-    Rejected, canonical_stretch, patch_all, rewrite_all, steady_stretch, surplus_of_all,
+    ChangedPods, Rejected, canonical_stretch, changed_pods, patch_all, rewrite_all, steady_stretch,
 };
 use std::alloc::Global;
 
@@ -46,11 +47,11 @@ pub fn rewrite_in_place(
     let (steady, others) = steady_stretch(rest);
     let from = first.len();
     let to = from + steady.len();
-    match surplus_of_all(others) {
-        Ok(surplus) => {
+    match changed_pods(others) {
+        Ok(changed) => {
             patch_all(&mut bytes[from..to]);
-            place_rest(surplus, &mut bytes[to..]);
-            Ok(len - surplus)
+            place_rest(changed, &mut bytes[to..]);
+            Ok(len - changed.surplus)
         }
         Err((pod, rejected)) => match rejected {
             Rejected::Fault(place, why) => {
@@ -69,14 +70,16 @@ pub fn rewrite_in_place(
     }
 }
 
-/// Replaces pods by their encodings, which are so many bytes shorter, at their front.
+/// Replaces pods by their encodings, at their front. Canonical pods behind the last one that isn't are moved at once.
 #[inline(always)]
-fn place_rest(surplus: usize, pods: &mut [u8])
-    requires shorter { AreShorter pods.old surplus }
-    ensures rewritten { AreRewritten pods.old [] (take (length pods.old - surplus) pods.new) }
-    ensures behind { drop (length pods.old - surplus) pods.new ≡ drop (length pods.old - surplus) pods.old }
+fn place_rest(changed: ChangedPods, pods: &mut [u8])
+    requires { AreChanged pods.old changed }
+    ensures rewritten { AreRewritten pods.old [] (take (length pods.old - changed.surplus) pods.new) }
+    ensures behind { drop (length pods.old - changed.surplus) pods.new ≡ drop (length pods.old - changed.surplus) pods.old }
 {
-    place_all(surplus, pods);
+    let tail = pods.len() - changed.len;
+    let end = place_all(changed.surplus, &mut pods[..changed.len]);
+    move_run(pods, changed.len, end, tail);
 }
 
 /// Puts the rewritings of all pods that the input is into an output of the same length, and answers true, where each of them is found to

@@ -131,7 +131,7 @@ fn put_run(unpatched: bool, bytes: &mut [u8], from: usize, to: usize, len: usize
 
 /// Moves so many bytes from one place down to another, if that is another.
 #[inline(always)]
-fn move_run(bytes: &mut [u8], from: usize, to: usize, len: usize)
+pub(crate) fn move_run(bytes: &mut [u8], from: usize, to: usize, len: usize)
     requires run { from + len ≤ length bytes.old }
     requires down { to ≤ from }
     ensures { MovesRun bytes.old bytes.new from to len }

@@ -181,7 +181,7 @@ pub accepted_fewer : (asked : Bool) (left : List ℕ) (pod : AcceptedPod) → Is
 accepted_fewer asked left pod a = fewer_left left pod.rest.now a.shorter.value a.shorter.begins
 
 -- one more of the canonical ones
-stretch_more : (pods left rest : List ℕ) → IsStretch pods left → BeginsCanonical left rest → IsStretch pods rest
+pub stretch_more : (pods left rest : List ℕ) → IsStretch pods left → BeginsCanonical left rest → IsStretch pods rest
 stretch_more pods left rest s c =
     let v = c.value in
     let k = s.2 in (

@@ -21,3 +21,4 @@ pub mod Places
 pub mod PlacedBodies
 pub mod WrittenAcross
 pub mod Appending
+pub mod Changed

@@ -12,6 +12,7 @@ use Rattle.spa_rewrite.specs.Shorter.{AreShorter, AreShorterInside, BeginsShorte
 use Rattle.spa_rewrite.specs.Steady.{AreSteadyInside, IsBehindKey, IsInside}
 use Rattle.spa_rewrite.specs.declared.look.AcceptedPod.{AcceptedPod}
 use Rattle.spa_rewrite.specs.declared.look.AcceptedPods.{AcceptedPods}
+use Rattle.spa_rewrite.specs.declared.look.ChangedPods.{ChangedPods}
 use Rattle.spa_rewrite.specs.declared.look.Found.{Found}
 use Rattle.spa_rewrite.specs.declared.look.Found.TheVariants as found
 use Rattle.spa_rewrite.specs.declared.look.Met.{Met}
@@ -127,3 +128,9 @@ pub record AreAccepted (pods : List ℕ) (all : AcceptedPods) : Type 0 where
   pub within : all.canonical ≤ length pods
   pub first : AreCanonical (take all.canonical pods)
   pub most : (rest : List ℕ) → ¬ (BeginsCanonical (drop all.canonical pods) rest)
+
+-- so many first bytes are accepted pods, whose encodings are so much shorter, and canonical pods follow them
+pub record AreChanged (pods : List ℕ) (changed : ChangedPods) : Type 0 where
+  pub shorter : AreShorter (take changed.len pods) changed.surplus
+  pub within : changed.len ≤ length pods
+  pub canonical : AreCanonical (drop changed.len pods)

@@ -1,6 +1,6 @@
 //! One look at pods: whether they are accepted, whether they are canonical, and how long their encodings are. It writes nothing, takes no
 //! memory and calls itself nowhere: what is left of the structs and objects around a pod waits in an array of fixed size.
-ghost use Rattle.std.specs.Prelude.{◌≡◌, ◌≢◌, ◌+◌, ◌<◌, ◌≤◌, ◌⊎◌, IfErr, IfNone, IfOk, IfSome, List, length, true, false, ℕ};
+ghost use Rattle.std.specs.Prelude.{◌≡◌, ◌≢◌, ◌+◌, ◌<◌, ◌≤◌, ◌⊎◌, IfErr, IfOk, IfSome, List, length, true, false, ℕ};
 ghost use Rattle.spa_format.specs.Faults.{StandsAtFront};
 ghost use Rattle.spa_format.specs.Front.{Begins, IsRefused, rest_of};
 ghost use Rattle.spa_format.specs.Opened.{OpensHeaderAlone};
@@ -8,7 +8,7 @@ ghost use Rattle.spa_format.specs.Pod.{IsBody};
 ghost use Rattle.spa_format.specs.Tree.{Tree, array_type, choice_type, object_type, struct_type, type_of};
 ghost use Rattle.spa_format.specs.Words.{header_size};
 ghost use Rattle.spa_bodies.specs.Refusing.{Says, StandsInBody};
-ghost use Rattle.spa_rewrite.specs.Look.{AreAccepted, IsAccepted, IsAcceptedAsked, IsFound, IsMet, IsRejected, Passes};
+ghost use Rattle.spa_rewrite.specs.Look.{AreAccepted, AreChanged, IsAccepted, IsAcceptedAsked, IsFound, IsMet, IsRejected, Passes};
 ghost use Rattle.spa_rewrite.specs.Memory.{AreUnwritten};
 ghost use Rattle.spa_rewrite.specs.Rewriting.{IsLeft};
 ghost use Rattle.spa_rewrite.specs.Shorter.{ArePodsWithin, AreShorter, BeginsShorter};
@@ -40,6 +40,15 @@ pub struct AcceptedPod<'a> {
 pub struct AcceptedPods {
     /// How many bytes the canonical pods take before the first one that isn't canonical.
     pub canonical: usize,
+    /// By how many bytes the encodings of all are shorter than the pods.
+    pub surplus: usize,
+}
+
+/// Pods one after another that are all accepted, of which the last ones are canonical.
+#[derive(Clone, Copy)]
+pub struct ChangedPods {
+    /// How many bytes the pods take before these.
+    pub len: usize,
     /// By how many bytes the encodings of all are shorter than the pods.
     pub surplus: usize,
 }
@@ -136,41 +145,60 @@ pub fn surplus_of_each(pods: &[u8]) -> Result<usize, (&[u8], Rejected<'_>)>
     ensures missed { IfErr result (λ _. ¬ (ArePodsWithin levels_looked_into pods.now)) }
     ensures rejected { IfErr result (λ refusal. AreUnwritten pods.now refusal.0.now refusal.1) }
 {
-    surplus_of(false, pods)
-}
-
-/// By how many bytes the encodings of all pods of an input are shorter than these. It is refused as `surplus_of_each` is, but that structs and objects
-/// don't count that end where the input does.
-pub fn surplus_of_all(pods: &[u8]) -> Result<usize, (&[u8], Rejected<'_>)>
-    ensures there { IfOk result (λ surplus. AreShorter pods.now surplus) }
-    ensures missed { IfErr result (λ _. ¬ (ArePodsWithin levels_looked_into pods.now)) }
-    ensures rejected { IfErr result (λ refusal. AreUnwritten pods.now refusal.0.now refusal.1) }
-{
-    surplus_of(true, pods)
-}
-
-/// By how many bytes the encodings of all pods of an input are shorter, as both say: `ends_deep` tells whether structs and objects may stand at any
-/// depth that end where the input does.
-fn surplus_of(ends_deep: bool, pods: &[u8]) -> Result<usize, (&[u8], Rejected<'_>)>
-    ensures there { IfOk result (λ surplus. AreShorter pods.now surplus) }
-    ensures missed { IfErr result (λ _. ¬ (ArePodsWithin levels_looked_into pods.now)) }
-    ensures rejected { IfErr result (λ refusal. AreUnwritten pods.now refusal.0.now refusal.1) }
-{
     let all = match look_at_pods(pods) {
         Ok(all) => all,
         Err(refusal) => return Err(refusal),
     };
-    if all.surplus > 0 {
-        if !are_shallow(pods) {
-            if !ends_deep {
-                return Err((pods, Rejected::TooDeep));
-            }
-            if !are_shallow_but_at_end(pods) {
-                return Err((pods, Rejected::TooDeep));
-            }
-        }
+    if all.surplus > 0 && !are_shallow(pods) {
+        return Err((pods, Rejected::TooDeep));
     }
     Ok(all.surplus)
+}
+
+/// The pods of an input up to the last one that isn't canonical, and by how many bytes the encodings of all are shorter than these. It is refused as
+/// `surplus_of_each` is, but that structs and objects don't count that end where the input does.
+pub fn changed_pods(pods: &[u8]) -> Result<ChangedPods, (&[u8], Rejected<'_>)>
+    ensures there { IfOk result (AreChanged pods.now) }
+    ensures missed { IfErr result (λ _. ¬ (ArePodsWithin levels_looked_into pods.now)) }
+    ensures rejected { IfErr result (λ refusal. AreUnwritten pods.now refusal.0.now refusal.1) }
+{
+    let changed = match look_for_changes(pods) {
+        Ok(changed) => changed,
+        Err(refusal) => return Err(refusal),
+    };
+    if changed.surplus > 0 && !are_shallow(pods) {
+        if !are_shallow_but_at_end(pods) {
+            return Err((pods, Rejected::TooDeep));
+        }
+    }
+    Ok(changed)
+}
+
+/// Looks for these.
+fn look_for_changes(pods: &[u8]) -> Result<ChangedPods, (&[u8], Rejected<'_>)>
+    ensures there { IfOk result (AreChanged pods.now) }
+    ensures left { IfErr result (λ refusal. IsLeft pods.now refusal.0.now) }
+    ensures rejected { IfErr result (λ refusal. IsRejected refusal.0.now refusal.1) }
+    ensures missed { IfErr result (λ _. ¬ (ArePodsWithin levels_looked_into pods.now)) }
+{
+    let list = Inside { keyed: false, pods };
+    let mut frames = [list; FEW];
+    let mut left = pods;
+    let mut tail = pods;
+    let mut surplus = 0;
+    while !left.is_empty() {
+        let pod = match look_at_front(true, left, &mut frames) {
+            Ok(pod) => pod,
+            Err(why) => return Err((left, why)),
+        };
+        surplus += pod.surplus;
+        left = pod.rest;
+        if !pod.canonical {
+            tail = left;
+        }
+    }
+    let len = pods.len() - tail.len();
+    Ok(ChangedPods { len, surplus })
 }
 
 /// Whether at most `LEVELS` structs and objects stand in one another in each of the pods, not counting those that end where the input does.

@@ -3,8 +3,9 @@ use Rattle.std.specs.Prelude.{[], vec_len}
 use Rattle.std.proofs.lemmas.List.{take_rest}
 use Rattle.spa_rewrite.specs.Memory.{AreUnwritten}
 use Rattle.spa_rewrite.specs.Rewriting.{AreRewritten, RefusesFront}
-use Rattle.spa_rewrite.specs.Shorter.{AreShorter}
+use Rattle.spa_rewrite.specs.Look.{AreChanged}
 use Rattle.spa_rewrite.proofs.Accepted.{fault_front}
+use Rattle.spa_rewrite.proofs.Changed.{changed_shorter}
 use Rattle.spa_rewrite.proofs.FirstPods.{others_deeper}
 use Rattle.spa_rewrite.proofs.Stretches.{list_refused}
 use Rattle.spa_in_place.proofs.InPlaceLemmas.{asks_behind, copied_behind, deep_memory, others_left, patched_of, refused_behind, rest_placed, rewritten_room}
@@ -15,12 +16,10 @@ place_rest-requires c =
     let first = c.canonical_stretch.result.0.now in
     let steady = c.steady_stretch.result.0.now in
     let now = patched_of c.args.bytes.now first steady c.patch_all.new.bytes in
-    record {
-      shorter = subst (λ x. AreShorter x c.in-Ok.surplus)
-          (sym (take_rest now (length first + length steady)
-          ∙ others_left _ _ _ _ _ _ c.canonical_stretch.ensures.parts c.steady_stretch.ensures.parts c.patch_all.auto.bytes))
-          c.in-Ok.ensures.there;
-    }
+    subst (λ x. AreChanged x c.in-Ok.changed)
+    (sym (take_rest now (length first + length steady)
+    ∙ others_left _ _ _ _ _ _ c.canonical_stretch.ensures.parts c.steady_stretch.ensures.parts c.patch_all.auto.bytes))
+    c.in-Ok.ensures.there
 
 pub returns-in-Ok-clause-rewritten : goal.returns-in-Ok-clause-rewritten
 returns-in-Ok-clause-rewritten c =
@@ -28,8 +27,9 @@ returns-in-Ok-clause-rewritten c =
     let steady = c.steady_stretch.result.0.now in
     let now = patched_of c.args.bytes.now first steady c.patch_all.new.bytes in
     let all = rest_placed c.args.bytes.now first c.canonical_stretch.result.1.now steady c.steady_stretch.result.1.now c.patch_all.new.bytes _
-    c.place_rest.new.pods (length now - (length first + length steady)) c.in-Ok.surplus c.canonical_stretch.ensures.parts
-    c.canonical_stretch.ensures.canonical c.steady_stretch.ensures.parts c.steady_stretch.ensures.steady c.in-Ok.ensures.there c.patch_all.ensures
+    c.place_rest.new.pods (length now - (length first + length steady)) c.in-Ok.changed.surplus c.canonical_stretch.ensures.parts
+    c.canonical_stretch.ensures.canonical c.steady_stretch.ensures.parts c.steady_stretch.ensures.steady
+    (changed_shorter _ _ c.in-Ok.ensures.there) c.patch_all.ensures
     c.patch_all.auto.bytes refl (take_rest now (length first + length steady)) c.place_rest.ensures.rewritten c.place_rest.ensures.behind in
     all.rewritten
 
@@ -39,8 +39,9 @@ returns-in-Ok-clause-behind c =
     let steady = c.steady_stretch.result.0.now in
     let now = patched_of c.args.bytes.now first steady c.patch_all.new.bytes in
     let all = rest_placed c.args.bytes.now first c.canonical_stretch.result.1.now steady c.steady_stretch.result.1.now c.patch_all.new.bytes _
-    c.place_rest.new.pods (length now - (length first + length steady)) c.in-Ok.surplus c.canonical_stretch.ensures.parts
-    c.canonical_stretch.ensures.canonical c.steady_stretch.ensures.parts c.steady_stretch.ensures.steady c.in-Ok.ensures.there c.patch_all.ensures
+    c.place_rest.new.pods (length now - (length first + length steady)) c.in-Ok.changed.surplus c.canonical_stretch.ensures.parts
+    c.canonical_stretch.ensures.canonical c.steady_stretch.ensures.parts c.steady_stretch.ensures.steady
+    (changed_shorter _ _ c.in-Ok.ensures.there) c.patch_all.ensures
     c.patch_all.auto.bytes refl (take_rest now (length first + length steady)) c.place_rest.ensures.rewritten c.place_rest.ensures.behind in
     all.behind
 

@@ -19,7 +19,7 @@ use Rattle.spa_rewrite.proofs.Accepted.{stretch_more}
 use Rattle.spa_rewrite.proofs.Appending.{accepted_canonical, nothing_looked_over, one_looked_over}
 use Rattle.spa_rewrite.proofs.Stretches.{member_encodings-join}
 use Rattle.spa_rewrite.proofs.ShorterLemmas.{CountsOn, counts_more, counts_none}
-use Rattle.std.specs.Prelude.{false, true}
+use Rattle.std.specs.Prelude.{Bool, false, true}
 
 -- all before what is left is accepted, and canonical behind the last pod that isn't
 pub record ChangesUpTo (pods tail left : List ℕ) (surplus : ℕ) : Type 0 where
@@ -45,12 +45,12 @@ canonical_surplus left rest n s c =
     omega arith
 
 -- one more that is
-pub canonical_more : (pods tail left : List ℕ) (pod : AcceptedPod) (surplus : ℕ) → ChangesUpTo pods tail left surplus → 0 < length left →
-    IsAcceptedAsked true left pod → pod.canonical ≡ true → ChangesUpTo pods tail pod.rest.now (surplus + pod.surplus)
-canonical_more pods tail left pod surplus h l a e =
+pub canonical_more : (asked : Bool) (pods tail left : List ℕ) (pod : AcceptedPod) (surplus : ℕ) → ChangesUpTo pods tail left surplus → 0 < length left →
+    IsAcceptedAsked asked left pod → pod.canonical ≡ true → ChangesUpTo pods tail pod.rest.now (surplus + pod.surplus)
+canonical_more asked pods tail left pod surplus h l a e =
     let s = a.shorter in
     let rest = pod.rest.now in
-    let c = accepted_canonical true left pod a e in
+    let c = accepted_canonical asked left pod a e in
     let z = canonical_surplus left rest pod.surplus s c in
     let same : surplus ≡ surplus + pod.surplus = omega arith in
     record {
@@ -61,9 +61,9 @@ canonical_more pods tail left pod surplus h l a e =
     }
 
 -- and one that isn't, or may not be
-pub changed_more : (pods tail left : List ℕ) (pod : AcceptedPod) (surplus : ℕ) → ChangesUpTo pods tail left surplus → 0 < length left →
-    IsAcceptedAsked true left pod → ChangesUpTo pods pod.rest.now pod.rest.now (surplus + pod.surplus)
-changed_more pods tail left pod surplus h l a =
+pub changed_more : (asked : Bool) (pods tail left : List ℕ) (pod : AcceptedPod) (surplus : ℕ) → ChangesUpTo pods tail left surplus → 0 < length left →
+    IsAcceptedAsked asked left pod → ChangesUpTo pods pod.rest.now pod.rest.now (surplus + pod.surplus)
+changed_more asked pods tail left pod surplus h l a =
     let s = a.shorter in
     let rest = pod.rest.now in
     let seen = one_looked_over pods left rest surplus pod.surplus h.seen s in

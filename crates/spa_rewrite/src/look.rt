@@ -174,6 +174,15 @@ pub fn changed_pods(pods: &[u8]) -> Result<ChangedPods, (&[u8], Rejected<'_>)>
     Ok(changed)
 }
 
+/// How many pods aren't asked whether they are canonical behind one that was and isn't: so many pods that change cost few questions.
+const UNASKED: usize = 15;
+
+/// How many aren't asked once one of them is passed, or one that was asked and isn't canonical.
+#[inline(always)]
+fn fewer_unasked(unasked: usize) -> usize {
+    if unasked == 0 { UNASKED } else { unasked - 1 }
+}
+
 /// Looks for these.
 fn look_for_changes(pods: &[u8]) -> Result<ChangedPods, (&[u8], Rejected<'_>)>
     ensures there { IfOk result (AreChanged pods.now) }
@@ -186,8 +195,9 @@ fn look_for_changes(pods: &[u8]) -> Result<ChangedPods, (&[u8], Rejected<'_>)>
     let mut left = pods;
     let mut tail = pods;
     let mut surplus = 0;
+    let mut unasked = 0;
     while !left.is_empty() {
-        let pod = match look_at_front(true, left, &mut frames) {
+        let pod = match look_at_front(unasked == 0, left, &mut frames) {
             Ok(pod) => pod,
             Err(why) => return Err((left, why)),
         };
@@ -195,6 +205,7 @@ fn look_for_changes(pods: &[u8]) -> Result<ChangedPods, (&[u8], Rejected<'_>)>
         left = pod.rest;
         if !pod.canonical {
             tail = left;
+            unasked = fewer_unasked(unasked);
         }
     }
     let len = pods.len() - tail.len();

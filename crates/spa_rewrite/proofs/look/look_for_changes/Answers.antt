@@ -15,12 +15,12 @@ returns-in-Err-clause-missed c = λ w.
 pub loop-frames-preserved-then-not-pod : goal.loop-frames-preserved-then-not-pod
 loop-frames-preserved-then-not-pod c =
     let some = eqb-false _ 0 (sym c.is_empty.ensures ∙ c.loop-frames-test.true) in
-    changed_more _ _ _ c.in-Ok.pod _ c.loop-frames.invariant (omega (arith, some)) c.in-Ok.ensures.accepted
+    changed_more _ _ _ _ c.in-Ok.pod _ c.loop-frames.invariant (omega (arith, some)) c.in-Ok.ensures.accepted
 
 pub loop-frames-preserved : goal.loop-frames-preserved
 loop-frames-preserved c =
     let some = eqb-false _ 0 (sym c.is_empty.ensures ∙ c.loop-frames-test.true) in
-    canonical_more _ _ _ c.in-Ok.pod _ c.loop-frames.invariant (omega (arith, some)) c.in-Ok.ensures.accepted c.if-not-pod.false
+    canonical_more _ _ _ _ c.in-Ok.pod _ c.loop-frames.invariant (omega (arith, some)) c.in-Ok.ensures.accepted c.if-not-pod.false
 
 pub returns-clause-there : goal.returns-clause-there
 returns-clause-there c = all_changed _ _ _ _ _ c.loop-frames.invariant (eqb-true _ _ (sym c.is_empty.ensures ∙ c.loop-frames-test.false)) refl

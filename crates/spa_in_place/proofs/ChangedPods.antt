@@ -48,9 +48,9 @@ changes_placed pods sub now new c end tail h n l w t m =
     ∙ ap (drop end) parts in
     record {
       rewritten = (
-          vs,
-          subst (AreMembers vs) parts (members_joined s.values k.values first last s.members k.members),
-          ap (λ i. take i new) at ∙ written,
-        );
+        vs,
+        subst (AreMembers vs) parts (members_joined s.values k.values first last s.members k.members),
+        ap (λ i. take i new) at ∙ written,
+      );
       behind = ap (λ i. drop i new) at ∙ m.behind ∙ further_behind now pods end (end + tail) (omega arith) kept ∙ ap (λ i. drop i pods) (sym at);
     }

@@ -23,11 +23,11 @@ use std::alloc::Global;
 /// pods took. The bytes behind them stay as they were.
 ///
 /// The call is refused exactly as `rewrite_all`, and then no byte is changed. A refusal gives how many bytes stand before the refused
-/// pod, and what is wrong with that one, without the place inside it: `accept_all` tells that too.
+/// pod, and its fault without the place inside it, which `accept_all` of `spa_rewrite` gives.
 ///
-/// All pods are looked at first. Then those that get shorter are moved, and the others are patched in place. That takes no memory where structs and
-/// objects stand at most `LEVELS` deep in one another, not counting those that end where the one around them does. Where they stand deeper in a pod
-/// that gets shorter, or behind one, memory is asked for as `rewrite_all` does. A malformed pod in which they don't is refused before any is asked for.
+/// All pods are looked at first, and a fault that the look finds is the refusal. Then the pods before the first one that gets shorter are patched
+/// where they are, and the others are moved. That takes no memory where at most 1000 structs and objects stand in one another. Where more do, the
+/// look may find that the pods behind the patched ones nest too deep: then their rewritings are made in memory, by `rewrite_all`, and copied back.
 pub fn rewrite_in_place(
     alloc: Global,
     bytes: &mut [u8],
@@ -85,7 +85,7 @@ fn place_rest(changed: ChangedPods, pods: &mut [u8])
 /// Puts the rewritings of all pods that the input is into an output of the same length, and answers true, where each of them is found to
 /// be as long as its pod and the output is as long as the input: else it writes nothing and answers false. It takes no memory.
 ///
-/// None is found as long whose structs and objects stand more than `LEVELS` deep in one another, but where the last of each stand there.
+/// It may answer false for pods in which more than 1000 structs and objects stand in one another.
 pub fn rewrite_across(input: &[u8], out: &mut [u8]) -> bool
     ensures rewritten { result ≡ true → AreRewritten input.now [] out.new }
     ensures unchanged { result ≡ false → out.new ≡ out.old }

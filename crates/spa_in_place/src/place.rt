@@ -16,7 +16,7 @@ use spa_rewrite::{
 use spa_scan::{leaf_members, leaf_properties};
 use spa_utils::SpaTypes;
 
-/// How many bytes a run has at least that was worth the look.
+/// How many bytes a run has at least that was worth the look for it. A run is some pods that are moved at once.
 const LONG_RUN: usize = 64;
 
 /// How many bytes are moved pod by pod, where a list in a pod begins or a run was shorter, before the next run is looked for.

@@ -13,7 +13,7 @@ use spa_bytes::{
 use spa_utils::SpaTypes;
 
 /// Writes the rewritings of pods one after another to the front of an output that is at least as long, and answers how many bytes they take.
-/// What stands in the outermost ones takes one call each.
+/// Each of these pods takes one call, and so does each struct or object in them.
 #[inline(always)]
 pub fn write_all(pods: &[u8], out: &mut [u8]) -> usize
     requires { length pods.now ≤ length out.old }

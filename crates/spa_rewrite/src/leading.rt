@@ -44,10 +44,7 @@ pub fn canonical_stretch(input: &[u8]) -> (&[u8], &[u8])
 
 /// Answers what `canonical_stretch` does, with an array in which lists can wait.
 #[inline(never)]
-pub(crate) fn canonical_pods<'a>(
-    input: &'a [u8],
-    frames: &mut [Inside<'a>],
-) -> (&'a [u8], &'a [u8])
+pub(crate) fn canonical_pods<'a>(input: &'a [u8], frames: &mut [Inside<'a>]) -> (&'a [u8], &'a [u8])
     ensures parts { input.now ≡ result.0.now ++ result.1.now }
     ensures canonical { AreCanonical result.0.now }
     ensures front { 0 < length result.0.now → HasFront input.now }
@@ -104,7 +101,7 @@ pub fn steady_stretch(input: &[u8]) -> (&[u8], &[u8])
     steady_pods(input.len(), input, &mut [list; FEW])
 }
 
-/// Answers what `steady_stretch` does, with an array in which lists can wait, but of at least so many bytes no more.
+/// Answers what `steady_stretch` does, with an array in which lists can wait, and looks no further once it has found so many bytes.
 #[inline(never)]
 pub(crate) fn steady_pods<'a>(
     enough: usize,

@@ -183,7 +183,7 @@ fn fewer_unasked(unasked: usize) -> usize {
     if unasked == 0 { UNASKED } else { unasked - 1 }
 }
 
-/// Looks for these.
+/// Looks at all pods for those that `changed_pods` answers, wherever structs and objects end.
 fn look_for_changes(pods: &[u8]) -> Result<ChangedPods, (&[u8], Rejected<'_>)>
     ensures there { IfOk result (AreChanged pods.now) }
     ensures left { IfErr result (λ refusal. IsLeft pods.now refusal.0.now) }
@@ -349,7 +349,8 @@ pub(crate) fn look_into<'a>(
     look_on(ends, keyed, canonical, left, frames)
 }
 
-/// What follows the first pods that a look which ends there passes without a call: canonical ones, or such that are as long as their encodings.
+/// What follows the first pods that hold no others and need no array: canonical ones, or else, where the look ends at the first difference, those
+/// that are as long as their encodings.
 #[inline(always)]
 fn behind_alike_first(ends: bool, keyed: bool, canonical: bool, pods: &[u8]) -> &[u8]
     ensures { Passes keyed canonical pods.now result.now 0 }
@@ -531,7 +532,7 @@ fn behind_canonical(keyed: bool, pods: &[u8]) -> &[u8]
     behind_alike(false, pods)
 }
 
-/// The loop over these.
+/// What follows the first canonical pods that hold no others, with key and flags before each where `keyed` is set.
 #[inline(always)]
 fn behind_alike(keyed: bool, pods: &[u8]) -> &[u8]
     ensures { Passes keyed true pods.now result.now 0 }
@@ -546,7 +547,7 @@ fn behind_alike(keyed: bool, pods: &[u8]) -> &[u8]
 /// The length in bytes of a key, flags and a pod whose body is one or two words.
 const KEYED_LEN: usize = 24;
 
-/// What follows the first one.
+/// What follows the first member or property, where its pod is canonical and holds no others.
 #[inline(always)]
 fn canonical_leaf(keyed: bool, left: &[u8]) -> Option<&[u8]>
     ensures passed { IfSome result (λ rest. Passes keyed true left.now rest.now 0) }
@@ -573,7 +574,7 @@ fn behind_as_long(keyed: bool, pods: &[u8]) -> &[u8]
     behind_steady(false, pods)
 }
 
-/// The loop over these.
+/// What follows the first pods that hold no others and are as long as their encodings, with key and flags before each where `keyed` is set.
 #[inline(always)]
 fn behind_steady(keyed: bool, pods: &[u8]) -> &[u8]
     ensures { Passes keyed false pods.now result.now 0 }

@@ -6,7 +6,7 @@ ghost use Rattle.std.specs.Prelude.{◌≡◌, ◌<◌, ◌++◌, [], true, IfEr
 ghost use Rattle.spa_fixed_sized.specs.declared.fault.Refusal.TheVariants as refusal;
 ghost use Rattle.spa_format.specs.Encoding.{encoding_of};
 ghost use Rattle.spa_format.specs.Faults.{Stands};
-ghost use Rattle.spa_format.specs.Front.{HasFront, IsRefused, rest_of};
+ghost use Rattle.spa_format.specs.Front.{Begins, HasFront, IsRefused, rest_of};
 ghost use Rattle.spa_format.specs.Pod.{AreMembers};
 ghost use Rattle.spa_format.specs.Tree.{Tree, Trees};
 ghost use Rattle.spa_format.specs.Writable.{IsWritable};
@@ -17,7 +17,7 @@ ghost use Rattle.spa_rewrite.specs.Memory.{FrontAsksMemory, IsRefusal, IsUnwritt
 ghost use Rattle.spa_rewrite.specs.Rewriting.{AppendsEncodings, AppendsFirst, AppendsFront, AreRewritten, AreRewrittenInParts, IsLeft, IsLookedOver, IsRewriting, IsSection, RefusesFront, RefusesList};
 ghost use Rattle.spa_rewrite.specs.Shorter.{ArePodsWithin, AreShorter};
 ghost use Rattle.spa_scan.specs.Canonical.{AreCanonical, IsStretch};
-ghost use Rattle.spa_scan.specs.Depth.{levels_looked_into};
+ghost use Rattle.spa_scan.specs.Depth.{depth_of, levels_looked_into};
 ghost use Rattle.spa_value.specs.View.{view};
 
 use crate::across::write_all;
@@ -39,7 +39,7 @@ use std::alloc::{AllocError, Global};
 /// Unless memory runs out, this succeeds exactly where the front that the first size word names is there and is a pod.
 /// The refusals are those of `PodDeserializer::deserialize_any_from`, but that a refusal for lack of memory can also be
 /// answered for a pod of fixed size, whose encoding takes memory. A size is never a cause: what was read can be
-/// written. A malformed pod is refused for its fault also where memory ran out, unless more than 1000 structs and objects stand in one another in it.
+/// written. A malformed pod is refused for its fault, never for want of memory, unless more than 1000 structs and objects stand in one another in it.
 pub fn rewrite(alloc: Global, input: &[u8]) -> Result<(&[u8], Vec<u8>), DeserializeError<&[u8]>>
     ensures rewriting { IfOk result (λ rewritten. IsRewriting input.now rewritten.1.items) }
     ensures rest { IfOk result (λ rewritten. rewritten.0.now ≡ rest_of input.now) }
@@ -122,7 +122,7 @@ pub fn rewrite_in_parts(
 /// Tells whether `rewrite_all` would accept the input, and else refuses it as that call does.
 ///
 /// It takes memory only for a pod in which more than 1000 structs and objects stand in one another, not counting those that end where the one
-/// around them does: such a pod is rewritten, and its rewriting dropped.
+/// around them does: such a pod is read as a value, which is dropped.
 pub fn accept_all(alloc: Global, input: &[u8]) -> Result<(), (&[u8], DeserializeError<&[u8]>)>
     ensures accepted { OnOk result ((vs : Trees) × AreMembers vs input.now) }
     ensures refused { IfErr result (λ refusal. RefusesList input.now refusal.0.now refusal.1) }
@@ -162,10 +162,7 @@ fn behind_deep(alloc: Global, pod: &[u8]) -> Result<&[u8], DeserializeError<&[u8
 }
 
 /// Appends the encodings of all pods that the input consists of. A refusal gives what is left from the refused pod on, and that pod's refusal.
-fn append_all<'a>(
-    input: &'a [u8],
-    out: &mut Vec<u8>,
-) -> Result<(), (&'a [u8], Refused<'a>)>
+fn append_all<'a>(input: &'a [u8], out: &mut Vec<u8>) -> Result<(), (&'a [u8], Refused<'a>)>
     ensures rewritten { OnOk result (AreRewritten input.now out.old.items out.new.items) }
     ensures unchanged { OnErr result (out.new.items ≡ out.old.items) }
     ensures left { IfErr result (λ refusal. IsLeft input.now refusal.0.now) }
@@ -324,8 +321,13 @@ fn look_to_write<'a>(
 ) -> Result<AcceptedPod<'a>, Rejected<'a>>
     ensures accepted { IfOk result (IsAcceptedAsked canonical input.now) }
     ensures rejected { IfErr result (IsUnwritten input.now) }
+    // Each pod of so many levels is accepted.
+    ensures missed { IfErr result (λ _. (v : Tree) → Begins input.now v → levels_looked_into < depth_of v) }
 {
-    let pod = look_at_front(canonical, input, frames)?;
+    let pod = match look_at_front(canonical, input, frames) {
+        Ok(pod) => pod,
+        Err(rejected) => return Err(rejected),
+    };
     if pod.surplus > 0 && input.len() - pod.rest.len() >= DEEP_BODY {
         if !nests_within(input, LEVELS) {
             return Err(Rejected::TooDeep);
@@ -399,7 +401,8 @@ fn append_pod(canonical: bool, pod: &[u8], surplus: usize, out: &mut Vec<u8>) ->
 #[cold]
 #[inline(never)]
 fn append_by_value<'a>(input: &'a [u8], out: &mut Vec<u8>) -> Result<&'a [u8], Refused<'a>>
-    requires { FrontAsksMemory input.now }
+    requires asks { FrontAsksMemory input.now }
+    requires deep { (v : Tree) → Begins input.now v → levels_looked_into < depth_of v }
     ensures appended { IfOk result (λ rest. AppendsFront input.now rest.now out.old.items out.new.items) }
     ensures unchanged { OnErr result (out.new.items ≡ out.old.items) }
     ensures refused { IfErr result (λ refused. IsRefusal input.now (error_of refused.place refused.why)) }

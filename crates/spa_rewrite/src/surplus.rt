@@ -26,7 +26,7 @@ pub(crate) fn leaf_surplus(type_: u32, body: &[u8]) -> Option<usize>
     }
 }
 
-/// The same of a choice: what it holds beyond the values that it takes and beyond the padding of these.
+/// By how many bytes the encoding of a choice is shorter: what the choice holds beyond the values that it takes and beyond the padding of these.
 fn choice_surplus(body: &[u8]) -> Option<usize>
     ensures there { IfSome result (λ surplus. IsShorterBody choice_type body.now surplus) }
     ensures missed { IfNone result ((v : Tree) → type_of v ≡ choice_type → ¬ (IsBody v body.now)) }

@@ -90,7 +90,7 @@ put_first-requires c =
     let few = rewritten_room others c.rewrite_all.new.out.items w in
     let written = ap length c.as_slice.ensures.value in
     let room = ap length (take_rest now (length first + length steady)
-        ∙ others_left _ _ _ _ _ _ c.canonical_stretch.ensures.parts c.steady_stretch.ensures.parts c.patch_all-in-TooDeep.auto.bytes) in
+    ∙ others_left _ _ _ _ _ _ c.canonical_stretch.ensures.parts c.steady_stretch.ensures.parts c.patch_all-in-TooDeep.auto.bytes) in
     omega arith
 
 pub returns-in_default-clause-rewritten : goal.returns-in_default-clause-rewritten

@@ -15,7 +15,7 @@ pub returns-in_err-rest-clause-refused : goal.returns-in_err-rest-clause-refused
 returns-in_err-rest-clause-refused c =
     let e = c.in_err-rest.field-0.0 in
     passed_on c.from_residual.result e (λ r. IsRefusal c.args.input.now (error_of r.place r.why)) c.from_residual.ensures.1
-    (is_refusal _ e.place e.why (value_refused _ _ _ _ c.in_err-rest.ensures.refused) c.requires)
+    (is_refusal _ e.place e.why (value_refused _ _ _ _ c.in_err-rest.ensures.refused) c.requires.asks)
 
 pub append_value-written-requires : goal.append_value-written-requires
 append_value-written-requires c =

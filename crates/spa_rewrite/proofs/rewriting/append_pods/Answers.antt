@@ -34,7 +34,7 @@ returns-else-surplus-gt0-clause-appended c =
     let items : d ≡ old ++ c.args.pods.now = c.deref_mut-else-surplus-gt0.ensures.value ∙ c.in-Ok.ensures.items in
     let w = written_behind old c.args.pods.now patched d at k n items refl c.patch_all.auto.bytes in
     let whole = with_items_is c.extend_from_slice.new.self (take at d ++ (patched ++ drop k (drop at d)))
-        (w.long ∙ c.deref_mut-else-surplus-gt0.ensures.len) in
+    (w.long ∙ c.deref_mut-else-surplus-gt0.ensures.len) in
     let none : c.args.surplus ≡ 0 = omega (arith, c.if-surplus-gt0.false) in
     patched_encodings c.args.pods.now old patched _ c.args.surplus c.requires none
     (subst (λ x. ArePatched false x patched) w.slice c.patch_all.ensures) (whole ∙ w.same)

@@ -1,24 +1,23 @@
 //! Rewriting where the input lies.
 
 use crate::shims::prelude::*;
+use crate::parts::spa_in_place::into::put_first;
 use crate::parts::spa_in_place::place::place_all;
 use crate::parts::spa_bodies::error_at;
 use crate::parts::spa_fixed_sized::{DeserializeError, Fault};
 use crate::parts::spa_rewrite::{
-    Rejected, canonical_stretch, look_at_pods, patch_all, rewrite_in_parts, steady_stretch,
-    surplus_of_all,
+    Rejected, canonical_stretch, patch_all, rewrite_all, steady_stretch, surplus_of_all,
 };
 
 /// Puts the rewritings of all pods that the bytes are at their front, and answers how many bytes these take: never more than the
 /// pods took. The bytes behind them stay as they were.
 ///
 /// The call is refused exactly as `rewrite_all`, and then no byte is changed. A refusal gives how many bytes stand before the refused
-/// pod, and what is wrong with that one, without the place inside it: `accept_all` tells that too.
+/// pod, and its fault without the place inside it, which `accept_all` of `spa_rewrite` gives.
 ///
-/// A look tells first which pods get shorter; then those are moved, and the others are patched where they lie. That takes no memory where structs
-/// and objects stand at most `LEVELS` deep in one another, not counting those that end where the one around them does. Where they stand deeper
-/// in a pod that gets shorter, or behind one, memory is asked for as `rewrite_in_parts` does. A malformed pod in which they don't is refused before
-/// any is asked for.
+/// All pods are looked at first, and a fault that the look finds is the refusal. Then the pods before the first one that gets shorter are patched
+/// where they are, and the others are moved. That takes no memory where at most 1000 structs and objects stand in one another. Where more do, the
+/// look may find that the pods behind the patched ones nest too deep: then their rewritings are made in memory, by `rewrite_all`, and copied back.
 pub fn rewrite_in_place(
     bytes: &mut [u8],
 ) -> Result<usize, (usize, DeserializeError<()>)> {
@@ -27,37 +26,30 @@ pub fn rewrite_in_place(
     let (steady, others) = steady_stretch(rest);
     let from = first.len();
     let to = from + steady.len();
-    if let Some(surplus) = surplus_of_all(others) {
-        patch_all(&mut bytes[from..to]);
-        place_rest(surplus, &mut bytes[to..]);
-        return Ok(len - surplus);
-    }
-    if let Some((pod, error)) = malformed(others) {
-        return Err((len - pod.len(), without_place(error)));
-    }
-    let (start, written) = match rewrite_in_parts(others) {
-        Ok((kept, written)) => (to + kept.len(), written),
-        Err((left, error)) => return Err((len - left.len(), without_place(error))),
-    };
-    patch_all(&mut bytes[from..to]);
-    let end = start + written.len();
-    bytes[start..end].copy_from_slice(written.as_slice());
-    Ok(end)
-}
-
-/// What is left of pods from a malformed one on, and its refusal: of the first that isn't accepted or nests too deep to be looked into, if it is
-/// malformed and doesn't.
-fn malformed(pods: &[u8]) -> Option<(&[u8], DeserializeError<&[u8]>)> {
-    let Err((pod, rejected)) = look_at_pods(pods) else {
-        return None;
-    };
-    match rejected {
-        Rejected::Fault(place, why) => Some((pod, error_at(place, why))),
-        Rejected::TooDeep => None,
+    match surplus_of_all(others) {
+        Ok(surplus) => {
+            patch_all(&mut bytes[from..to]);
+            place_rest(surplus, &mut bytes[to..]);
+            Ok(len - surplus)
+        }
+        Err((pod, rejected)) => match rejected {
+            Rejected::Fault(place, why) => {
+                Err((len - pod.len(), without_place(error_at(place, why))))
+            }
+            Rejected::TooDeep => {
+                let mut written = Vec::new();
+                if let Err((left, error)) = rewrite_all(others, &mut written) {
+                    return Err((len - left.len(), without_place(error)));
+                }
+                patch_all(&mut bytes[from..to]);
+                put_first(written.as_slice(), &mut bytes[to..]);
+                Ok(to + written.len())
+            }
+        },
     }
 }
 
-/// Makes pods that are so many bytes shorter then their rewritings, at their front.
+/// Replaces all pods of a buffer by their encodings, which together are so many bytes shorter, at its front.
 #[cfg_attr(not(debug_assertions), inline(always))]
 fn place_rest(surplus: usize, pods: &mut [u8]) {
     place_all(surplus, pods);
@@ -66,7 +58,7 @@ fn place_rest(surplus: usize, pods: &mut [u8]) {
 /// Puts the rewritings of all pods that the input is into an output of the same length, and answers true, where each of them is found to
 /// be as long as its pod and the output is as long as the input: else it writes nothing and answers false. It takes no memory.
 ///
-/// None is found as long whose structs and objects stand more than `LEVELS` deep in one another, but where the last of each stand there.
+/// It may answer false for pods in which more than 1000 structs and objects stand in one another.
 pub fn rewrite_across(input: &[u8], out: &mut [u8]) -> bool {
     if out.len() != input.len() {
         return false;

@@ -1,16 +1,15 @@
 //! Pods compacted in place: their rewritings, which may be shorter, at the front of the buffer.
 
 use crate::shims::prelude::*;
-use crate::parts::spa_in_place::across::{holds_whole, inner_type};
 use crate::parts::spa_bytes::{HEADER_LEN, extent_of, open, two_words, u32_at};
 use crate::parts::spa_rewrite::{
-    SECOND_HEADER, behind_key, canonical_stretch, patch_all, patch_leaf, patch_values,
-    place_behind, steady_stretch, taken_len,
+    SECOND_HEADER, behind_key, canonical_stretch, holds_whole, inner_type, patch_all, patch_leaf,
+    patch_values, place_behind, steady_stretch, taken_len,
 };
 use crate::parts::spa_scan::{leaf_members, leaf_properties};
 use crate::parts::spa_utils::SpaTypes;
 
-/// How many bytes a run has at least that was worth the look.
+/// How many bytes a run has at least that was worth the look for it. A run is some pods that are moved at once.
 const LONG_RUN: usize = 64;
 
 /// How many bytes are moved pod by pod, where a list in a pod begins or a run was shorter, before the next run is looked for.

@@ -1,15 +1,9 @@
-//! The bodies of arrays and choices, rewritten as they lie: only truth values, surplus values and the flags of a choice without
-//! alternatives change in them.
+//! The values in the bodies of arrays and choices.
 
 use crate::shims::prelude::*;
-use crate::parts::spa_rewrite::tail::Tail;
-use crate::parts::spa_bytes::{HEADER_LEN, SECOND_WORD, joined, two_words, u32_at};
-use crate::parts::spa_fixed_sized::{
-    CanonicalFixedSizedPod, ENUM_SHAPE, FLAGS_SHAPE, NONE_SHAPE, RANGE_SHAPE, STEP_SHAPE,
-};
+use crate::parts::spa_bytes::{HEADER_LEN, SECOND_WORD, u32_at};
+use crate::parts::spa_fixed_sized::{ENUM_SHAPE, FLAGS_SHAPE, NONE_SHAPE, RANGE_SHAPE, STEP_SHAPE};
 use crate::parts::spa_scan::fixed_len;
-use crate::parts::spa_sink::{GenError, PodSink, put_padding};
-use crate::parts::spa_utils::SpaTypes;
 
 /// The length in bytes of the longest body of fixed size.
 const WIDE_LEN: u32 = 8;
@@ -88,36 +82,6 @@ fn all_values(elements: &[u8]) -> Option<&[u8]> {
     Some(elements)
 }
 
-/// Appends the pod that is written for the body of an array with these elements.
-pub(crate) fn put_array(body: &[u8], elements: &[u8], out: &mut Tail) -> Result<(), GenError> {
-    let type_ = u32_at(body, SECOND_WORD);
-    let header = joined(
-        two_words(body.len() as u32, SpaTypes::Array.0),
-        two_words(u32_at(body, 0), type_),
-    );
-    put_parts(&header, type_, elements, body.len(), out)
-}
-
-/// Appends the pod that is written for the body of a choice which takes these values.
-pub(crate) fn put_choice(body: &[u8], kept: &[u8], out: &mut Tail) -> Result<(), GenError> {
-    let shape = u32_at(body, 0);
-    let flags = written_flags(shape, u32_at(body, SECOND_WORD));
-    let size = 2 * HEADER_LEN + kept.len();
-    let header = joined(
-        two_words(size as u32, SpaTypes::Choice.0),
-        two_words(shape, flags),
-    );
-    out.append(&header)?;
-    let type_ = u32_at(body, HEADER_LEN + SECOND_WORD);
-    put_parts(
-        &two_words(u32_at(body, HEADER_LEN), type_),
-        type_,
-        kept,
-        size,
-        out,
-    )
-}
-
 /// The flags that are written of a choice of this shape.
 pub(crate) fn written_flags(shape: u32, flags: u32) -> u32 {
     if shape == NONE_SHAPE {
@@ -126,52 +90,5 @@ pub(crate) fn written_flags(shape: u32, flags: u32) -> u32 {
     flags
 }
 
-/// Appends a header, the bodies of elements as they are written, and zeros behind a body of this size.
-fn put_parts(
-    header: &[u8],
-    type_: u32,
-    elements: &[u8],
-    size: usize,
-    out: &mut Tail,
-) -> Result<(), GenError> {
-    out.append(header)?;
-    put_elements(type_, elements, out)?;
-    put_padding(out, size)
-}
-
-/// Appends the bodies of elements of this type as they are written.
-fn put_elements(type_: u32, elements: &[u8], out: &mut Tail) -> Result<(), GenError> {
-    if type_ == SpaTypes::Bool.0 {
-        return put_truths(elements, out);
-    }
-    out.append(elements)
-}
-
 /// The length in bytes of a truth value's body.
 const WORD_LEN: usize = 4;
-
-/// How many bytes of truth values are handed to the output at once, at most.
-const BLOCK_LEN: usize = 256;
-
-/// Appends the bodies of truth values as they are written, in blocks.
-fn put_truths(words: &[u8], out: &mut Tail) -> Result<(), GenError> {
-    let mut block = [0; BLOCK_LEN];
-    let mut left = words;
-    while !left.is_empty() {
-        let (some, rest) = left.split_at(left.len().min(BLOCK_LEN));
-        fill_truths(&mut block, some);
-        out.append(&block[..some.len()])?;
-        left = rest;
-    }
-    Ok(())
-}
-
-/// Puts the bodies of truth values as they are written at the front of a block.
-fn fill_truths(block: &mut [u8], words: &[u8]) {
-    let mut at = 0;
-    while at < words.len() {
-        let truth = bool::of_body(&words[at..at + WORD_LEN]);
-        block[at..at + WORD_LEN].copy_from_slice(&truth.padded_body()[..WORD_LEN]);
-        at += WORD_LEN;
-    }
-}

@@ -25,9 +25,17 @@ pub fn canonical_stretch(input: &[u8]) -> (&[u8], &[u8]) {
         keyed: false,
         pods: input,
     };
-    let mut frames = [list; FEW];
+    canonical_pods(input, &mut [list; FEW])
+}
+
+/// Answers what `canonical_stretch` does, with an array in which lists can wait.
+#[inline(never)]
+pub(crate) fn canonical_pods<'a>(
+    input: &'a [u8],
+    frames: &mut [Inside<'a>],
+) -> (&'a [u8], &'a [u8]) {
     let mut left = input;
-    while let Some(rest) = next_canonical(left, &mut frames) {
+    while let Some(rest) = next_canonical(left, frames) {
         left = rest;
     }
     input.split_at(input.len() - left.len())
@@ -65,9 +73,21 @@ pub fn steady_stretch(input: &[u8]) -> (&[u8], &[u8]) {
         keyed: false,
         pods: input,
     };
-    let mut frames = [list; FEW];
+    steady_pods(input.len(), input, &mut [list; FEW])
+}
+
+/// Answers what `steady_stretch` does, with an array in which lists can wait, and looks no further once it has found so many bytes.
+#[inline(never)]
+pub(crate) fn steady_pods<'a>(
+    enough: usize,
+    input: &'a [u8],
+    frames: &mut [Inside<'a>],
+) -> (&'a [u8], &'a [u8]) {
     let mut left = input;
-    while let Some(rest) = steady_front(left, &mut frames) {
+    while input.len() - left.len() < enough {
+        let Some(rest) = steady_front(left, frames) else {
+            return input.split_at(input.len() - left.len());
+        };
         left = rest;
     }
     input.split_at(input.len() - left.len())

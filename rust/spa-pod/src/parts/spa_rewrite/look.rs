@@ -104,35 +104,36 @@ pub fn look_at_pods(pods: &[u8]) -> Result<AcceptedPods, (&[u8], Rejected<'_>)> 
     Ok(AcceptedPods { canonical, surplus })
 }
 
-/// By how many bytes the encodings of all pods of an input are shorter than these. `None` says that the bytes aren't pods one after another, or that
-/// structs and objects stand more than `LEVELS` deep in one another in them: what writes pods that get shorter calls itself for each.
-pub fn surplus_of_each(pods: &[u8]) -> Option<usize> {
+/// By how many bytes the encodings of all pods of an input are shorter than these. It is refused as `look_at_pods` is, and as too deep also where
+/// pods get shorter and more than `LEVELS` structs and objects stand in one another, wherever these end: what writes such pods calls itself for each.
+pub fn surplus_of_each(pods: &[u8]) -> Result<usize, (&[u8], Rejected<'_>)> {
     surplus_of(false, pods)
 }
 
-/// By how many bytes the encodings of all pods of an input are shorter than these. `None` says what it says of `surplus_of_each`, but that structs and
-/// objects may stand at any depth that end where the input does.
-pub fn surplus_of_all(pods: &[u8]) -> Option<usize> {
+/// By how many bytes the encodings of all pods of an input are shorter than these. It is refused as `surplus_of_each` is, but that structs and objects
+/// don't count that end where the input does.
+pub fn surplus_of_all(pods: &[u8]) -> Result<usize, (&[u8], Rejected<'_>)> {
     surplus_of(true, pods)
 }
 
-/// By how many bytes the encodings of all pods of an input are shorter, as both say: `ends_deep` tells whether structs and objects may stand at any
-/// depth that end where the input does.
-fn surplus_of(ends_deep: bool, pods: &[u8]) -> Option<usize> {
-    let Ok(all) = look_at_pods(pods) else {
-        return None;
+/// By how many bytes the encodings of all pods of an input are shorter. `ends_deep` tells whether structs and objects that end where the input does
+/// may stand at any depth: for `surplus_of_all` they may, for `surplus_of_each` they may not.
+fn surplus_of(ends_deep: bool, pods: &[u8]) -> Result<usize, (&[u8], Rejected<'_>)> {
+    let all = match look_at_pods(pods) {
+        Ok(all) => all,
+        Err(refusal) => return Err(refusal),
     };
     if all.surplus > 0 {
         if !are_shallow(pods) {
             if !ends_deep {
-                return None;
+                return Err((pods, Rejected::TooDeep));
             }
             if !are_shallow_but_at_end(pods) {
-                return None;
+                return Err((pods, Rejected::TooDeep));
             }
         }
     }
-    Some(all.surplus)
+    Ok(all.surplus)
 }
 
 /// Whether at most `LEVELS` structs and objects stand in one another in each of the pods, not counting those that end where the input does.
@@ -169,7 +170,7 @@ fn last_inside<'a>(type_: u32, body: &'a [u8], rest: &[u8]) -> Option<Inside<'a>
 
 /// How many bytes the body of a pod has at least in which more than `LEVELS` structs and objects stand in one another: each of these in it has a
 /// header.
-const DEEP_BODY: usize = LEVELS as usize * HEADER_LEN;
+pub(crate) const DEEP_BODY: usize = LEVELS as usize * HEADER_LEN;
 
 /// Whether at most `LEVELS` structs and objects stand in one another in each of the pods.
 fn are_shallow(pods: &[u8]) -> bool {
@@ -194,7 +195,7 @@ fn canonical_len(canonical: usize, are_all: bool, end: usize) -> usize {
 /// Looks at the pod at the front of the input as `look_at_pod` does, with an array in which lists can wait. Where `canonical` isn't set it isn't
 /// asked whether the pod is canonical, and the answer says that it isn't.
 #[cfg_attr(not(debug_assertions), inline(always))]
-fn look_at_front<'a>(
+pub(crate) fn look_at_front<'a>(
     canonical: bool,
     input: &'a [u8],
     frames: &mut [Inside<'a>],
@@ -257,7 +258,8 @@ pub(crate) fn look_into<'a>(
     look_on(ends, keyed, canonical, left, frames)
 }
 
-/// What follows the first pods that a look which ends there passes without a call: canonical ones, or such that are as long as their encodings.
+/// What follows the first pods that hold no others and need no array: canonical ones, or else, where the look ends at the first difference, those
+/// that are as long as their encodings.
 #[cfg_attr(not(debug_assertions), inline(always))]
 fn behind_alike_first(ends: bool, keyed: bool, canonical: bool, pods: &[u8]) -> &[u8] {
     if canonical {
@@ -421,7 +423,7 @@ fn behind_canonical(keyed: bool, pods: &[u8]) -> &[u8] {
     behind_alike(false, pods)
 }
 
-/// The loop over these.
+/// What follows the first canonical pods that hold no others, with key and flags before each where `keyed` is set.
 #[cfg_attr(not(debug_assertions), inline(always))]
 fn behind_alike(keyed: bool, pods: &[u8]) -> &[u8] {
     let mut left = pods;
@@ -431,7 +433,7 @@ fn behind_alike(keyed: bool, pods: &[u8]) -> &[u8] {
     left
 }
 
-/// What follows the first one.
+/// What follows the first member or property, where its pod is canonical and holds no others.
 #[cfg_attr(not(debug_assertions), inline(always))]
 fn canonical_leaf(keyed: bool, left: &[u8]) -> Option<&[u8]> {
     let Some(here) = behind_key(keyed, left) else {
@@ -449,7 +451,7 @@ fn behind_as_long(keyed: bool, pods: &[u8]) -> &[u8] {
     behind_steady(false, pods)
 }
 
-/// The loop over these.
+/// What follows the first pods that hold no others and are as long as their encodings, with key and flags before each where `keyed` is set.
 #[cfg_attr(not(debug_assertions), inline(always))]
 fn behind_steady(keyed: bool, pods: &[u8]) -> &[u8] {
     let mut left = behind_short(keyed, pods);

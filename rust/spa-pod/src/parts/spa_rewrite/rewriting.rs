@@ -1,43 +1,38 @@
 //! The rewriting of a pod is the encoding of its value.
+//!
+//! Pods are looked at first. Canonical ones are copied, those that are as long as their encodings patched in the copy, and those that get shorter
+//! written over it. What nests too deep for that is read as a value, which is written.
 
 use crate::shims::prelude::*;
-use crate::parts::spa_rewrite::leading::{canonical_stretch, steady_stretch};
-use crate::parts::spa_rewrite::look::{Rejected, look_at_pod, look_at_pods};
-use crate::parts::spa_rewrite::pod::rewrite_pod;
-use crate::parts::spa_rewrite::tail::Tail;
+use crate::parts::spa_rewrite::across::write_all;
+use crate::parts::spa_rewrite::leading::{canonical_pods, canonical_stretch, steady_pods};
+use crate::parts::spa_rewrite::look::{AcceptedPod, DEEP_BODY, FEW, Rejected, look_at_front, look_at_pods};
+use crate::parts::spa_rewrite::patch::patch_all;
+use crate::parts::spa_rewrite::steady::Inside;
 use crate::parts::spa_bodies::error_at;
 use crate::parts::spa_fixed_sized::{DeserializeError, Refusal};
-use crate::parts::spa_sink::PodSink;
-use core::mem;
+use crate::parts::spa_read::{Refused, read_value};
+use crate::parts::spa_scan::{LEVELS, nests_within};
+use crate::parts::spa_sink::GenError;
+use crate::parts::spa_value::{Value, discard};
+use crate::parts::spa_write::write_value;
+use crate::shims::memory::AllocError;
 
 /// The encoding of the value that the front of the input says, and what follows that front.
 ///
 /// Unless memory runs out, this succeeds exactly where the front that the first size word names is there and is a pod.
 /// The refusals are those of `PodDeserializer::deserialize_any_from`, but that a refusal for lack of memory can also be
 /// answered for a pod of fixed size, whose encoding takes memory. A size is never a cause: what was read can be
-/// written. A malformed pod is refused for its fault also where memory ran out, unless more than 1000 structs and objects stand in one another in it.
+/// written. A malformed pod is refused for its fault, never for want of memory, unless more than 1000 structs and objects stand in one another in it.
 pub fn rewrite(input: &[u8]) -> Result<(&[u8], Vec<u8>), DeserializeError<&[u8]>> {
-    let mut left = input;
-    let mut tail = Tail::behind(Vec::new());
-    match rewrite_pod(&mut Vec::new(), &mut left, &mut tail) {
-        Ok(()) => Ok((left, tail.into_whole())),
-        Err(why) => Err(refusal(input, left, why)),
-    }
-}
-
-/// The refusal of the pod at the front. Where memory ran out for its encoding, a look tells its fault, if it is malformed.
-#[cold]
-#[inline(never)]
-fn refusal<'a>(input: &'a [u8], place: &'a [u8], why: Refusal) -> DeserializeError<&'a [u8]> {
-    match why {
-        Refusal::OutOfMemory => match look_at_pod(input) {
-            Ok(_) => error_at(input, why),
-            Err(rejected) => match rejected {
-                Rejected::Fault(inner, fault) => error_at(inner, fault),
-                Rejected::TooDeep => error_at(input, why),
-            },
-        },
-        _ => error_at(place, why),
+    let list = Inside {
+        keyed: false,
+        pods: input,
+    };
+    let mut out = Vec::new();
+    match append_front(input, &mut [list; FEW], &mut out) {
+        Ok(rest) => Ok((rest, out)),
+        Err(refused) => Err(error_at(refused.place, refused.why)),
     }
 }
 
@@ -50,19 +45,11 @@ pub fn rewrite_all<'a>(
     input: &'a [u8],
     out: &mut Vec<u8>,
 ) -> Result<(), (&'a [u8], DeserializeError<&'a [u8]>)> {
-    let mut bytes = mem::replace(out, Vec::new());
     // No rewriting is longer than its pod. Where so much memory isn't there at once, each growth asks for its own.
-    let _ = bytes.make_room(input.len());
-    let mut tail = Tail::behind(bytes);
-    match rewrite_pods(input, &mut tail) {
-        Ok(()) => {
-            *out = tail.into_whole();
-            Ok(())
-        }
-        Err(refusal) => {
-            *out = tail.into_start();
-            Err(refusal)
-        }
+    let _ = out.make_room(input.len());
+    match append_all(input, out) {
+        Ok(()) => Ok(()),
+        Err((left, refused)) => Err((left, error_at(refused.place, refused.why))),
     }
 }
 
@@ -75,17 +62,17 @@ pub fn rewrite_in_parts(
     input: &[u8],
 ) -> Result<(&[u8], Vec<u8>), (&[u8], DeserializeError<&[u8]>)> {
     let (first, rest) = canonical_stretch(input);
-    let mut tail = Tail::behind(Vec::new());
-    match rewrite_others(rest, &mut tail) {
-        Ok(()) => Ok((first, tail.into_whole())),
-        Err(refusal) => Err(refusal),
+    let mut out = Vec::new();
+    match append_all(rest, &mut out) {
+        Ok(()) => Ok((first, out)),
+        Err((left, refused)) => Err((left, error_at(refused.place, refused.why))),
     }
 }
 
 /// Tells whether `rewrite_all` would accept the input, and else refuses it as that call does.
 ///
 /// It takes memory only for a pod in which more than 1000 structs and objects stand in one another, not counting those that end where the one
-/// around them does: such a pod is rewritten, and its rewriting dropped.
+/// around them does: such a pod is read as a value, which is dropped.
 pub fn accept_all(input: &[u8]) -> Result<(), (&[u8], DeserializeError<&[u8]>)> {
     let mut left = input;
     loop {
@@ -102,73 +89,237 @@ pub fn accept_all(input: &[u8]) -> Result<(), (&[u8], DeserializeError<&[u8]>)> 
     }
 }
 
-/// What follows the pod at the front, which is rewritten to see whether it is accepted.
+/// What follows the pod at the front, which is read to see whether it is accepted.
 fn behind_deep(pod: &[u8]) -> Result<&[u8], DeserializeError<&[u8]>> {
-    let mut left = pod;
-    let mut tail = Tail::behind(Vec::new());
-    if let Err(why) = rewrite_pod(&mut Vec::new(), &mut left, &mut tail) {
-        return Err(error_at(left, why));
+    let mut opened = 0;
+    match read_value(pod, &mut opened) {
+        Ok((rest, value)) => {
+            discard(value);
+            Ok(rest)
+        }
+        Err(refused) => Err(error_at(refused.place, refused.why)),
     }
-    Ok(left)
 }
 
-/// Appends the rewritings of all pods that the input consists of, behind the bytes that stay.
-fn rewrite_pods<'a>(
+/// Appends the encodings of all pods that the input consists of. A refusal gives what is left from the refused pod on, and that pod's refusal.
+fn append_all<'a>(
     input: &'a [u8],
-    tail: &mut Tail,
-) -> Result<(), (&'a [u8], DeserializeError<&'a [u8]>)> {
-    let Some(rest) = put_stretch(input, tail) else {
-        return Err((input, error_at(input, Refusal::OutOfMemory)));
+    out: &mut Vec<u8>,
+) -> Result<(), (&'a [u8], Refused<'a>)> {
+    let list = Inside {
+        keyed: false,
+        pods: input,
     };
-    rewrite_others(rest, tail)
-}
-
-/// Appends the rewritings of pods behind the bytes that stay, where the first pod isn't canonical: whether it is isn't asked again.
-fn rewrite_others<'a>(
-    input: &'a [u8],
-    tail: &mut Tail,
-) -> Result<(), (&'a [u8], DeserializeError<&'a [u8]>)> {
+    let mut frames = [list; FEW];
+    let start = out.len();
     let mut left = input;
-    let mut outer = Vec::new();
     loop {
-        let Some(others) = put_steady(left, tail) else {
-            return Err((left, error_at(left, Refusal::OutOfMemory)));
+        let Some(others) = append_canonical(left, &mut frames, out) else {
+            out.truncate(start);
+            return Err((left, lacking_memory(left)));
         };
         if others.is_empty() {
             return Ok(());
         }
-        let mut behind = others;
-        if let Err(why) = rewrite_pod(&mut outer, &mut behind, tail) {
-            return Err((others, refusal(others, behind, why)));
+        match append_others(others, &mut frames, out) {
+            Ok(rest) => left = rest,
+            Err(refused) => {
+                out.truncate(start);
+                return Err((others, refused));
+            }
         }
-        let Some(rest) = put_stretch(behind, tail) else {
-            return Err((behind, error_at(behind, Refusal::OutOfMemory)));
-        };
-        left = rest;
     }
 }
 
-/// Appends the rewritings of the first pods, as many as are found to be as long as their pods, and gives what follows these. `None` says
-/// that memory ran out.
-fn put_steady<'a>(left: &'a [u8], tail: &mut Tail) -> Option<&'a [u8]> {
-    let (steady, rest) = steady_stretch(left);
-    if steady.is_empty() {
-        return Some(left);
-    }
-    match tail.append_patched(steady) {
-        Some(()) => Some(rest),
-        None => None,
+/// The refusal of the pod at the front of these bytes for want of memory.
+fn lacking_memory(pod: &[u8]) -> Refused<'_> {
+    Refused {
+        place: pod,
+        why: Refusal::OutOfMemory,
     }
 }
 
-/// Appends the first pods, as many as are canonical, and gives what follows them. `None` says that memory ran out.
-fn put_stretch<'a>(left: &'a [u8], tail: &mut Tail) -> Option<&'a [u8]> {
-    let (stretch, rest) = canonical_stretch(left);
+/// Appends the first pods, as many as are canonical, and answers what follows them. `None`: memory ran out, and nothing was appended.
+#[cfg_attr(not(debug_assertions), inline(always))]
+fn append_canonical<'a>(
+    left: &'a [u8],
+    frames: &mut [Inside<'a>],
+    out: &mut Vec<u8>,
+) -> Option<&'a [u8]> {
+    let (stretch, rest) = canonical_pods(left, frames);
     if stretch.is_empty() {
         return Some(left);
     }
-    match tail.append(stretch) {
+    match out.try_extend_from_slice(stretch) {
         Ok(()) => Some(rest),
         Err(_) => None,
+    }
+}
+
+/// Accepted pods that are written together.
+#[derive(Clone, Copy)]
+struct Section<'a> {
+    /// The pods: each is as long as its encoding, or each is longer.
+    pods: &'a [u8],
+    /// By how many bytes their encodings are shorter.
+    surplus: usize,
+    /// A canonical pod behind them, or nothing.
+    canonical: &'a [u8],
+    /// What follows.
+    rest: &'a [u8],
+}
+
+/// How many bytes of pods that aren't canonical are looked at before they are written: so many fit into a processor's cache.
+const BLOCK: usize = 65536;
+
+/// Appends the encodings of pods the first of which isn't canonical, and answers what follows them. Refused is the first of them.
+fn append_others<'a>(
+    pods: &'a [u8],
+    frames: &mut [Inside<'a>],
+    out: &mut Vec<u8>,
+) -> Result<&'a [u8], Refused<'a>> {
+    let section = look_over(pods, frames);
+    if section.pods.is_empty() {
+        return append_front(pods, frames, out);
+    }
+    let Some(()) = append_pods(section.pods, section.surplus, out) else {
+        return Err(lacking_memory(pods));
+    };
+    let (_, behind) = pods.split_at(section.pods.len());
+    match out.try_extend_from_slice(section.canonical) {
+        Ok(()) => Ok(section.rest),
+        Err(_) => Ok(behind),
+    }
+}
+
+/// Looks at the first pods, as long as they are accepted and alike: each as long as its encoding, or each longer.
+#[cfg_attr(not(debug_assertions), inline(always))]
+fn look_over<'a>(pods: &'a [u8], frames: &mut [Inside<'a>]) -> Section<'a> {
+    let (steady, others) = steady_pods(BLOCK, pods, frames);
+    if !steady.is_empty() {
+        return cut_section(pods, others, others, 0);
+    }
+    let mut left = pods;
+    let mut surplus = 0;
+    loop {
+        if pods.len() - left.len() >= BLOCK {
+            return cut_section(pods, left, left, surplus);
+        }
+        let Ok(pod) = look_to_write(surplus > 0, left, frames) else {
+            return cut_section(pods, left, left, surplus);
+        };
+        if pod.surplus == 0 {
+            if pod.canonical {
+                return cut_section(pods, left, pod.rest, surplus);
+            }
+            return cut_section(pods, left, left, surplus);
+        }
+        surplus += pod.surplus;
+        left = pod.rest;
+    }
+}
+
+/// The pods up to what is left of them, whose encodings are so many bytes shorter, and a canonical one up to the rest.
+#[cfg_attr(not(debug_assertions), inline(always))]
+fn cut_section<'a>(pods: &'a [u8], left: &'a [u8], rest: &'a [u8], surplus: usize) -> Section<'a> {
+    let (some, _) = pods.split_at(pods.len() - left.len());
+    let (canonical, _) = left.split_at(left.len() - rest.len());
+    Section {
+        pods: some,
+        surplus,
+        canonical,
+        rest,
+    }
+}
+
+/// Looks at the pod at the front as `look_at_front` does, and rejects pods as too deep that get shorter and hold more than `LEVELS` structs and
+/// objects in one another, wherever these end: what writes such a pod calls itself for each.
+#[cfg_attr(not(debug_assertions), inline(always))]
+fn look_to_write<'a>(
+    canonical: bool,
+    input: &'a [u8],
+    frames: &mut [Inside<'a>],
+) -> Result<AcceptedPod<'a>, Rejected<'a>> {
+    let pod = look_at_front(canonical, input, frames)?;
+    if pod.surplus > 0 && input.len() - pod.rest.len() >= DEEP_BODY {
+        if !nests_within(input, LEVELS) {
+            return Err(Rejected::TooDeep);
+        }
+    }
+    Ok(pod)
+}
+
+/// Appends the encodings of accepted pods, which are so many bytes shorter. `None`: memory ran out, and nothing was appended.
+fn append_pods(pods: &[u8], surplus: usize, out: &mut Vec<u8>) -> Option<()> {
+    let at = out.len();
+    let Ok(()) = out.try_extend_from_slice(pods) else {
+        return None;
+    };
+    if surplus > 0 {
+        let len = write_all(pods, &mut out[at..]);
+        out.truncate(at + len);
+    } else {
+        patch_all(&mut out[at..]);
+    }
+    Some(())
+}
+
+/// Appends the encoding of the pod at the front of the input, and answers what follows that pod.
+fn append_front<'a>(
+    input: &'a [u8],
+    frames: &mut [Inside<'a>],
+    out: &mut Vec<u8>,
+) -> Result<&'a [u8], Refused<'a>> {
+    match look_to_write(true, input, frames) {
+        Ok(pod) => {
+            let (front, _) = input.split_at(input.len() - pod.rest.len());
+            match append_pod(pod.canonical, front, pod.surplus, out) {
+                Some(()) => Ok(pod.rest),
+                None => Err(lacking_memory(input)),
+            }
+        }
+        Err(rejected) => match rejected {
+            Rejected::Fault(place, why) => Err(Refused { place, why }),
+            Rejected::TooDeep => append_by_value(input, out),
+        },
+    }
+}
+
+/// Appends the encoding of an accepted pod, which is so many bytes shorter. `None`: memory ran out, and nothing was appended.
+#[cfg_attr(not(debug_assertions), inline(always))]
+fn append_pod(canonical: bool, pod: &[u8], surplus: usize, out: &mut Vec<u8>) -> Option<()> {
+    if !canonical {
+        return append_pods(pod, surplus, out);
+    }
+    match out.try_extend_from_slice(pod) {
+        Ok(()) => Some(()),
+        Err(_) => None,
+    }
+}
+
+/// Reads the pod at the front of the input, appends the value's encoding, and answers what follows that pod.
+#[cold]
+#[inline(never)]
+fn append_by_value<'a>(input: &'a [u8], out: &mut Vec<u8>) -> Result<&'a [u8], Refused<'a>> {
+    let mut opened = 0;
+    let (rest, value) = read_value(input, &mut opened)?;
+    let written = append_value(&value, out);
+    discard(value);
+    match written {
+        Ok(()) => Ok(rest),
+        Err(_) => Err(lacking_memory(input)),
+    }
+}
+
+/// Appends the encoding of a value that can be written. Refused only for want of memory: nothing is appended then.
+pub fn append_value(value: &Value, out: &mut Vec<u8>) -> Result<(), AllocError> {
+    let start = out.len();
+    match write_value(out, value) {
+        Ok(_) => Ok(()),
+        Err(GenError::OutOfMemory) => {
+            out.truncate(start);
+            Err(AllocError)
+        }
+        Err(_) => unreachable!(),
     }
 }

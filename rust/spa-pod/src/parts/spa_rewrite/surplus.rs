@@ -19,7 +19,7 @@ pub(crate) fn leaf_surplus(type_: u32, body: &[u8]) -> Option<usize> {
     }
 }
 
-/// The same of a choice: what it holds beyond the values that it takes and beyond the padding of these.
+/// By how many bytes the encoding of a choice is shorter: what the choice holds beyond the values that it takes and beyond the padding of these.
 fn choice_surplus(body: &[u8]) -> Option<usize> {
     let Some(kept) = values_of(body) else {
         return None;

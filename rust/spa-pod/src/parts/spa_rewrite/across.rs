@@ -1,77 +1,17 @@
-//! Pods rewritten into another buffer, where they may get shorter.
+//! The encodings of pods that get shorter, written to another buffer.
 
 use crate::shims::prelude::*;
+use crate::parts::spa_rewrite::patch::{SECOND_HEADER, begins_word, patch_leaf, patch_values, taken_len};
+use crate::parts::spa_rewrite::steady::behind_key;
 use crate::parts::spa_bytes::{
     HEADER_LEN, extent_of, joined, open, two_words, u32_at, u64_at, wide_body, word_body,
 };
-use crate::parts::spa_rewrite::{
-    SECOND_HEADER, begins_word, behind_key, canonical_stretch, patch_all, patch_leaf, patch_values,
-    surplus_of_each, taken_len,
-};
 use crate::parts::spa_utils::SpaTypes;
 
-/// Writes the rewritings of all pods of the input to the front of an output that is at least as long as the input, and answers how many
-/// bytes they take; what is behind them stays as it was. To a shorter output it writes nothing, and answers the length alone. It takes no memory.
-///
-/// `None` says that the input isn't pods one after another, or that structs and objects stand more than `LEVELS` deep in one another in
-/// them: then it writes nothing.
-pub fn rewrite_into(input: &[u8], out: &mut [u8]) -> Option<usize> {
-    let (first, rest) = canonical_stretch(input);
-    let Some(surplus) = surplus_behind(rest) else {
-        return None;
-    };
-    let len = input.len() - surplus;
-    if out.len() < input.len() {
-        return Some(len);
-    }
-    put_first(first, out);
-    write_rest(surplus, rest, &mut out[first.len()..]);
-    Some(len)
-}
-
-/// Copies bytes to the front of an output, where there are any.
-#[cfg_attr(not(debug_assertions), inline(always))]
-fn put_first(bytes: &[u8], out: &mut [u8]) {
-    if !bytes.is_empty() {
-        out[..bytes.len()].copy_from_slice(bytes);
-    }
-}
-
-/// By how many bytes the rewritings of all pods are shorter than these. `None` says what `surplus_of_each` says by it.
-#[cfg_attr(not(debug_assertions), inline(always))]
-pub(crate) fn surplus_behind(pods: &[u8]) -> Option<usize> {
-    if pods.is_empty() {
-        return Some(0);
-    }
-    surplus_of_each(pods)
-}
-
-/// Writes the rewritings of pods, which are so many bytes shorter, to the front of an output that is as long as the pods at least: patched in a
-/// copy, where they aren't shorter.
-#[cfg_attr(not(debug_assertions), inline(always))]
-fn write_rest(surplus: usize, pods: &[u8], out: &mut [u8]) {
-    if pods.is_empty() {
-        return;
-    }
-    if surplus > 0 {
-        write_all(pods, out);
-        return;
-    }
-    write_steady(surplus, pods, out);
-}
-
-/// Writes the rewritings of pods that don't get shorter: these are copied, and patched in the copy.
-#[inline(never)]
-fn write_steady(surplus: usize, pods: &[u8], out: &mut [u8]) {
-    let len = pods.len() - surplus;
-    out[..len].copy_from_slice(pods);
-    patch_all(&mut out[..len]);
-}
-
 /// Writes the rewritings of pods one after another to the front of an output that is at least as long, and answers how many bytes they take.
-/// What stands in the outermost ones takes one call each.
+/// Each of these pods takes one call, and so does each struct or object in them.
 #[cfg_attr(not(debug_assertions), inline(always))]
-fn write_all(pods: &[u8], out: &mut [u8]) -> usize {
+pub fn write_all(pods: &[u8], out: &mut [u8]) -> usize {
     let mut to = 0;
     let mut left = pods;
     loop {
@@ -165,7 +105,7 @@ fn write_pod(type_: u32, size: usize, pod: &[u8], out: &mut [u8]) -> usize {
 
 /// Whether properties stand in it, of a struct or an object whose pods can end where it does.
 #[cfg_attr(not(debug_assertions), inline(always))]
-pub(crate) fn holds_whole(type_: u32, size: usize) -> Option<bool> {
+pub fn holds_whole(type_: u32, size: usize) -> Option<bool> {
     if size % HEADER_LEN > 0 {
         return None;
     }
@@ -190,7 +130,7 @@ fn write_inner(keyed: bool, pod: &[u8], out: &mut [u8]) -> usize {
 
 /// The type of an object, or of a struct.
 #[cfg_attr(not(debug_assertions), inline(always))]
-pub(crate) fn inner_type(keyed: bool) -> u32 {
+pub fn inner_type(keyed: bool) -> u32 {
     if keyed {
         SpaTypes::Object.0
     } else {

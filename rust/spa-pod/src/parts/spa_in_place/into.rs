@@ -1,0 +1,62 @@
+//! Pods rewritten into another buffer, where they may get shorter.
+
+use crate::shims::prelude::*;
+use crate::parts::spa_rewrite::{Rejected, canonical_stretch, patch_all, surplus_of_each, write_all};
+
+/// Writes the rewritings of all pods of the input to the front of an output that is at least as long as the input, and answers how many
+/// bytes they take; what is behind them stays as it was. To a shorter output it writes nothing, and answers the length alone. It takes no memory.
+///
+/// `None` says that the input isn't pods one after another, or that structs and objects stand more than `LEVELS` deep in one another in
+/// them: then it writes nothing.
+pub fn rewrite_into(input: &[u8], out: &mut [u8]) -> Option<usize> {
+    let (first, rest) = canonical_stretch(input);
+    let Ok(surplus) = surplus_behind(rest) else {
+        return None;
+    };
+    let len = input.len() - surplus;
+    if out.len() < input.len() {
+        return Some(len);
+    }
+    put_first(first, out);
+    write_rest(surplus, rest, &mut out[first.len()..]);
+    Some(len)
+}
+
+/// Copies bytes to the front of an output, where there are any.
+#[cfg_attr(not(debug_assertions), inline(always))]
+pub(crate) fn put_first(bytes: &[u8], out: &mut [u8]) {
+    if !bytes.is_empty() {
+        out[..bytes.len()].copy_from_slice(bytes);
+    }
+}
+
+/// What `surplus_of_each` answers, which for no pods is 0.
+#[cfg_attr(not(debug_assertions), inline(always))]
+fn surplus_behind(pods: &[u8]) -> Result<usize, (&[u8], Rejected<'_>)> {
+    if pods.is_empty() {
+        return Ok(0);
+    }
+    surplus_of_each(pods)
+}
+
+/// Writes the rewritings of pods, which are so many bytes shorter, to the front of an output that is as long as the pods at least: patched in a
+/// copy, where they aren't shorter.
+#[cfg_attr(not(debug_assertions), inline(always))]
+fn write_rest(surplus: usize, pods: &[u8], out: &mut [u8]) {
+    if pods.is_empty() {
+        return;
+    }
+    if surplus > 0 {
+        write_all(pods, out);
+        return;
+    }
+    write_steady(surplus, pods, out);
+}
+
+/// Writes the rewritings of pods that don't get shorter: these are copied, and patched in the copy.
+#[inline(never)]
+fn write_steady(surplus: usize, pods: &[u8], out: &mut [u8]) {
+    let len = pods.len() - surplus;
+    out[..len].copy_from_slice(pods);
+    patch_all(&mut out[..len]);
+}

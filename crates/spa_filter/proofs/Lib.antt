@@ -8,4 +8,5 @@ pub mod Passing
 pub mod Settled
 pub mod CommonPods
 pub mod EnumValues
+pub mod RangeValues
 pub mod Apart

@@ -1,8 +1,8 @@
 -- The value to which two filter, from their pods to its pod.
-use Rattle.std.specs.Prelude.{⊤, ◌≡◌, ◌≢◌, ℕ, List, ◌∷◌, ◌++◌, map}
+use Rattle.std.specs.Prelude.{⊤, ◌≡◌, ◌≢◌, ℕ, List, [], ◌∷◌, ◌++◌, map}
 use Rattle.spa_format.specs.Words.{word_at}
 use Rattle.spa_format.specs.Kind.{Kind, Fixed, content}
-use Rattle.spa_format.specs.Tree.{Tree, choice, choice_type, enum_choice, type_of}
+use Rattle.spa_format.specs.Tree.{Tree, choice, choice_type, enum_choice, range_choice, type_of}
 use Rattle.spa_format.specs.Pod.{IsBody, IsPod}
 use Rattle.spa_format.specs.Encoding.{encoding_of}
 use Rattle.spa_format.specs.Writable.{IsTooLarge}
@@ -48,6 +48,11 @@ pub record AreEnumValues (k : Kind) (default : Fixed) (values : List (List ℕ))
   pub others : List Fixed
   pub contents : map (content k) values ≡ default ∷ others
   pub its_body : IsBody (choice enum_choice flags k default others) body
+
+-- the Range with this body has this default and these bounds
+pub record IsRangeBody (k : Kind) (default low high : Fixed) (body : List ℕ) : Type 0 where
+  pub flags : ℕ
+  pub its_body : IsBody (choice range_choice flags k default (low ∷ high ∷ [])) body
 
 -- the two aren't supported, or no value is admitted by both
 abbrev pub AreApart : Tree → Tree → Type 0

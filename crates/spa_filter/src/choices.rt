@@ -23,7 +23,7 @@ use std::alloc::Global;
 pub(crate) const VALUES_AT: usize = 16;
 
 /// Reads the choice over the type `T` of which this is the body. Refused as `Apart` where it is the body of no such choice, and as `OutOfMemory`.
-#[inline(never)]
+#[inline(always)]
 pub(crate) fn choice_over<T: Element>(alloc: Global, body: &[u8]) -> Result<Choice<T>, Refused>
     ensures choice { IfOk result (λ choice. IsBody (choice_tree T.kind T.fixed choice) body.now) }
     ensures cause { IfErr result (IsOfOtherType T.TYPE body.now) }

@@ -8,6 +8,7 @@ ghost use Rattle.spa_filter.specs.declared.refused.Refused.TheVariants.{OutOfMem
 use crate::choices::{VALUES_AT, choice_over, put_read};
 use crate::enums::{is_short_enum, put_shared};
 use crate::error::FilterError;
+use crate::ranges::{is_range, put_ranges};
 use crate::refused::Refused;
 use crate::support::are_supported;
 use crate::types::{BOOL, DOUBLE, FD, FLOAT, FRACTION, ID, INT, LONG, RECTANGLE};
@@ -174,6 +175,9 @@ fn put_over<T: Element, const N: usize>(
 {
     if is_short_enum(a) && is_short_enum(b) {
         return put_shared::<T, N>(alloc, out, a, b);
+    }
+    if is_range(a) && is_range(b) {
+        return put_ranges::<T>(alloc, out, a, b);
     }
     put_read::<T>(alloc, out, a, b)
 }

@@ -7,6 +7,7 @@ mod enums;
 mod error;
 mod filtering;
 pub mod laws;
+mod ranges;
 mod refused;
 mod settling;
 mod support;

@@ -1,5 +1,5 @@
 //! The properties of an outcome, as they are made one by one.
-ghost use Rattle.std.specs.Prelude.{◌≡◌, [], OnOk};
+ghost use Rattle.std.specs.Prelude.{◌≡◌, [], OnErr, OnOk};
 ghost use Rattle.spa_keyed_objects.specs.PropertyLists.{IsPushed};
 
 use spa_value::laws::property_lists_are_in_order;
@@ -44,7 +44,8 @@ impl Drop for Met {
 
 /// Appends a property. Refused only for want of memory: the property is dropped then, and the others stay.
 pub fn push(met: &mut Met, property: Property) -> Result<(), AllocError>
-    ensures { OnOk result (IsPushed met.old.properties.items property met.new.properties.items) }
+    ensures pushed { OnOk result (IsPushed met.old.properties.items property met.new.properties.items) }
+    ensures unchanged { OnErr result (met.new.properties.items ≡ met.old.properties.items) }
 {
     property_lists_are_in_order();
     if let Err(error) = met.properties.reserve(1) {

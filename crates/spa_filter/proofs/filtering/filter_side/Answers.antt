@@ -53,7 +53,7 @@ loop-property-preserved c =
     elim c.if-branch.branch [
       | then-branch+in_ok-property+in_ok-push w ↦
           let q = w.in_ok-property in
-          let pushed = ap (λ v. property_views v.properties.items) w.met-is ∙ w.in_ok-push.ensures in
+          let pushed = ap (λ v. property_views v.properties.items) w.met-is ∙ w.in_ok-push.ensures.pushed in
           new law.first law.cut ours theirs before side part i p more is f l.invariant _ keys added w.if-branch.true
           q.property now q.ensures.key pushed refl q.ensures.filters q.ensures.agreed
       | else-branch w ↦

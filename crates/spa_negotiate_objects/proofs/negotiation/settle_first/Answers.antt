@@ -38,7 +38,7 @@ loop-property-preserved c =
           let plain = w.new-plain.ensures in
           let pushed =
           ap (λ v. property_views v.properties.items) w.met-is
-          ∙ w.in_ok-push.ensures
+          ∙ w.in_ok-push.ensures.pushed
           ∙ (λ i. join_properties (property_views l.met.properties.items)
           (property (plain.key i) (plain.flags i) (view (plain.value i)) no_properties)) in
           record {

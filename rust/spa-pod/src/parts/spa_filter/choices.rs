@@ -14,7 +14,7 @@ use crate::parts::spa_value::Value;
 pub(crate) const VALUES_AT: usize = 16;
 
 /// Reads the choice over the type `T` of which this is the body. Refused as `Apart` where it is the body of no such choice, and as `OutOfMemory`.
-#[inline(never)]
+#[cfg_attr(not(debug_assertions), inline(always))]
 pub(crate) fn choice_over<T: Element>(body: &[u8]) -> Result<Choice<T>, Refused> {
     if body.len() < VALUES_AT {
         return Err(Refused::Apart);

@@ -4,6 +4,7 @@ use crate::shims::prelude::*;
 use crate::parts::spa_filter::choices::{VALUES_AT, choice_over, put_read};
 use crate::parts::spa_filter::enums::{is_short_enum, put_shared};
 use crate::parts::spa_filter::error::FilterError;
+use crate::parts::spa_filter::ranges::{is_range, put_ranges};
 use crate::parts::spa_filter::refused::Refused;
 use crate::parts::spa_filter::support::are_supported;
 use crate::parts::spa_filter::types::{BOOL, DOUBLE, FD, FLOAT, FRACTION, ID, INT, LONG, RECTANGLE};
@@ -141,6 +142,9 @@ fn put_over<T: Element, const N: usize>(
 ) -> Result<(), Refused> {
     if is_short_enum(a) && is_short_enum(b) {
         return put_shared::<T, N>(out, a, b);
+    }
+    if is_range(a) && is_range(b) {
+        return put_ranges::<T>(out, a, b);
     }
     put_read::<T>(out, a, b)
 }

@@ -1,4 +1,4 @@
-//! An object that is read by a visitor of its own, since a declaration says nothing of a property's flags.
+//! An object whose property has flags: a declaration says nothing of them, so a visitor of its own reads it.
 ghost use Rattle.std.specs.Prelude.{◌≡◌, IfErr, IfOk, refl};
 ghost use Rattle.libspa.specs.Declining.{DeclinesAll};
 ghost use Rattle.libspa.specs.DeserializeErrors.{UnsupportedType};
@@ -13,6 +13,7 @@ use libspa::pod::deserialize::{
     DeserializeError, DeserializeSuccess, ExactDeserialize, Never, ObjectPodDeserializer,
     PodDeserialize, PodDeserializer, StructPodDeserializer, Visit, Visitor,
 };
+use libspa::pod::serialize::{GenError, PodOutput, PodSerialize, PodSerializer, SerializeSuccess};
 use libspa::utils::Float32;
 use spa_names::{keys, types};
 
@@ -101,4 +102,18 @@ impl<'de> ExactDeserialize<'de> for Gain {
     ghost takes_memory = { λ _. ⊥ };
 
     ghost exactly = { λ b e r. object_exactly _ IsGain ⊥ _ _ b e (λ v it is. record { type = _; id = _; properties = _; is = is; are = record { its_type = refl; its_id = refl; its_properties = refl } }) (λ _ _ d. d.exactly) (λ _ _ l. l) r };
+}
+
+/// Written as this object, wherever it can be.
+impl PodSerialize for Gain {
+    ghost value = { λ gain. gain_tree gain };
+
+    fn serialize<O: PodOutput>(
+        &self,
+        serializer: PodSerializer<O>,
+    ) -> Result<SerializeSuccess<O>, GenError> {
+        let mut properties = serializer.serialize_object(types::OBJECT_PROPS, self.id)?;
+        properties.serialize_property(keys::PROP_VOLUME, &self.volume, self.flags)?;
+        properties.end()
+    }
 }

@@ -8,7 +8,7 @@ use clap::{Arg, ArgAction, Command};
 use std::alloc::{AllocError, Global};
 
 /// The program's version.
-const VERSION: &str = "0.1.0";
+const VERSION: &str = "0.2.0";
 
 const ABOUT: &str =
     "Shows, prints, reads, rewrites, fixates, checks and compares pods of PipeWire, and seeks what two of them agree on";

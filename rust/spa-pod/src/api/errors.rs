@@ -5,7 +5,7 @@ use core::error::Error;
 use core::fmt::{Display, Formatter, Result};
 
 impl DeserializeError<&[u8]> {
-    /// The same refusal, with the byte of `input` at which the fault stands in place of the bytes from there on: so that it outlives them.
+    /// This refusal, with the byte of `input` at which the fault stands in place of the bytes from there on: so that it outlives them.
     /// `input` is what was read.
     ///
     /// ```

@@ -14,8 +14,8 @@ pub enum NestedReadError<I> {
 }
 
 impl NestedReadError<&[u8]> {
-    /// The refusal with the byte of `input`, which is what was read, in place of the bytes from there on: so that it outlives them. The same for a
-    /// `DeserializeError`: [`placed_in`](DeserializeError::placed_in).
+    /// The refusal with the byte of `input`, which is what was read, in place of the bytes from there on: so that it outlives them.
+    /// A `DeserializeError` has such a call, too: [`placed_in`](DeserializeError::placed_in).
     pub fn placed_in(self, input: &[u8]) -> NestedReadError<usize> {
         match self {
             NestedReadError::TooDeep => NestedReadError::TooDeep,

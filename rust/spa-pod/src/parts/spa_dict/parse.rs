@@ -9,7 +9,7 @@ pub trait ParsableValue: Copy {
     /// The type's name, as a refusal prints it.
     const TYPE_NAME: &'static str;
 
-    /// The type's name, which is `TYPE_NAME`: a call, so that contracts can speak of it.
+    /// The type's name, which is `TYPE_NAME`.
     fn name() -> &'static str;
 
     /// The value as which the text reads. None: it is no text of this type.

@@ -14,8 +14,8 @@ use crate::shims::memory::AllocFailed;
 /// lenient reading.
 ///
 /// Unless memory runs out, this succeeds exactly where the front that the first size word names is there and conveys a value. An accepted pod costs
-/// what `rewrite` costs, and gives the same. The lenient rewriting is a canonical pod, which a lenient rewriting doesn't change:
-/// `lenient_rewritings_are_pods` and `lenient_rewritings_stay` of `spa_format` say so. The refusals are those of
+/// what `rewrite` costs, and gives the same. The lenient rewriting is a canonical pod, which a lenient rewriting doesn't
+/// change. The refusals are those of
 /// `PodDeserializer::deserialize_any_leniently_from`, but that memory may also run out for the encoding.
 pub fn rewrite_leniently(
     input: &[u8],
@@ -32,7 +32,7 @@ pub fn rewrite_leniently(
     }
 }
 
-/// Appends the lenient rewritings of all pods that the input consists of. Memory is asked for by the allocator of `out`.
+/// Appends the lenient rewritings of all pods that the input consists of.
 ///
 /// Unless memory runs out, this succeeds exactly where the input conveys values one after another without remainder, or is empty. A refusal gives
 /// the remaining input from the refused pod on, with the refusal of that pod, and `out` is unchanged. The time is proportional to the input: pods

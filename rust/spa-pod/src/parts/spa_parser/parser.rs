@@ -23,7 +23,7 @@ impl<'d> Remainder<'d> {
     }
 }
 
-/// Reads an input pod by pod. Its model: the remaining bytes of the input and of each open body, the innermost first.
+/// Reads an input pod by pod.
 ///
 /// A get or a push asks for the next pod by its type and its size. It is refused with PIPE inside an object, or where no
 /// whole pod is left; else with INVAL where the next pod is another one. A refused call changes nothing. Only a push

@@ -20,6 +20,9 @@ impl AsyncSeq {
     }
 
     /// The sequence number of an asynchronous code. `SpaResult::from_c(code).is_async()` answers whether a code is one.
+    ///
+    /// # Panics
+    /// Where it isn't one.
     pub fn from_raw(code: i32) -> AsyncSeq {
         assert!(code.cast_unsigned() >> SEQ_BITS == 1, "the code is not asynchronous");
         AsyncSeq(code)

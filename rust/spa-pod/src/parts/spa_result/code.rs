@@ -45,7 +45,10 @@ impl SpaResult {
         }
     }
 
-    /// The code of a call that has completed, or the error. Only for codes that aren't asynchronous.
+    /// The code of a call that has completed, or the error.
+    ///
+    /// # Panics
+    /// Where the code is asynchronous.
     pub fn into_sync_result(self) -> Result<i32, Error> {
         assert!(!self.is_async(), "the code is asynchronous");
         match self.into_result()? {
@@ -54,7 +57,10 @@ impl SpaResult {
         }
     }
 
-    /// The sequence number of a call that will complete later, or the error. Only for codes that are below 0 or asynchronous.
+    /// The sequence number of a call that will complete later, or the error.
+    ///
+    /// # Panics
+    /// Where the code is neither below 0 nor asynchronous.
     pub fn into_async_result(self) -> Result<AsyncSeq, Error> {
         assert!(self.0 < 0 || self.is_async(), "the code is neither an error nor asynchronous");
         match self.into_result()? {

@@ -36,7 +36,7 @@ pub fn rewrite(input: &[u8]) -> Result<(&[u8], Vec<u8>), DeserializeError<&[u8]>
     }
 }
 
-/// Appends the rewritings of all pods that the input consists of. Memory is asked for by the allocator of `out`.
+/// Appends the rewritings of all pods that the input consists of.
 ///
 /// Unless memory runs out, this succeeds exactly where the input is pods one after another without remainder, or is
 /// empty. A refusal gives what is left of the input from the refused pod on, with the refusal of that pod, and `out`

@@ -6,7 +6,7 @@ use crate::shims::array::ArrayVec;
 
 /// A sink: takes bytes at its end.
 ///
-/// Its contracts relate the sink before and after, so that a device whose bytes aren't known is a sink, too.
+/// A device whose bytes can't be read back is a sink, too.
 pub trait PodSink {
     /// Appends the bytes. After a refusal a beginning of them may have been appended.
     fn append(&mut self, bytes: &[u8]) -> Result<(), GenError>;
@@ -30,6 +30,9 @@ pub trait PodOutput: PodSink {
     fn len(&self) -> usize;
 
     /// Overwrites the four bytes at the offset `at`.
+    ///
+    /// # Panics
+    /// Where the output has fewer than `at + 4` bytes.
     fn overwrite(&mut self, at: usize, bytes: [u8; 4]);
 }
 

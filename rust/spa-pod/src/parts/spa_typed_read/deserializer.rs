@@ -8,13 +8,13 @@ use crate::parts::spa_value::Value;
 
 /// A type that is read from a pod.
 pub trait PodDeserialize<'de>: Sized {
-    /// Reads the pod at the front of the deserializer's input. `refuses` states the refusals.
+    /// Reads the pod at the front of the deserializer's input. Each type says how it refuses one.
     fn deserialize(
         deserializer: PodDeserializer<'de>,
     ) -> Result<(Self, DeserializeSuccess<'de>), DeserializeError<&'de [u8]>>;
 }
 
-/// Any value, whose tree is the pod's one value. The refusals are those of `deserialize_any_from`.
+/// Any value. The refusals are those of `deserialize_any_from`.
 impl<'de> PodDeserialize<'de> for Value {
     fn deserialize(
         deserializer: PodDeserializer<'de>,
@@ -23,12 +23,12 @@ impl<'de> PodDeserialize<'de> for Value {
     }
 }
 
-/// Reads one pod from the front of an input. Its model is the remaining bytes.
+/// Reads one pod from the front of an input.
 pub struct PodDeserializer<'de> {
     pub(crate) input: &'de [u8],
 }
 
-/// A pod was read. The model is the bytes that follow it.
+/// A pod was read. `deserialize` gives this beside the value: it has it from the read of another type, or from a reader's `end`.
 pub struct DeserializeSuccess<'de>(PodDeserializer<'de>);
 
 impl<'de> DeserializeSuccess<'de> {
@@ -68,7 +68,7 @@ impl<'de> PodDeserializer<'de> {
         }
     }
 
-    /// Reads the value that the front of the input conveys in the lenient reading (docs/FORMAT.md), and answers the bytes that follow the front.
+    /// Reads the value that the front of the input conveys in the lenient reading, and answers the bytes that follow the front.
     /// Beyond the exact reading, it finds the value of a None choice over an array, and the text of a string that ends in several NULs, at any
     /// nesting depth: `spa_pod_filter` and ALSA leave such bytes.
     ///

@@ -9,7 +9,8 @@ use crate::parts::spa_value::{Bitmap, Value};
 
 /// A type whose read, unless memory runs out, succeeds exactly where the front is a pod of a value that is read as this type.
 ///
-/// The content of a `DeserializeAs` has to be such a type, and then the type that is made of it is one.
+/// The content of a `DeserializeAs` has to be such a type, and then the type that is made of it is one. A type that is
+/// read by a visitor of its own becomes one by an `impl` without items, if this is so of it.
 pub trait ExactDeserialize<'de>: PodDeserialize<'de> {
 }
 

@@ -30,8 +30,6 @@ pub(crate) fn open_array_of<'de, T: CanonicalFixedSizedPod>(
 }
 
 /// Reads an array's elements one by one. Once a call was refused, every call answers `FailedReader`.
-///
-/// Its model: how many elements are left, their bytes, the bytes that follow the array, and whether it has failed.
 pub struct ArrayPodDeserializer<'de, E: FixedSizedPod> {
     left: &'de [u8],
     after: &'de [u8],

@@ -7,8 +7,6 @@ use crate::parts::spa_fixed_sized::DeserializeError;
 use crate::parts::spa_utils::SpaTypes;
 
 /// Reads a struct's members one by one. Once a member was refused, every call answers `FailedReader`.
-///
-/// Its model: the remaining bytes of the struct's body, the bytes that follow the struct, and whether it has failed.
 pub struct StructPodDeserializer<'de> {
     left: &'de [u8],
     after: &'de [u8],

@@ -33,9 +33,6 @@ fn first_asked<'de, R: DeserializeProperties<'de>>(
 }
 
 /// Reads an object's properties one by one. Once a property was refused, every call answers `FailedReader`.
-///
-/// Its model: the object's type and id, the remaining bytes of its body, the bytes that follow the object, and whether it has
-/// failed.
 pub struct ObjectPodDeserializer<'de> {
     type_: u32,
     id: u32,

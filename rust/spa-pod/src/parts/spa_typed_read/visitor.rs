@@ -61,15 +61,13 @@ pub trait Visitor<'de>: Sized {
         given: Visit<'de, Self::ArrayElem>,
     ) -> Result<Self::Value, DeserializeError<&'de [u8]>>;
 
-    /// Reads a struct's members and makes a value of them. It should read all: `made` is owed only then, and otherwise
-    /// the typed read is refused.
+    /// Reads a struct's members and makes a value of them. It has to read all of them: else the read is refused as `UnreadMembers`.
     fn visit_struct(
         &self,
         reader: &mut StructPodDeserializer<'de>,
     ) -> Result<Self::Value, DeserializeError<&'de [u8]>>;
 
-    /// Reads an object's properties and makes a value of them. It should read all: `made` is owed only then, and otherwise
-    /// the typed read is refused.
+    /// Reads an object's properties and makes a value of them. It has to read all of them: else the read is refused as `UnreadMembers`.
     fn visit_object(
         &self,
         reader: &mut ObjectPodDeserializer<'de>,

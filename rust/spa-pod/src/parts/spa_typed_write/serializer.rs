@@ -6,8 +6,8 @@ use crate::parts::spa_sink::{GenError, PodOutput};
 
 /// A type that is written as a pod.
 pub trait PodSerialize {
-    /// Appends the value's encoding to the serializer's output. Refused as `refuses` states, or with an error with which the
-    /// output may refuse as many bytes as the encoding has.
+    /// Appends the value's encoding to the serializer's output. Refused as the type says, or with an
+    /// error of the output.
     fn serialize<O: PodOutput>(
         &self,
         serializer: PodSerializer<O>,

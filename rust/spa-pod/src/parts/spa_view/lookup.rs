@@ -13,7 +13,7 @@ pub trait FromPod<'a>: Sized {
     fn from_pod(pod: &Pod<'a>) -> Option<Self>;
 }
 
-/// One of the ten types of fixed size. A trait of this crate's own, so that what is written once for them overlaps no other type.
+/// One of the ten types of fixed size.
 pub trait FixedPod: CanonicalFixedSizedPod {}
 
 impl FixedPod for () {}

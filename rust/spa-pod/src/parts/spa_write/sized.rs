@@ -45,7 +45,7 @@ pub fn write_sized<S: PodSink>(sink: &mut S, value: &Value) -> Result<u64, GenEr
 }
 
 /// Appends the encoding of a value to any sink, at once, and answers its length in bytes. The encoding is put together by a loop, in memory of
-/// memory, so the nesting depth of the value is bounded by that memory alone, whatever the sink is. Refused before a byte is appended: a
+/// its own, so the nesting depth of the value is bounded by memory alone, whatever the sink is. Refused before a byte is appended: a
 /// text with NUL as `NulInText`, a size word of 4294967296 or more as `TooLarge`, want of that memory as `OutOfMemory`. Where the sink refuses
 /// it, with an error of the sink's, the sink may have taken a beginning of the encoding.
 pub fn write_value<S: PodSink>(sink: &mut S, value: &Value) -> Result<u64, GenError> {

@@ -1,4 +1,4 @@
-//! An object that is read by a visitor of its own, since a declaration says nothing of a property's flags.
+//! An object whose property has flags: a declaration says nothing of them, so a visitor of its own reads it.
 
 use crate::shims::prelude::*;
 use crate::parts::libspa::pod::PropertyFlags;
@@ -7,6 +7,7 @@ use crate::parts::libspa::pod::deserialize::{
     DeserializeError, DeserializeSuccess, ExactDeserialize, Never, ObjectPodDeserializer,
     PodDeserialize, PodDeserializer, StructPodDeserializer, Visit, Visitor,
 };
+use crate::parts::libspa::pod::serialize::{GenError, PodOutput, PodSerialize, PodSerializer, SerializeSuccess};
 use crate::parts::libspa::utils::Float32;
 use crate::parts::spa_names::{keys, types};
 
@@ -68,4 +69,16 @@ impl<'de> PodDeserialize<'de> for Gain {
 
 /// It is refused exactly where no such object is there.
 impl<'de> ExactDeserialize<'de> for Gain {
+}
+
+/// Written as this object, wherever it can be.
+impl PodSerialize for Gain {
+    fn serialize<O: PodOutput>(
+        &self,
+        serializer: PodSerializer<O>,
+    ) -> Result<SerializeSuccess<O>, GenError> {
+        let mut properties = serializer.serialize_object(types::OBJECT_PROPS, self.id)?;
+        properties.serialize_property(keys::PROP_VOLUME, &self.volume, self.flags)?;
+        properties.end()
+    }
 }

@@ -1,4 +1,4 @@
-//! Types of a program's own, written as pods. They know the library by its contracts alone.
+//! Types of a program's own, written as pods, and objects with choices. They know the library by its contracts alone.
 use crate::shims::prelude::*;
 mod capture;
 mod control;
@@ -8,10 +8,13 @@ mod gain;
 mod latency;
 mod level;
 mod mode;
+mod offer;
+mod profile;
 mod screen;
 mod song;
 mod stream;
 mod tagged;
+mod wish;
 
 pub use capture::Capture;
 pub use control::{Control, with_volume};
@@ -21,7 +24,10 @@ pub use gain::Gain;
 pub use latency::{Latency, latencies_come_back, read_latency};
 pub use level::{Level, Pair};
 pub use mode::{Mode, Size, put_mode, read_mode, sent};
+pub use offer::camera_formats;
+pub use profile::{Availability, Profile};
 pub use screen::{Device, Screen};
 pub use song::{Cover, Song};
 pub use stream::{StreamFormat, ranges_of_rates_are_refused, read_stream_format};
 pub use tagged::{Tagged, is_number, tagged_number};
+pub use wish::viewer_formats;

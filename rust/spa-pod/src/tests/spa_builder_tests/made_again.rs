@@ -27,14 +27,22 @@ enum Call<'a> {
     Longs(&'a [u8]),
 }
 
+/// The answer to a call that begins a pod.
+fn begun(frame: Result<Frame, Errno>) -> Answer {
+    match frame {
+        Ok(_) => ACCEPTED,
+        Err(refusal) => Err(refusal),
+    }
+}
+
 /// Begins, closes or gives up a pod, or adds a key.
 fn begin_or_end(builder: &mut Builder, call: BuildCall<'_>) -> Answer {
     match call {
         BuildCall::AddProp(key, flags) => builder.add_prop(key, flags),
-        BuildCall::PushArray => builder.push_array().map(|_frame| ()),
-        BuildCall::PushChoice(shape, flags) => builder.push_choice(shape, flags).map(|_frame| ()),
-        BuildCall::PushStruct => builder.push_struct().map(|_frame| ()),
-        BuildCall::PushObject(type_, id) => builder.push_object(type_, id).map(|_frame| ()),
+        BuildCall::PushArray => begun(builder.push_array()),
+        BuildCall::PushChoice(shape, flags) => begun(builder.push_choice(shape, flags)),
+        BuildCall::PushStruct => begun(builder.push_struct()),
+        BuildCall::PushObject(type_, id) => begun(builder.push_object(type_, id)),
         BuildCall::Pop(frame) => builder.pop(frame),
         BuildCall::Abandon(frame) => builder.abandon(frame),
         _ => Err(Errno::PROTO),

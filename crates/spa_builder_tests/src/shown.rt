@@ -1,4 +1,4 @@
-//! What docs/CALLING.md shows of the builder, word for word.
+//! A format that `builder_add!` makes, as README.md shows it.
 use crate::bytes::{are_words, assert_holds};
 use crate::shown::by_calls::format_pod;
 use spa_utils::Errno;

@@ -19,7 +19,7 @@ abbrev pub key_list : Properties → List ℕ
 key_list no_properties = []
 key_list (property key flags value rest) = key ∷ key_list rest
 
--- each of the numbers once, in the order in which they first occur
+-- each of the numbers once, in the order in which they first occur: 1 ∷ 2 ∷ 3 ∷ [] of 1 ∷ 2 ∷ 1 ∷ 3 ∷ 2 ∷ []
 abbrev pub distinct_of : List ℕ → List ℕ
 distinct_of [] = []
 distinct_of (k ∷ ks) = k ∷ filter (λ j. not (j == k)) (distinct_of ks)

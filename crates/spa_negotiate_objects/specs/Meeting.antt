@@ -35,7 +35,7 @@ Agree _ _ = ⊤
 abbrev pub AgreeAt : Properties → Properties → ℕ → Type 0
 AgreeAt ours theirs key = Agree (value_at key ours) (value_at key theirs)
 
--- the two objects are of one type, and agree under each key
+-- the two objects are of one type, and agree under each key: one that only the second has keeps no two apart here
 abbrev pub CanMeet : Tree → Tree → Type 0
 CanMeet (object type our_id ours) (object its_type its_id theirs) =
     (its_type ≡ type) × All (AgreeAt ours theirs) (keys_of ours)

@@ -273,7 +273,8 @@ AreElements c k (x ∷ xs) ts rest =
     × (opens c h us ≡ Some (leaf (a_number x), vs)) × (kind_eq (kind_of x) k ≡ true) × AreElements c k xs vs rest
 
 abbrev mutual
-  -- where this is expected, a value begins with this token, goes on with these, and this follows it
+  -- Where this is expected, a value begins with this token, goes on with these, and `rest` follows it. Each clause has the same three parts: what
+  -- `opens` says begins here; what is in it; the brace or bracket that closes it. docs/TEXT.md, "The definition, by an example", goes through one text.
   pub Reads : Expected → Tree → Token → List Token → List Token → Type 0
   Reads c (array k xs) h ts rest =
       (t : Table) × (us : List Token) × (vs : List Token) × (opens c h ts ≡ Some (begun (an_array t k), us))

@@ -188,7 +188,7 @@ fn made(alloc: Global, form: Form) -> Result<Object, Errno> {
     }
 }
 
-/// What docs/CALLING.md shows, word for word.
+/// A format as a value, by `object!`.
 mod by_value {
     use spa_names::{ids, keys, types};
     use spa_utils::{Errno, Fraction, Id, Rectangle, SpaTypes};

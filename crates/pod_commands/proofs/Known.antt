@@ -22,7 +22,7 @@ known_all expected now holds name bytes (inl e) h = subst (λ r. IsAllOf (conten
 known_all expected now holds name bytes (inr e) h =
     subst (λ r. IsAllOf (content_of r holds name) bytes) (sym e) (none_all (bytes_eq name dash) now (holds name) bytes h)
 
--- the same behind it
+-- what is known behind an input is known behind one of which less is known
 pub known_behind : (expected now after : Option (List ℕ)) (name : List ℕ) → IsKnown expected now → IsKnown (left_behind now name) after →
     IsKnown (left_behind expected name) after
 known_behind expected now after name (inl e) k = subst (λ r. IsKnown (left_behind r name) after) (sym e) k

@@ -32,7 +32,7 @@ sent IsSo IsRefused o made answer so (inl k) = subst (λ a. OnAnswer a (Gives Is
 sent IsSo IsRefused o made answer so (inr k) =
     subst (λ a. OnAnswer a (Gives IsSo o) ⊥ (Refuses IsSo IsRefused o)) (sym k.1) (inr (k.2, (made, so, k.3)))
 
--- the same, or it wasn't made
+-- what was made was sent, or nothing was made
 pub answers : {V : Type 0} (r : Result V Failure) (items : V → List ℕ) (IsSo : List ℕ → Type 0) (IsRefused : Failure → Type 0) (o : Outlet)
     (answer : Answer) → IfOk r (λ v. IsSo (items v)) → IfErr r IsRefused → IfOk r (λ v. IsSent (items v) Done answer o) →
     IfErr r (λ why. (answer ≡ Refused why) × IsUntouched o) → OnAnswer answer (Gives IsSo o) ⊥ (Refuses IsSo IsRefused o)

@@ -220,7 +220,7 @@ pub data IsAnswer (words : List (Bor (List ℕ))) (remaining old new : Option (L
   no_memory : Keeps old new → ((name : List ℕ) → after name ≡ before name) →
       IsAnswer words remaining old new before after (Refused OutOfMemory)
 
--- ---- What is told
+-- ---- What is said
 
 -- help and the version are no misuse
 abbrev pub status_of_kind : ErrorKind → ℕ
@@ -261,7 +261,7 @@ failure_text (Unwritten target) = target_text target ++ codes ": write failed"
 abbrev pub line_of_pod : NamedRefusal → List ℕ
 line_of_pod pod = codes "pod: " ++ (name_text pod.name.now ++ (codes ": " ++ (refusal_text pod.refusal ++ 10 ∷ [])))
 
--- a line of each, and one with their number
+-- a line of each refused pod, and one that says how many they are
 abbrev pub lines_of_pods : List NamedRefusal → List ℕ
 lines_of_pods [] = []
 lines_of_pods (pod ∷ pods) = line_of_pod pod ++ lines_of_pods pods

@@ -16,7 +16,7 @@ IsCutOff name input (Pods n why) = (n.now ≡ name) × IsRemainder input why
 IsCutOff name input OutOfMemory = ⊤
 IsCutOff name input _ = ⊥
 
--- the refusal of the input of this name is told so
+-- the failure of the input of this name, whose pods weren't shown for this reason
 abbrev pub IsToldAs : (name input : List ℕ) → TextFailure → Failure → Type 0
 IsToldAs name input text.OutOfMemory why = why ≡ OutOfMemory
 IsToldAs name input text.WriteFailed why = why ≡ Unwritten None
@@ -29,7 +29,7 @@ IsCutAt name input old new (Unread n) = ⊤
 IsCutAt name input old new (Unwritten target) = ⊤
 IsCutAt name input old new why = (out : List ℕ) × ShowsBegin name input out why × Appends old new out
 
--- the same of several inputs
+-- why several inputs aren't shown whole, and what was written
 abbrev pub IsCut : (remaining : Option (List ℕ)) → (holds : List ℕ → Option (List ℕ)) → List (Bor (List ℕ)) → (old new : Option (List ℕ)) → Failure → Type 0
 IsCut remaining holds names old new OutOfMemory = ⊤
 IsCut remaining holds names old new (Unread n) = ⊤

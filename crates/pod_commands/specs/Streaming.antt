@@ -44,11 +44,11 @@ IsBroken s remaining holds names old new why =
 
 -- ---- Only private clauses cite these.
 
--- the same of one
+-- why the work on an input of this name ends before that does, and what was written of it
 abbrev pub IsBrokenAt : Streaming → (name : List ℕ) → (content old new : Option (List ℕ)) → Failure → Type 0
 IsBrokenAt s name content old new why = (input : List ℕ) × (out : List ℕ) × IsAllOf content input × EndsIn s name input out why × IsWritten why old new out
 
--- the refusal of the input of this name is told so
+-- the failure of the input of this name for this reason
 abbrev pub IsToldAs : Bor (List ℕ) → PodFailure → Failure → Type 0
 IsToldAs name pods.OutOfMemory why = why ≡ OutOfMemory
 IsToldAs name pods.ReadFailed why = (n : Bor (List ℕ)) × (n.now ≡ name.now) × (why ≡ Unread n)

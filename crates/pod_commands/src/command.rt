@@ -19,7 +19,7 @@ const EXAMPLES: &str =
 
 Status: 0 the work is done; 1 an input is refused, two differ, or something can't be read or written; 2 the words ask for nothing.
 
-Example: head -c 100 props.pod | cat route.pod - | pod rewrite -o clean.pod";
+Example: cat props.pod route.pod | pod rewrite -o clean.pod";
 
 /// `FILE ..`
 fn files<'a>(alloc: Global) -> Arg<'a>

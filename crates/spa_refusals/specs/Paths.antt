@@ -61,7 +61,7 @@ pub record HoldsProperty (type : ℕ) (properties path inner new : List ℕ) : T
   pub value : inner ≡ drop header_size left
   pub step : new ≡ path ++ key_step type (word_at left 0)
 
--- the same in the body of an object
+-- the bytes are the body of an object: behind its type and its id, and some first properties, begins the value of another one
 abbrev pub HoldsValue : (body path inner new : List ℕ) → Type 0
 HoldsValue body path inner new = (header_size ≤ length body) × HoldsProperty (word_at body 0) (drop header_size body) path inner new
 

@@ -14,7 +14,7 @@ abbrev pub AreRefused : Reading → (input : List ℕ) → List RefusedPod → T
 AreRefused reading input [] = ⊤
 AreRefused reading input (pod ∷ pods) = (pod.place ≤ length input) × IsNothing reading (drop pod.place input) × AreRefused reading input pods
 
--- the same input's name and place, and what is said of the pod there
+-- the refusal has the pod's name and place, and says this of the pod there
 pub record IsSaidOf (reading : Reading) (input : List ℕ) (pod : RefusedPod) (said : NamedRefusal) : Type 0 where
   pub name : said.name.now ≡ pod.name.now
   pub place : said.refusal.place ≡ pod.place

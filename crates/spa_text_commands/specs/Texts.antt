@@ -26,7 +26,7 @@ use Rattle.spa_text_commands.specs.declared.printing.Layout.TheVariants.{OneLine
 abbrev pub IsText : Tree → List ℕ → Type 0
 IsText v text = ReadsAs nothing v (tokens text) []
 
--- the same on one line, or with each member and each property on one of its own
+-- it does so on one line, or with each member and each property on one of its own
 abbrev pub IsTextIn : Layout → Tree → List ℕ → Type 0
 IsTextIn OneLine v text = IsText v text × HasNoEnd text
 IsTextIn Indented v text = IsText v text × (text ≡ pretty (tokens text))

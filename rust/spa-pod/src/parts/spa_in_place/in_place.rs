@@ -2,11 +2,11 @@
 
 use crate::shims::prelude::*;
 use crate::parts::spa_in_place::into::put_first;
-use crate::parts::spa_in_place::place::place_all;
+use crate::parts::spa_in_place::place::{move_run, place_all};
 use crate::parts::spa_bodies::error_at;
 use crate::parts::spa_fixed_sized::{DeserializeError, Fault};
 use crate::parts::spa_rewrite::{
-    Rejected, canonical_stretch, patch_all, rewrite_all, steady_stretch, surplus_of_all,
+    ChangedPods, Rejected, canonical_stretch, changed_pods, patch_all, rewrite_all, steady_stretch,
 };
 
 /// Puts the rewritings of all pods that the bytes are at their front, and answers how many bytes these take: never more than the
@@ -26,11 +26,11 @@ pub fn rewrite_in_place(
     let (steady, others) = steady_stretch(rest);
     let from = first.len();
     let to = from + steady.len();
-    match surplus_of_all(others) {
-        Ok(surplus) => {
+    match changed_pods(others) {
+        Ok(changed) => {
             patch_all(&mut bytes[from..to]);
-            place_rest(surplus, &mut bytes[to..]);
-            Ok(len - surplus)
+            place_rest(changed, &mut bytes[to..]);
+            Ok(len - changed.surplus)
         }
         Err((pod, rejected)) => match rejected {
             Rejected::Fault(place, why) => {
@@ -49,10 +49,12 @@ pub fn rewrite_in_place(
     }
 }
 
-/// Replaces all pods of a buffer by their encodings, which together are so many bytes shorter, at its front.
+/// Replaces pods by their encodings, at their front. Canonical pods behind the last one that isn't are moved at once.
 #[cfg_attr(not(debug_assertions), inline(always))]
-fn place_rest(surplus: usize, pods: &mut [u8]) {
-    place_all(surplus, pods);
+fn place_rest(changed: ChangedPods, pods: &mut [u8]) {
+    let tail = pods.len() - changed.len;
+    let end = place_all(changed.surplus, &mut pods[..changed.len]);
+    move_run(pods, changed.len, end, tail);
 }
 
 /// Puts the rewritings of all pods that the input is into an output of the same length, and answers true, where each of them is found to

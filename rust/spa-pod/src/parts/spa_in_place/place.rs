@@ -111,7 +111,7 @@ fn put_run(unpatched: bool, bytes: &mut [u8], from: usize, to: usize, len: usize
 
 /// Moves so many bytes from one place down to another, if that is another.
 #[cfg_attr(not(debug_assertions), inline(always))]
-fn move_run(bytes: &mut [u8], from: usize, to: usize, len: usize) {
+pub(crate) fn move_run(bytes: &mut [u8], from: usize, to: usize, len: usize) {
     if to < from {
         bytes.copy_within(from..from + len, to);
     }

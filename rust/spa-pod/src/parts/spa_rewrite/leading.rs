@@ -30,10 +30,7 @@ pub fn canonical_stretch(input: &[u8]) -> (&[u8], &[u8]) {
 
 /// Answers what `canonical_stretch` does, with an array in which lists can wait.
 #[inline(never)]
-pub(crate) fn canonical_pods<'a>(
-    input: &'a [u8],
-    frames: &mut [Inside<'a>],
-) -> (&'a [u8], &'a [u8]) {
+pub(crate) fn canonical_pods<'a>(input: &'a [u8], frames: &mut [Inside<'a>]) -> (&'a [u8], &'a [u8]) {
     let mut left = input;
     while let Some(rest) = next_canonical(left, frames) {
         left = rest;

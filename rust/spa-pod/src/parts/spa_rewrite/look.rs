@@ -30,6 +30,15 @@ pub struct AcceptedPods {
     pub surplus: usize,
 }
 
+/// Pods one after another that are all accepted, of which the last ones are canonical.
+#[derive(Clone, Copy)]
+pub struct ChangedPods {
+    /// How many bytes the pods take before these.
+    pub len: usize,
+    /// By how many bytes the encodings of all are shorter than the pods.
+    pub surplus: usize,
+}
+
 /// Why a pod isn't accepted.
 #[derive(Clone, Copy)]
 pub enum Rejected<'a> {
@@ -107,33 +116,62 @@ pub fn look_at_pods(pods: &[u8]) -> Result<AcceptedPods, (&[u8], Rejected<'_>)> 
 /// By how many bytes the encodings of all pods of an input are shorter than these. It is refused as `look_at_pods` is, and as too deep also where
 /// pods get shorter and more than `LEVELS` structs and objects stand in one another, wherever these end: what writes such pods calls itself for each.
 pub fn surplus_of_each(pods: &[u8]) -> Result<usize, (&[u8], Rejected<'_>)> {
-    surplus_of(false, pods)
-}
-
-/// By how many bytes the encodings of all pods of an input are shorter than these. It is refused as `surplus_of_each` is, but that structs and objects
-/// don't count that end where the input does.
-pub fn surplus_of_all(pods: &[u8]) -> Result<usize, (&[u8], Rejected<'_>)> {
-    surplus_of(true, pods)
-}
-
-/// By how many bytes the encodings of all pods of an input are shorter. `ends_deep` tells whether structs and objects that end where the input does
-/// may stand at any depth: for `surplus_of_all` they may, for `surplus_of_each` they may not.
-fn surplus_of(ends_deep: bool, pods: &[u8]) -> Result<usize, (&[u8], Rejected<'_>)> {
     let all = match look_at_pods(pods) {
         Ok(all) => all,
         Err(refusal) => return Err(refusal),
     };
-    if all.surplus > 0 {
-        if !are_shallow(pods) {
-            if !ends_deep {
-                return Err((pods, Rejected::TooDeep));
-            }
-            if !are_shallow_but_at_end(pods) {
-                return Err((pods, Rejected::TooDeep));
-            }
-        }
+    if all.surplus > 0 && !are_shallow(pods) {
+        return Err((pods, Rejected::TooDeep));
     }
     Ok(all.surplus)
+}
+
+/// The pods of an input up to the last one that isn't canonical, and by how many bytes the encodings of all are shorter than these. It is refused as
+/// `surplus_of_each` is, but that structs and objects don't count that end where the input does.
+pub fn changed_pods(pods: &[u8]) -> Result<ChangedPods, (&[u8], Rejected<'_>)> {
+    let changed = match look_for_changes(pods) {
+        Ok(changed) => changed,
+        Err(refusal) => return Err(refusal),
+    };
+    if changed.surplus > 0 && !are_shallow(pods) {
+        if !are_shallow_but_at_end(pods) {
+            return Err((pods, Rejected::TooDeep));
+        }
+    }
+    Ok(changed)
+}
+
+/// How many pods aren't asked whether they are canonical behind one that was and isn't: so many pods that change cost few questions.
+const UNASKED: usize = 15;
+
+/// How many aren't asked once one of them is passed, or one that was asked and isn't canonical.
+#[cfg_attr(not(debug_assertions), inline(always))]
+fn fewer_unasked(unasked: usize) -> usize {
+    if unasked == 0 { UNASKED } else { unasked - 1 }
+}
+
+/// Looks at all pods for those that `changed_pods` answers, wherever structs and objects end.
+fn look_for_changes(pods: &[u8]) -> Result<ChangedPods, (&[u8], Rejected<'_>)> {
+    let list = Inside { keyed: false, pods };
+    let mut frames = [list; FEW];
+    let mut left = pods;
+    let mut tail = pods;
+    let mut surplus = 0;
+    let mut unasked = 0;
+    while !left.is_empty() {
+        let pod = match look_at_front(unasked == 0, left, &mut frames) {
+            Ok(pod) => pod,
+            Err(why) => return Err((left, why)),
+        };
+        surplus += pod.surplus;
+        left = pod.rest;
+        if !pod.canonical {
+            tail = left;
+            unasked = fewer_unasked(unasked);
+        }
+    }
+    let len = pods.len() - tail.len();
+    Ok(ChangedPods { len, surplus })
 }
 
 /// Whether at most `LEVELS` structs and objects stand in one another in each of the pods, not counting those that end where the input does.
@@ -433,9 +471,16 @@ fn behind_alike(keyed: bool, pods: &[u8]) -> &[u8] {
     left
 }
 
+/// The length in bytes of a key, flags and a pod whose body is one or two words.
+const KEYED_LEN: usize = 24;
+
 /// What follows the first member or property, where its pod is canonical and holds no others.
 #[cfg_attr(not(debug_assertions), inline(always))]
 fn canonical_leaf(keyed: bool, left: &[u8]) -> Option<&[u8]> {
+    // One test of the length for both; what is shorter is looked at where the loop ends.
+    if keyed && left.len() < KEYED_LEN {
+        return None;
+    }
     let Some(here) = behind_key(keyed, left) else {
         return None;
     };
@@ -482,6 +527,9 @@ fn behind_short(keyed: bool, pods: &[u8]) -> &[u8] {
 /// What follows the first member or property, where its body is one or two words and of a kind of fixed size.
 #[cfg_attr(not(debug_assertions), inline(always))]
 fn short_leaf(keyed: bool, left: &[u8]) -> Option<&[u8]> {
+    if keyed && left.len() < KEYED_LEN {
+        return None;
+    }
     let Some(here) = behind_key(keyed, left) else {
         return None;
     };

@@ -14,7 +14,8 @@ pub use across::{holds_whole, inner_type, write_all};
 pub use canonical::is_canonical;
 pub use leading::{canonical_front, canonical_stretch, steady_stretch};
 pub use look::{
-    AcceptedPod, AcceptedPods, Rejected, look_at_pod, look_at_pods, surplus_of_all, surplus_of_each,
+    AcceptedPod, AcceptedPods, ChangedPods, Rejected, changed_pods, look_at_pod, look_at_pods,
+    surplus_of_each,
 };
 pub use patch::{
     SECOND_HEADER, begins_word, patch_all, patch_leaf, patch_values, place_behind, taken_len,

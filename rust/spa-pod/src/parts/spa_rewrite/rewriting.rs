@@ -102,10 +102,7 @@ fn behind_deep(pod: &[u8]) -> Result<&[u8], DeserializeError<&[u8]>> {
 }
 
 /// Appends the encodings of all pods that the input consists of. A refusal gives what is left from the refused pod on, and that pod's refusal.
-fn append_all<'a>(
-    input: &'a [u8],
-    out: &mut Vec<u8>,
-) -> Result<(), (&'a [u8], Refused<'a>)> {
+fn append_all<'a>(input: &'a [u8], out: &mut Vec<u8>) -> Result<(), (&'a [u8], Refused<'a>)> {
     let list = Inside {
         keyed: false,
         pods: input,
@@ -240,7 +237,10 @@ fn look_to_write<'a>(
     input: &'a [u8],
     frames: &mut [Inside<'a>],
 ) -> Result<AcceptedPod<'a>, Rejected<'a>> {
-    let pod = look_at_front(canonical, input, frames)?;
+    let pod = match look_at_front(canonical, input, frames) {
+        Ok(pod) => pod,
+        Err(rejected) => return Err(rejected),
+    };
     if pod.surplus > 0 && input.len() - pod.rest.len() >= DEEP_BODY {
         if !nests_within(input, LEVELS) {
             return Err(Rejected::TooDeep);

@@ -1,4 +1,4 @@
-//! What docs/CALLING.md shows of the builder, word for word.
+//! A format that `builder_add!` makes, as README.md shows it.
 use crate::shims::prelude::*;
 use crate::tests::spa_builder_tests::bytes::{are_words, assert_holds};
 use crate::tests::spa_builder_tests::shown::by_calls::format_pod;

@@ -186,7 +186,7 @@ fn made(form: Form) -> Result<Object, Errno> {
     }
 }
 
-/// What docs/CALLING.md shows, word for word.
+/// A format as a value, by `object!`.
 mod by_value {
     use crate::shims::prelude::*;
     use crate::parts::spa_names::{ids, keys, types};

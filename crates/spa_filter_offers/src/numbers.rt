@@ -35,7 +35,7 @@ impl Numbers {
     }
 
     /// The search key of a value of one or two numbers, whose type has no negative ones.
-    pub(crate) fn unsigned(type_: u32, first: u64, second: u64) -> Numbers
+    pub fn unsigned(type_: u32, first: u64, second: u64) -> Numbers
         ensures type_ { result.type_ ≡ type_ }
         ensures signed { result.signed ≡ pos 0 }
         ensures first { result.first ≡ first }

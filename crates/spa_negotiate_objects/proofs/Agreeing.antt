@@ -8,7 +8,7 @@ use Rattle.spa_negotiate_objects.specs.declared.offer.Offer.{Offer}
 use Rattle.spa_negotiate_objects.specs.Admits.{IsPlain, IsSupported, IsAtMost, Admits, plain_of}
 use Rattle.std.specs.BTreeSet.{BTreeSet}
 use Rattle.spa_value.specs.View.{view}
-use Rattle.spa_negotiate_objects.specs.declared.numbers.Numbers.{Numbers}
+use Rattle.spa_filter_offers.specs.declared.numbers.Numbers.{Numbers}
 use Rattle.spa_negotiate_objects.specs.Numbering.{HasAll}
 use Rattle.spa_negotiate_objects.specs.Offers.{rule_of, further_values_of, indexed_of, IsSupportedRule, IsIndexedBy, IsIndexed, AdmitsBy, IsOfferOf, OfferAdmits}
 use Rattle.spa_negotiate_objects.specs.Meeting.{Settles, Agree}

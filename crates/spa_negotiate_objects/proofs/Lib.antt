@@ -1,6 +1,6 @@
 pub mod Passing
 pub mod Plain
-pub mod NumberLemmas
+pub mod Numbering
 pub mod Order
 pub mod Completeness
 pub mod Agreeing

@@ -2,16 +2,7 @@
 use Rattle.std.specs.Prelude.{⊤, ◌≡◌, ◌≤◌, ◌≤ℤ◌, ◌∷◌, map, Contains}
 use Rattle.spa_format.specs.Kind.{Kind, id_kind, int_kind, long_kind, Fixed, id, int, long}
 use Rattle.spa_format.specs.Tree.{none_choice, range_choice, enum_choice, Tree, fixed, choice}
-
--- the value isn't a choice
-abbrev pub IsPlain : Tree → Type 0
-IsPlain (choice shape flags kind default values) = ⊥
-IsPlain _ = ⊤
-
--- the value itself where it is plain, and the default of a choice of any shape
-abbrev pub plain_of : Tree → Tree
-plain_of (choice shape flags kind default values) = fixed default
-plain_of value = value
+pub use Rattle.spa_filter_offers.specs.Admits.{IsPlain, plain_of}
 
 -- the kinds over which a Range is supported
 abbrev pub IsOrderedKind : Kind → Type 0

@@ -1,54 +1,21 @@
--- Search keys of values of fixed size, their order, and sets of them.
-use Rattle.std.specs.Prelude.{ℕ, ℤ, pos, ◌≡◌, ◌⊎◌, ◌↔◌, if◌then◌else◌, IsTrue, List, Contains, Option, Some, None}
-use Rattle.std.specs.BTreeSet.{BTreeSet, contains}
-use Rattle.std.specs.declared.cmp.Ordering.{Ordering}
-use Rattle.std.specs.Ordering.{ordering_then, nat_cmp, int_cmp}
-use Rattle.spa_format.specs.Kind.{Kind, none_kind, bool_kind, id_kind, int_kind, long_kind, float_kind, double_kind, rectangle_kind, fraction_kind, fd_kind, type_number, Fixed, none, bool, id, int, long, float, double, rectangle, fraction, fd}
+-- Search keys of values of fixed size, as trees, and sets of them.
+use Rattle.std.specs.Prelude.{◌↔◌, List, Contains, Option, Some, None}
+use Rattle.std.specs.BTreeSet.{BTreeSet}
 use Rattle.spa_format.specs.Tree.{Tree, fixed}
-use Rattle.spa_negotiate_objects.specs.declared.numbers.Numbers.{Numbers}
-
--- the search key of a value whose kind has negative numbers
-abbrev pub signed : Kind → ℤ → Numbers
-signed kind x = record { type_ = type_number kind; signed = x; first = 0; second = 0 }
-
--- the search key of a value of one or two numbers, whose kind has no negative ones
-abbrev pub unsigned : Kind → ℕ → ℕ → Numbers
-unsigned kind x y = record { type_ = type_number kind; signed = pos 0; first = x; second = y }
-
--- the search key of a value of fixed size, which no other value has
-abbrev pub numbers_of : Fixed → Numbers
-numbers_of none = unsigned none_kind 0 0
-numbers_of (bool x) = unsigned bool_kind (if x then 1 else 0) 0
-numbers_of (id x) = unsigned id_kind x 0
-numbers_of (int x) = signed int_kind x
-numbers_of (long x) = signed long_kind x
-numbers_of (float x) = unsigned float_kind x 0
-numbers_of (double x) = unsigned double_kind x 0
-numbers_of (rectangle w h) = unsigned rectangle_kind w h
-numbers_of (fraction n d) = unsigned fraction_kind n d
-numbers_of (fd x) = signed fd_kind x
+use Rattle.spa_filter_offers.specs.Numbering.{numbers_of}
+use Rattle.spa_filter_offers.specs.Numbering as elements
+use Rattle.spa_filter_offers.specs.declared.numbers.Numbers.{Numbers}
 
 -- the search key of a tree; None where it isn't of fixed size
 abbrev pub tree_numbers : Tree → Option Numbers
 tree_numbers (fixed x) = Some (numbers_of x)
 tree_numbers _ = None
 
--- the order of search keys: by the type number, then by each of the other numbers in turn
-abbrev pub numbers_cmp : Numbers → Numbers → Ordering
-numbers_cmp a b =
-    ordering_then (nat_cmp a.type_ b.type_)
-    (ordering_then (int_cmp a.signed b.signed)
-    (ordering_then (nat_cmp a.first b.first) (nat_cmp a.second b.second)))
-
 -- the set has the search key of the value
 abbrev pub Has : BTreeSet Numbers → Tree → Type 0
-Has set (fixed x) = IsTrue (contains numbers_cmp set (numbers_of x))
+Has set (fixed x) = elements.Has set x
 Has set _ = ⊥
 
 -- the set has the search keys of these values, and no other
 pub record HasAll (set : BTreeSet Numbers) (values : List Tree) : Type 0 where
   pub each : (x : Tree) → Has set x ↔ Contains values x
-
--- the search key of the value was added to the set
-pub record IsAdded (old : BTreeSet Numbers) (value : Tree) (new : BTreeSet Numbers) : Type 0 where
-  pub each : (x : Tree) → Has new x ↔ ((x ≡ value) ⊎ Has old x)

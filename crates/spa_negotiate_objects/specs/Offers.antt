@@ -11,7 +11,7 @@ use Rattle.spa_negotiate_objects.specs.declared.error.NegotiateError.TheVariants
 use Rattle.spa_negotiate_objects.specs.declared.offer.Rule.{Rule}
 use Rattle.spa_negotiate_objects.specs.declared.offer.Rule.TheVariants.{Only, Among, Between, Unsupported}
 use Rattle.spa_negotiate_objects.specs.declared.offer.Offer.{Offer}
-use Rattle.spa_negotiate_objects.specs.declared.numbers.Numbers.{Numbers}
+use Rattle.spa_filter_offers.specs.declared.numbers.Numbers.{Numbers}
 use Rattle.spa_negotiate_objects.specs.Numbering.{HasAll}
 
 -- the rule of a Range over this kind

@@ -2,7 +2,6 @@
 #![tactic(auto)]
 
 mod admission;
-mod element;
 mod error;
 pub mod laws;
 mod negotiation;
@@ -11,5 +10,5 @@ mod offer;
 
 pub use error::NegotiateError;
 pub use negotiation::{common, negotiate};
-pub use offer::is_supported;
+pub use offer::{Rule, is_supported};
 pub use spa_keyed_objects::Side;

@@ -1,60 +1,13 @@
-//! Search keys of values of fixed size, and sets of them.
-ghost use Rattle.std.specs.Prelude.{◌≡◌, ◌↔◌, IsTrue, OnOk, pos};
-ghost use Rattle.spa_format.specs.Tree.{fixed};
+//! Search keys of values of fixed size.
+ghost use Rattle.std.specs.Prelude.{◌≡◌, ◌↔◌, IsTrue};
 ghost use Rattle.spa_value.specs.View.{view};
-ghost use Rattle.spa_negotiate_objects.specs.Numbering.{Has, IsAdded, tree_numbers};
+ghost use Rattle.spa_negotiate_objects.specs.Numbering.{Has, tree_numbers};
 
-use crate::element::Element;
+use spa_filter_offers::{Element, Numbers};
 use spa_utils::SpaTypes;
 use spa_value::Value;
 use spa_value::laws::trees_have_their_types;
-use std::alloc::AllocError;
 use std::collections::BTreeSet;
-
-/// The search key of a value of fixed size, which no other value has. Keys are ordered by their type number and then by their numbers.
-#[derive(Clone, Copy, PartialEq, Eq, PartialOrd, Ord)]
-pub(crate) struct Numbers {
-    /// The type number of the value's pod.
-    type_: u32,
-    /// The value, where its type has negative numbers, and else 0.
-    signed: i64,
-    /// The first or only number of the value, where its type has no negative numbers, and else 0.
-    first: u64,
-    /// The second number of a rectangle or a fraction, and else 0.
-    second: u64,
-}
-
-impl Numbers {
-    /// The search key of a value whose type has negative numbers.
-    pub(crate) fn signed(type_: u32, number: i64) -> Numbers
-        ensures type_ { result.type_ ≡ type_ }
-        ensures signed { result.signed ≡ number }
-        ensures first { result.first ≡ 0 }
-        ensures second { result.second ≡ 0 }
-    {
-        Numbers {
-            type_,
-            signed: number,
-            first: 0,
-            second: 0,
-        }
-    }
-
-    /// The search key of a value of one or two numbers, whose type has no negative ones.
-    pub(crate) fn unsigned(type_: u32, first: u64, second: u64) -> Numbers
-        ensures type_ { result.type_ ≡ type_ }
-        ensures signed { result.signed ≡ pos 0 }
-        ensures first { result.first ≡ first }
-        ensures second { result.second ≡ second }
-    {
-        Numbers {
-            type_,
-            signed: 0,
-            first,
-            second,
-        }
-    }
-}
 
 /// The search key of a value. None: it isn't of fixed size.
 fn numbers_of(value: &Value) -> Option<Numbers>
@@ -84,12 +37,4 @@ pub(crate) fn has(set: &BTreeSet<Numbers>, value: &Value) -> bool
         Some(numbers) => set.contains(&numbers),
         None => false,
     }
-}
-
-/// Adds the search key of an element to the set. Refused only for want of memory.
-pub(crate) fn add<T: Element>(set: &mut BTreeSet<Numbers>, element: &T) -> Result<(), AllocError>
-    ensures { OnOk result (IsAdded set.old (fixed (T.fixed element.now)) set.new) }
-{
-    set.insert(element.numbers())?;
-    Ok(())
 }

@@ -1,15 +1,15 @@
 //! A value as an offer: a default, further values, and the rule by which these admit a value.
 ghost use Rattle.std.specs.Prelude.{◌≡◌, ◌↔◌, IfOk, IsTrue, [], ◌∷◌, map};
+ghost use Rattle.spa_format.specs.Kind.{Kind, type_number};
 ghost use Rattle.spa_format.specs.Tree.{fixed};
 ghost use Rattle.spa_value.specs.View.{choice_view, view};
 ghost use Rattle.spa_fixed_sized.specs.Choices.{choice_enum_tree};
 ghost use Rattle.spa_negotiate_objects.specs.Admits.{IsPlain, IsSupported, plain_of};
 ghost use Rattle.spa_negotiate_objects.specs.Numbering.{HasAll};
-ghost use Rattle.spa_negotiate_objects.specs.Offers.{IsIndexed, IsOfferOf, further_values_of, indexed_of, rule_of};
+ghost use Rattle.spa_negotiate_objects.specs.Offers.{IsIndexed, IsOfferOf, further_values_of, indexed_of, range_rule, rule_of};
 
-use crate::element::Element;
-use crate::numbers::{Numbers, add};
-use spa_utils::ChoiceEnum;
+use spa_filter_offers::{Element, Numbers, index_of_all};
+use spa_utils::{ChoiceEnum, SpaTypes};
 use spa_value::laws::trees_have_their_types;
 use spa_value::{ChoiceValue, Value, discard};
 use std::alloc::{AllocError, Global};
@@ -17,7 +17,7 @@ use std::collections::BTreeSet;
 
 /// Which values an offer admits.
 #[derive(Clone, Copy)]
-pub(crate) enum Rule {
+pub enum Rule {
     /// The default alone.
     Only,
     /// The default and the further values.
@@ -64,13 +64,25 @@ impl Drop for Offer {
     }
 }
 
+/// The rule of a Range over values of this type.
+fn range_rule(type_: u32) -> Rule
+    ensures { (kind : Kind) → type_ ≡ type_number kind → result ≡ range_rule kind }
+{
+    match SpaTypes(type_) {
+        SpaTypes::Id => Rule::Between,
+        SpaTypes::Int => Rule::Between,
+        SpaTypes::Long => Rule::Between,
+        _ => Rule::Unsupported,
+    }
+}
+
 /// The rule of a choice.
 fn rule_of<T: Element>(choice: &ChoiceEnum<T>) -> Rule
     ensures { result ≡ rule_of (choice_enum_tree T.kind T.fixed 0 choice.now) }
 {
     match choice {
         ChoiceEnum::None(_) => Rule::Only,
-        ChoiceEnum::Range { .. } => T::range_rule(),
+        ChoiceEnum::Range { .. } => range_rule(T::TYPE),
         ChoiceEnum::Step { .. } => Rule::Unsupported,
         ChoiceEnum::Enum { .. } => Rule::Among,
         ChoiceEnum::Flags { .. } => Rule::Unsupported,
@@ -126,7 +138,7 @@ fn list_of<T: Element>(alloc: Global, elements: &[T]) -> Result<Vec<Value>, Allo
 }
 
 /// The search keys of the default and of the alternatives of an Enum; of any other choice an empty set.
-#[tactic(auto, using(crate::proofs::NumberLemmas::empty_has_none))]
+#[tactic(auto, using(crate::proofs::Numbering::empty_has_none))]
 fn index_of<T: Element>(
     alloc: Global,
     choice: &ChoiceEnum<T>,
@@ -143,22 +155,6 @@ fn index_of<T: Element>(
         ChoiceEnum::Step { .. } => Ok(BTreeSet::new(alloc)),
         ChoiceEnum::Flags { .. } => Ok(BTreeSet::new(alloc)),
     }
-}
-
-/// The search keys of an element and of others.
-fn index_of_all<T: Element>(
-    alloc: Global,
-    first: &T,
-    others: &[T],
-) -> Result<BTreeSet<Numbers>, AllocError>
-    ensures { IfOk result (λ index. HasAll index (fixed (T.fixed first.now) ∷ map (λ x. fixed x) (map T.fixed others.now))) }
-{
-    let mut index = BTreeSet::new(alloc);
-    add(&mut index, first)?;
-    for other in others {
-        add(&mut index, other)?;
-    }
-    Ok(index)
 }
 
 /// A choice as an offer. Its flags don't count.

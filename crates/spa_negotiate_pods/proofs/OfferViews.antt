@@ -15,9 +15,10 @@ use Rattle.spa_bytes.specs.Opening.{Opens}
 use Rattle.spa_object_view.proofs.KeyOrders.{contains_later}
 use Rattle.spa_scan.proofs.Words.{word_there, wide_back, wide_of_take}
 use Rattle.spa_negotiate_objects.specs.Admits.{Admits, IsAtMostFixed, IsOrderedKind, plain_of}
-use Rattle.spa_negotiate_pods.specs.Offering.{AdmitsBy, AreAdmitting, IsElementType, IsOffer, IsShared, value_of}
-use Rattle.spa_negotiate_pods.specs.declared.offer_view.Rule.{Rule}
-use Rattle.spa_negotiate_pods.specs.declared.offer_view.Rule.TheVariants.{Only, Among, Between, Unsupported}
+use Rattle.spa_negotiate_objects.specs.Offers.{AdmitsBy}
+use Rattle.spa_negotiate_pods.specs.Offering.{AreAdmitting, IsElementType, IsOffer, IsShared, value_of}
+use Rattle.spa_negotiate_objects.specs.declared.offer.Rule.{Rule}
+use Rattle.spa_negotiate_objects.specs.declared.offer.Rule.TheVariants.{Only, Among, Between, Unsupported}
 use Rattle.spa_negotiate_pods.specs.declared.offer_view.OfferView.{OfferView}
 
 -- the first bytes, from the number that they spell

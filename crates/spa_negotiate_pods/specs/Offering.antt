@@ -1,12 +1,11 @@
 -- Offers of values, by their borrowed pods.
-use Rattle.std.specs.Prelude.{◌≡◌, ℕ, ◌<◌, ◌≤◌, List, ◌∷◌, map, length, take, Contains}
+use Rattle.std.specs.Prelude.{◌≡◌, ℕ, ◌<◌, ◌≤◌, List, ◌∷◌, map, length, take}
 use Rattle.spa_format.specs.Kind.{Kind, type_number, body_size, content, Fixed}
 use Rattle.spa_format.specs.Tree.{Tree, fixed}
 use Rattle.spa_format.specs.Pod.{AreElements}
-use Rattle.spa_negotiate_objects.specs.Admits.{IsAtMost, Admits, IsCommon, plain_of}
+use Rattle.spa_negotiate_objects.specs.Admits.{Admits, IsCommon, plain_of}
+use Rattle.spa_negotiate_objects.specs.Offers.{AdmitsBy}
 use Rattle.spa_negotiate_pods.specs.declared.offer_view.OfferView.{OfferView}
-use Rattle.spa_negotiate_pods.specs.declared.offer_view.Rule.{Rule}
-use Rattle.spa_negotiate_pods.specs.declared.offer_view.Rule.TheVariants.{Only, Among, Between, Unsupported}
 
 -- the value of the kind at the front of these bytes
 abbrev pub value_of : Kind → List ℕ → Fixed
@@ -17,14 +16,6 @@ pub record IsElementType (type : ℕ) : Type 0 where
   pub kind : Kind
   pub its_type : type ≡ type_number kind
   pub long : 0 < body_size kind
-
--- x is admitted by this rule, this default and these further values
-abbrev pub AdmitsBy : Rule → Tree → List Tree → Tree → Type 0
-AdmitsBy Only default values x = x ≡ default
-AdmitsBy Among default values x = Contains (default ∷ values) x
-AdmitsBy Between default (low ∷ high ∷ values) x = IsAtMost low x × IsAtMost x high
-AdmitsBy Between default _ x = ⊥
-AdmitsBy Unsupported default values x = ⊥
 
 -- the offer is one of the value: a value that the offer admits, the value admits
 pub record IsOffer (v : Tree) (offer : OfferView) : Type 0 where

@@ -6,11 +6,12 @@ ghost use Rattle.spa_format.specs.Tree.{Tree, choice_type, fixed, type_of};
 ghost use Rattle.std.specs.List.{Contains};
 ghost use Rattle.spa_negotiate_objects.specs.Admits.{Admits, IsAtMostFixed};
 ghost use Rattle.spa_negotiate_pods.specs.Offering.{AreAdmitting, HasValues, IsElementType, IsOffer, IsShared, value_of};
-ghost use Rattle.spa_negotiate_pods.specs.declared.offer_view.Rule.TheVariants.{Among, Between, Only};
+ghost use Rattle.spa_negotiate_objects.specs.declared.offer.Rule.TheVariants.{Among, Between, Only};
 
 use spa_bodies::{CHOICE_HEADER_LEN, VALUE_TYPE_AT};
 use spa_bytes::{HEADER_LEN, open, u32_at, u64_at};
 use spa_fixed_sized::{ENUM_SHAPE, NONE_SHAPE, RANGE_SHAPE};
+use spa_negotiate_objects::Rule;
 use spa_utils::SpaTypes;
 use std::alloc::{AllocError, Global};
 
@@ -19,19 +20,6 @@ const ONE_WORD: usize = 4;
 
 /// The length in bytes of a body of two words.
 const TWO_WORDS: usize = 8;
-
-/// Which values an offer admits.
-#[derive(Clone, Copy)]
-pub(crate) enum Rule {
-    /// The default alone.
-    Only,
-    /// The default and the further values.
-    Among,
-    /// Each value from the first of the further values to the second.
-    Between,
-    /// No value: no common value is sought.
-    Unsupported,
-}
 
 /// How long the values of an Enum are, in bytes, that are looked for one by one beside those of another: 16 values of two words.
 const SHORT_LEN: usize = 128;

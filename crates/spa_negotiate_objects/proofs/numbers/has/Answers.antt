@@ -1,5 +1,5 @@
 use Rattle.spa_value.specs.View.{view}
-use Rattle.spa_negotiate_objects.proofs.NumberLemmas.{Has-numbers}
+use Rattle.spa_negotiate_objects.proofs.Numbering.{Has-numbers}
 use Rattle.spa_negotiate_objects.proofs.numbers.has.Goals as goal
 
 pub returns-in-Some : goal.returns-in-Some

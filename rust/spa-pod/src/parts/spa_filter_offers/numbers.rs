@@ -29,7 +29,7 @@ impl Numbers {
     }
 
     /// The search key of a value of one or two numbers, whose type has no negative ones.
-    pub(crate) fn unsigned(type_: u32, first: u64, second: u64) -> Numbers {
+    pub fn unsigned(type_: u32, first: u64, second: u64) -> Numbers {
         Numbers {
             type_,
             signed: 0,

@@ -1,9 +1,8 @@
 //! A value as an offer: a default, further values, and the rule by which these admit a value.
 
 use crate::shims::prelude::*;
-use crate::parts::spa_negotiate_objects::element::Element;
-use crate::parts::spa_negotiate_objects::numbers::{Numbers, add};
-use crate::parts::spa_utils::ChoiceEnum;
+use crate::parts::spa_filter_offers::{Element, Numbers, index_of_all};
+use crate::parts::spa_utils::{ChoiceEnum, SpaTypes};
 use crate::parts::spa_value::laws::trees_have_their_types;
 use crate::parts::spa_value::{ChoiceValue, Value, discard};
 use crate::shims::memory::AllocError;
@@ -11,7 +10,7 @@ use crate::shims::sorted::BTreeSet;
 
 /// Which values an offer admits.
 #[derive(Clone, Copy)]
-pub(crate) enum Rule {
+pub enum Rule {
     /// The default alone.
     Only,
     /// The default and the further values.
@@ -49,11 +48,21 @@ impl Drop for Offer {
     }
 }
 
+/// The rule of a Range over values of this type.
+fn range_rule(type_: u32) -> Rule {
+    match SpaTypes(type_) {
+        SpaTypes::Id => Rule::Between,
+        SpaTypes::Int => Rule::Between,
+        SpaTypes::Long => Rule::Between,
+        _ => Rule::Unsupported,
+    }
+}
+
 /// The rule of a choice.
 fn rule_of<T: Element>(choice: &ChoiceEnum<T>) -> Rule {
     match choice {
         ChoiceEnum::None(_) => Rule::Only,
-        ChoiceEnum::Range { .. } => T::range_rule(),
+        ChoiceEnum::Range { .. } => range_rule(T::TYPE),
         ChoiceEnum::Step { .. } => Rule::Unsupported,
         ChoiceEnum::Enum { .. } => Rule::Among,
         ChoiceEnum::Flags { .. } => Rule::Unsupported,
@@ -113,19 +122,6 @@ fn index_of<T: Element>(
         ChoiceEnum::Step { .. } => Ok(BTreeSet::new()),
         ChoiceEnum::Flags { .. } => Ok(BTreeSet::new()),
     }
-}
-
-/// The search keys of an element and of others.
-fn index_of_all<T: Element>(
-    first: &T,
-    others: &[T],
-) -> Result<BTreeSet<Numbers>, AllocError> {
-    let mut index = BTreeSet::new();
-    add(&mut index, first)?;
-    for other in others {
-        add(&mut index, other)?;
-    }
-    Ok(index)
 }
 
 /// A choice as an offer. Its flags don't count.

@@ -4,6 +4,7 @@ use crate::shims::prelude::*;
 use crate::parts::spa_bodies::{CHOICE_HEADER_LEN, VALUE_TYPE_AT};
 use crate::parts::spa_bytes::{HEADER_LEN, open, u32_at, u64_at};
 use crate::parts::spa_fixed_sized::{ENUM_SHAPE, NONE_SHAPE, RANGE_SHAPE};
+use crate::parts::spa_negotiate_objects::Rule;
 use crate::parts::spa_utils::SpaTypes;
 use crate::shims::memory::AllocError;
 
@@ -12,19 +13,6 @@ const ONE_WORD: usize = 4;
 
 /// The length in bytes of a body of two words.
 const TWO_WORDS: usize = 8;
-
-/// Which values an offer admits.
-#[derive(Clone, Copy)]
-pub(crate) enum Rule {
-    /// The default alone.
-    Only,
-    /// The default and the further values.
-    Among,
-    /// Each value from the first of the further values to the second.
-    Between,
-    /// No value: no common value is sought.
-    Unsupported,
-}
 
 /// How long the values of an Enum are, in bytes, that are looked for one by one beside those of another: 16 values of two words.
 const SHORT_LEN: usize = 128;

@@ -1,9 +1,9 @@
+mod Blocks
 mod Known
 mod Made
 mod Requested
 mod Paired
 mod Running
-mod Shown
 mod Streamed
 mod Told
 mod Worked

@@ -10,56 +10,63 @@ use Rattle.pod_commands.specs.Inputs.{AreMade, IsKnown, StopsAt, content_of, lef
 use Rattle.pod_commands.specs.declared.answer.Failure.{Failure}
 use Rattle.pod_commands.proofs.Known.{known_all, known_behind}
 
--- How far the work on names is: something was made, and with what is made of those that are left it is made of all; where the work
--- stops at one of those, it stops at one of all.
-pub record MadeSoFar (Makes : List ℕ → List ℕ → Type 0) (Stops : List ℕ → List ℕ → List ℕ → Failure → Type 0) (remaining : Option (List ℕ))
-    (holds : List ℕ → Option (List ℕ)) (names : List (Bor (List ℕ))) (now : Option (List ℕ)) (left : List (Bor (List ℕ))) (out : List ℕ) : Type 0 where
+-- How far the work on names is: something was made, and with what is made of those that are left it is made of all, as many pods being refused;
+-- where the work stops at one of those, it stops at one of all.
+pub record MadeSoFar (Makes : List ℕ → List ℕ → ℕ → Type 0) (Stops : List ℕ → List ℕ → List ℕ → Failure → Type 0) (remaining : Option (List ℕ))
+    (holds : List ℕ → Option (List ℕ)) (names : List (Bor (List ℕ))) (now : Option (List ℕ)) (left : List (Bor (List ℕ))) (out : List ℕ)
+    (refused : ℕ) : Type 0 where
   pub expected : Option (List ℕ)
   pub known : IsKnown expected now
-  pub made : (others : List ℕ) → AreMade Makes expected holds left others → AreMade Makes remaining holds names (out ++ others)
+  pub made : (others : List ℕ) (n : ℕ) → AreMade Makes expected holds left others n → AreMade Makes remaining holds names (out ++ others) (refused + n)
   pub stops : (others : List ℕ) (why : Failure) → StopsAt Makes Stops expected holds left others why →
       StopsAt Makes Stops remaining holds names (out ++ others) why
 
-module _ (Makes : List ℕ → List ℕ → Type 0) (Stops : List ℕ → List ℕ → List ℕ → Failure → Type 0) (remaining : Option (List ℕ))
+module _ (Makes : List ℕ → List ℕ → ℕ → Type 0) (Stops : List ℕ → List ℕ → List ℕ → Failure → Type 0) (remaining : Option (List ℕ))
     (holds : List ℕ → Option (List ℕ)) (names : List (Bor (List ℕ))) where
-  pub begins : (out : List ℕ) → out ≡ [] → MadeSoFar Makes Stops remaining holds names remaining names out
+  pub begins : (out : List ℕ) → out ≡ [] → MadeSoFar Makes Stops remaining holds names remaining names out 0
   begins out e = record {
     expected = remaining;
     known = inl refl;
-    made = λ others h. subst (λ z. AreMade Makes remaining holds names (z ++ others)) (sym e) h;
+    made = λ others n h.
+        subst (AreMade Makes remaining holds names (out ++ others)) (let z : n ≡ 0 + n = omega arith in z)
+        (subst (λ z. AreMade Makes remaining holds names (z ++ others) n) (sym e) h);
     stops = λ others why h. subst (λ z. StopsAt Makes Stops remaining holds names (z ++ others) why) (sym e) h;
   }
 
   -- one name more
-  pub goes_on : (now after : Option (List ℕ)) (left behind : List (Bor (List ℕ))) (name : Bor (List ℕ)) (bytes first out new : List ℕ) →
-      left ≡ name ∷ behind → IsAllOf (content_of now holds name.now) bytes → IsKnown (left_behind now name.now) after → Makes bytes first →
-      new ≡ out ++ first → MadeSoFar Makes Stops remaining holds names now left out → MadeSoFar Makes Stops remaining holds names after behind new
-  goes_on now after left behind name bytes first out new e all k m is so =
-      let its = known_all so.expected now holds name.now bytes so.known all in
+  pub goes_on : (now after : Option (List ℕ)) (left behind : List (Bor (List ℕ))) (name : Bor (List ℕ)) (bytes first out new : List ℕ) (i old all : ℕ) →
+      left ≡ name ∷ behind → IsAllOf (content_of now holds name.now) bytes → IsKnown (left_behind now name.now) after → Makes bytes first i →
+      new ≡ out ++ first → all ≡ old + i → MadeSoFar Makes Stops remaining holds names now left out old →
+      MadeSoFar Makes Stops remaining holds names after behind new all
+  goes_on now after left behind name bytes first out new i old all e read k m is sum so =
+      let its = known_all so.expected now holds name.now bytes so.known read in
       record {
         expected = left_behind so.expected name.now;
         known = known_behind so.expected now after name.now so.known k;
-        made = λ others h.
-            subst (AreMade Makes remaining holds names) (sym (ap (λ z. z ++ others) is ∙ append_assoc out first others))
-            (so.made (first ++ others) (subst (λ l. AreMade Makes so.expected holds l (first ++ others)) (sym e) (bytes, first, others, its, m, refl, h)));
+        made = λ others n h.
+            subst (λ z. AreMade Makes remaining holds names z (all + n)) (sym (ap (λ z. z ++ others) is ∙ append_assoc out first others))
+            (subst (AreMade Makes remaining holds names (out ++ (first ++ others))) (let z : old + (i + n) ≡ all + n = omega (arith, sum) in z)
+            (so.made (first ++ others) (i + n)
+            (subst (λ l. AreMade Makes so.expected holds l (first ++ others) (i + n)) (sym e) (bytes, first, others, i, n, its, m, refl, refl, h))));
         stops = λ others why h.
             subst (λ z. StopsAt Makes Stops remaining holds names z why) (sym (ap (λ z. z ++ others) is ∙ append_assoc out first others))
             (so.stops (first ++ others) why
-            (subst (λ l. StopsAt Makes Stops so.expected holds l (first ++ others) why) (sym e) (inr (bytes, first, others, its, m, refl, h))));
+            (subst (λ l. StopsAt Makes Stops so.expected holds l (first ++ others) why) (sym e) (inr (bytes, first, others, i, its, m, refl, h))));
       }
 
   -- no name is left
-  pub ends : (now : Option (List ℕ)) (left : List (Bor (List ℕ))) (out : List ℕ) → left ≡ [] → MadeSoFar Makes Stops remaining holds names now left out →
-      AreMade Makes remaining holds names out
-  ends now left out e so =
-      subst (AreMade Makes remaining holds names) (append-nil out)
-      (so.made [] (subst (λ l. AreMade Makes so.expected holds l []) (sym e) refl))
+  pub ends : (now : Option (List ℕ)) (left : List (Bor (List ℕ))) (out : List ℕ) (refused : ℕ) → left ≡ [] →
+      MadeSoFar Makes Stops remaining holds names now left out refused → AreMade Makes remaining holds names out refused
+  ends now left out refused e so =
+      subst (λ z. AreMade Makes remaining holds names z refused) (append-nil out)
+      (subst (AreMade Makes remaining holds names (out ++ [])) (let z : refused + 0 ≡ refused = omega arith in z)
+      (so.made [] 0 (subst (λ l. AreMade Makes so.expected holds l [] 0) (sym e) (refl, refl))))
 
   -- the work stops at a name
-  pub stopped : (now : Option (List ℕ)) (left behind : List (Bor (List ℕ))) (name : Bor (List ℕ)) (bytes out more : List ℕ) (why : Failure) →
+  pub stopped : (now : Option (List ℕ)) (left behind : List (Bor (List ℕ))) (name : Bor (List ℕ)) (bytes out more : List ℕ) (refused : ℕ) (why : Failure) →
       left ≡ name ∷ behind → IsAllOf (content_of now holds name.now) bytes → Stops name.now bytes more why →
-      MadeSoFar Makes Stops remaining holds names now left out → StopsAt Makes Stops remaining holds names (out ++ more) why
-  stopped now left behind name bytes out more why e all s so =
+      MadeSoFar Makes Stops remaining holds names now left out refused → StopsAt Makes Stops remaining holds names (out ++ more) why
+  stopped now left behind name bytes out more refused why e all s so =
       so.stops more why
       (subst (λ l. StopsAt Makes Stops so.expected holds l more why) (sym e)
       (inl (bytes, known_all so.expected now holds name.now bytes so.known all, s)))

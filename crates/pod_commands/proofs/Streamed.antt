@@ -1,35 +1,46 @@
 -- Inputs that are written of as they come, name by name.
-use Rattle.std.proofs.Common.{◌≡◌, ◌∙◌, ◌+◌, ◌∷◌, ◌++◌, [], ap, arith, inl, inr, length, refl, subst, suc, sym, take, List, ℕ, Option, Some, None}
+use Rattle.std.proofs.Common.{◌≡◌, ◌≢◌, ◌⊎◌, ◌∙◌, ◌+◌, ◌∷◌, ◌++◌, [], ap, append_assoc, append-nil, arith, inl, inr, length, refl, subst, suc, sym, take, List, ℕ, Option, Some, None}
 use Rattle.std.specs.Borrow.{Bor}
 use Rattle.std.specs.Io.KnownBytes.{Appends}
 use Rattle.spa_device.specs.Whole.{IsAllOf}
-use Rattle.std.specs.Prelude.{IfErr, OnOk, Result, Ok, Err}
-use Rattle.spa_pod_commands.specs.Answers.{Rewrites}
+use Rattle.spa_pod_commands.specs.Answers.{Writes}
+use Rattle.std.specs.Prelude.{IfErr, IfOk, Result, Ok, Err}
 use Rattle.spa_recordings.specs.declared.reading.Reading.{Reading}
-use Rattle.spa_pod_commands.specs.declared.answer.Failure.{Failure as PodFailure}
-use Rattle.spa_pod_commands.specs.declared.answer.Failure.TheVariants as pods
-use Rattle.spa_recordings.specs.Rewritings.{nothing_rewritten}
-use Rattle.spa_recordings.specs.Streaming.{MakesFirst, Stops, Streams}
-use Rattle.pod_commands.specs.Answers.{Gets, IsPlain, IsStreamed, IsUnread, outlet}
-use Rattle.pod_commands.specs.Inputs.{AreMade, IsKnown, IsOpened, content_of, left_behind}
-use Rattle.pod_commands.specs.Streaming.{EndsIn, IsBroken, IsBrokenAt, IsToldAs, IsWritten, StreamsAs}
+use Rattle.spa_recordings.specs.Streaming.{EndsAtPod, MakesFirst, Stops, Streams}
+use Rattle.spa_recordings.specs.declared.streaming.Stop.{Stop}
+use Rattle.spa_recordings.specs.declared.streaming.Stop.TheVariants as stop
+use Rattle.pod_commands.specs.Answers.{AreUnshown, Gets, Gives, IsPlain, IsShown, IsShownIn, IsStreamed, IsUnread, IsUnwritten, IsWrittenAs, Outlet, outlet}
+use Rattle.pod_commands.specs.Inputs.{AreMade, IsKnown, IsOpened, StopsAt, content_of, left_behind}
+use Rattle.pod_commands.specs.Sending.{IsSent}
+use Rattle.pod_commands.specs.StreamLaws.{nothing_written}
+use Rattle.pod_commands.specs.Streaming.{EndsIn, HasNoPod, IsBroken, IsBrokenAt, IsFailureOf, IsRefusedAs, IsWritten, MayRefuse, StreamsAs}
 use Rattle.pod_commands.specs.declared.answer.Failure.{Failure}
-use Rattle.pod_commands.specs.declared.answer.Failure.TheVariants.{Pods, Texts, Pair, Lists, Stopped, OutOfMemory, Unread, Unwritten}
-use Rattle.pod_commands.specs.declared.answer.Answer.TheVariants.{Done, Misused, Refused}
+use Rattle.pod_commands.specs.declared.answer.Failure.TheVariants.{Pods, Texts, Pair, Lists, OutOfMemory, Unread, Unwritten}
+use Rattle.pod_commands.specs.declared.answer.Answer.{Answer}
+use Rattle.pod_commands.specs.declared.answer.Answer.TheVariants.{Done, Shown, Misused, Refused}
 use Rattle.pod_commands.specs.declared.request.Fate.{Fate}
 use Rattle.pod_commands.specs.declared.request.Streaming.{Streaming}
 use Rattle.pod_commands.specs.declared.request.Streaming.TheVariants as streaming
 use Rattle.pod_commands.proofs.Made.{MadeSoFar}
 use Rattle.pod_commands.proofs.Made as step
 use Rattle.pod_commands.proofs.Running.{untouched}
-use Rattle.pod_commands.proofs.Shown.{appends_more, appends_nothing}
+
+pub appends_more : (a b c : Option (List ℕ)) (xs ys : List ℕ) → Appends a b xs → Appends b c ys → Appends a c (xs ++ ys)
+appends_more None b c xs ys k l = tt
+appends_more (Some a) None c xs ys k l = absurd k
+appends_more (Some a) (Some b) None xs ys k l = absurd l
+appends_more (Some a) (Some b) (Some c) xs ys k l = l ∙ ap (λ zs. zs ++ ys) k ∙ append_assoc a xs ys
+
+pub appends_nothing : (a : Option (List ℕ)) → Appends a a []
+appends_nothing None = tt
+appends_nothing (Some a) = sym (append-nil a)
 
 -- how far the work is: these bytes are written, and they are what is made of the inputs so far
 pub record StreamedSoFar (s : Streaming) (remaining : Option (List ℕ)) (holds : List ℕ → Option (List ℕ)) (names : List (Bor (List ℕ)))
-    (now : Option (List ℕ)) (left : List (Bor (List ℕ))) (old new : Option (List ℕ)) : Type 0 where
+    (now : Option (List ℕ)) (left : List (Bor (List ℕ))) (refused : ℕ) (old new : Option (List ℕ)) : Type 0 where
   pub out : List ℕ
   pub written : Appends old new out
-  pub made : MadeSoFar (StreamsAs s) (EndsIn s) remaining holds names now left out
+  pub made : MadeSoFar (StreamsAs s) (EndsIn s) remaining holds names now left out refused
 
 take_behind : (xs ys : List ℕ) (n : ℕ) → take (length xs + n) (xs ++ ys) ≡ xs ++ take n ys
 take_behind [] ys n = ap (λ m. take m ys) (let e : 0 + n ≡ n = omega arith in e)
@@ -44,45 +55,54 @@ written_more a b c xs ys (Pods n w) h k = appends_more a b c xs ys h k
 written_more a b c xs ys (Texts n w) h k = appends_more a b c xs ys h k
 written_more a b c xs ys (Pair n w) h k = appends_more a b c xs ys h k
 written_more a b c xs ys (Lists n m w) h k = appends_more a b c xs ys h k
-written_more a b c xs ys (Stopped n p w) h k = appends_more a b c xs ys h k
 written_more a b c xs ys OutOfMemory h k = appends_more a b c xs ys h k
 written_more a b c xs ys (Unread n) h k = appends_more a b c xs ys h k
 
 module _ (s : Streaming) (remaining : Option (List ℕ)) (holds : List ℕ → Option (List ℕ)) (names : List (Bor (List ℕ))) where
-  pub begins : (old : Option (List ℕ)) → StreamedSoFar s remaining holds names remaining names old old
+  pub begins : (old : Option (List ℕ)) → StreamedSoFar s remaining holds names remaining names 0 old old
   begins old = record { out = []; written = appends_nothing old; made = step.begins _ _ remaining holds names [] refl }
 
-  pub goes_on : (now after : Option (List ℕ)) (left behind : List (Bor (List ℕ))) (name : Bor (List ℕ)) (old mid new : Option (List ℕ)) →
-      left ≡ name ∷ behind → IsKnown (left_behind now name.now) after → Streams (StreamsAs s) (content_of now holds name.now) mid new →
-      StreamedSoFar s remaining holds names now left old mid → StreamedSoFar s remaining holds names after behind old new
-  goes_on now after left behind name old mid new e k w so = record {
+  pub goes_on : (now after : Option (List ℕ)) (left behind : List (Bor (List ℕ))) (name : Bor (List ℕ)) (before more all : ℕ) (old mid new : Option (List ℕ)) →
+      left ≡ name ∷ behind → IsKnown (left_behind now name.now) after → Streams (StreamsAs s) (content_of now holds name.now) mid new more →
+      all ≡ before + more → StreamedSoFar s remaining holds names now left before old mid → StreamedSoFar s remaining holds names after behind all old new
+  goes_on now after left behind name before more all old mid new e k w sum so = record {
     out = so.out ++ w.out;
     written = appends_more old mid new so.out w.out so.written w.written;
-    made = step.goes_on _ _ remaining holds names now after left behind name w.input w.out so.out (so.out ++ w.out) e w.read k w.made refl so.made;
+    made =
+        step.goes_on _ _ remaining holds names now after left behind name w.input w.out so.out (so.out ++ w.out) more before all e w.read k w.made refl sum
+        so.made;
   }
 
-  pub ends : (now : Option (List ℕ)) (left : List (Bor (List ℕ))) (old new : Option (List ℕ)) → left ≡ [] →
-      StreamedSoFar s remaining holds names now left old new →
-      (out : List ℕ) × AreMade (StreamsAs s) remaining holds names out × Appends old new out
-  ends now left old new e so = (so.out, step.ends _ _ remaining holds names now left so.out e so.made, so.written)
+  pub ends : (now : Option (List ℕ)) (left : List (Bor (List ℕ))) (refused : ℕ) (old new : Option (List ℕ)) → left ≡ [] →
+      StreamedSoFar s remaining holds names now left refused old new →
+      (out : List ℕ) × AreMade (StreamsAs s) remaining holds names out refused × Appends old new out
+  ends now left refused old new e so = (so.out, step.ends _ _ remaining holds names now left so.out refused e so.made, so.written)
 
   -- the work ends in one of them
-  pub breaks : (now : Option (List ℕ)) (left behind : List (Bor (List ℕ))) (name : Bor (List ℕ)) (old mid new : Option (List ℕ)) (why : Failure) →
-      left ≡ name ∷ behind → IsBrokenAt s name.now (content_of now holds name.now) mid new why → StreamedSoFar s remaining holds names now left old mid →
-      IsBroken s remaining holds names old new why
-  breaks now left behind name old mid new why e b so = (
+  pub breaks : (now : Option (List ℕ)) (left behind : List (Bor (List ℕ))) (name : Bor (List ℕ)) (refused : ℕ) (old mid new : Option (List ℕ))
+      (why : Failure) → left ≡ name ∷ behind → IsBrokenAt s name.now (content_of now holds name.now) mid new why →
+      StreamedSoFar s remaining holds names now left refused old mid → IsBroken s remaining holds names old new why
+  breaks now left behind name refused old mid new why e b so = (
     so.out ++ b.1,
-    step.stopped _ _ remaining holds names now left behind name b.0 so.out b.1 why e b.2 b.3 so.made,
+    step.stopped _ _ remaining holds names now left behind name b.0 so.out b.1 refused why e b.2 b.3 so.made,
     written_more old mid new so.out b.1 why so.written b.4,
   )
 
 -- ---- One input
 
-nothing_made : (s : Streaming) → StreamsAs s [] []
-nothing_made streaming.Rewrite = nothing_rewritten
-
 none_of : (s : Streaming) (input : List ℕ) → MakesFirst (StreamsAs s) input [] input
-none_of s input = record { first = []; parts = refl; made = nothing_made s }
+none_of s input = record { first = []; parts = refl; refused = 0; made = nothing_written s 0 0 }
+
+-- so many pods are refused that they can't be counted
+pub uncounted : (s : Streaming) (name : List ℕ) (content old new : Option (List ℕ)) (refused : ℕ) → Streams (StreamsAs s) content old new refused →
+    IsBrokenAt s name content old new OutOfMemory
+uncounted s name content old new refused w = (
+  w.input,
+  w.out,
+  w.read,
+  ([], record { first = w.input; parts = sym (append-nil w.input); refused = refused; made = w.made }),
+  w.written,
+)
 
 -- it isn't read
 pub unread : (s : Streaming) (name : List ℕ) (content old : Option (List ℕ)) (why : Failure) → IsUnread why → IsBrokenAt s name content old old why
@@ -97,25 +117,43 @@ unread s name content old why u = of (known content) u
     of k (inr e) = subst (IsBrokenAt s name content old old) (sym e.1) (k.0, [], k.1, (k.0, none_of s k.0), appends_nothing old)
 
 -- it ends before it is done
-pub broken : (s : Streaming) (name : Bor (List ℕ)) (content old new : Option (List ℕ)) (e : PodFailure) (why : Failure) → IsToldAs name e why →
-    Stops (StreamsAs s) content old new e → IsBrokenAt s name.now content old new why
-broken s name content old new pods.OutOfMemory why t h =
+pub broken : (s : Streaming) (name : Bor (List ℕ)) (content old new : Option (List ℕ)) (e : Stop) (why : Failure) → IsFailureOf name e why →
+    Stops (MayRefuse s) (StreamsAs s) content old new e → IsBrokenAt s name.now content old new why
+broken s name content old new stop.OutOfMemory why t h =
     subst (IsBrokenAt s name.now content old new) (sym t) (h.input, h.out, h.its, h.ends, h.written)
-broken s name content old new pods.ReadFailed why t h =
+broken s name content old new stop.ReadFailed why t h =
     subst (IsBrokenAt s name.now content old new) (sym t.2) (h.input, h.out, h.its, h.ends, h.written)
-broken s name content old new pods.WriteFailed why t h =
+broken s name content old new stop.WriteFailed why t h =
     subst (IsBrokenAt s name.now content old new) (sym t) (h.input, h.out, h.its, (refl, h.ends.0, h.ends.1), h.written)
-broken s name content old new (pods.Pod place kind) why t h =
-    subst (IsBrokenAt s name.now content old new) (sym t.2) (h.input, h.out, h.its, (t.1, h.ends), h.written)
+broken s name content old new (stop.Pod number place read) why t h = of why t
+  where
+    of : (why : Failure) → IsRefusedAs name.now number place read.items why → IsBrokenAt s name.now content old new why
+    of (Pods n w) t =
+        let same = subst (λ p. EndsAtPod (MayRefuse s) (StreamsAs s) h.input h.out w.number p read.items) (sym t.2)
+        (subst (λ k. EndsAtPod (MayRefuse s) (StreamsAs s) h.input h.out k place read.items) (sym t.1) h.ends) in
+        (h.input, h.out, h.its, (t.0, read.items, same, t.3), h.written)
+    of OutOfMemory t = (h.input, h.out, h.its, (h.ends.left, h.ends.made), h.written)
+    of (Texts n w) t = absurd t
+    of (Pair n w) t = absurd t
+    of (Lists n m w) t = absurd t
+    of (Unread n) t = absurd t
+    of (Unwritten n) t = absurd t
+
+-- a refused pod is none
+pub no_pod : (s : Streaming) (content old new : Option (List ℕ)) (e : Stop) → Stops (MayRefuse s) (StreamsAs s) content old new e → HasNoPod e
+no_pod s content old new stop.OutOfMemory h = tt
+no_pod s content old new stop.ReadFailed h = tt
+no_pod s content old new stop.WriteFailed h = tt
+no_pod s content old new (stop.Pod number place read) h = h.ends.ahead.no_pod
 
 -- what is known of a file's bytes is known of the file
 all_of : (content remaining : Option (List ℕ)) (input : List ℕ) → IsOpened content remaining → IsAllOf remaining input → IsAllOf content input
 all_of None remaining input o all = tt
 all_of (Some xs) remaining input o all = subst (λ r. IsAllOf r input) o all
 
-pub streams_file : (s : Streaming) (content remaining old new : Option (List ℕ)) → IsOpened content remaining →
-    Streams (StreamsAs s) remaining old new → Streams (StreamsAs s) content old new
-streams_file s content remaining old new o w = record {
+pub streams_file : (s : Streaming) (content remaining old new : Option (List ℕ)) (refused : ℕ) → IsOpened content remaining →
+    Streams (StreamsAs s) remaining old new refused → Streams (StreamsAs s) content old new refused
+streams_file s content remaining old new refused o w = record {
   input = w.input;
   read = all_of content remaining w.input o w.read;
   out = w.out;
@@ -127,9 +165,9 @@ pub broken_file : (s : Streaming) (name : List ℕ) (content remaining old new :
     IsBrokenAt s name remaining old new why → IsBrokenAt s name content old new why
 broken_file s name content remaining old new why o b = (b.0, b.1, all_of content remaining b.0 o b.2, b.3, b.4)
 
-pub file_streamed : {T : Type 0} (s : Streaming) (content remaining old new : Option (List ℕ)) (r : Result T Failure) → IsOpened content remaining →
-    OnOk r (Streams (StreamsAs s) remaining old new) → OnOk r (Streams (StreamsAs s) content old new)
-file_streamed s content remaining old new (Ok x) o w = streams_file s content remaining old new o w
+pub file_streamed : (s : Streaming) (content remaining old new : Option (List ℕ)) (r : Result ℕ Failure) → IsOpened content remaining →
+    IfOk r (Streams (StreamsAs s) remaining old new) → IfOk r (Streams (StreamsAs s) content old new)
+file_streamed s content remaining old new (Ok n) o w = streams_file s content remaining old new n o w
 file_streamed s content remaining old new (Err e) o w = tt
 
 pub file_broken : {T : Type 0} (s : Streaming) (name : List ℕ) (content remaining old new : Option (List ℕ)) (r : Result T Failure) →
@@ -137,28 +175,73 @@ pub file_broken : {T : Type 0} (s : Streaming) (name : List ℕ) (content remain
 file_broken s name content remaining old new (Ok x) o b = tt
 file_broken s name content remaining old new (Err why) o b = broken_file s name content remaining old new why o b
 
-pub of_rewriter : (s : Streaming) (remaining old new : Option (List ℕ)) (e : PodFailure) → Stops (λ pods out. Rewrites pods out) remaining old new e →
-    Stops (StreamsAs s) remaining old new e
-of_rewriter streaming.Rewrite remaining old new e h = h
-
 -- ---- The run
 
 -- all was written as it came
-pub streamed_done : (s : Streaming) (reading : Reading) (fate : Fate) (target : Option (Bor (List ℕ))) (remaining : Option (List ℕ))
-    (holds : List ℕ → Option (List ℕ)) (names : List (Bor (List ℕ))) (old new : Option (List ℕ)) → IsPlain reading fate target →
-    ((out : List ℕ) × AreMade (StreamsAs s) remaining holds names out × Appends old new out) →
-    IsStreamed s reading fate Done remaining names (outlet target old new holds holds)
-streamed_done s reading fate target remaining holds names old new p w =
-    inl (p, (w.0, w.1, subst (λ t. Gets t (outlet t old new holds holds) w.0) (sym p.2) (w.2, λ name. refl)))
+pub written_as : (s : Streaming) (remaining : Option (List ℕ)) (names : List (Bor (List ℕ))) (o : Outlet) (refused : ℕ) (answer : Answer) →
+    (((refused ≡ 0) × (answer ≡ Done)) ⊎ ((refused ≢ 0) × (answer ≡ Shown refused))) → Gives (λ out. AreMade (StreamsAs s) remaining o.before names out refused) o →
+    IsWrittenAs s answer remaining names o
+written_as s remaining names o refused answer (inl e) w =
+    subst (λ a. IsWrittenAs s a remaining names o) (sym e.1) (subst (λ n. Gives (λ out. AreMade (StreamsAs s) remaining o.before names out n) o) e.0 w)
+written_as s remaining names o refused answer (inr e) w = subst (λ a. IsWrittenAs s a remaining names o) (sym e.1) (e.0, w)
 
--- or not
-pub streamed_broken : (s : Streaming) (reading : Reading) (fate : Fate) (target : Option (Bor (List ℕ))) (remaining : Option (List ℕ))
-    (holds : List ℕ → Option (List ℕ)) (names : List (Bor (List ℕ))) (old new : Option (List ℕ)) (why : Failure) → IsPlain reading fate target →
-    IsBroken s remaining holds names old new why → IsStreamed s reading fate (Refused why) remaining names (outlet target old new holds holds)
-streamed_broken s reading fate target remaining holds names old new why p b = inl (p, (b, λ name. refl))
+pub all_written : (s : Streaming) (target : Option (Bor (List ℕ))) (remaining : Option (List ℕ)) (holds : List ℕ → Option (List ℕ))
+    (names : List (Bor (List ℕ))) (old new : Option (List ℕ)) (refused : ℕ) (answer : Answer) → target ≡ None →
+    (((refused ≡ 0) × (answer ≡ Done)) ⊎ ((refused ≢ 0) × (answer ≡ Shown refused))) →
+    ((out : List ℕ) × AreMade (StreamsAs s) remaining holds names out refused × Appends old new out) →
+    IsWrittenAs s answer remaining names (outlet target old new holds holds)
+all_written s target remaining holds names old new refused answer none is w =
+    written_as s remaining names (outlet target old new holds holds) refused answer is
+    (w.0, w.1, subst (λ t. Gets t (outlet t old new holds holds) w.0) (sym none) (w.2, λ name. refl))
+
+pub part_written : (s : Streaming) (target : Option (Bor (List ℕ))) (remaining : Option (List ℕ)) (holds : List ℕ → Option (List ℕ))
+    (names : List (Bor (List ℕ))) (old new : Option (List ℕ)) (why : Failure) → IsBroken s remaining holds names old new why →
+    IsWrittenAs s (Refused why) remaining names (outlet target old new holds holds)
+part_written s target remaining holds names old new why b = (b, λ name. refl)
 
 -- other options are misuse
 pub misused : (s : Streaming) (reading : Reading) (fate : Fate) (target : Option (Bor (List ℕ))) (remaining : Option (List ℕ))
     (holds : List ℕ → Option (List ℕ)) (names : List (Bor (List ℕ))) (old : Option (List ℕ)) → ¬ (IsPlain reading fate target) →
     IsStreamed s reading fate Misused remaining names (outlet target old old holds holds)
 misused s reading fate target remaining holds names old n = inr (n, (refl, untouched target old holds))
+
+-- without them it is done
+pub streamed : (s : Streaming) (reading : Reading) (fate : Fate) (target : Option (Bor (List ℕ))) (answer : Answer) (remaining : Option (List ℕ))
+    (names : List (Bor (List ℕ))) (old new : Option (List ℕ)) (before after : List ℕ → Option (List ℕ)) → IsPlain reading fate target →
+    IsWrittenAs s answer remaining names (outlet target old new before after) →
+    IsStreamed s reading fate answer remaining names (outlet target old new before after)
+streamed s reading fate target answer remaining names old new before after p w = inl (p, w)
+
+-- ---- Lines that go to a file
+
+-- the lines of all went to the file, or that couldn't be written
+pub shown_in : (remaining : Option (List ℕ)) (names : List (Bor (List ℕ))) (o : Outlet) (lines out : List ℕ) (refused : ℕ) (given answer : Answer) →
+    (((refused ≡ 0) × (given ≡ Done)) ⊎ ((refused ≢ 0) × (given ≡ Shown refused))) →
+    AreMade (StreamsAs streaming.Show) remaining o.before names out refused → Appends (Some []) (Some lines) out → IsSent lines given answer o →
+    IsShownIn answer remaining names o
+shown_in remaining names o lines out refused given answer (inl e) made is (inl k) =
+    subst (λ a. IsShownIn a remaining names o) (sym (k.0 ∙ e.1))
+    (out, subst (AreMade (StreamsAs streaming.Show) remaining o.before names out) e.0 made, subst (Gets o.target o) is k.1)
+shown_in remaining names o lines out refused given answer (inr e) made is (inl k) =
+    subst (λ a. IsShownIn a remaining names o) (sym (k.0 ∙ e.1)) (e.0, (out, made, subst (Gets o.target o) is k.1))
+shown_in remaining names o lines out refused given answer e made is (inr k) =
+    subst (λ a. IsShownIn a remaining names o) (sym k.1) (inr (k.2, (lines, (refused, subst (λ z. AreMade (StreamsAs streaming.Show) remaining o.before names z refused) (sym is) made), k.3)))
+
+-- not all inputs are shown
+pub unshown : (target : Option (Bor (List ℕ))) (remaining : Option (List ℕ)) (holds : List ℕ → Option (List ℕ)) (names : List (Bor (List ℕ)))
+    (old first last : Option (List ℕ)) (why : Failure) → IsBroken streaming.Show remaining holds names first last why →
+    IsShownIn (Refused why) remaining names (outlet target old old holds holds)
+unshown target remaining holds names old first last why b = inl (inr (b.0, b.1), untouched target old holds)
+
+pub unshown_lines : (target : Option (Bor (List ℕ))) (remaining : Option (List ℕ)) (holds : List ℕ → Option (List ℕ)) (names : List (Bor (List ℕ)))
+    (old : Option (List ℕ)) → IsShownIn (Refused OutOfMemory) remaining names (outlet target old old holds holds)
+unshown_lines target remaining holds names old = inl (inl refl, untouched target old holds)
+
+-- where a file is written, and where none is
+pub in_file : (target : Option (Bor (List ℕ))) (name : Bor (List ℕ)) (answer : Answer) (remaining : Option (List ℕ)) (names : List (Bor (List ℕ)))
+    (o : Outlet) → target ≡ Some name → IsShownIn answer remaining names o → IsShown target answer remaining names o
+in_file target name answer remaining names o e h = subst (λ t. IsShown t answer remaining names o) (sym e) h
+
+pub in_none : (target : Option (Bor (List ℕ))) (answer : Answer) (remaining : Option (List ℕ)) (names : List (Bor (List ℕ))) (o : Outlet) →
+    target ≡ None → IsWrittenAs streaming.Show answer remaining names o → IsShown target answer remaining names o
+in_none target answer remaining names o e h = subst (λ t. IsShown t answer remaining names o) (sym e) h

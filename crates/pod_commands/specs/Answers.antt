@@ -12,7 +12,6 @@ use Rattle.clap.specs.declared.error.Error.{Error}
 use Rattle.clap.specs.declared.error.kind.ErrorKind.{ErrorKind}
 use Rattle.clap.specs.declared.error.kind.ErrorKind.TheVariants as kind
 use Rattle.spa_device.specs.Whole.{IsAllOf}
-use Rattle.spa_recordings.specs.GoingOn.{MakesOf}
 use Rattle.spa_recordings.specs.declared.going_on.Refused.{Refused as OfRefused}
 use Rattle.spa_recordings.specs.declared.reading.Reading.{Reading}
 use Rattle.spa_recordings.specs.declared.reading.Reading.TheVariants.{Exact}
@@ -25,20 +24,21 @@ use Rattle.spa_meet_commands.specs.Lists.{AreListsRefused, ListsGive}
 use Rattle.spa_meet_commands.specs.declared.answer.Failure.{Failure as MeetFailure}
 use Rattle.spa_meet_commands.specs.declared.pair.Work.{Work}
 use Rattle.pod_commands.specs.Inputs.{AreMade, OfOne, OfTwo, StopsAt}
-use Rattle.pod_commands.specs.Making.{AreNoPods, Makes, RefusesBy, ShowsAs, ShowsBegin}
+use Rattle.pod_commands.specs.Making.{AreNoPods, MakesAll, RefusesBy}
 use Rattle.pod_commands.specs.Program.{program}
 use Rattle.pod_commands.specs.Requests.{Asks, AsksNothing, dash}
-use Rattle.pod_commands.specs.Streaming.{IsBroken, StreamsAs}
+use Rattle.pod_commands.specs.Streaming.{EndsIn, IsBroken, StreamsAs}
 use Rattle.pod_commands.specs.Working.{AreWorked}
 use Rattle.pod_commands.specs.declared.answer.Answer.{Answer}
-use Rattle.pod_commands.specs.declared.answer.Answer.TheVariants.{Done, Differs, Passed, Refused, Misused, Said}
+use Rattle.pod_commands.specs.declared.answer.Answer.TheVariants.{Done, Differs, Passed, Shown, Refused, Misused, Said}
 use Rattle.pod_commands.specs.declared.answer.Failure.{Failure}
-use Rattle.pod_commands.specs.declared.answer.Failure.TheVariants.{Pods, Texts, Pair, Lists, Stopped, OutOfMemory, Unread, Unwritten}
+use Rattle.pod_commands.specs.declared.answer.Failure.TheVariants.{Pods, Texts, Pair, Lists, OutOfMemory, Unread, Unwritten}
 use Rattle.pod_commands.specs.declared.request.Fate.{Fate}
 use Rattle.pod_commands.specs.declared.request.Fate.TheVariants.{Stops, GoesOn}
 use Rattle.pod_commands.specs.declared.request.Making.{Making}
 use Rattle.pod_commands.specs.declared.request.Request.{Request}
 use Rattle.pod_commands.specs.declared.request.Streaming.{Streaming}
+use Rattle.pod_commands.specs.declared.request.Streaming.TheVariants as streaming
 use Rattle.pod_commands.specs.declared.request.Word.{Word}
 use Rattle.pod_commands.specs.declared.request.Word.TheVariants.{Show, Make, Stream, Diff, Agree}
 
@@ -73,11 +73,6 @@ abbrev pub Begins : Option (Bor (List ℕ)) → Outlet → List ℕ → Type 0
 Begins None o out = ((n : ℕ) × Appends o.old o.new (take n out)) × KeepsFiles o
 Begins (Some name) o out = Keeps o.old o.new
 
--- this was written, unless it was to go to a file
-abbrev pub Streams : Option (Bor (List ℕ)) → Outlet → List ℕ → Type 0
-Streams None o out = Appends o.old o.new out × KeepsFiles o
-Streams (Some name) o out = IsUntouched o
-
 -- ---- Answers
 
 -- the fact of what became of the work
@@ -86,6 +81,7 @@ OnAnswer Done IfDone IfDiffers IfRefused = IfDone
 OnAnswer Differs IfDone IfDiffers IfRefused = IfDiffers
 OnAnswer (Refused why) IfDone IfDiffers IfRefused = IfRefused why
 OnAnswer (Passed pods) IfDone IfDiffers IfRefused = ⊥
+OnAnswer (Shown refused) IfDone IfDiffers IfRefused = ⊥
 OnAnswer Misused IfDone IfDiffers IfRefused = ⊥
 OnAnswer (Said error) IfDone IfDiffers IfRefused = ⊥
 
@@ -109,15 +105,7 @@ IsUnread why = (why ≡ OutOfMemory) ⊎ ((name : Bor (List ℕ)) × (why ≡ Un
 abbrev pub AreUnmade : Reading → Making → (remaining : Option (List ℕ)) → (holds : List ℕ → Option (List ℕ)) → List (Bor (List ℕ)) → Failure → Type 0
 AreUnmade reading making remaining holds names why =
     IsUnread why
-    ⊎ ((out : List ℕ) × StopsAt (MakesOf reading (Makes making)) (λ name input made. RefusesBy reading making name input) remaining holds names out why)
-
--- Why not all inputs are shown, and what was written: what follows the whole pods of one is refused behind their lines and those of the
--- inputs before it.
-abbrev pub IsNotShown : (remaining : Option (List ℕ)) → (holds : List ℕ → Option (List ℕ)) → List (Bor (List ℕ)) → Outlet → Failure → Type 0
-IsNotShown remaining holds names o OutOfMemory = ⊤
-IsNotShown remaining holds names o (Unread name) = ⊤
-IsNotShown remaining holds names o (Unwritten target) = ⊤
-IsNotShown remaining holds names o why = (out : List ℕ) × StopsAt ShowsAs ShowsBegin remaining holds names out why × Streams o.target o out
+    ⊎ ((out : List ℕ) × StopsAt (MakesAll reading making) (λ name input made. RefusesBy reading making name input) remaining holds names out why)
 
 -- these are the lines that differ of two inputs, which are none where they say the same values
 abbrev pub Compare : (out a b : List ℕ) → Type 0
@@ -174,8 +162,8 @@ IsAgreed work answer remaining _ o = IsMisuse answer o
 -- what it says of work on inputs that are read so and refused whole
 abbrev pub IsMadeWhole : Reading → Making → Answer → (remaining : Option (List ℕ)) → List (Bor (List ℕ)) → Outlet → Type 0
 IsMadeWhole reading making answer remaining names o =
-    OnAnswer answer (Gives (AreMade (MakesOf reading (Makes making)) remaining o.before names) o) ⊥
-    (Refuses (AreMade (MakesOf reading (Makes making)) remaining o.before names) (AreUnmade reading making remaining o.before names) o)
+    OnAnswer answer (Gives (λ out. AreMade (MakesAll reading making) remaining o.before names out 0) o) ⊥
+    (Refuses (λ out. AreMade (MakesAll reading making) remaining o.before names out 0) (AreUnmade reading making remaining o.before names) o)
 
 -- what it says of work that goes on behind refused pods: these are some, or there are none
 abbrev pub IsMadeInPart : Reading → OfRefused → Making → Answer → (remaining : Option (List ℕ)) → List (Bor (List ℕ)) → Outlet → Type 0
@@ -190,18 +178,43 @@ abbrev pub IsMadeBy : Reading → Fate → Making → Answer → (remaining : Op
 IsMadeBy reading Stops making answer remaining names o = IsMadeWhole reading making answer remaining names o
 IsMadeBy reading (GoesOn refused) making answer remaining names o = IsMadeInPart reading refused making answer remaining names o
 
--- what it says of work that is written as inputs come, which only pods that are refused whole go with, and no file: all was written, or
--- what was made till the work ended
+-- what it says of work that is written as inputs come: all was written, of which no pod is refused, or so many of those that are shown; or what was
+-- made till the work ended
+abbrev pub IsWrittenAs : Streaming → Answer → (remaining : Option (List ℕ)) → List (Bor (List ℕ)) → Outlet → Type 0
+IsWrittenAs streaming Done remaining names o = Gives (λ out. AreMade (StreamsAs streaming) remaining o.before names out 0) o
+IsWrittenAs streaming (Shown refused) remaining names o =
+    (refused ≢ 0) × Gives (λ out. AreMade (StreamsAs streaming) remaining o.before names out refused) o
+IsWrittenAs streaming (Refused why) remaining names o = IsBroken streaming remaining o.before names o.old o.new why × KeepsFiles o
+IsWrittenAs streaming _ remaining names o = ⊥
+
+-- what it says of that where other options may be given: with these, and with a file to write, it is misuse
 abbrev pub IsStreamed : Streaming → Reading → Fate → Answer → (remaining : Option (List ℕ)) → List (Bor (List ℕ)) → Outlet → Type 0
 IsStreamed streaming reading fate answer remaining names o =
-    (IsPlain reading fate o.target × OnAnswer answer (Gives (AreMade (StreamsAs streaming) remaining o.before names) o) ⊥
-    (λ why. IsBroken streaming remaining o.before names o.old o.new why × KeepsFiles o))
+    (IsPlain reading fate o.target × IsWrittenAs streaming answer remaining names o)
     ⊎ (¬ (IsPlain reading fate o.target) × IsMisuse answer o)
+
+-- why not all inputs are shown in a file: the work stops at one of them, or memory for the lines ran out
+abbrev pub AreUnshown : (remaining : Option (List ℕ)) → (holds : List ℕ → Option (List ℕ)) → List (Bor (List ℕ)) → Failure → Type 0
+AreUnshown remaining holds names why =
+    (why ≡ OutOfMemory) ⊎ ((out : List ℕ) × StopsAt (StreamsAs streaming.Show) (EndsIn streaming.Show) remaining holds names out why)
+
+-- what it says of inputs that are shown in a file
+abbrev pub IsShownIn : Answer → (remaining : Option (List ℕ)) → List (Bor (List ℕ)) → Outlet → Type 0
+IsShownIn Done remaining names o = Gives (λ out. AreMade (StreamsAs streaming.Show) remaining o.before names out 0) o
+IsShownIn (Shown refused) remaining names o =
+    (refused ≢ 0) × Gives (λ out. AreMade (StreamsAs streaming.Show) remaining o.before names out refused) o
+IsShownIn (Refused why) remaining names o =
+    Refuses (λ out. (refused : ℕ) × AreMade (StreamsAs streaming.Show) remaining o.before names out refused) (AreUnshown remaining o.before names) o why
+IsShownIn _ remaining names o = ⊥
+
+-- inputs are shown as they come, or where a file is written, all of them in it
+abbrev pub IsShown : Option (Bor (List ℕ)) → Answer → (remaining : Option (List ℕ)) → List (Bor (List ℕ)) → Outlet → Type 0
+IsShown None answer remaining names o = IsWrittenAs streaming.Show answer remaining names o
+IsShown (Some name) answer remaining names o = IsShownIn answer remaining names o
 
 -- what it says of a word's work on inputs of these names, where this is left of the standard input
 abbrev pub IsDone : Word → Answer → (remaining : Option (List ℕ)) → List (Bor (List ℕ)) → Outlet → Type 0
-IsDone Show answer remaining names o =
-    OnAnswer answer (Gives (AreMade ShowsAs remaining o.before names) o) ⊥ (IsNotShown remaining o.before names o)
+IsDone Show answer remaining names o = IsShown o.target answer remaining names o
 IsDone (Make making manner) answer remaining names o = IsMadeBy manner.reading manner.fate making answer remaining names o
 IsDone (Stream streaming manner) answer remaining names o = IsStreamed streaming manner.reading manner.fate answer remaining names o
 IsDone Diff answer remaining names o = IsCompared answer remaining names o
@@ -233,6 +246,7 @@ abbrev pub status_of : Answer → ℕ
 status_of Done = 0
 status_of Differs = 1
 status_of (Passed pods) = 1
+status_of (Shown refused) = 1
 status_of (Refused why) = 1
 status_of Misused = 2
 status_of (Said error) = status_of_kind (kind_of error)
@@ -252,7 +266,6 @@ failure_text (Pods name why) = name_text name.now ++ (codes ": " ++ refusal_text
 failure_text (Texts name why) = name_text name.now ++ (codes ": " ++ text.failure_text why)
 failure_text (Pair name why) = name_text name.now ++ (codes ": " ++ meet.failure_text why)
 failure_text (Lists ours theirs why) = name_text ours.now ++ (codes ", " ++ (name_text theirs.now ++ (codes ": " ++ meet.failure_text why)))
-failure_text (Stopped name place kind) = name_text name.now ++ (codes ": byte " ++ (decimal place ++ (codes ": " ++ kind.now)))
 failure_text OutOfMemory = codes "out of memory"
 failure_text (Unread name) = name_text name.now ++ codes ": read failed"
 failure_text (Unwritten target) = target_text target ++ codes ": write failed"

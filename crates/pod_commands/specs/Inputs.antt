@@ -1,5 +1,5 @@
 -- The inputs that names stand for, and what is made of them one after another.
-use Rattle.std.specs.Prelude.{◌≡◌, ◌⊎◌, ℕ, List, [], ◌∷◌, ◌++◌, Option, None, Some, IfSome, if◌then◌else◌}
+use Rattle.std.specs.Prelude.{◌≡◌, ◌⊎◌, ◌+◌, ℕ, List, [], ◌∷◌, ◌++◌, Option, None, Some, IfSome, if◌then◌else◌}
 use Rattle.std.specs.Borrow.{Bor}
 use Rattle.std.specs.Str.{bytes_eq}
 use Rattle.spa_device.specs.Whole.{IsAllOf}
@@ -18,21 +18,21 @@ IsOpened holds remaining = IfSome holds (λ bytes. remaining ≡ Some bytes)
 abbrev pub left_behind : Option (List ℕ) → List ℕ → Option (List ℕ)
 left_behind remaining name = if bytes_eq name dash then None else remaining
 
--- what is made of each input, one behind another
-abbrev pub AreMade : (List ℕ → List ℕ → Type 0) → (remaining : Option (List ℕ)) → (holds : List ℕ → Option (List ℕ)) → List (Bor (List ℕ)) → List ℕ →
-    Type 0
-AreMade Makes remaining holds [] out = out ≡ []
-AreMade Makes remaining holds (n ∷ ns) out =
-    (input : List ℕ) × (first : List ℕ) × (others : List ℕ) × IsAllOf (content_of remaining holds n.now) input × Makes input first
-    × (out ≡ first ++ others) × AreMade Makes (left_behind remaining n.now) holds ns others
+-- what is made of each input, one behind another; so many of their pods are refused in all
+abbrev pub AreMade : (List ℕ → List ℕ → ℕ → Type 0) → (remaining : Option (List ℕ)) → (holds : List ℕ → Option (List ℕ)) → List (Bor (List ℕ)) →
+    (out : List ℕ) → (refused : ℕ) → Type 0
+AreMade Makes remaining holds [] out refused = (out ≡ []) × (refused ≡ 0)
+AreMade Makes remaining holds (n ∷ ns) out refused =
+    (input : List ℕ) × (first : List ℕ) × (others : List ℕ) × (i : ℕ) × (j : ℕ) × IsAllOf (content_of remaining holds n.now) input × Makes input first i
+    × (out ≡ first ++ others) × (refused ≡ i + j) × AreMade Makes (left_behind remaining n.now) holds ns others j
 
 -- Of some first inputs something is made, and the work stops at the next one, for this reason; these bytes were made in all.
-abbrev pub StopsAt : (List ℕ → List ℕ → Type 0) → (List ℕ → List ℕ → List ℕ → Failure → Type 0) → (remaining : Option (List ℕ)) →
+abbrev pub StopsAt : (List ℕ → List ℕ → ℕ → Type 0) → (List ℕ → List ℕ → List ℕ → Failure → Type 0) → (remaining : Option (List ℕ)) →
     (holds : List ℕ → Option (List ℕ)) → List (Bor (List ℕ)) → List ℕ → Failure → Type 0
 StopsAt Makes Stops remaining holds [] out why = ⊥
 StopsAt Makes Stops remaining holds (n ∷ ns) out why =
     ((input : List ℕ) × IsAllOf (content_of remaining holds n.now) input × Stops n.now input out why)
-    ⊎ ((input : List ℕ) × (first : List ℕ) × (others : List ℕ) × IsAllOf (content_of remaining holds n.now) input × Makes input first
+    ⊎ ((input : List ℕ) × (first : List ℕ) × (others : List ℕ) × (i : ℕ) × IsAllOf (content_of remaining holds n.now) input × Makes input first i
     × (out ≡ first ++ others) × StopsAt Makes Stops (left_behind remaining n.now) holds ns others why)
 
 -- the inputs of two names, and this holds of them

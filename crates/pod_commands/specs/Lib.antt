@@ -4,6 +4,6 @@ pub mod Making
 pub mod Program
 pub mod Requests
 pub mod Sending
-pub mod Showing
+pub mod StreamLaws
 pub mod Streaming
 pub mod Working

@@ -1,15 +1,12 @@
 -- What each word makes of an input, and what it refuses it for.
-use Rattle.std.specs.Prelude.{⊤, ◌≡◌, ℕ, List, [], length}
-use Rattle.spa_format.specs.Fixation.{walk_size}
+use Rattle.std.specs.Prelude.{⊤, ◌≡◌, ℕ, List, []}
 use Rattle.spa_format.specs.Pod.{AreMembers}
 use Rattle.spa_format.specs.Tree.{Trees}
-use Rattle.spa_format.specs.Walk.{walk}
 use Rattle.spa_pod_commands.specs.Answers.{Fixates, Rewrites}
+use Rattle.spa_recordings.specs.GoingOn.{MakesOf}
 use Rattle.spa_recordings.specs.declared.reading.Reading.{Reading}
 use Rattle.spa_recordings.specs.declared.reading.Reading.TheVariants.{Exact, Lenient}
-use Rattle.spa_text_commands.specs.Lines.{Shows}
 use Rattle.spa_refusals.specs.Refusals.{IsFirstRefusal}
-use Rattle.spa_refusals.specs.Several.{IsRemainder}
 use Rattle.spa_text_commands.specs.Texts.{Prints, Reads, RefusesTexts}
 use Rattle.pod_commands.specs.declared.request.Making.{Making}
 use Rattle.pod_commands.specs.declared.request.Making.TheVariants.{Json, Read, Rewrite, Fixate, Check}
@@ -23,6 +20,10 @@ Makes Read input out = Reads input out
 Makes Rewrite input out = Rewrites input out
 Makes Fixate input out = Fixates input out
 Makes Check input out = (out ≡ []) × ((vs : Trees) × AreMembers vs input)
+
+-- what is made of an input that is read so, of which no pod is refused
+abbrev pub MakesAll : Reading → Making → (input out : List ℕ) → (refused : ℕ) → Type 0
+MakesAll reading making input out refused = MakesOf reading (Makes making) input out × (refused ≡ 0)
 
 -- an input of this name isn't read so, which is said of the first refused pod; or memory ran out
 abbrev pub AreNoPods : Reading → (name input : List ℕ) → Failure → Type 0
@@ -47,12 +48,3 @@ RefusesIn Check name input why = AreNoPods Exact name input why
 abbrev pub RefusesBy : Reading → Making → (name input : List ℕ) → Failure → Type 0
 RefusesBy Exact making name input why = RefusesIn making name input why
 RefusesBy Lenient making name input why = AreNoPods Lenient name input why
-
--- an input consists of whole pods, and these are their lines
-abbrev pub ShowsAs : (input out : List ℕ) → Type 0
-ShowsAs input out = (walk_size (walk input) ≡ length input) × Shows (walk input) out
-
--- something follows the whole pods of an input of this name, and these are their lines
-abbrev pub ShowsBegin : (name input out : List ℕ) → Failure → Type 0
-ShowsBegin name input out (Pods n why) = (n.now ≡ name) × IsRemainder input why × Shows (walk input) out
-ShowsBegin name input out _ = ⊥

@@ -40,13 +40,16 @@ over_pods name = with_rule (with_rule (word name) lenient) keep_going
 abbrev pub to_pods : Text → App
 to_pods name = with_rule (over_pods name) keep_refused
 
--- the word `rewrite` takes `--stream` too
+-- the words `show`, `rewrite` and `json` take `--stream` too
+abbrev pub show : App
+show = with_rule (word (codes "show")) stream
+
 abbrev pub rewrite : App
 rewrite = with_rule (to_pods (codes "rewrite")) stream
 
--- the word `json` takes `--pretty` too
+-- `json` takes `--pretty`, too
 abbrev pub json : App
-json = with_rule (over_pods (codes "json")) pretty
+json = with_rule (with_rule (over_pods (codes "json")) pretty) stream
 
 -- the program without its words: it wants one, and has a version
 abbrev pub bare : App
@@ -72,4 +75,4 @@ with_pairs app = with_word (with_word (with_word app (codes "diff")) (codes "mee
 
 -- the program
 abbrev pub program : App
-program = with_pairs (with_writers (with_json (with_word bare (codes "show"))))
+program = with_pairs (with_writers (with_json (with_subcommand bare show.top)))

@@ -28,7 +28,9 @@ name_of (Make Read manner) = codes "read"
 name_of (Make Rewrite manner) = codes "rewrite"
 name_of (Make Fixate manner) = codes "fixate"
 name_of (Make Check manner) = codes "check"
+name_of (Stream (Streaming.Json layout) manner) = codes "json"
 name_of (Stream Streaming.Rewrite manner) = codes "rewrite"
+name_of (Stream Streaming.Show manner) = codes "show"
 name_of Diff = codes "diff"
 name_of (Agree Negotiate) = codes "meet"
 name_of (Agree Filter) = codes "filter"
@@ -50,6 +52,7 @@ layout_in rows = layout_by (is_given (codes "pretty") rows)
 
 abbrev pub HasLayout : Layout → Word → Type 0
 HasLayout layout (Make (Json its) manner) = its ≡ layout
+HasLayout layout (Stream (Streaming.Json its) manner) = its ≡ layout
 HasLayout layout _ = ⊤
 
 -- how inputs are read: leniently where `--lenient` is given
@@ -66,15 +69,18 @@ fate_by goes_on keeps = if keeps then GoesOn Kept else (if goes_on then GoesOn L
 abbrev pub fate_in : List Row → Fate
 fate_in rows = fate_by (is_given (codes "keep-going") rows) (is_given (codes "keep-refused") rows)
 
--- pods are read so, and texts as they are
+-- pods are read so; texts, and pods that are shown, as they are
 abbrev pub HasManner : Reading → Fate → Word → Type 0
 HasManner reading fate (Make Read manner) = (manner.reading ≡ Exact) × (manner.fate ≡ Stops)
 HasManner reading fate (Make making manner) = (manner.reading ≡ reading) × (manner.fate ≡ fate)
+HasManner reading fate (Stream Streaming.Show manner) = (manner.reading ≡ Exact) × (manner.fate ≡ Stops)
 HasManner reading fate (Stream streaming manner) = (manner.reading ≡ reading) × (manner.fate ≡ fate)
 HasManner reading fate _ = ⊤
 
 -- what is written as input comes is so where `--stream` is given, and else not
 abbrev pub HasStream : Bool → Word → Type 0
+HasStream streams Show = streams ≡ false
+HasStream streams (Make (Json layout) manner) = streams ≡ false
 HasStream streams (Make Rewrite manner) = streams ≡ false
 HasStream streams (Stream streaming manner) = streams ≡ true
 HasStream streams _ = ⊤

@@ -1,25 +1,44 @@
 -- What is written of inputs as they come.
-use Rattle.std.specs.Prelude.{◌≡◌, ℕ, List, Option, None, take}
+use Rattle.std.specs.Prelude.{◌≡◌, ◌⊎◌, ⊤, ℕ, List, Option, None, take}
 use Rattle.std.specs.Io.KnownBytes.{Appends}
 use Rattle.std.specs.Borrow.{Bor}
 use Rattle.spa_device.specs.Whole.{IsAllOf}
-use Rattle.spa_pod_commands.specs.Answers.{Rewrites}
-use Rattle.spa_pod_commands.specs.declared.answer.Failure.{Failure as PodFailure}
-use Rattle.spa_pod_commands.specs.declared.answer.Failure.TheVariants as pods
-use Rattle.spa_recordings.specs.Streaming.{EndsBehind, MakesFirst}
+use Rattle.spa_format.specs.Front.{IsRefused}
+use Rattle.spa_recordings.specs.Rewritings.{RewritesAll}
+use Rattle.spa_recordings.specs.Streaming.{EndsAtPod, MakesFirst}
+use Rattle.spa_recordings.specs.declared.reading.Reading.TheVariants.{Exact}
+use Rattle.spa_recordings.specs.declared.streaming.Stop.{Stop}
+use Rattle.spa_recordings.specs.declared.streaming.Stop.TheVariants as stop
+use Rattle.spa_refusals.specs.Refusals.{IsRefusalOf}
+use Rattle.spa_refusals.specs.declared.refusal.Refusal.{Refusal}
+use Rattle.spa_text_commands.specs.Parts.{ShowsPods}
+use Rattle.spa_text_commands.specs.Texts.{Prints}
 use Rattle.pod_commands.specs.Inputs.{StopsAt}
 use Rattle.pod_commands.specs.declared.answer.Failure.{Failure}
-use Rattle.pod_commands.specs.declared.answer.Failure.TheVariants.{Pods, Texts, Pair, Lists, Stopped, OutOfMemory, Unread, Unwritten}
+use Rattle.pod_commands.specs.declared.answer.Failure.TheVariants.{Pods, Texts, Pair, Lists, OutOfMemory, Unread, Unwritten}
 use Rattle.pod_commands.specs.declared.request.Streaming.{Streaming}
 use Rattle.pod_commands.specs.declared.request.Streaming.TheVariants as streaming
 
--- what is made of an input, and written as it comes
-abbrev pub StreamsAs : Streaming → (input out : List ℕ) → Type 0
-StreamsAs streaming.Rewrite input out = Rewrites input out
+-- what is made of pods and written as they come, which so many pods and bytes of the input stand before; so many of them are refused
+abbrev pub WritesOf : Streaming → (count place : ℕ) → (pods out : List ℕ) → (refused : ℕ) → Type 0
+WritesOf (streaming.Json layout) count place pods out refused = Prints layout pods out × (refused ≡ 0)
+WritesOf streaming.Rewrite count place pods out refused = RewritesAll pods out refused
+WritesOf streaming.Show count place pods out refused = ShowsPods count place pods out refused
+
+-- nothing is made of refused pods, which all but `show` refuse
+abbrev pub MayRefuse : Streaming → Type 0
+MayRefuse (streaming.Json layout) = ⊤
+MayRefuse streaming.Rewrite = ⊤
+MayRefuse streaming.Show = ⊥
+
+-- what is made of an input
+abbrev pub StreamsAs : Streaming → (input out : List ℕ) → (refused : ℕ) → Type 0
+StreamsAs s input out refused = WritesOf s 0 0 input out refused
 
 -- why the work on an input of this name ends before that does, and what was made of it till then: of some first pods
 abbrev pub EndsIn : Streaming → (name input out : List ℕ) → Failure → Type 0
-EndsIn s name input out (Stopped n place kind) = (n.now ≡ name) × EndsBehind (StreamsAs s) input out (pods.Pod place kind)
+EndsIn s name input out (Pods n why) =
+    (n.now ≡ name) × (read : List ℕ) × EndsAtPod (MayRefuse s) (StreamsAs s) input out why.number why.place read × IsRefusalOf Exact read why
 EndsIn s name input out (Unread n) = (left : List ℕ) × MakesFirst (StreamsAs s) input out left
 EndsIn s name input out OutOfMemory = (left : List ℕ) × MakesFirst (StreamsAs s) input out left
 EndsIn s name input out (Unwritten target) = (target ≡ None) × (left : List ℕ) × MakesFirst (StreamsAs s) input out left
@@ -32,7 +51,6 @@ IsWritten (Pods n why) old new out = Appends old new out
 IsWritten (Texts n why) old new out = Appends old new out
 IsWritten (Pair n why) old new out = Appends old new out
 IsWritten (Lists n m why) old new out = Appends old new out
-IsWritten (Stopped n p k) old new out = Appends old new out
 IsWritten OutOfMemory old new out = Appends old new out
 IsWritten (Unread n) old new out = Appends old new out
 
@@ -48,9 +66,20 @@ IsBroken s remaining holds names old new why =
 abbrev pub IsBrokenAt : Streaming → (name : List ℕ) → (content old new : Option (List ℕ)) → Failure → Type 0
 IsBrokenAt s name content old new why = (input : List ℕ) × (out : List ℕ) × IsAllOf content input × EndsIn s name input out why × IsWritten why old new out
 
+-- the bytes of a refused pod begin none
+abbrev pub HasNoPod : Stop → Type 0
+HasNoPod (stop.Pod number place read) = IsRefused read.items
+HasNoPod _ = ⊤
+
+-- the refusal of this pod of the input of this name
+abbrev pub IsRefusedAs : (name : List ℕ) → (number place : ℕ) → (read : List ℕ) → Failure → Type 0
+IsRefusedAs name number place read (Pods n why) = (n.now ≡ name) × (why.number ≡ number) × (why.place ≡ place) × IsRefusalOf Exact read why
+IsRefusedAs name number place read OutOfMemory = ⊤
+IsRefusedAs name number place read _ = ⊥
+
 -- the failure of the input of this name for this reason
-abbrev pub IsToldAs : Bor (List ℕ) → PodFailure → Failure → Type 0
-IsToldAs name pods.OutOfMemory why = why ≡ OutOfMemory
-IsToldAs name pods.ReadFailed why = (n : Bor (List ℕ)) × (n.now ≡ name.now) × (why ≡ Unread n)
-IsToldAs name pods.WriteFailed why = why ≡ Unwritten None
-IsToldAs name (pods.Pod place kind) why = (n : Bor (List ℕ)) × (n.now ≡ name.now) × (why ≡ Stopped n place kind)
+abbrev pub IsFailureOf : Bor (List ℕ) → Stop → Failure → Type 0
+IsFailureOf name stop.OutOfMemory why = why ≡ OutOfMemory
+IsFailureOf name stop.ReadFailed why = (n : Bor (List ℕ)) × (n.now ≡ name.now) × (why ≡ Unread n)
+IsFailureOf name stop.WriteFailed why = why ≡ Unwritten None
+IsFailureOf name (stop.Pod number place read) why = IsRefusedAs name.now number place read.items why

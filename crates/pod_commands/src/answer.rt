@@ -18,6 +18,8 @@ pub enum Answer<'a> {
     Differs,
     /// The work was done on what is read, and these pods, of which there are some, were refused.
     Passed(Vec<NamedRefusal<'a>>),
+    /// All was shown, and so many of the pods, of which there are some, are refused.
+    Shown(usize),
     /// The work was refused, for this reason.
     Refused(Failure<'a>),
     /// The word takes another number of inputs, or other options beside those that are given.
@@ -36,6 +38,7 @@ impl Answer<'_> {
             Answer::Done => 0,
             Answer::Differs => 1,
             Answer::Passed(_) => 1,
+            Answer::Shown(_) => 1,
             Answer::Refused(_) => 1,
             Answer::Misused => 2,
             Answer::Said(error) => { if error.use_stderr() { 2 } else { 0 } }
@@ -46,7 +49,7 @@ impl Answer<'_> {
 /// Why a run was refused.
 #[derive(Debug, Drop)]
 pub enum Failure<'a> {
-    /// The input of this name isn't pods, which is said of the first refused one, or of what follows those that are shown.
+    /// The input of this name isn't pods, which is said of the first refused one, or by `show` of what follows the whole ones.
     Pods(&'a str, Refusal),
     /// The input of this name isn't texts.
     Texts(&'a str, spa_text_commands::answer::Failure),
@@ -54,8 +57,6 @@ pub enum Failure<'a> {
     Pair(&'a str, spa_meet_commands::answer::Failure),
     /// The objects of the inputs of these names don't agree.
     Lists(&'a str, &'a str, spa_meet_commands::answer::Failure),
-    /// The input of this name, which was written of as it came, isn't pods from this byte on, for a reason of this name.
-    Stopped(&'a str, usize, &'static str),
     /// A growth was refused.
     OutOfMemory,
     /// The input of this name couldn't be read.
@@ -98,9 +99,6 @@ impl fmt::Display for Failure<'_> {
             Failure::Lists(ours, theirs, why) => {
                 write!(f, "{}, {}: {why}", shown_name(*ours), shown_name(*theirs))
             }
-            Failure::Stopped(name, place, kind) => {
-                write!(f, "{}: byte {place}: {kind}", shown_name(*name))
-            }
             Failure::OutOfMemory => write!(f, "out of memory"),
             Failure::Unread(name) => write!(f, "{}: read failed", shown_name(*name)),
             Failure::Unwritten(target) => write!(f, "{}: write failed", shown_target(*target)),
@@ -134,6 +132,7 @@ pub fn tell<W: Write, E: Write>(
         Answer::Done => Ok(()),
         Answer::Differs => Ok(()),
         Answer::Passed(pods) => tell_pods(faults, pods.as_slice()),
+        Answer::Shown(refused) => tell_count(faults, *refused),
         Answer::Refused(why) => tell_failure(faults, why),
         Answer::Misused => writeln!(faults, "{MISUSE}"),
         Answer::Said(error) => {
@@ -154,7 +153,14 @@ pub fn tell_pods<E: Write>(faults: &mut E, pods: &[NamedRefusal<'_>]) -> io::Res
     for pod in pods {
         tell_pod(faults, pod)?;
     }
-    writeln!(faults, "pod: refused pods: {}", pods.len())
+    tell_count(faults, pods.len())
+}
+
+/// Writes the line that says how many pods are refused.
+fn tell_count<E: Write>(faults: &mut E, count: usize) -> io::Result<()>
+    ensures told { OnOk result (Appends (E.contents faults.old) (E.contents faults.new) (count_line count)) }
+{
+    writeln!(faults, "pod: refused pods: {count}")
 }
 
 /// Writes the line of a refused pod.

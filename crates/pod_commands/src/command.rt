@@ -144,6 +144,20 @@ fn to_pods<'a>(
     plain.arg(keep_refused(alloc))
 }
 
+/// The word `show`.
+fn show<'a>(alloc: Global) -> Result<Command<'a>, AllocError>
+    ensures app { IfOk result (λ it. app_of it ≡ spec.show) }
+    ensures local { IfOk result (λ it. (out-Command it).has_globals ≡ false) }
+{
+    let plain = word(
+        alloc,
+        "show",
+        "Shows pods, refused ones too, with names and what is inside them; the status is 1 where one is refused",
+        "Example: pod show recording.pods",
+    )?;
+    plain.arg(stream(alloc))
+}
+
 /// The word `rewrite`.
 fn rewrite<'a>(alloc: Global) -> Result<Command<'a>, AllocError>
     ensures app { IfOk result (λ it. app_of it ≡ spec.rewrite) }
@@ -169,7 +183,8 @@ fn json<'a>(alloc: Global) -> Result<Command<'a>, AllocError>
         "Prints pods as JSON with names, each on a line",
         "Example: pod json --pretty props.pod",
     )?;
-    plain.arg(pretty(alloc))
+    let with_pretty = plain.arg(pretty(alloc))?;
+    with_pretty.arg(stream(alloc))
 }
 
 /// The program without its words.
@@ -205,13 +220,8 @@ pub(crate) fn program<'a>(alloc: Global) -> Result<Command<'a>, AllocError>
     ensures { IfOk result (λ it. app_of it ≡ spec.program) }
 {
     let bare = bare(alloc)?;
-    let first = with_word(
-        alloc,
-        bare,
-        "show",
-        "Shows pods, refused ones too, with names and what is inside them",
-        "Example: pod show recording.pods",
-    )?;
+    let show = show(alloc)?;
+    let first = bare.subcommand(show)?;
     let second = with_json(alloc, first)?;
     let third = with_writers(alloc, second)?;
     with_pairs(alloc, third)

@@ -11,5 +11,4 @@ mod refusing;
 pub mod request;
 pub mod run;
 mod sending;
-mod showing;
 mod streaming;

@@ -2,7 +2,7 @@
 ghost use Rattle.std.specs.Prelude.{◌≡◌, ◌++◌, IfErr, IfOk, OnOk};
 ghost use Rattle.pod_commands.specs.Answers.{AreUnmade, IsUnread};
 ghost use Rattle.pod_commands.specs.Inputs.{AreMade};
-ghost use Rattle.pod_commands.specs.Making.{AreNoPods, Makes, RefusesBy, RefusesIn};
+ghost use Rattle.pod_commands.specs.Making.{AreNoPods, Makes, MakesAll, RefusesBy, RefusesIn};
 ghost use Rattle.pod_commands.specs.Working.{AreWorked, WorksOn};
 ghost use Rattle.spa_pod_commands.specs.Answers.{Fixates, Rewrites};
 ghost use Rattle.spa_recordings.specs.GoingOn.{MakesOf};
@@ -32,7 +32,7 @@ pub(crate) fn make_all<'a, R: Read, S: Files>(
     input: &mut R,
     files: &S,
 ) -> Result<Vec<u8>, Failure<'a>>
-    ensures made { IfOk result (λ out. AreMade (MakesOf reading (Makes making)) (R.remaining input.old) (S.holds files.now) names.now out.items) }
+    ensures made { IfOk result (λ out. AreMade (MakesAll reading making) (R.remaining input.old) (S.holds files.now) names.now out.items 0) }
     ensures refused { IfErr result (AreUnmade reading making (R.remaining input.old) (S.holds files.now) names.now) }
 {
     let mut out = Vec::new(alloc);

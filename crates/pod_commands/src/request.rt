@@ -8,6 +8,8 @@ ghost use Rattle.clap.specs.Matches.{found_of};
 ghost use Rattle.pod_commands.specs.Program.{program};
 ghost use Rattle.pod_commands.specs.Requests.{Asks, AsksNothing, HasLayout, HasManner, HasStream, fate_in, is_given, is_true_text, layout_in, name_of, names_in, reading_in};
 ghost use Rattle.pod_commands.specs.declared.request.Word.{Word};
+ghost use Rattle.pod_commands.specs.declared.request.Fate.{Fate as FateOf};
+ghost use Rattle.spa_recordings.specs.declared.reading.Reading.{Reading as ReadingOf};
 ghost use Rattle.spa_text_commands.specs.declared.printing.Layout.{Layout};
 
 use crate::command::program;
@@ -52,14 +54,18 @@ pub struct Manner {
 /// What is written block by block, as input comes.
 #[derive(Clone, Copy)]
 pub enum Streaming {
+    /// The texts of its pods, as JSON in this layout.
+    Json(Layout),
     /// The rewritings of its pods.
     Rewrite,
+    /// The lines of its pods, refused ones too.
+    Show,
 }
 
 /// What is done.
 #[derive(Clone, Copy)]
 pub enum Word {
-    /// Pods are shown with names, refused ones too.
+    /// Pods are shown with names, refused ones too: as they come, or where a file is written, all of them at the end.
     Show,
     /// This is made of each input, which is read so.
     Make(Making, Manner),
@@ -121,8 +127,8 @@ fn word_of(name: &str, layout: Layout, manner: Manner, streams: bool) -> Option<
     ensures none { IfNone result ((word : Word) → ¬ (name.now ≡ name_of word)) }
 {
     match name {
-        "show" => Some(Word::Show),
-        "json" => Some(Word::Make(Making::Json(layout), manner)),
+        "show" => Some(showing(streams)),
+        "json" => Some(printing(layout, manner, streams)),
         "read" => Some(Word::Make(Making::Read, PLAIN)),
         "rewrite" => Some(rewriting(manner, streams)),
         "fixate" => Some(Word::Make(Making::Fixate, manner)),
@@ -131,6 +137,34 @@ fn word_of(name: &str, layout: Layout, manner: Manner, streams: bool) -> Option<
         "meet" => Some(Word::Agree(Work::Negotiate)),
         "filter" => Some(Word::Agree(Work::Filter)),
         _ => None,
+    }
+}
+
+/// The word `show`, with `--stream` or without it.
+fn showing(streams: bool) -> Word
+    ensures word { codes "show" ≡ name_of result }
+    ensures layout { (layout : Layout) → HasLayout layout result }
+    ensures manner { (reading : ReadingOf) (fate : FateOf) → HasManner reading fate result }
+    ensures stream { HasStream streams result }
+{
+    if streams {
+        Word::Stream(Streaming::Show, PLAIN)
+    } else {
+        Word::Show
+    }
+}
+
+/// The word `json` in this layout, with `--stream` or without it.
+fn printing(layout: Layout, manner: Manner, streams: bool) -> Word
+    ensures word { codes "json" ≡ name_of result }
+    ensures layout { HasLayout layout result }
+    ensures manner { HasManner manner.reading manner.fate result }
+    ensures stream { HasStream streams result }
+{
+    if streams {
+        Word::Stream(Streaming::Json(layout), manner)
+    } else {
+        Word::Make(Making::Json(layout), manner)
     }
 }
 
@@ -148,7 +182,7 @@ fn rewriting(manner: Manner, streams: bool) -> Word
     }
 }
 
-/// Texts are never read leniently, nor passed over.
+/// Texts, and pods that are shown, are never read leniently, nor passed over.
 const PLAIN: Manner = Manner {
     reading: Reading::Exact,
     fate: Fate::Stops,

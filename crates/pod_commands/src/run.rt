@@ -1,8 +1,7 @@
 //! The program's work, over a reader, files and a writer.
-ghost use Rattle.std.specs.Prelude.{◌≡◌, false, true};
-ghost use Rattle.pod_commands.specs.Answers.{AreUnmade, Gives, IsAgreed, IsAnswer, IsCompared, IsDone, IsMadeBy, IsMadeInPart, IsNotShown, IsPlain, IsStreamed, OnAnswer, Refuses, outlet};
-ghost use Rattle.pod_commands.specs.Inputs.{AreMade};
-ghost use Rattle.pod_commands.specs.Making.{Makes, ShowsAs};
+ghost use Rattle.std.specs.Prelude.{◌≡◌, ◌≢◌, ◌⊎◌, None, false, true};
+ghost use Rattle.pod_commands.specs.Answers.{AreUnmade, Gives, IsAgreed, IsAnswer, IsCompared, IsDone, IsMadeBy, IsMadeInPart, IsPlain, IsShownIn, IsStreamed, IsWrittenAs, OnAnswer, Refuses, outlet};
+ghost use Rattle.pod_commands.specs.declared.answer.Answer.TheVariants as answer;
 
 use crate::answer::{Answer, Failure};
 use crate::files::Files;
@@ -10,7 +9,6 @@ use crate::making::{Worked, make_all, make_what_is_read};
 use crate::pairs::{agree, agree_of_lists, compare};
 use crate::request::{Fate, Making, Manner, Request, Streaming, Word, request_of};
 use crate::sending::answered;
-use crate::showing::show_all;
 use crate::streaming::stream_all;
 use clap::error::ErrorKind;
 use spa_meet_commands::pair::Work;
@@ -136,8 +134,8 @@ fn is_plain(manner: Manner, target: Option<&str>) -> bool
     }
 }
 
-/// Writes this of the inputs of these names as they come.
-#[tactic(auto, using(crate::proofs::Streamed::streamed_done, crate::proofs::Streamed::streamed_broken, crate::proofs::Streamed::misused))]
+/// Writes this of the inputs of these names as they come, where no other option is given.
+#[tactic(auto, using(crate::proofs::Streamed::streamed, crate::proofs::Streamed::misused))]
 fn stream<'a, R: Read, S: Files, W: Write + Drop>(
     alloc: Global,
     streaming: Streaming,
@@ -154,14 +152,43 @@ fn stream<'a, R: Read, S: Files, W: Write + Drop>(
     if !is_plain(manner, target) {
         return (Answer::Misused, device);
     }
+    write_as(alloc, streaming, names, target, input, files, device)
+}
+
+/// Writes this of the inputs of these names as they come; no file is written.
+#[tactic(auto, using(crate::proofs::Streamed::all_written, crate::proofs::Streamed::part_written))]
+fn write_as<'a, R: Read, S: Files, W: Write + Drop>(
+    alloc: Global,
+    streaming: Streaming,
+    names: &[&'a str],
+    target: Option<&'a str>,
+    input: &mut R,
+    files: &mut S,
+    device: W,
+) -> (Answer<'a>, W)
+    requires { target ≡ None }
+    ensures { IsWrittenAs streaming result.0 (R.remaining input.old) names.now
+        (outlet target.entry (W.contents device) (W.contents result.1) (S.holds files.old) (S.holds files.new)) }
+{
     let mut output = device;
     match stream_all(alloc, streaming, names, input, files, &mut output) {
-        Ok(()) => (Answer::Done, output),
+        Ok(refused) => (shown(refused), output),
         Err(why) => (Answer::Refused(why), output),
     }
 }
 
+/// The answer where all is written, and so many pods are refused.
+fn shown<'a>(refused: usize) -> Answer<'a>
+    ensures { ((refused ≡ 0) × (result ≡ answer.Done)) ⊎ ((refused ≢ 0) × (result ≡ answer.Shown refused)) }
+{
+    if refused == 0 {
+        return Answer::Done;
+    }
+    Answer::Shown(refused)
+}
+
 /// Shows the inputs of these names: as they come, or where a file is written, all of them at the end.
+#[tactic(auto, using(crate::proofs::Streamed::in_file, crate::proofs::Streamed::in_none))]
 fn show<'a, R: Read, S: Files, W: Write + Drop>(
     alloc: Global,
     names: &[&'a str],
@@ -174,21 +201,29 @@ fn show<'a, R: Read, S: Files, W: Write + Drop>(
         (outlet target.entry (W.contents device) (W.contents result.1) (S.holds files.old) (S.holds files.new)) }
 {
     match target {
-        None => {
-            let (shown, device) = show_all(alloc, names, input, files, device);
-            match shown {
-                Ok(()) => (Answer::Done, device),
-                Err(why) => (Answer::Refused(why), device),
-            }
-        }
-        Some(_) => {
-            let (shown, lines) = show_all(alloc, names, input, files, Vec::new(alloc));
-            match shown {
-                Ok(()) => answered(files, target, device, Ok(lines), Answer::Done),
-                Err(Failure::Unwritten(_)) => (Answer::Refused(Failure::OutOfMemory), device),
-                Err(why) => (Answer::Refused(why), device),
-            }
-        }
+        None => write_as(alloc, Streaming::Show, names, None, input, files, device),
+        Some(_) => show_in_file(alloc, names, target, input, files, device),
+    }
+}
+
+/// Shows the inputs of these names in the file that is written.
+#[tactic(auto, using(crate::proofs::Streamed::unshown, crate::proofs::Streamed::unshown_lines))]
+fn show_in_file<'a, R: Read, S: Files, W: Write + Drop>(
+    alloc: Global,
+    names: &[&'a str],
+    target: Option<&'a str>,
+    input: &mut R,
+    files: &mut S,
+    device: W,
+) -> (Answer<'a>, W)
+    ensures { IsShownIn result.0 (R.remaining input.old) names.now
+        (outlet target.entry (W.contents device) (W.contents result.1) (S.holds files.old) (S.holds files.new)) }
+{
+    let mut lines = Vec::new(alloc);
+    match stream_all(alloc, Streaming::Show, names, input, files, &mut lines) {
+        Ok(refused) => answered(files, target, device, Ok(lines), shown(refused)),
+        Err(Failure::Unwritten(_)) => (Answer::Refused(Failure::OutOfMemory), device),
+        Err(why) => (Answer::Refused(why), device),
     }
 }
 

@@ -1,20 +1,26 @@
 //! Inputs that are written of as they come.
-ghost use Rattle.std.specs.Prelude.{ℕ, IfErr, List, OnOk};
+ghost use Rattle.std.specs.Prelude.{◌+◌, ◌<◌, ◌^◌, ℕ, IfErr, IfOk, List, length};
 ghost use Rattle.std.specs.Io.KnownBytes.{Appends};
-ghost use Rattle.pod_commands.specs.Answers.{IsUnread};
 ghost use Rattle.pod_commands.specs.Inputs.{AreMade, IsKnown, content_of, left_behind};
-ghost use Rattle.pod_commands.specs.Streaming.{IsBroken, IsBrokenAt, IsToldAs, StreamsAs};
-ghost use Rattle.spa_recordings.specs.Streaming.{Stops, Streams};
+ghost use Rattle.pod_commands.specs.Streaming.{HasNoPod, IsBroken, IsBrokenAt, IsFailureOf, IsRefusedAs, MayRefuse, StreamsAs, WritesOf};
+ghost use Rattle.pod_commands.specs.declared.request.Streaming.TheVariants as streaming;
+ghost use Rattle.spa_format.specs.Front.{IsRefused};
+ghost use Rattle.spa_recordings.specs.Streaming.{IsNotMade, Streams, WritesMade};
 
 use crate::answer::Failure;
 use crate::files::{Files, open_named};
 use crate::request::Streaming;
-use spa_pod_commands::answer;
-use spa_recordings::streaming::{Rewriter, stream};
+use spa_pod_commands::output::write;
+use spa_recordings::reading::Reading;
+use spa_recordings::streaming::{BlockWriter, NotMade, Rewriter, Stop, stream};
+use spa_refusals::refusal_of;
+use spa_text_commands::answer;
+use spa_text_commands::printing::{Layout, print_all};
+use spa_text_commands::showing::show_pods;
 use std::alloc::Global;
 use std::io::{Read, Write};
 
-/// Writes this of the inputs of these names.
+/// Writes this of the inputs of these names, and answers how many of their pods are refused.
 pub(crate) fn stream_all<'a, R: Read, S: Files, W: Write>(
     alloc: Global,
     streaming: Streaming,
@@ -22,21 +28,26 @@ pub(crate) fn stream_all<'a, R: Read, S: Files, W: Write>(
     input: &mut R,
     files: &S,
     output: &mut W,
-) -> Result<(), Failure<'a>>
-    ensures streamed { OnOk result ((out : List ℕ) × AreMade (StreamsAs streaming) (R.remaining input.old) (S.holds files.now) names.now out
+) -> Result<usize, Failure<'a>>
+    ensures streamed { IfOk result (λ refused. (out : List ℕ) × AreMade (StreamsAs streaming) (R.remaining input.old) (S.holds files.now) names.now out refused
         × Appends (W.contents output.old) (W.contents output.new) out) }
     ensures broken { IfErr result (IsBroken streaming (R.remaining input.old) (S.holds files.now) names.now (W.contents output.old) (W.contents output.new)) }
 {
+    let mut refused: usize = 0;
     for name in names {
         match stream_named(alloc, streaming, *name, input, files, output) {
-            Ok(()) => {}
+            Ok(more) => match refused.checked_add(more) {
+                Some(sum) => refused = sum,
+                // So many can't be counted.
+                None => return Err(Failure::OutOfMemory),
+            },
             Err(why) => return Err(why),
         }
     }
-    Ok(())
+    Ok(refused)
 }
 
-/// Writes this of the input of this name.
+/// Writes this of the input of this name, and answers how many of its pods are refused.
 fn stream_named<'a, R: Read, S: Files, W: Write>(
     alloc: Global,
     streaming: Streaming,
@@ -44,8 +55,8 @@ fn stream_named<'a, R: Read, S: Files, W: Write>(
     input: &mut R,
     files: &S,
     output: &mut W,
-) -> Result<(), Failure<'a>>
-    ensures streamed { OnOk result (Streams (StreamsAs streaming) (content_of (R.remaining input.old) (S.holds files.now) name.entry.now)
+) -> Result<usize, Failure<'a>>
+    ensures streamed { IfOk result (Streams (StreamsAs streaming) (content_of (R.remaining input.old) (S.holds files.now) name.entry.now)
         (W.contents output.old) (W.contents output.new)) }
     ensures broken { IfErr result (IsBrokenAt streaming name.entry.now (content_of (R.remaining input.old) (S.holds files.now) name.entry.now)
         (W.contents output.old) (W.contents output.new)) }
@@ -57,15 +68,15 @@ fn stream_named<'a, R: Read, S: Files, W: Write>(
     stream_file(alloc, streaming, name, files, output)
 }
 
-/// Writes this of the file of this name.
+/// Writes this of the file of this name, and answers how many of its pods are refused.
 fn stream_file<'a, S: Files, W: Write>(
     alloc: Global,
     streaming: Streaming,
     name: &'a str,
     files: &S,
     output: &mut W,
-) -> Result<(), Failure<'a>>
-    ensures streamed { OnOk result (Streams (StreamsAs streaming) (S.holds files.now name.entry.now) (W.contents output.old) (W.contents output.new)) }
+) -> Result<usize, Failure<'a>>
+    ensures streamed { IfOk result (Streams (StreamsAs streaming) (S.holds files.now name.entry.now) (W.contents output.old) (W.contents output.new)) }
     ensures broken { IfErr result (IsBrokenAt streaming name.entry.now (S.holds files.now name.entry.now) (W.contents output.old) (W.contents output.new)) }
 {
     let mut file = match open_named(alloc, name, files) {
@@ -75,34 +86,131 @@ fn stream_file<'a, S: Files, W: Write>(
     stream_reader(alloc, streaming, name, &mut file, output)
 }
 
-/// Writes this of what the reader of this name gives.
+/// Writes this of what the reader of this name gives, and answers how many of its pods are refused.
 fn stream_reader<'a, R: Read, W: Write>(
     alloc: Global,
     streaming: Streaming,
     name: &'a str,
     input: &mut R,
     output: &mut W,
-) -> Result<(), Failure<'a>>
-    ensures streamed { OnOk result (Streams (StreamsAs streaming) (R.remaining input.old) (W.contents output.old) (W.contents output.new)) }
+) -> Result<usize, Failure<'a>>
+    ensures streamed { IfOk result (Streams (StreamsAs streaming) (R.remaining input.old) (W.contents output.old) (W.contents output.new)) }
     ensures broken { IfErr result (IsBrokenAt streaming name.entry.now (R.remaining input.old) (W.contents output.old) (W.contents output.new)) }
 {
-    let streamed = match streaming {
-        Streaming::Rewrite => stream(alloc, &Rewriter, input, output),
-    };
-    match streamed {
-        Ok(()) => Ok(()),
-        Err(why) => Err(failure_of(name, why)),
+    match stream(alloc, &streaming, input, output) {
+        Ok(refused) => Ok(refused),
+        Err(why) => Err(failure_of(alloc, name, why)),
     }
 }
 
-/// The refusal of the input of this name.
-fn failure_of<'a>(name: &'a str, why: answer::Failure) -> Failure<'a>
-    ensures { IsToldAs name.entry why result }
+/// The failure of the input of this name for this reason.
+fn failure_of<'a>(alloc: Global, name: &'a str, why: Stop) -> Failure<'a>
+    requires { HasNoPod why }
+    ensures { IsFailureOf name.entry why result }
 {
     match why {
-        answer::Failure::Pod { place, kind } => Failure::Stopped(name, place, kind),
-        answer::Failure::OutOfMemory => Failure::OutOfMemory,
-        answer::Failure::ReadFailed => Failure::Unread(name),
-        answer::Failure::WriteFailed => Failure::Unwritten(None),
+        Stop::Pod {
+            number,
+            place,
+            read,
+        } => refused_at(alloc, name, number, place, read.as_slice()),
+        Stop::OutOfMemory => Failure::OutOfMemory,
+        Stop::ReadFailed => Failure::Unread(name),
+        Stop::WriteFailed => Failure::Unwritten(None),
+    }
+}
+
+/// The refusal of the pod of this number of the input of this name, which begins with these bytes at this byte.
+fn refused_at<'a>(
+    alloc: Global,
+    name: &'a str,
+    number: usize,
+    place: usize,
+    read: &[u8],
+) -> Failure<'a>
+    requires { IsRefused read.now }
+    ensures { IsRefusedAs name.entry.now number place read.now result }
+{
+    match refusal_of(alloc, Reading::Exact, read, place, number) {
+        Ok(refusal) => Failure::Pods(name, refusal),
+        Err(_) => Failure::OutOfMemory,
+    }
+}
+
+impl BlockWriter for Streaming {
+    ghost use Rattle.pod_commands.specs.StreamLaws.{nothing_written, written_more};
+
+    ghost makes = { λ streaming count place pods out refused. WritesOf streaming count place pods out refused };
+
+    ghost refuses = { λ streaming. MayRefuse streaming };
+
+    fn write_block<W: Write>(
+        &self,
+        alloc: Global,
+        count: usize,
+        place: usize,
+        block: &mut [u8],
+        output: &mut W,
+    ) -> Result<usize, NotMade> {
+        match self {
+            Streaming::Json(layout) => write_texts(alloc, *layout, count, place, &*block, output),
+            Streaming::Rewrite => Rewriter.write_block(alloc, count, place, block, output),
+            Streaming::Show => write_lines(alloc, count, place, &*block, output),
+        }
+    }
+
+    ghost makes_nothing = { λ streaming count place. nothing_written streaming count place };
+
+    ghost makes_more = { λ streaming count place first others out more m n h k. written_more streaming count place first others out more m n h k };
+}
+
+/// Writes the texts of the pods of a block, which so many pods and bytes of the input stand before. None of them is refused.
+#[tactic(auto, using(crate::proofs::Blocks::texts_written, crate::proofs::Blocks::texts_begun))]
+fn write_texts<W: Write>(
+    alloc: Global,
+    layout: Layout,
+    count: usize,
+    place: usize,
+    block: &[u8],
+    output: &mut W,
+) -> Result<usize, NotMade>
+    ensures written { IfOk result (WritesMade (WritesOf (streaming.Json layout) count place) block.now (W.contents output.old) (W.contents output.new)) }
+    ensures refused { IfErr result (IsNotMade (MayRefuse (streaming.Json layout)) (WritesOf (streaming.Json layout) count place) block.now block.now
+        (W.contents output.old) (W.contents output.new)) }
+{
+    let texts = match print_all(alloc, layout, block) {
+        Ok(texts) => texts,
+        Err(answer::Failure::OutOfMemory) => return Err(NotMade::OutOfMemory),
+        Err(_) => return Err(NotMade::Refused),
+    };
+    match write(output, texts.as_slice()) {
+        Ok(()) => Ok(0),
+        Err(_) => Err(NotMade::Unwritten),
+    }
+}
+
+/// Writes the lines of the pods of a block, which so many pods and bytes of the input stand before, and answers how many of them are refused.
+#[tactic(auto, using(crate::proofs::Blocks::lines_written, crate::proofs::Blocks::lines_begun))]
+fn write_lines<W: Write>(
+    alloc: Global,
+    count: usize,
+    place: usize,
+    block: &[u8],
+    output: &mut W,
+) -> Result<usize, NotMade>
+    requires count { count + length block.now < 2 ^ 64 }
+    requires place { place + length block.now < 2 ^ 64 }
+    ensures written { IfOk result (WritesMade (WritesOf streaming.Show count place) block.now (W.contents output.old) (W.contents output.new)) }
+    ensures refused { IfErr result (IsNotMade (MayRefuse streaming.Show) (WritesOf streaming.Show count place) block.now block.now
+        (W.contents output.old) (W.contents output.new)) }
+{
+    let (shown, lines) = show_pods(alloc, count, place, block, Vec::new(alloc));
+    let Ok(refused) = shown else {
+        // The whole pods that a block consists of are shown, unless memory runs out.
+        return Err(NotMade::OutOfMemory);
+    };
+    match write(output, lines.as_slice()) {
+        Ok(()) => Ok(refused),
+        Err(_) => Err(NotMade::Unwritten),
     }
 }

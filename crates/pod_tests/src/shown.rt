@@ -33,13 +33,45 @@ fn shows(
 #[test]
 fn an_input_that_breaks_off_is_refused(rt: HostRuntime) -> Result<(), AllocError> {
     let source = Source::broken(&[0, 0, 0, 0, 1, 0, 0, 0], ErrorKind::Other, PIECE);
-    // Without room, a write would fail.
+    // What was read is shown.
     let holds = shows(
         &rt,
         source,
-        &mut [],
-        (b"", b"pod: standard input: read failed\n", 1),
+        &mut [0; 100],
+        (
+            b"pod 1, byte 0\nNone: size 0\n",
+            b"pod: standard input: read failed\n",
+            1,
+        ),
     )?;
+    assert!(rt; holds);
+    Ok(())
+}
+
+/// So many pods None and one of no type are more than two blocks.
+const COUNT: usize = 20_000;
+
+/// The pod of no type, and what is shown of it at the end: its number and its byte, also behind blocks.
+const WRONG: [u8; 8] = [0, 0, 0, 0, 99, 0, 0, 0];
+
+const SHOWN: &[u8] = b"pod 20001, byte 160000\nType 99: size 0\n! byte 160000: InvalidType\n";
+
+/// Whether `show` counts pods and bytes over several blocks, and the refused one.
+fn are_blocks_shown(rt: &HostRuntime) -> Result<bool, AllocError> {
+    let mut given = Vec::new(rt.alloc());
+    for _ in 0..COUNT {
+        given.extend_from_slice(&[0, 0, 0, 0, 1, 0, 0, 0])?;
+    }
+    given.extend_from_slice(&WRONG)?;
+    let mut room = vec![in rt.alloc(); 0; COUNT * 50]?;
+    let source = Source::whole(given.as_slice(), ALL);
+    let wanted: Wanted<'_> = (SHOWN, b"pod: refused pods: 1\n", 1);
+    shows(rt, source, room.as_mut_slice(), wanted)
+}
+
+#[test]
+fn blocks_are_shown(rt: HostRuntime) -> Result<(), AllocError> {
+    let holds = are_blocks_shown(&rt)?;
     assert!(rt; holds);
     Ok(())
 }

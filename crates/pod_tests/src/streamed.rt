@@ -24,17 +24,18 @@ const COUNT: usize = 6000;
 /// What is wanted of a run: what it writes, what it says, and its status.
 type Wanted<'a> = (&'a [u8], &'a [u8], u8);
 
-/// Whether `rewrite --stream` answers so over this input, unless it says that memory is wanting and has written a beginning of that.
+/// Whether this word with `--stream` answers so over this input, unless it says that memory is wanting and has written a beginning of that.
 fn streams(
     rt: &HostRuntime,
+    word: &str,
     mut source: Source<'_>,
     room: &mut [u8],
     wanted: Wanted<'_>,
 ) -> Result<bool, AllocError> {
     let device = Device::new(room, ALL);
-    let words = ["rewrite", "--stream"];
+    let words = [word, "--stream"];
     let (answer, mut device) = run(rt.alloc(), &words, &mut source, &mut Broken, device);
-    let mut line = [0; 100];
+    let mut line = [0; 200];
     let mut faults = Device::new(&mut line, PIECE);
     let is_told = tell(&mut device, &mut faults, &answer).is_ok();
     let (written, said, status) = wanted;
@@ -61,16 +62,36 @@ fn are_blocks_rewritten(rt: &HostRuntime, piece: usize) -> Result<bool, AllocErr
     let written = times(rt.alloc(), &CLEAN, COUNT)?;
     let source = Source::whole(given.as_slice(), piece);
     let all: Wanted<'_> = (written.as_slice(), b"", 0);
-    let holds = streams(rt, source, room.as_mut_slice(), all)?;
+    let holds = streams(rt, "rewrite", source, room.as_mut_slice(), all)?;
     given.extend_from_slice(&WRONG)?;
     given.extend_from_slice(&PADDED)?;
     let source = Source::whole(given.as_slice(), piece);
     let some: Wanted<'_> = (
         written.as_slice(),
-        b"pod: standard input: byte 144000: WrongSize\n",
+        b"pod: standard input: pod 6001 (Int), byte 144000: a body or the size of elements isn't as long as its type's (WrongSize)\n",
         1,
     );
-    Ok(streams(rt, source, room.as_mut_slice(), some)? && holds)
+    Ok(streams(rt, "rewrite", source, room.as_mut_slice(), some)? && holds)
+}
+
+/// The text of `PADDED`.
+const TEXT: &[u8] = b"[true]\n";
+
+/// Whether the texts are printed of all pods of several blocks.
+fn are_blocks_printed(rt: &HostRuntime) -> Result<bool, AllocError> {
+    let given = times(rt.alloc(), &PADDED, COUNT)?;
+    let mut room = times(rt.alloc(), &[0], COUNT * TEXT.len())?;
+    let written = times(rt.alloc(), TEXT, COUNT)?;
+    let source = Source::whole(given.as_slice(), ALL);
+    let all: Wanted<'_> = (written.as_slice(), b"", 0);
+    streams(rt, "json", source, room.as_mut_slice(), all)
+}
+
+#[test]
+fn blocks_are_printed(rt: HostRuntime) -> Result<(), AllocError> {
+    let holds = are_blocks_printed(&rt)?;
+    assert!(rt; holds);
+    Ok(())
 }
 
 #[test]
@@ -102,7 +123,7 @@ fn is_long_rewritten(rt: &HostRuntime) -> Result<bool, AllocError> {
     let mut room = times(rt.alloc(), &[0], given.len())?;
     let source = Source::whole(given.as_slice(), ALL);
     let wanted: Wanted<'_> = (written.as_slice(), b"", 0);
-    streams(rt, source, room.as_mut_slice(), wanted)
+    streams(rt, "rewrite", source, room.as_mut_slice(), wanted)
 }
 
 #[test]

@@ -1,6 +1,6 @@
 -- Bytes that are read, held and passed.
-use Rattle.std.proofs.Common.{◌≡◌, ◌≢◌, ◌∙◌, ◌+◌, ◌-◌, ◌<◌, ◌≤◌, ℕ, List, [], ◌∷◌, ◌++◌, Option, Some, None, append_assoc, append-nil, ap, arith, drop, length, length-append, length-drop, length-take, refl, subst, sym, take, take-add}
-use Rattle.std.proofs.lemmas.List.{drop-append-le, drop-take, take-append-le, take_all, take_at}
+use Rattle.std.proofs.Common.{◌≡◌, ◌≢◌, ◌∙◌, ◌+◌, ◌-◌, ◌<◌, ◌≤◌, ◌*◌, ℕ, List, [], ◌∷◌, ◌++◌, Option, Some, None, append_assoc, append-nil, ap, arith, drop, length, length-append, length-drop, length-take, refl, subst, sym, take, take-add}
+use Rattle.std.proofs.lemmas.List.{drop-append-le, drop-take, nil_from_length, take-append-le, take_all, take_at}
 use Rattle.std.proofs.lemmas.List.Edits.{take-paste}
 use Rattle.std.proofs.Math.Seq.{paste}
 use Rattle.std.specs.Io.KnownBytes.{Consumes, IsAtEnd, Keeps}
@@ -10,8 +10,10 @@ use Rattle.spa_format.specs.Front.{HasFront, front_of, rest_of}
 use Rattle.spa_format.specs.Pod.{AreMembers, IsPod}
 use Rattle.spa_format.specs.Front.{IsRefused}
 use Rattle.spa_format.specs.Tree.{Trees, no_trees, member}
+use Rattle.spa_format.specs.Walk.{walk}
 use Rattle.spa_format.specs.Words.{extent, word_at}
 use Rattle.spa_format.proofs.Fronts.{front_and_rest, front_of_whole, size_of_front}
+use Rattle.spa_format.proofs.WalkLemmas.{length-walk_behind, walk-end, walk-there}
 use Rattle.spa_format.proofs.WordLemmas.{word_at-append}
 use Rattle.spa_recordings.specs.Blocks.{AreWhole, ReadsOn, no_pods, one_more}
 
@@ -119,23 +121,76 @@ one_whole b f =
     nil [] e = refl
     nil (x ∷ xs) e = absurd (omega (arith, e))
 
--- how far a walk over whole pods is
-pub record WholeSoFar (bytes left : List ℕ) : Type 0 where
+-- none of no bytes is whole
+nothing_there : ¬ (HasFront [])
+nothing_there f = let h = f.header in omega (arith, h)
+
+pub none_counted : length (walk []) ≡ 0
+none_counted = ap length (walk-end [] nothing_there)
+
+-- whole pods are walked before what follows them
+walk_joined : (a b : List ℕ) → AreWhole a → walk (a ++ b) ≡ walk a ++ walk b
+walk_joined _ b no_pods = ap (λ z. z ++ walk b) (sym (walk-end [] nothing_there))
+walk_joined _ b (one_more a f h) =
+    let e = extent (word_at a 0) in
+    let front : front_of (a ++ b) ≡ front_of a = ap (λ m. take (extent m) (a ++ b)) (same_size a b f) ∙ take-append-le e a b f.whole in
+    let behind : rest_of (a ++ b) ≡ rest_of a ++ b = ap (λ m. drop (extent m) (a ++ b)) (same_size a b f) ∙ drop-append-le e a b f.whole in
+    walk-there (a ++ b) (front_there a b f) ∙ ap (λ z. z ∷ walk (rest_of (a ++ b))) front
+    ∙ ap (λ z. front_of a ∷ z) (ap walk behind ∙ walk_joined (rest_of a) b h) ∙ ap (λ z. z ++ walk b) (sym (walk-there a f))
+
+pub count_joined : (a b : List ℕ) → AreWhole a → length (walk (a ++ b)) ≡ length (walk a) + length (walk b)
+count_joined a b w = ap length (walk_joined a b w) ∙ length-append (walk a) (walk b)
+
+pub few_whole : (a : List ℕ) → length (walk a) * 8 ≤ length a
+few_whole a = length-walk_behind 0 a
+
+one_counted : (b : List ℕ) → HasFront b → length (walk (front_of b)) ≡ 1
+one_counted b f =
+    let p = front_of b in
+    let s = ap extent (size_of_front b) in
+    let l = length-take (extent (word_at b 0)) b in
+    let h = f.header in
+    let w = f.whole in
+    let d = length-drop (extent (word_at p 0)) p in
+    let there : HasFront p = record { header = omega (arith, s, l, h, w); whole = omega (arith, s, l, h, w) } in
+    let none : rest_of p ≡ [] = nil_from_length (rest_of p) (omega (arith, s, l, h, w, d)) in
+    let t = ap length (walk-there p there) in
+    let n = ap (λ z. length (walk z)) none in
+    let z = none_counted in
+    omega (arith, t, n, z)
+
+-- how far a walk over whole pods is, and how many they are
+pub record WholeSoFar (bytes left : List ℕ) (count : ℕ) : Type 0 where
   pub before : List ℕ
   pub parts : bytes ≡ before ++ left
   pub whole : AreWhole before
+  pub counted : count ≡ length (walk before)
 
-pub walk_begins : (bytes : List ℕ) → WholeSoFar bytes bytes
-walk_begins bytes = record { before = []; parts = refl; whole = no_pods }
+pub walk_begins : (bytes : List ℕ) → WholeSoFar bytes bytes 0
+walk_begins bytes = record { before = []; parts = refl; whole = no_pods; counted = sym none_counted }
 
-pub walk_goes_on : (bytes left rest : List ℕ) → HasFront left → rest ≡ rest_of left → WholeSoFar bytes left → WholeSoFar bytes rest
-walk_goes_on bytes left rest f r so = record {
+pub walk_goes_on : (bytes left rest : List ℕ) (count : ℕ) → HasFront left → rest ≡ rest_of left → WholeSoFar bytes left count →
+    WholeSoFar bytes rest (count + 1)
+walk_goes_on bytes left rest count f r so = record {
   before = so.before ++ front_of left;
   parts =
       so.parts ∙ ap (λ l. so.before ++ l) (front_and_rest left ∙ ap (λ l. front_of left ++ l) (sym r))
       ∙ sym (append_assoc so.before (front_of left) rest);
   whole = whole_joined so.before (front_of left) so.whole (one_whole left f);
+  counted =
+      let c = so.counted in
+      let j = count_joined so.before (front_of left) so.whole in
+      let one = one_counted left f in
+      omega (arith, c, j, one);
 }
+
+pub walk_few : (bytes left : List ℕ) (count : ℕ) → WholeSoFar bytes left count → count * 8 ≤ length bytes
+walk_few bytes left count so =
+    let c = so.counted in
+    let f = few_whole so.before in
+    let e = ap length so.parts in
+    let l = length-append so.before left in
+    omega (arith, c, f, e, l)
 
 pub rest_is_shorter : (left rest : List ℕ) → HasFront left → rest ≡ rest_of left → length rest < length left
 rest_is_shorter left rest f r =
@@ -144,15 +199,28 @@ rest_is_shorter left rest f r =
     let h = f.header in
     omega (arith, l, d, h)
 
-pub walk_ends : (bytes left : List ℕ) → WholeSoFar bytes left → AreWhole (take (length bytes - length left) bytes)
-walk_ends bytes left so =
+walked : (bytes left : List ℕ) (count : ℕ) (so : WholeSoFar bytes left count) → so.before ≡ take (length bytes - length left) bytes
+walked bytes left count so =
     let e = ap length so.parts in
     let l = length-append so.before left in
-    subst AreWhole (sym (ap (take (length bytes - length left)) so.parts ∙ take_at so.before left (length bytes - length left) (omega (arith, e, l))))
-    so.whole
+    sym (ap (take (length bytes - length left)) so.parts ∙ take_at so.before left (length bytes - length left) (omega (arith, e, l)))
 
-pub none_whole : (bytes left : List ℕ) → WholeSoFar bytes left → ¬ (HasFront left) → length bytes - length left ≡ 0 → ¬ (HasFront bytes)
-none_whole bytes left so n z f =
+pub walk_ends : (bytes left : List ℕ) (count : ℕ) → WholeSoFar bytes left count → AreWhole (take (length bytes - length left) bytes)
+walk_ends bytes left count so = subst AreWhole (walked bytes left count so) so.whole
+
+pub walk_counts : (bytes left : List ℕ) (count : ℕ) → WholeSoFar bytes left count → count ≡ length (walk (take (length bytes - length left) bytes))
+walk_counts bytes left count so = so.counted ∙ ap (λ z. length (walk z)) (walked bytes left count so)
+
+pub walk_counts_all : (bytes left : List ℕ) (count : ℕ) → WholeSoFar bytes left count → ¬ (HasFront left) → count ≡ length (walk bytes)
+walk_counts_all bytes left count so none =
+    let c = so.counted in
+    let e = ap (λ z. length (walk z)) so.parts in
+    let j = count_joined so.before left so.whole in
+    let n = ap length (walk-end left none) in
+    omega (arith, c, e, j, n)
+
+pub none_whole : (bytes left : List ℕ) (count : ℕ) → WholeSoFar bytes left count → ¬ (HasFront left) → length bytes - length left ≡ 0 → ¬ (HasFront bytes)
+none_whole bytes left count so n z f =
     let e = ap length so.parts in
     let l = length-append so.before left in
     n (subst HasFront (same so.before so.parts (omega (arith, e, l, z))) f)

@@ -2,10 +2,11 @@
 ghost use Rattle.std.specs.Prelude.{◌≡◌, ◌+◌, ◌≤◌, ◌<◌, [], IfErr, IfNone, IfOk, IfSome, OnErr, OnOk, drop, length, take, vec_len};
 ghost use Rattle.std.specs.Io.KnownBytes.{Consumes, IsAtEnd, Keeps};
 ghost use Rattle.spa_format.specs.Front.{HasFront};
-ghost use Rattle.spa_recordings.specs.Blocks.{AreWhole, IsReadFailure, ReadsOn, ahead};
+ghost use Rattle.spa_format.specs.Walk.{walk};
+ghost use Rattle.spa_recordings.specs.Blocks.{AreWhole, AreWholeAhead, IsReadFailure, ReadsOn, ahead};
 
+use crate::streaming::Stop;
 use spa_bytes::{HEADER_LEN, extent_of, open, u32_at};
-use spa_pod_commands::answer::Failure;
 use std::alloc::{AllocError, Global};
 use std::io::{ErrorKind, Read};
 
@@ -32,20 +33,20 @@ impl Blocks {
         Ok(Blocks { buffer, held: 0 })
     }
 
-    /// Reads until whole pods are held, and answers how many bytes these take; nothing, where the input ends before.
-    pub(crate) fn next<R: Read>(&mut self, input: &mut R) -> Result<Option<usize>, Failure>
+    /// Reads until whole pods are held, and answers these; nothing, where the input ends before.
+    pub(crate) fn next<R: Read>(&mut self, input: &mut R) -> Result<Option<Whole>, Stop>
         requires { self.old.held ≤ vec_len self.old.buffer }
         ensures room { self.new.held ≤ vec_len self.new.buffer }
         ensures read { ReadsOn (R.remaining input.old) (R.remaining input.new) (ahead self.old) (ahead self.new) }
-        ensures whole { IfOk result (λ found. IfSome found (λ len. (len ≤ self.new.held) × AreWhole (take len (ahead self.new)))) }
+        ensures whole { IfOk result (λ found. IfSome found (AreWholeAhead self.new)) }
         ensures end { IfOk result (λ found. IfNone found (IsAtEnd (R.remaining input.new) × ¬ (HasFront (ahead self.new)))) }
         ensures cause { IfErr result IsReadFailure }
     {
         // Far more often than a pod comes in parts.
         for _ in 0..u64::MAX {
-            let len = whole_len(self.held_bytes());
-            if len > 0 {
-                return Ok(Some(len));
+            let whole = whole_of(self.held_bytes());
+            if whole.len > 0 {
+                return Ok(Some(whole));
             }
             match self.read_more(input) {
                 Ok(0) => return Ok(None),
@@ -53,11 +54,11 @@ impl Blocks {
                 Err(why) => return Err(why),
             }
         }
-        Err(Failure::ReadFailed)
+        Err(Stop::ReadFailed)
     }
 
     /// The bytes that are held.
-    fn held_bytes(&self) -> &[u8]
+    pub(crate) fn held_bytes(&self) -> &[u8]
         requires { self.now.held ≤ vec_len self.now.buffer }
         ensures { result.now ≡ ahead self.now }
     {
@@ -65,7 +66,7 @@ impl Blocks {
     }
 
     /// Reads some bytes, and answers how many: none at the end of the input.
-    fn read_more<R: Read>(&mut self, input: &mut R) -> Result<usize, Failure>
+    fn read_more<R: Read>(&mut self, input: &mut R) -> Result<usize, Stop>
         requires { self.old.held ≤ vec_len self.old.buffer }
         ensures room { self.new.held ≤ vec_len self.new.buffer }
         ensures read { ReadsOn (R.remaining input.old) (R.remaining input.new) (ahead self.old) (ahead self.new) }
@@ -73,7 +74,7 @@ impl Blocks {
         ensures cause { IfErr result IsReadFailure }
     {
         if make_room(&mut self.buffer, self.held).is_err() {
-            return Err(Failure::OutOfMemory);
+            return Err(Stop::OutOfMemory);
         }
         let end = end_of_room(self.held, self.buffer.len());
         match read_behind(input, self.buffer.as_mut_slice(), self.held, end) {
@@ -97,17 +98,33 @@ impl Blocks {
     }
 }
 
-/// How many bytes the whole pods at the front take.
-fn whole_len(bytes: &[u8]) -> usize
-    ensures whole { AreWhole (take result bytes.now) }
-    ensures within { result ≤ length bytes.now }
-    ensures none { result ≡ 0 → ¬ (HasFront bytes.now) }
+/// The whole pods that bytes begin with.
+#[derive(Clone, Copy)]
+pub(crate) struct Whole {
+    /// How many bytes they take.
+    pub(crate) len: usize,
+    /// How many they are.
+    pub(crate) count: usize,
+}
+
+/// The whole pods at the front.
+pub(crate) fn whole_of(bytes: &[u8]) -> Whole
+    ensures whole { AreWhole (take result.len bytes.now) }
+    ensures within { result.len ≤ length bytes.now }
+    ensures none { result.len ≡ 0 → ¬ (HasFront bytes.now) }
+    ensures count { result.count ≡ length (walk (take result.len bytes.now)) }
+    ensures all { result.count ≡ length (walk bytes.now) }
 {
     let mut left = bytes;
+    let mut count: usize = 0;
     while let Some(front) = open(left) {
+        count += 1;
         left = front.rest;
     }
-    bytes.len() - left.len()
+    Whole {
+        len: bytes.len() - left.len(),
+        count,
+    }
 }
 
 /// Where the room for a read ends: with the block's, or where a longer pod is held with all that there is.
@@ -166,7 +183,7 @@ fn read_behind<R: Read>(
     buffer: &mut [u8],
     held: usize,
     end: usize,
-) -> Result<usize, Failure>
+) -> Result<usize, Stop>
     requires some { held < end }
     requires within { end ≤ length buffer.old }
     ensures front { take held buffer.new ≡ take held buffer.old }
@@ -180,7 +197,7 @@ fn read_behind<R: Read>(
 }
 
 /// One read; it is made again where it is interrupted.
-fn read_once<R: Read>(input: &mut R, room: &mut [u8]) -> Result<usize, Failure>
+fn read_once<R: Read>(input: &mut R, room: &mut [u8]) -> Result<usize, Stop>
     ensures bound { IfOk result (λ count. count ≤ length room.new) }
     ensures read { IfOk result (λ count. Consumes (R.remaining input.old) (R.remaining input.new) (take count room.new)) }
     ensures end { IfOk result (λ count. count ≡ 0 → 0 < length room.old → IsAtEnd (R.remaining input.new)) }
@@ -193,10 +210,10 @@ fn read_once<R: Read>(input: &mut R, room: &mut [u8]) -> Result<usize, Failure>
             Ok(count) => return Ok(count),
             Err(error) => match error.kind() {
                 ErrorKind::Interrupted => {}
-                ErrorKind::OutOfMemory => return Err(Failure::OutOfMemory),
-                _ => return Err(Failure::ReadFailed),
+                ErrorKind::OutOfMemory => return Err(Stop::OutOfMemory),
+                _ => return Err(Stop::ReadFailed),
             },
         }
     }
-    Err(Failure::ReadFailed)
+    Err(Stop::ReadFailed)
 }

@@ -2,7 +2,6 @@
 use Rattle.std.proofs.Common.{◌≡◌, ◌+◌, ◌*◌, ◌-◌, ◌<◌, ◌≤◌, ◌∙◌, ℕ, List, [], ◌∷◌, ◌++◌, add-one, append_assoc, append-nil, ap, arith, drop, drop-cons, get_or, length, length-append, length-drop, refl, subst, sym, take}
 use Rattle.std.proofs.lemmas.List.{drop-drop, length-take, length-take-le, nil_from_length}
 use Rattle.std.proofs.Math.Seq.{take-length}
-use Rattle.spa_format.specs.Fixation.{walk_size}
 use Rattle.spa_format.specs.Front.{HasFront, front_of, rest_of}
 use Rattle.spa_format.specs.Walk.{walk}
 use Rattle.spa_format.specs.Words.{extent, word_at}
@@ -16,7 +15,7 @@ use Rattle.spa_refusals.specs.Several.{AreRefused, AreSaid, Counts, IsSaidOf}
 use Rattle.spa_refusals.specs.declared.several.NamedRefusal.{NamedRefusal}
 
 pub none_counted : (input : List ℕ) → Counts input 0 0
-none_counted input p h = (omega arith, omega arith)
+none_counted input p h = omega arith
 
 -- this is left up to a place, and the pods before are counted
 pub record CountedTo (input : List ℕ) (place : ℕ) (left : List ℕ) (count : ℕ) : Type 0 where
@@ -74,19 +73,13 @@ goes_on input left rest place count w so there is =
           let there = walk-there m its.0 in
           let next = ap length there in
           let rest = ap (λ z. length (walk z)) behind in
-          let sizes = ap walk_size there in
-          let rest_size = ap (λ z. walk_size (walk z)) behind in
-          let front = length-take-le (extent (word_at m 0)) m its.0.whole in
-          let size = its.1 in
-          let b0 = before.0 in
-          let b1 = before.1 in
-          (omega (arith, b0, next, rest), omega (arith, b1, sizes, rest_size, front, size));
+          omega (arith, before, next, rest);
     }
 
 pub ends : (input left : List ℕ) (place count : ℕ) → CountedTo input place left count → ¬ (HasFront left) → count ≡ length (walk (take place input))
 ends input left place count so none =
     let f = so.fits in
-    let all = (so.counts place (omega (arith, f))).0 in
+    let all = so.counts place (omega (arith, f)) in
     let rest = ap (λ z. length (walk z)) so.rest in
     let e = ap length (walk-end left none) in
     omega (arith, all, rest, e)
@@ -98,40 +91,14 @@ counts_on input left place count at so is =
 pub left_fits : (input left : List ℕ) (place count : ℕ) → CountedTo input place left count → length left ≤ place
 left_fits input left place count so = let f = so.fits in omega (arith, f)
 
-pub ended : (input left : List ℕ) (place count at : ℕ) → CountedTo input place left count → at ≡ place - length left → ¬ (HasFront left) →
-    ¬ (HasFront (drop at (take place input)))
-ended input left place count at so is none =
-    let f = so.fits in
-    subst (λ z. ¬ (HasFront z)) (so.rest ∙ ap (λ z. drop z (take place input)) (let e : so.at ≡ at = omega (arith, f, is) in e)) none
-
 -- there are far fewer than bytes
 pub few : (input left : List ℕ) (place count : ℕ) → place ≤ length input → CountedTo input place left count → count * 8 ≤ place
 few input left place count w so =
     let f = so.fits in
-    let all = (so.counts place (omega (arith, f))).0 in
+    let all = so.counts place (omega (arith, f)) in
     let l = length-walk_behind 0 (take place input) in
     let t = length-take-le place input w in
     omega (arith, all, l, t)
-
--- the first ones alone are as many
-pub number_at : (input : List ℕ) (at count : ℕ) → Counts input at count → length (walk (take at input)) ≡ count
-number_at input at count c =
-    let all = (c at (omega arith)).0 in
-    let t = length-take at input in
-    let d = length-drop at (take at input) in
-    let none = ap (λ z. length (walk z)) (nil_from_length (drop at (take at input)) (omega (arith, t, d))) in
-    let e = ap length (walk-end [] (λ f. let x = f.header in absurd (omega arith))) in
-    omega (arith, all, none, e)
-
--- all of an input are counted
-pub all_counted : (input : List ℕ) (at count : ℕ) → at ≤ length input → Counts input at count → ¬ (HasFront (drop at (take (length input) input))) →
-    (at ≡ walk_size (walk input)) × ¬ (HasFront (drop at input))
-all_counted input at count w c none =
-    let whole = take-length input in
-    let all = (c (length input) w).1 in
-    let of_all = ap (λ z. walk_size (walk z)) whole in
-    let e = ap walk_size (walk-end (drop at (take (length input) input)) none) in
-    (omega (arith, all, of_all, e), subst (λ z. ¬ (HasFront (drop at z))) whole none)
 
 -- ---- Several pods
 

@@ -16,9 +16,8 @@ use Rattle.spa_recordings.specs.declared.reading.Reading.TheVariants.{Exact, Len
 use Rattle.spa_lenient.specs.Rewriting as lenient
 use Rattle.spa_rewrite.specs.Rewriting as exact
 use Rattle.spa_refusals.specs.Paths.{LeadsTo, itself, further, member, property}
-use Rattle.spa_refusals.specs.Refusals.{IsFirstRefusal, IsNothing, IsRefusalAt, IsUnreadFor}
-use Rattle.spa_refusals.specs.Several.{Counts, IsRemainder}
-use Rattle.spa_refusals.proofs.Numbering.{all_counted}
+use Rattle.spa_format.specs.Walk.{walk}
+use Rattle.spa_refusals.specs.Refusals.{IsFirstRefusal, IsNothing, IsRefusalAt, IsRefusalOf, IsUnreadFor, LeadsBy}
 use Rattle.spa_refusals.specs.declared.refusal.Refusal.{Refusal}
 
 not_memory : {I : Type 0} (e : DeserializeError I) → e ≢ error.OutOfMemory → OnMemory ⊥ e
@@ -96,18 +95,31 @@ leads_nowhere pod none n path inner (further m before new next last leads (membe
 leads_nowhere pod none n path inner (further m before new next last leads (property there type holds)) =
     absurd (none (subst HasFront (leads_nowhere pod none m before next leads) there))
 
-short_kind : (pod kind : List ℕ) (e : DeserializeError (Bor (List ℕ))) → IsShortAt pod e → kind ≡ kind_text e → kind ≡ codes "Short"
-short_kind pod kind (error.Nom f) h e = e ∙ ap fault_kind_text h.0
-short_kind pod kind _ h e = absurd h
+named_short : (pod kind : List ℕ) (e : DeserializeError (Bor (List ℕ))) → IsShortAt pod e → kind ≡ kind_text e → kind ≡ codes "Short"
+named_short pod kind (error.Nom f) h e = e ∙ ap fault_kind_text h.0
+named_short pod kind _ h e = absurd h
+
+leads_to_itself : (reading : Reading) (pod path inner : List ℕ) → LeadsBy reading pod path inner → ¬ (HasFront pod) → inner ≡ pod
+leads_to_itself Exact pod path inner h none = leads_nowhere pod none h.steps path inner h.leads
+leads_to_itself Lenient pod path inner h none = h.1
 
 -- and are short
-pub cut_short : (input : List ℕ) (r : Refusal) → IsRefusalAt Exact input r → ¬ (HasFront (drop r.place input)) → r.kind.now ≡ codes "Short"
-cut_short input r h none =
-    let same = leads_nowhere (drop r.place input) none h.path.steps (string_bytes r.path) h.inner h.path.leads in
-    short_kind h.inner r.kind.now h.cause (h.its.short_first (subst (λ z. ¬ (HasFront z)) (sym same) none)) h.kind
+pub short_kind : (reading : Reading) (pod path inner kind : List ℕ) (e : DeserializeError (Bor (List ℕ))) → LeadsBy reading pod path inner →
+    IsUnreadFor reading inner e → kind ≡ kind_text e → ¬ (HasFront pod) → kind ≡ codes "Short"
+short_kind reading pod path inner kind e leads its is none =
+    named_short inner kind e
+    (its.short_first (subst (λ z. ¬ (HasFront z)) (sym (leads_to_itself reading pod path inner leads none)) none)) is
 
-pub no_front : (pod : List ℕ) → ¬ (HasFront pod) → IsRefused pod
-no_front pod none v begun = none begun.there
+-- what is said of a pod, at its place in an input
+pub placed : {E : Type 0} (r : Result Refusal E) (reading : Reading) (input pod : List ℕ) (place number : ℕ) → place ≤ length input →
+    number ≡ length (walk (take place input)) + 1 → pod ≡ drop place input → IfOk r (λ x. x.place ≡ place) → IfOk r (λ x. x.number ≡ number) →
+    IfOk r (IsRefusalOf reading pod) → IfOk r (IsRefusalAt reading input)
+placed (Ok x) reading input pod place number within is e p n h = record {
+  within = omega (arith, within, p);
+  number = n ∙ is ∙ ap (λ z. length (walk (take z input)) + 1) (sym p);
+  its = subst (λ z. IsRefusalOf reading z x) (e ∙ ap (λ z. drop z input) (sym p)) h;
+}
+placed (Err w) reading input pod place number within is e p n h = tt
 
 -- what is found implies more
 pub some_more : {A E : Type 0} (r : Result (Option A) E) (P Q : A → Type 0) → ((x : A) → P x → Q x) → IfOk r (λ f. IfSome f P) → IfOk r (λ f. IfSome f Q)
@@ -133,14 +145,3 @@ pub nothing_at : (reading : Reading) (input left : List ℕ) (e : DeserializeErr
     e ≢ error.OutOfMemory → place ≡ length input - length left → IsNothing reading (drop place input)
 nothing_at reading input left e place h n is =
     subst (IsNothing reading) (sym (behind reading input left place (its_list reading input left e h) is)) (nothing_left reading input left e h n)
-
--- what follows the whole pods of an input
-pub remains : (input : List ℕ) (r : Refusal) (at count : ℕ) → at ≤ length input → Counts input at count →
-    ¬ (HasFront (drop at (take (length input) input))) → ¬ (at ≡ length input) → r.place ≡ at → IsRefusalAt Exact input r → IsRemainder input r
-remains input r at count w c none more same its =
-    let a = all_counted input at count w c none in (
-      same ∙ a.0,
-      omega (arith, same, w, more),
-      cut_short input r its (subst (λ z. ¬ (HasFront (drop z input))) (sym same) a.1),
-      its,
-    )

@@ -37,19 +37,24 @@ abbrev pub LeadsBy : Reading → (pod path inner : List ℕ) → Type 0
 LeadsBy Exact pod path inner = IsPath pod path inner
 LeadsBy Lenient pod path inner = (path ≡ []) × (inner ≡ pod)
 
--- what is said of the pod at the front of what follows `place`
-pub record IsRefusalAt (reading : Reading) (input : List ℕ) (refusal : Refusal) : Type 0 where
-  pub within : refusal.place ≤ length input
-  pub number : refusal.number ≡ length (walk (take refusal.place input)) + 1
-  pub type : option_map (λ name. name.now) refusal.type_ ≡ type_name (drop refusal.place input)
-  pub nothing : IsNothing reading (drop refusal.place input)
+-- what is said of the pod at the front of these bytes: its type, the path to the malformed one inside, and the cause
+pub record IsRefusalOf (reading : Reading) (pod : List ℕ) (refusal : Refusal) : Type 0 where
+  pub type : option_map (λ name. name.now) refusal.type_ ≡ type_name pod
+  pub nothing : IsNothing reading pod
   pub inner : List ℕ
-  pub path : LeadsBy reading (drop refusal.place input) (string_bytes refusal.path) inner
+  pub path : LeadsBy reading pod (string_bytes refusal.path) inner
   pub inner_type : option_map (λ name. name.now) refusal.inner_type ≡ type_name inner
   pub cause : DeserializeError (Bor (List ℕ))
   pub its : IsUnreadFor reading inner cause
   pub kind : refusal.kind.now ≡ kind_text cause
   pub words : string_bytes refusal.words ≡ error_text cause
+  pub short : ¬ (HasFront pod) → refusal.kind.now ≡ codes "Short"
+
+-- what is said of the pod at the front of what follows `place`
+pub record IsRefusalAt (reading : Reading) (input : List ℕ) (refusal : Refusal) : Type 0 where
+  pub within : refusal.place ≤ length input
+  pub number : refusal.number ≡ length (walk (take refusal.place input)) + 1
+  pub its : IsRefusalOf reading (drop refusal.place input) refusal
 
 -- not all of the input is read: the pods before are, and this is said of the one behind them
 abbrev pub IsFirstRefusal : Reading → List ℕ → Refusal → Type 0

@@ -1,12 +1,9 @@
 -- Several refused pods of an input: docs/TEXT.md, "What is said of a refused pod".
-use Rattle.std.specs.Prelude.{◌≡◌, ◌≤◌, ◌<◌, ◌+◌, ⊤, ℕ, codes, List, [], ◌∷◌, drop, length, take}
-use Rattle.spa_format.specs.Fixation.{walk_size}
+use Rattle.std.specs.Prelude.{◌≡◌, ◌≤◌, ◌+◌, ⊤, ℕ, List, [], ◌∷◌, drop, length, take}
 use Rattle.spa_format.specs.Walk.{walk}
 use Rattle.spa_recordings.specs.declared.going_on.RefusedPod.{RefusedPod}
 use Rattle.spa_recordings.specs.declared.reading.Reading.{Reading}
-use Rattle.spa_recordings.specs.declared.reading.Reading.TheVariants.{Exact}
 use Rattle.spa_refusals.specs.Refusals.{IsNothing, IsRefusalAt}
-use Rattle.spa_refusals.specs.declared.refusal.Refusal.{Refusal}
 use Rattle.spa_refusals.specs.declared.several.NamedRefusal.{NamedRefusal}
 
 -- none of these pods of an input is read
@@ -26,14 +23,7 @@ AreSaid reading input [] said = said ≡ []
 AreSaid reading input (pod ∷ pods) [] = ⊥
 AreSaid reading input (pod ∷ pods) (first ∷ others) = IsSaidOf reading input pod first × AreSaid reading input pods others
 
--- this is said of the bytes that follow the whole pods of an input
-abbrev pub IsRemainder : (input : List ℕ) → Refusal → Type 0
-IsRemainder input refusal =
-    (refusal.place ≡ walk_size (walk input)) × (refusal.place < length input) × (refusal.kind.now ≡ codes "Short") × IsRefusalAt Exact input refusal
-
 -- So many whole pods stand before this byte, and end there: beginnings of the input that are as long have these and those behind it. Only
 -- private clauses cite it.
 abbrev pub Counts : (input : List ℕ) → (at count : ℕ) → Type 0
-Counts input at count =
-    (p : ℕ) → at ≤ p → (length (walk (take p input)) ≡ count + length (walk (drop at (take p input))))
-    × (walk_size (walk (take p input)) ≡ at + walk_size (walk (drop at (take p input))))
+Counts input at count = (p : ℕ) → at ≤ p → length (walk (take p input)) ≡ count + length (walk (drop at (take p input)))

@@ -7,5 +7,5 @@ mod names;
 mod refusal;
 mod several;
 
-pub use refusal::{Refusal, first_refusal};
-pub use several::{NamedRefusal, add_refusals, remainder};
+pub use refusal::{Refusal, first_refusal, refusal_of};
+pub use several::{NamedRefusal, add_refusals};

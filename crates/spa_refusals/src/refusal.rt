@@ -2,7 +2,7 @@
 ghost use Rattle.std.specs.Prelude.{◌≡◌, ◌+◌, ◌≤◌, IfErr, IfNone, IfOk, IfSome, OnOk, drop, length, take};
 ghost use Rattle.spa_format.specs.Walk.{walk};
 ghost use Rattle.spa_recordings.specs.Reading.{IsAccepted, RefusesList};
-ghost use Rattle.spa_refusals.specs.Refusals.{IsFirstRefusal, IsNothing, IsRefusalAt};
+ghost use Rattle.spa_refusals.specs.Refusals.{IsFirstRefusal, IsNothing, IsRefusalAt, IsRefusalOf};
 
 use crate::counting::count;
 use crate::inside::malformed;
@@ -75,6 +75,7 @@ fn accept(
 }
 
 /// The refusal of the pod of this number that begins at this byte of the input, and isn't read.
+#[tactic(auto, using(crate::proofs::Unreading::placed))]
 pub(crate) fn refusal_at(
     alloc: Global,
     reading: Reading,
@@ -89,6 +90,23 @@ pub(crate) fn refusal_at(
     ensures refusal { IfOk result (IsRefusalAt reading input.now) }
 {
     let (_, pod) = input.split_at(place);
+    refusal_of(alloc, reading, pod, place, number)
+}
+
+/// The refusal of the pod of this number, which begins with these bytes at this byte of an input, and isn't read.
+#[tactic(auto, using(crate::proofs::Unreading::short_kind))]
+pub fn refusal_of(
+    alloc: Global,
+    reading: Reading,
+    pod: &[u8],
+    place: usize,
+    number: usize,
+) -> Result<Refusal, AllocError>
+    requires { IsNothing reading pod.now }
+    ensures place { IfOk result (λ refusal. refusal.place ≡ place) }
+    ensures number { IfOk result (λ refusal. refusal.number ≡ number) }
+    ensures refusal { IfOk result (IsRefusalOf reading pod.now) }
+{
     let (path, inner) = malformed(alloc, reading, pod)?;
     let mut words = String::new(alloc);
     write!(words, "{}", inner.error)?;

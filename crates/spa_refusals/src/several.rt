@@ -1,9 +1,7 @@
-//! The refused pods of an input, and what follows its whole ones.
-ghost use Rattle.std.specs.Prelude.{◌≡◌, ◌≤◌, ◌<◌, ◌+◌, ◌^◌, ◌++◌, IfNone, IfOk, IfSome, List, ℕ, OnOk, drop, length, take};
-ghost use Rattle.spa_format.specs.Fixation.{walk_size};
-ghost use Rattle.spa_format.specs.Front.{HasFront};
+//! The refused pods of an input.
+ghost use Rattle.std.specs.Prelude.{◌≡◌, ◌≤◌, ◌<◌, ◌+◌, ◌^◌, ◌++◌, List, ℕ, OnOk, length, take};
 ghost use Rattle.spa_format.specs.Walk.{walk};
-ghost use Rattle.spa_refusals.specs.Several.{AreRefused, AreSaid, Counts, IsRemainder};
+ghost use Rattle.spa_refusals.specs.Several.{AreRefused, AreSaid, Counts};
 ghost use Rattle.spa_refusals.specs.declared.several.NamedRefusal.{NamedRefusal};
 
 use crate::refusal::{Refusal, refusal_at};
@@ -42,19 +40,6 @@ pub fn add_refusals<'a>(
     Ok(())
 }
 
-/// The refusal of what follows the whole pods that the input begins with, accepted or not; None where nothing does.
-pub fn remainder(alloc: Global, input: &[u8]) -> Result<Option<Refusal>, AllocError>
-    ensures whole { IfOk result (λ found. IfNone found (walk_size (walk input.now) ≡ length input.now)) }
-    ensures cut { IfOk result (λ found. IfSome found (IsRemainder input.now)) }
-{
-    let counted = count_to(input, Counted { at: 0, count: 0 }, input.len());
-    if counted.at == input.len() {
-        return Ok(None);
-    }
-    let refusal = refusal_at(alloc, Reading::Exact, input, counted.at, counted.count + 1)?;
-    Ok(Some(refusal))
-}
-
 /// Whole pods of an input that are counted, and the byte behind them.
 #[derive(Clone, Copy)]
 struct Counted {
@@ -85,7 +70,6 @@ fn count_to(input: &[u8], from: Counted, place: usize) -> Counted
     ensures counts { Counts input.now result.at result.count }
     ensures count { result.count ≡ length (walk (take place input.now)) }
     ensures small { result.count + 1 < 2 ^ 64 }
-    ensures end { ¬ (HasFront (drop result.at (take place input.now))) }
 {
     let (before, _) = input.split_at(place);
     let (_, mut left) = before.split_at(from.at);

@@ -1,26 +1,22 @@
 -- What is printed, pod by pod.
 use Rattle.std.proofs.Common.{◌≡◌, ◌≢◌, ◌≤◌, ℕ, ◌-◌, List, [], ◌∷◌, ◌++◌, Option, refl, sym, inl, inr, arith, length, ◌∙◌, ap, subst, length-append, append_assoc, append-nil}
-use Rattle.std.specs.Borrow.{Bor}
 use Rattle.std.specs.Prelude.{◌⊎◌, Result, Ok, Err, IfErr}
 use Rattle.std.specs.Result.{IsErrAnd}
 use Rattle.std.proofs.lemmas.List.{take-append-drop}
 use Rattle.spa_format.specs.Words.{extent, word_at}
 use Rattle.spa_format.specs.Front.{Begins, IsRefused, front_of, rest_of}
-use Rattle.spa_format.specs.Faults.{Stands}
 use Rattle.spa_format.specs.Pod.{AreMembers}
 use Rattle.spa_format.specs.Tree.{Tree, Trees, no_trees, member, join_members}
 use Rattle.spa_format.proofs.Refused.{refused_behind_members}
 use Rattle.spa_format.proofs.Sequences.{members_joined, members_push}
-use Rattle.spa_fixed_sized.specs.Faults.{kind_text}
 use Rattle.spa_fixed_sized.specs.declared.fault.DeserializeError.{DeserializeError}
 use Rattle.spa_fixed_sized.specs.declared.fault.DeserializeError.TheVariants as error
-use Rattle.spa_bodies.specs.Reading.{Names, OnFault}
-use Rattle.spa_text_commands.specs.Unread.{AddsTexts, IsNoFront, IsStopped, NoFront}
-use Rattle.spa_text_commands.specs.declared.answer.Origin.{Origin}
+use Rattle.spa_bodies.specs.Reading.{OnFault}
+use Rattle.spa_text_commands.specs.Unread.{AddsTexts, IsNoFront, IsStopped}
 use Rattle.spa_text_commands.specs.Texts.{AreTexts, IsTextIn, Prints, RefusesPods}
 use Rattle.spa_text_commands.specs.declared.printing.Layout.{Layout}
 use Rattle.spa_text_commands.specs.declared.answer.Failure.{Failure}
-use Rattle.spa_text_commands.specs.declared.answer.Failure.TheVariants.{Pod, Line, OutOfMemory, WriteFailed}
+use Rattle.spa_text_commands.specs.declared.answer.Failure.TheVariants.{NoPods, Line, OutOfMemory, WriteFailed}
 
 -- how far the loop over pods is: some first ones are printed, and this is left
 pub record PrintedSoFar (layout : Layout) (mark start left old out : List ℕ) : Type 0 where
@@ -94,31 +90,18 @@ fault_holds : {I : Type 0} (P : Type 0) (e : DeserializeError I) → e ≢ error
 fault_holds P error.OutOfMemory h p = absurd (h refl)
 fault_holds P _ h p = p
 
-pub no_front : (left kind : List ℕ) (e : DeserializeError (Bor (List ℕ))) → e ≢ error.OutOfMemory → OnFault (IsRefused left) e →
-    Names (λ fault at. Stands fault at left) e → kind ≡ kind_text e → NoFront left kind
-no_front left kind e fault refused named its_kind =
-    record { refused = fault_holds (IsRefused left) e fault refused; told = e; named = named; its_kind = its_kind }
+pub no_front : {I : Type 0} (left : List ℕ) (e : DeserializeError I) → e ≢ error.OutOfMemory → OnFault (IsRefused left) e → IsRefused left
+no_front left e fault refused = fault_holds (IsRefused left) e fault refused
 
-pub stops : (layout : Layout) (mark start left old out : List ℕ) (origin : Origin) (place size : ℕ) (why : Failure) → PrintedSoFar layout mark start left old out →
-    ¬ (length left ≡ 0) → length start ≤ size → place ≡ size - length left → IsNoFront origin place left why → IsStopped origin start size why
-stops layout mark start left old out origin place size (Pod from at kind) so some fits is h =
-    let l = ap length so.whole in
-    let a = length-append so.first left in
-    let same = h.1 in (
-      h.0,
-      record {
-        left = left;
-        behind = (so.values, so.first, so.whole, so.members, λ d. some (ap length d));
-        its_place = omega (arith, same, is, l, a, fits);
-        front = h.2;
-      },
-    )
-stops layout mark start left old out origin place size (Line n c k p) so some fits is h = absurd h
-stops layout mark start left old out origin place size OutOfMemory so some fits is h = tt
-stops layout mark start left old out origin place size WriteFailed so some fits is h = absurd h
+pub stops : (layout : Layout) (mark start left old out : List ℕ) (why : Failure) → PrintedSoFar layout mark start left old out →
+    ¬ (length left ≡ 0) → IsNoFront left why → IsStopped start why
+stops layout mark start left old out NoPods so some h = (left, (so.values, so.first, so.whole, so.members, λ d. some (ap length d)), h)
+stops layout mark start left old out (Line n c k p) so some h = absurd h
+stops layout mark start left old out OutOfMemory so some h = tt
+stops layout mark start left old out WriteFailed so some h = absurd h
 
-pub runs_out : (origin : Origin) (start : List ℕ) (size : ℕ) (why : Failure) → why ≡ OutOfMemory → IsStopped origin start size why
-runs_out origin start size why e = subst (IsStopped origin start size) (sym e) tt
+pub runs_out : (start : List ℕ) (why : Failure) → why ≡ OutOfMemory → IsStopped start why
+runs_out start why e = subst (IsStopped start) (sym e) tt
 
 -- a refusal that is handed on
 pub told : {T : Type 0} (P : Failure → Type 0) (r : Result T Failure) (why : Failure) → IsErrAnd r (λ w. w ≡ why) → P why → IfErr r P
@@ -126,28 +109,21 @@ told P (Ok x) why h p = absurd h
 told P (Err w) why h p = subst P (sym h) p
 
 -- behind first pods it stops in the whole
-pub stops_whole : (origin : Origin) (input first left : List ℕ) (vs : Trees) (why : Failure) → input ≡ first ++ left → AreMembers vs first →
-    IsStopped origin left (length input) why → RefusesPods origin input why
-stops_whole origin input first left vs (Pod from place kind) whole members h =
-    let s = h.1 in
-    let b = s.behind in
-    let all : input ≡ (first ++ b.1) ++ s.left = whole ∙ ap (λ l. first ++ l) b.2 ∙ sym (append_assoc first b.1 s.left) in
-    let both = members_joined vs b.0 first b.1 members b.3 in (
-      h.0,
-      record {
-        left = s.left;
-        behind = (join_members vs b.0, first ++ b.1, all, both, b.4);
-        its_place = s.its_place;
-        refused = λ us m.
-            refused_behind_members (join_members vs b.0) us (first ++ b.1) s.left both b.4 s.front.refused (subst (AreMembers us) all m);
-        told = s.front.told;
-        named = s.front.named;
-        its_kind = s.front.its_kind;
-      },
-    )
-stops_whole origin input first left vs (Line n c k p) whole members h = absurd h
-stops_whole origin input first left vs OutOfMemory whole members h = tt
-stops_whole origin input first left vs WriteFailed whole members h = absurd h
+pub stops_whole : (input first left : List ℕ) (vs : Trees) (why : Failure) → input ≡ first ++ left → AreMembers vs first → IsStopped left why →
+    RefusesPods input why
+stops_whole input first left vs NoPods whole members h =
+    let b = h.1 in
+    let all : input ≡ (first ++ b.1) ++ h.0 = whole ∙ ap (λ l. first ++ l) b.2 ∙ sym (append_assoc first b.1 h.0) in
+    let both = members_joined vs b.0 first b.1 members b.3 in
+    record {
+      left = h.0;
+      behind = (join_members vs b.0, first ++ b.1, all, both, b.4);
+      no_pod = h.2;
+      refused = λ us m. refused_behind_members (join_members vs b.0) us (first ++ b.1) h.0 both b.4 h.2 (subst (AreMembers us) all m);
+    }
+stops_whole input first left vs (Line n c k p) whole members h = absurd h
+stops_whole input first left vs OutOfMemory whole members h = tt
+stops_whole input first left vs WriteFailed whole members h = absurd h
 
 -- all of an input
 pub prints_all : (layout : Layout) (mark input old out : List ℕ) → AddsTexts layout mark input old out → mark ≡ [] → old ≡ [] →
@@ -155,5 +131,5 @@ pub prints_all : (layout : Layout) (mark input old out : List ℕ) → AddsTexts
 prints_all layout mark input old out h m o =
     (h.0, h.2, subst (AreTexts layout [] h.0) (sym (h.4 ∙ ap (λ l. l ++ h.1) o)) (subst (λ k. AreTexts layout k h.0 h.1) m h.3))
 
-pub refuses_all : (origin : Origin) (input : List ℕ) (why : Failure) → IsStopped origin input (length input) why → RefusesPods origin input why
-refuses_all origin input why h = stops_whole origin input [] input no_trees why refl refl h
+pub refuses_all : (input : List ℕ) (why : Failure) → IsStopped input why → RefusesPods input why
+refuses_all input why h = stops_whole input [] input no_trees why refl refl h

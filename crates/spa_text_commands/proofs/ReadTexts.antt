@@ -10,7 +10,7 @@ use Rattle.spa_text_commands.specs.Extent.{BeginsText, column_behind, line_behin
 use Rattle.spa_text_commands.specs.Texts.{BeginTexts, HasNoPod, IsRefusedAt, IsText, Reads, RefusesTexts}
 use Rattle.spa_text_commands.specs.Unread.{IsFor, IsNoPod, IsNoText}
 use Rattle.spa_text_commands.specs.declared.answer.Failure.{Failure}
-use Rattle.spa_text_commands.specs.declared.answer.Failure.TheVariants.{Pod, Line, OutOfMemory, WriteFailed}
+use Rattle.spa_text_commands.specs.declared.answer.Failure.TheVariants.{NoPods, Line, OutOfMemory, WriteFailed}
 use Rattle.spa_text_commands.specs.declared.reading.Unread.{Unread}
 use Rattle.spa_text_commands.specs.declared.reading.Unread.TheVariants as unread
 use Rattle.spa_text_read.specs.declared.cause.Cause.{Cause}
@@ -110,7 +110,7 @@ refused_at text part k first line column none cut l c = record {
 
 pub not_read : (input left text behind pods : List ℕ) (line : ℕ) (why : Failure) → ReadSoFar input left pods line → BeginsText left text behind →
     IsNoText text line why → RefusesTexts input why
-not_read input left text behind pods line (Pod o p k) so b h = absurd h
+not_read input left text behind pods line NoPods so b h = absurd h
 not_read input left text behind pods line (Line l c k p) so b h = record {
   values = so.values;
   before = so.before;

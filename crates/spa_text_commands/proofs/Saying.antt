@@ -1,6 +1,6 @@
 -- What is said, line by line and pod by pod.
 use Rattle.std.specs.Io.KnownBytes.{Appends, Keeps}
-use Rattle.std.proofs.Common.{◌≡◌, ◌≤◌, ◌<◌, ℕ, ◌+◌, ◌-◌, List, [], ◌∷◌, ◌++◌, Option, Some, None, refl, sym, inl, inr, arith, take, length, ◌∙◌, ap, subst, length-drop, append_assoc, append-nil}
+use Rattle.std.proofs.Common.{◌≡◌, ◌≤◌, ◌<◌, ℕ, ◌+◌, ◌-◌, ◌^◌, List, [], ◌∷◌, ◌++◌, Option, Some, None, refl, sym, inl, inr, arith, take, length, ◌∙◌, ap, subst, length-drop, append_assoc, append-nil}
 use Rattle.std.specs.Prelude.{◌⊎◌, Result, Ok, Err, OnOk}
 use Rattle.std.proofs.lemmas.List.{length-take-le, take_all}
 use Rattle.spa_format.specs.Words.{extent, word_at}
@@ -8,9 +8,10 @@ use Rattle.spa_format.specs.Front.{HasFront, front_of, rest_of}
 use Rattle.spa_format.specs.Walk.{walk}
 use Rattle.spa_format.specs.Fixation.{walk_size}
 use Rattle.spa_format.proofs.WalkLemmas.{walk-end, walk-there}
-use Rattle.spa_text_commands.specs.Answers.{IsCutOff, IsNotShown, ShowsAll, ShowsTo}
+use Rattle.spa_text_commands.specs.Answers.{IsCutOff, IsNotShown, ShowsAll}
 use Rattle.spa_text_commands.specs.declared.answer.Failure.{Failure}
-use Rattle.spa_text_commands.specs.Lines.{Adds, AreLines, Lists, MayAdd, Says, Shows}
+use Rattle.spa_text_commands.specs.declared.showing.Listed.{Listed}
+use Rattle.spa_text_commands.specs.Lines.{Adds, AddsPod, AreLines, IsCounted, Lists, MayAdd, Says, Shows, head_line}
 
 pub appends_nothing : (a : Option (List ℕ)) → Appends a a []
 appends_nothing None = tt
@@ -109,21 +110,40 @@ may_nothing a l = record { said = []; says = says_nothing a l; lines = inl refl 
 pub may_adds : (a b : Option (List ℕ)) (l m : List ℕ) → Adds a l b m → MayAdd a l b m
 may_adds a b l m s = record { said = s.said; says = s.says; lines = inr s.lines }
 
+-- a line stands before a pod's lines
+pub pod_added : (a b c : Option (List ℕ)) (l m n pod : List ℕ) (count place refused : ℕ) → b ≡ a → m ≡ l ++ head_line count place → Adds b m c n →
+    IsCounted pod refused → AddsPod count place pod a l c n refused
+pod_added a b c l m n pod count place refused same is s counted =
+    let head : Says a l a m (head_line count place) = record { part = []; written = appends_nothing a; all = sym is } in
+    record {
+      first = s.said;
+      lines = s.lines;
+      says = says_more a a c l m n (head_line count place) s.said head (subst (λ z. Says z m c n s.said) same s.says);
+      counted = counted;
+    }
+
 -- how far the loop over top-level pods is: this was said, and with the lines of what is left these are the lines of all
-pub record SoFar (bytes left : List ℕ) (old : Option (List ℕ)) (waited : List ℕ) (new : Option (List ℕ)) (waiting : List ℕ) : Type 0 where
+pub record SoFar (start place : ℕ) (bytes left : List ℕ) (count refused : ℕ) (old : Option (List ℕ)) (waited : List ℕ) (new : Option (List ℕ)) (waiting : List ℕ) : Type 0 where
   pub said : List ℕ
   pub says : Says old waited new waiting said
-  pub rest : (out : List ℕ) → Shows (walk left) out → Shows (walk bytes) (said ++ out)
+  pub rest : (out : List ℕ) (n : ℕ) → Shows count (place + (length bytes - length left)) (walk left) out n →
+      Shows start place (walk bytes) (said ++ out) (refused + n)
   pub fits : length left ≤ length bytes
-  pub behind : (length bytes - length left) + walk_size (walk left) ≡ walk_size (walk bytes)
+  pub behind : walk_size (walk bytes) + length left ≡ length bytes + walk_size (walk left)
+  pub few : count + length left ≤ start + length bytes
+  pub few_refused : refused + length left ≤ length bytes
 
-pub begins : (bytes : List ℕ) (old : Option (List ℕ)) (waited : List ℕ) → SoFar bytes bytes old waited old waited
-begins bytes old waited = record {
+pub begins : (start place : ℕ) (bytes : List ℕ) (old : Option (List ℕ)) (waited : List ℕ) → SoFar start place bytes bytes start 0 old waited old waited
+begins start place bytes old waited = record {
   said = [];
   says = says_nothing old waited;
-  rest = λ out h. h;
+  rest = λ out n h.
+      subst (λ m. Shows start place (walk bytes) out m) (let e : n ≡ 0 + n = omega arith in e)
+      (subst (λ p. Shows start p (walk bytes) out n) (let e : place + (length bytes - length bytes) ≡ place = omega arith in e) h);
   fits = omega arith;
   behind = omega arith;
+  few = omega arith;
+  few_refused = omega arith;
 }
 
 walked : (b : List ℕ) → HasFront b → walk_size (walk b) + length (rest_of b) ≡ length b + walk_size (walk (rest_of b))
@@ -143,36 +163,70 @@ shrinks b behind h e =
     let l = ap length e in
     let s = h.header in omega (arith, d, l, s)
 
-pub goes_on : (bytes left behind : List ℕ) (a b c : Option (List ℕ)) (l m n : List ℕ) → HasFront left → behind ≡ rest_of left →
-    SoFar bytes left a l b m → Adds b m c n → SoFar bytes behind a l c n
-goes_on bytes left behind a b c l m n there is so s =
-    subst (λ z. SoFar bytes z a l c n) (sym is)
+pub goes_on : (start place : ℕ) (bytes left behind pod : List ℕ) (count refused more : ℕ) (a b c : Option (List ℕ)) (l m n : List ℕ) → HasFront left →
+    pod ≡ front_of left → behind ≡ rest_of left → SoFar start place bytes left count refused a l b m →
+    AddsPod count (place + (length bytes - length left)) pod b m c n more → SoFar start place bytes behind (count + 1) (refused + more) a l c n
+goes_on start place bytes left behind pod count refused more a b c l m n there its is so s =
+    subst (λ z. SoFar start place bytes z (count + 1) (refused + more) a l c n) (sym is)
     (let w = walked left there in
-    let k = shorter left there in
     let f = so.fits in
     let g = so.behind in
+    let at = place + (length bytes - length left) in
+    let size = length-take-le (extent (word_at left 0)) left there.whole in
+    let d = length-drop (extent (word_at left 0)) left in
+    let x = there.whole in
+    let h = there.header in
+    let k : IsCounted (front_of left) more = subst (λ z. IsCounted z more) its s.counted in
+    let few_more : more ≤ 1 = elim k [ inl y ↦ (let e = y.1 in omega (arith, e)) | inr y ↦ (let e = y.1 in omega (arith, e)) ] in
+    let few = so.few in
+    let few_refused = so.few_refused in
+    let next : place + (length bytes - length (rest_of left)) ≡ at + length (front_of left) = omega (arith, f, size, d, x) in
     record {
-      said = so.said ++ s.said;
-      says = says_more a b c l m n so.said s.said so.says s.says;
-      rest = λ out h.
-          subst (Shows (walk bytes)) (sym (append_assoc so.said s.said out))
-          (so.rest (s.said ++ out)
-          (subst (λ ps. Shows ps (s.said ++ out)) (sym (walk-there left there)) (s.said, out, refl, s.lines, h)));
-      fits = omega (arith, k, f);
-      behind = omega (arith, w, k, f, g);
+      said = so.said ++ (head_line count at ++ s.first);
+      says = says_more a b c l m n so.said (head_line count at ++ s.first) so.says s.says;
+      rest = λ out k_more shown.
+          let behind_shown = subst (λ p. Shows (count + 1) p (walk (rest_of left)) out k_more) next shown in
+          let all =
+          so.rest (head_line count at ++ (s.first ++ out)) (more + k_more)
+          (subst (λ ps. Shows count at ps (head_line count at ++ (s.first ++ out)) (more + k_more)) (sym (walk-there left there))
+          (s.first, out, more, k_more, refl, refl, s.lines, k, behind_shown)) in
+          let sum : refused + (more + k_more) ≡ (refused + more) + k_more = omega arith in
+          subst (λ z. Shows start place (walk bytes) z ((refused + more) + k_more))
+          (sym (append_assoc so.said (head_line count at ++ s.first) out ∙ ap (λ z. so.said ++ z) (append_assoc (head_line count at) s.first out)))
+          (subst (λ z. Shows start place (walk bytes) (so.said ++ (head_line count at ++ (s.first ++ out))) z) sum all);
+      fits = omega (arith, f, d);
+      behind = omega (arith, w, d, f, g, x);
+      few = omega (arith, few, d, h, x);
+      few_refused = omega (arith, few_refused, few_more, d, h, x);
     })
 
-pub ends : (bytes left : List ℕ) (a b c : Option (List ℕ)) (l m : List ℕ) → ¬ (HasFront left) → SoFar bytes left a l b m → Appends b c m →
-    Lists bytes a l c (length left)
-ends bytes left a b c l m absent so written =
+-- there are far fewer pods than bytes
+pub fits_count : (start place : ℕ) (bytes left : List ℕ) (count refused : ℕ) (a b : Option (List ℕ)) (l m : List ℕ) → HasFront left →
+    start + length bytes < 2 ^ 64 → SoFar start place bytes left count refused a l b m → (count + 1 < 2 ^ 64) × (refused + 1 < 2 ^ 64)
+fits_count start place bytes left count refused a b l m there s so =
+    let f = so.few in
+    let g = so.few_refused in
+    let h = there.header in
+    (omega (arith, f, s, h), omega (arith, g, s, h))
+
+pub ends : (start place : ℕ) (bytes left : List ℕ) (count : ℕ) (a b c : Option (List ℕ)) (l m : List ℕ) (listed : Listed) → ¬ (HasFront left) →
+    listed.left ≡ length left → SoFar start place bytes left count listed.refused a l b m → Appends b c m → Lists start place bytes a l c listed
+ends start place bytes left count a b c l m listed absent at so written =
     let none : walk left ≡ [] = walk-end left absent in
     let e : walk_size (walk left) ≡ 0 = ap walk_size none in
-    let g = so.behind in record {
+    let g = so.behind in
+    let f = so.few_refused in
+    let p = place + (length bytes - length left) in
+    let all = so.rest [] 0 (subst (λ ps. Shows count p ps [] 0) (sym none) (refl, refl)) in
+    let sum : listed.refused + 0 ≡ listed.refused = omega arith in
+    record {
       out = so.said;
-      lines = subst (Shows (walk bytes)) (append-nil so.said) (so.rest [] (subst (λ ps. Shows ps []) (sym none) refl));
+      lines =
+          subst (λ z. Shows start place (walk bytes) z listed.refused) (append-nil so.said)
+          (subst (λ n. Shows start place (walk bytes) (so.said ++ []) n) sum all);
       written = subst (Appends a c) (sym so.says.all) (appends_more a b c so.says.part m so.says.written written);
-      fits = so.fits;
-      behind = omega (arith, e, g);
+      behind = omega (arith, e, g, at);
+      few = omega (arith, f);
     }
 
 -- what holds whatever the result is
@@ -185,30 +239,20 @@ pub ok_may : {T E : Type 0} (r : Result T E) (a b c : Option (List ℕ)) (l m n 
 ok_may (Ok x) a b c l m n s t = adds_may a b c l m n s t
 ok_may (Err e) a b c l m n s t = tt
 
-pub cut_off : (input : List ℕ) (old new : Option (List ℕ)) (why : Failure) → IsCutOff why → IsNotShown input old new why
-cut_off input old new why (inl e) = subst (IsNotShown input old new) (sym e) tt
-cut_off input old new why (inr e) = subst (IsNotShown input old new) (sym e) tt
+pub cut_off : (input : List ℕ) (why : Failure) → IsCutOff why → IsNotShown input why
+cut_off input why (inl e) = subst (IsNotShown input) (sym e) tt
+cut_off input why (inr e) = subst (IsNotShown input) (sym e) tt
 
 -- so the bytes behind the lines are there when the device was flushed
-pub shows_to : (old made mid new : Option (List ℕ)) (waited input : List ℕ) (left place : ℕ) → made ≡ old → waited ≡ [] →
-    Lists input made waited mid left → Keeps mid new → place ≡ length input - left → ShowsTo input old new place
-shows_to old made mid new waited input left place same none s k at =
+pub shows_all : (count place : ℕ) (old made mid new : Option (List ℕ)) (waited input : List ℕ) (listed : Listed) → made ≡ old → waited ≡ [] →
+    Lists count place input made waited mid listed → Keeps mid new → listed.left ≡ 0 → ShowsAll count place input old new listed.refused
+shows_all count place old made mid new waited input listed same none s k e =
     let b = s.behind in
     record {
-      behind = at ∙ b;
+      whole = omega (arith, b, e);
       out = s.out;
       lines = s.lines;
       written = appends_keeps old mid new s.out
           (subst (λ z. Appends z mid s.out) same (subst (λ z. Appends made mid (z ++ s.out)) none s.written)) k;
+      few = s.few;
     }
-
-pub shows_all : (old made mid new : Option (List ℕ)) (waited input : List ℕ) (left : ℕ) → made ≡ old → waited ≡ [] →
-    Lists input made waited mid left → Keeps mid new → left ≡ 0 → ShowsAll input old new
-shows_all old made mid new waited input left same none s k e =
-    shows_to old made mid new waited input left (length input) same none s k (omega (arith, e))
-
-pub shows_begin : (old made mid new : Option (List ℕ)) (waited input : List ℕ) (left place : ℕ) → made ≡ old → waited ≡ [] →
-    Lists input made waited mid left → Keeps mid new → ¬ (left ≡ 0) → place ≡ length input - left →
-    (place < length input) × ShowsTo input old new place
-shows_begin old made mid new waited input left place same none s k some at =
-    let f = s.fits in (omega (arith, f, some, at), shows_to old made mid new waited input left place same none s k at)

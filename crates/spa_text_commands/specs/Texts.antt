@@ -1,24 +1,19 @@
 -- Pods as lines of text: docs/TEXT.md, "The grammar".
-use Rattle.std.specs.Prelude.{◌≡◌, ◌⊎◌, ⊤, ℕ, List, [], ◌∷◌, ◌++◌, length, ◌+◌}
+use Rattle.std.specs.Prelude.{◌≡◌, ◌⊎◌, ⊤, ℕ, List, [], ◌∷◌, ◌++◌}
 use Rattle.std.specs.Str.{IsUtf8}
-use Rattle.std.specs.Borrow.{Bor}
 use Rattle.json.specs.Layout.{pretty}
 use Rattle.json.specs.Lex.{tokens}
 use Rattle.spa_format.specs.Tree.{Tree, Trees, no_trees, member}
 use Rattle.spa_format.specs.Pod.{AreMembers}
 use Rattle.spa_format.specs.Encoding.{member_encodings}
-use Rattle.spa_format.specs.Faults.{Stands}
+use Rattle.spa_format.specs.Front.{IsRefused}
 use Rattle.spa_format.specs.Writable.{HasNul, IsTooLarge}
-use Rattle.spa_fixed_sized.specs.Faults.{kind_text}
-use Rattle.spa_fixed_sized.specs.declared.fault.DeserializeError.{DeserializeError}
-use Rattle.spa_bodies.specs.Reading.{Names}
 use Rattle.spa_rewrite.specs.Rewriting.{IsLeft}
 use Rattle.spa_text_read.specs.Grammar.{ReadsAs, nothing}
 use Rattle.spa_text.specs.Line.{HasNoEnd}
 use Rattle.spa_text_commands.specs.Extent.{BeginsText, column_behind, line_behind}
 use Rattle.spa_text_commands.specs.declared.answer.Failure.{Failure}
-use Rattle.spa_text_commands.specs.declared.answer.Failure.TheVariants.{Pod, Line, OutOfMemory}
-use Rattle.spa_text_commands.specs.declared.answer.Origin.{Origin}
+use Rattle.spa_text_commands.specs.declared.answer.Failure.TheVariants.{NoPods, Line, OutOfMemory}
 use Rattle.spa_text_commands.specs.declared.printing.Layout.{Layout}
 use Rattle.spa_text_commands.specs.declared.printing.Layout.TheVariants.{OneLine, Indented}
 
@@ -83,18 +78,15 @@ RefusesTexts input (Line line column kind path) = HasNoTextAt input line column
 RefusesTexts input OutOfMemory = ⊤
 RefusesTexts input _ = ⊥
 
--- The input isn't pods one after another: behind some first pods, at this place, begins none, for a reason of this name.
-pub record HasNoPodAt (input : List ℕ) (place : ℕ) (kind : List ℕ) : Type 0 where
+-- the input isn't pods one after another: behind some first pods begins none
+pub record HasRefused (input : List ℕ) : Type 0 where
   pub left : List ℕ
   pub behind : IsLeft input left
-  pub its_place : place + length left ≡ length input
+  pub no_pod : IsRefused left
   pub refused : (vs : Trees) → ¬ (AreMembers vs input)
-  pub told : DeserializeError (Bor (List ℕ))
-  pub named : Names (λ fault at. Stands fault at left) told
-  pub its_kind : kind ≡ kind_text told
 
--- why what comes from there isn't pods
-abbrev pub RefusesPods : Origin → List ℕ → Failure → Type 0
-RefusesPods origin input (Pod from place kind) = (from ≡ origin) × HasNoPodAt input place kind.now
-RefusesPods origin input OutOfMemory = ⊤
-RefusesPods origin input _ = ⊥
+-- why an input isn't printed
+abbrev pub RefusesPods : List ℕ → Failure → Type 0
+RefusesPods input NoPods = HasRefused input
+RefusesPods input OutOfMemory = ⊤
+RefusesPods input _ = ⊥

@@ -1,13 +1,17 @@
 //! Pods shown: a line for each value, each key and each sixteen bytes.
-ghost use Rattle.std.specs.Prelude.{IfErr, OnOk, string_bytes};
+ghost use Rattle.std.specs.Prelude.{◌+◌, ◌<◌, ◌^◌, IfErr, IfNone, IfOk, IfSome, List, ℕ, OnOk, string_bytes};
+ghost use Rattle.spa_format.specs.Pod.{AreMembers};
+ghost use Rattle.spa_format.specs.Tree.{Trees};
 ghost use Rattle.spa_text_commands.specs.Answers.{IsCutOff};
-ghost use Rattle.spa_text_commands.specs.Lines.{Adds, MayAdd};
+ghost use Rattle.spa_text_commands.specs.Lines.{Adds, AddsPod, MayAdd};
+ghost use Rattle.spa_view.specs.View.{pod_bytes};
 
 use crate::answer::Failure;
 use crate::inside::{Inside, Item, Label};
 use crate::lines::{put_label, put_refusal, put_rest, put_row, put_value};
 use crate::page::Page;
 use crate::parts::{Parts, Shown};
+use spa_fixed_sized::DeserializeError;
 use spa_names::Table;
 use spa_rewrite::accept_all;
 use spa_view::{Pod, whole_bytes};
@@ -30,14 +34,18 @@ struct Listing<'a> {
     alloc: Global,
 }
 
-/// Lists a top-level pod that begins at this byte of the input, and what is inside it.
+/// Lists a top-level pod, which so many pods and bytes of the input stand before, and what is inside it, and answers how many pods are refused: it or
+/// none.
 pub(crate) fn list<W: Write + Drop>(
     alloc: Global,
     page: &mut Page<W>,
     pod: Pod<'_>,
+    count: usize,
     place: usize,
-) -> Result<(), Failure>
-    ensures listed { OnOk result (Adds (W.contents page.old.device) (string_bytes page.old.waiting) (W.contents page.new.device) (string_bytes page.new.waiting)) }
+) -> Result<usize, Failure>
+    requires { count + 1 < 2 ^ 64 }
+    ensures listed { IfOk result (AddsPod count place (pod_bytes pod.entry) (W.contents page.old.device) (string_bytes page.old.waiting)
+        (W.contents page.new.device) (string_bytes page.new.waiting)) }
     ensures cause { IfErr result IsCutOff }
 {
     let refusal = refusal_of(alloc, pod)?;
@@ -47,7 +55,12 @@ pub(crate) fn list<W: Write + Drop>(
         refusal,
         alloc,
     };
-    listing.add_pod(page, pod, place)
+    page.add_head(count, place)?;
+    listing.add_pod(page, pod, place)?;
+    match refusal {
+        Some(_) => Ok(1),
+        None => Ok(0),
+    }
 }
 
 impl<'a> Listing<'a> {
@@ -222,16 +235,15 @@ fn has_members(parts: Parts<'_>) -> bool {
 
 /// Why the reader refuses the pod, if it does.
 fn refusal_of(alloc: Global, pod: Pod<'_>) -> Result<Option<&'static str>, Failure>
+    ensures accepted { IfOk result (λ found. IfNone found ((vs : Trees) × AreMembers vs (pod_bytes pod.entry))) }
+    ensures refused { IfOk result (λ found. IfSome found (λ _. (vs : Trees) → ¬ (AreMembers vs (pod_bytes pod.entry)))) }
     ensures cause { IfErr result IsCutOff }
 {
-    match accept_all(alloc, whole_bytes(&pod)) {
-        Ok(()) => Ok(None),
-        Err((_, error)) => {
-            let kind = error.kind();
-            if kind == "OutOfMemory" {
-                return Err(Failure::OutOfMemory);
-            }
-            Ok(Some(kind))
-        }
+    let Err((_, error)) = accept_all(alloc, whole_bytes(&pod)) else {
+        return Ok(None);
+    };
+    match error {
+        DeserializeError::OutOfMemory => Err(Failure::OutOfMemory),
+        _ => Ok(Some(error.kind())),
     }
 }

@@ -1,12 +1,13 @@
 //! Lines, and where they are written.
-ghost use Rattle.std.specs.Prelude.{◌≡◌, ◌∷◌, ◌++◌, [], IfErr, OnOk, string_bytes};
+ghost use Rattle.std.specs.Prelude.{◌≡◌, ◌+◌, ◌<◌, ◌^◌, ◌∷◌, ◌++◌, [], IfErr, OnOk, string_bytes};
 ghost use Rattle.std.specs.Io.KnownBytes.{Appends};
 ghost use Rattle.spa_text_commands.specs.Answers.{IsCutOff};
-ghost use Rattle.spa_text_commands.specs.Lines.{Adds};
+ghost use Rattle.spa_text_commands.specs.Lines.{Adds, head_line};
 ghost use Rattle.spa_text_commands.specs.declared.answer.Failure as Failure;
 
 use crate::answer::Failure;
 use std::alloc::{AllocError, Global};
+use std::fmt::Write as _;
 use std::io::Write;
 
 /// The lines are written whenever this many bytes of them wait.
@@ -31,6 +32,15 @@ impl<W: Write + Drop> Page<W> {
             waiting: String::new(alloc),
             line: String::new(alloc),
         }
+    }
+
+    /// Adds the line before those of a pod, which so many pods and bytes of the input stand before.
+    pub(crate) fn add_head(&mut self, count: usize, place: usize) -> Result<(), AllocError>
+        requires { count + 1 < 2 ^ 64 }
+        ensures device { W.contents self.new.device ≡ W.contents self.old.device }
+        ensures added { OnOk result (string_bytes self.new.waiting ≡ string_bytes self.old.waiting ++ head_line count place) }
+    {
+        writeln!(self.waiting, "pod {}, byte {place}", count + 1)
     }
 
     /// Ends the line that is begun, where there was memory to begin it.

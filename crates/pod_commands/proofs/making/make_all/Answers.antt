@@ -11,11 +11,11 @@ loop-name-init g c = begins _ _ _ _ _ _ c.new-out.ensures.items
 pub loop-name-preserved : goal.loop-name-preserved
 loop-name-preserved g c =
     let d : Bor (List ℕ) = record { ref_ptr = (0, 0); now = [] } in
-    goes_on _ _ _ _ _ _ _ _ _ _ _ _ _ _ (next_left c.args.names.now c.loop-name.name-index d c.loop-name-test.true)
-    c.in_ok-bytes.ensures.all c.read_named.ensures.left c.in_ok-made.ensures.made c.in_ok-add.ensures c.loop-name.invariant
+    goes_on _ _ _ _ _ _ _ _ _ _ _ _ _ _ 0 0 0 (next_left c.args.names.now c.loop-name.name-index d c.loop-name-test.true)
+    c.in_ok-bytes.ensures.all c.read_named.ensures.left (c.in_ok-made.ensures.made, refl) c.in_ok-add.ensures refl c.loop-name.invariant
 
 pub returns-clause-made : goal.returns-clause-made
-returns-clause-made g c = ends _ _ _ _ _ _ _ _ (none_left c.args.names.now c.loop-name.name-index c.loop-name-test.false) c.loop-name.invariant
+returns-clause-made g c = ends _ _ _ _ _ _ _ _ _ (none_left c.args.names.now c.loop-name.name-index c.loop-name-test.false) c.loop-name.invariant
 
 pub returns-in_err-bytes-clause-refused : goal.returns-in_err-bytes-clause-refused
 returns-in_err-bytes-clause-refused g c =
@@ -29,7 +29,7 @@ returns-in_err-made-clause-refused g c =
     c.from_residual-in_err-made.result _ c.from_residual-in_err-made.ensures.1
     (inr (
       _,
-      stopped _ _ _ _ _ _ _ _ _ c.in_ok-bytes.bytes.items c.loop-name.out.items [] c.in_err-made.field-0.0
+      stopped _ _ _ _ _ _ _ _ _ c.in_ok-bytes.bytes.items c.loop-name.out.items [] 0 c.in_err-made.field-0.0
           (next_left c.args.names.now c.loop-name.name-index d c.loop-name-test.true) c.in_ok-bytes.ensures.all c.in_err-made.ensures.refused
           c.loop-name.invariant,
     ))

@@ -1,5 +1,5 @@
 use Rattle.std.proofs.Common.{arith, refl}
-use Rattle.spa_refusals.proofs.Numbering.{begins, counts_on, ended, ends, few, goes_on}
+use Rattle.spa_refusals.proofs.Numbering.{begins, counts_on, ends, few, goes_on}
 use Rattle.spa_refusals.proofs.several.count_to.Goals as goal
 
 pub loop-front-init : goal.loop-front-init
@@ -17,9 +17,6 @@ returns-clause-counts c = counts_on _ c.loop-front.left.now c.args.place _ _ c.l
 
 pub returns-clause-count : goal.returns-clause-count
 returns-clause-count c = ends _ c.loop-front.left.now c.args.place _ c.loop-front.invariant c.in_default.ensures.short
-
-pub returns-clause-end : goal.returns-clause-end
-returns-clause-end c = ended _ c.loop-front.left.now c.args.place _ _ c.loop-front.invariant refl c.in_default.ensures.short
 
 pub overflow_add-count : goal.overflow_add-count
 overflow_add-count c =

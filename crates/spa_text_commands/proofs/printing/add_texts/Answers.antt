@@ -1,4 +1,4 @@
-use Rattle.std.proofs.Common.{arith, length, refl, subst}
+use Rattle.std.proofs.Common.{arith, subst}
 use Rattle.spa_value.specs.View.{view}
 use Rattle.spa_text_commands.specs.Texts.{IsTextIn}
 use Rattle.spa_text_commands.specs.Unread.{IsStopped}
@@ -8,14 +8,13 @@ use Rattle.spa_text_commands.proofs.printing.add_texts.Goals as goal
 
 pub returns-in_err-rest-clause-refused : goal.returns-in_err-rest-clause-refused
 returns-in_err-rest-clause-refused c =
-    told (IsStopped c.args.origin c.args.start.now (length c.args.pods.now)) c.from_residual.result _ c.from_residual.ensures.1
-    (stops _ _ _ _ _ _ _ _ _ _ c.loop-left.invariant (λ e. grind (arith, e, c.loop-left-test.true, c.is_empty.ensures)) c.requires refl
-    c.in_err-rest.ensures.refused)
+    told (IsStopped c.args.pods.now) c.from_residual.result _ c.from_residual.ensures.1
+    (stops _ _ _ _ _ _ _ c.loop-left.invariant (λ e. grind (arith, e, c.loop-left-test.true, c.is_empty.ensures)) c.in_err-rest.ensures.refused)
 
 pub returns-in_err-add_text-clause-refused : goal.returns-in_err-add_text-clause-refused
 returns-in_err-add_text-clause-refused c =
-    told (IsStopped c.args.origin c.args.start.now (length c.args.pods.now)) c.from_residual-in_err-add_text.result _
-    c.from_residual-in_err-add_text.ensures.1 (runs_out _ _ _ _ c.in_err-add_text.ensures.cause)
+    told (IsStopped c.args.pods.now) c.from_residual-in_err-add_text.result _
+    c.from_residual-in_err-add_text.ensures.1 (runs_out _ _ c.in_err-add_text.ensures.cause)
 
 pub loop-left-smaller : goal.loop-left-smaller
 loop-left-smaller c =
@@ -24,7 +23,7 @@ loop-left-smaller c =
 pub loop-left-preserved : goal.loop-left-preserved
 loop-left-preserved c =
     let added = c.in_ok-add_text.ensures.added in
-    goes_on c.args.layout c.args.mark.now c.args.start.now c.loop-left.left.now c.in_ok-rest.rest.now c.args.lines.now.items
+    goes_on c.args.layout c.args.mark.now c.args.pods.now c.loop-left.left.now c.in_ok-rest.rest.now c.args.lines.now.items
     c.loop-left.lines.items c.add_text.new.lines.items added.0 (view c.in_ok-rest.value) c.loop-left.invariant c.in_ok-rest.ensures.value
     c.in_ok-rest.ensures.rest added.1 (subst (λ value. IsTextIn c.args.layout (view value) added.0) c.deref.ensures added.2)
 

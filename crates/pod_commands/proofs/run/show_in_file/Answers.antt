@@ -1,0 +1,23 @@
+use Rattle.std.proofs.Common.{Some, subst}
+use Rattle.std.specs.Io.KnownBytes.{Appends}
+use Rattle.pod_commands.specs.Answers.{outlet}
+use Rattle.pod_commands.proofs.Streamed.{shown_in, unshown, unshown_lines}
+use Rattle.pod_commands.proofs.run.show_in_file.Goals as goal
+
+pub returns-in-Ok : goal.returns-in-Ok
+returns-in-Ok g c =
+    let o = outlet c.args.target (g.W.Write.contents c.args.device) (g.W.Write.contents c.answered.result.1) (g.S.Files.holds c.args.files.now)
+    (g.S.Files.holds c.answered.new.files) in
+    let made = c.in-Ok.ensures.streamed in
+    let lines = c.stream_all.new.output.items in
+    shown_in (g.R.Read.remaining c.args.input.now) c.args.names.now o lines made.0 c.in-Ok.refused c.shown.result c.answered.result.0 c.shown.ensures made.1
+    (subst (λ z. Appends (Some z) (Some lines) made.0) c.new-lines.ensures.items made.2) c.answered.ensures.made
+
+pub returns-in-Err-Unwritten : goal.returns-in-Err-Unwritten
+returns-in-Err-Unwritten g c =
+    unshown_lines c.args.target (g.R.Read.remaining c.args.input.now) (g.S.Files.holds c.args.files.now) c.args.names.now (g.W.Write.contents c.args.device)
+
+pub returns : goal.returns
+returns g c =
+    unshown c.args.target (g.R.Read.remaining c.args.input.now) (g.S.Files.holds c.args.files.now) c.args.names.now (g.W.Write.contents c.args.device) _ _
+    c.in-Err.why c.in-Err.ensures.broken

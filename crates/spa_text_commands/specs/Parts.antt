@@ -1,0 +1,141 @@
+-- What is printed and shown of pods that come in two parts.
+use Rattle.std.proofs.Common.{◌≡◌, ◌∙◌, ◌+◌, ◌≤◌, ℕ, List, [], ◌∷◌, ◌++◌, append_assoc, ap, arith, inl, inr, length, length-append, length-drop, refl, subst, sym, take, drop}
+use Rattle.std.proofs.lemmas.Bool.{cases_lt}
+use Rattle.std.proofs.lemmas.List.{drop-append-le, length-take-le, nil_from_length, take-append-le}
+use Rattle.spa_format.specs.Fixation.{walk_size}
+use Rattle.spa_format.specs.Front.{HasFront, front_of, rest_of}
+use Rattle.spa_format.specs.Pod.{AreMembers}
+use Rattle.spa_format.specs.Tree.{Trees, no_trees, member, join_members}
+use Rattle.spa_format.specs.Walk.{walk}
+use Rattle.spa_format.specs.Words.{extent, word_at}
+use Rattle.spa_format.proofs.Sequences.{members_joined}
+use Rattle.spa_format.proofs.WalkLemmas.{walk-end, walk-there}
+use Rattle.spa_format.proofs.WordLemmas.{word_at-append}
+use Rattle.spa_text_commands.specs.Lines.{Shows, head_line}
+use Rattle.spa_text_commands.specs.Texts.{AreTexts, Prints}
+use Rattle.spa_text_commands.specs.declared.printing.Layout.{Layout}
+
+-- ---- Texts
+
+texts_joined : (layout : Layout) (mark : List ℕ) (vs ws : Trees) (out more : List ℕ) → AreTexts layout mark vs out → AreTexts layout mark ws more →
+    AreTexts layout mark (join_members vs ws) (out ++ more)
+texts_joined layout mark no_trees ws out more h k = subst (AreTexts layout mark ws) (sym (ap (λ l. l ++ more) h)) k
+texts_joined layout mark (member v vs) ws out more h k = (
+  h.0,
+  h.1 ++ more,
+  ap (λ l. l ++ more) h.2 ∙ append_assoc mark (h.0 ++ 10 ∷ h.1) more ∙ ap (λ l. mark ++ l) (append_assoc h.0 (10 ∷ h.1) more),
+  h.3,
+  texts_joined layout mark vs ws h.1 more h.4 k,
+)
+
+pub nothing_printed : (layout : Layout) → Prints layout [] []
+nothing_printed layout = (no_trees, refl, refl)
+
+pub printed_more : (layout : Layout) (first others out more : List ℕ) → Prints layout first out → Prints layout others more →
+    Prints layout (first ++ others) (out ++ more)
+printed_more layout first others out more h k =
+    (join_members h.0 k.0, members_joined h.0 k.0 first others h.1 k.1, texts_joined layout [] h.0 k.0 out more h.2 k.2)
+
+-- ---- Lines
+
+nothing_there : ¬ (HasFront [])
+nothing_there f = let h = f.header in omega (arith, h)
+
+none_walked : walk [] ≡ []
+none_walked = walk-end [] nothing_there
+
+head : List (List ℕ) → List ℕ
+head [] = []
+head (p ∷ ps) = p
+
+behind_head : List (List ℕ) → List (List ℕ)
+behind_head [] = []
+behind_head (p ∷ ps) = ps
+
+-- where a walk has a first pod, it is the front
+front_walked : (a p : List ℕ) (ps : List (List ℕ)) → walk a ≡ p ∷ ps → HasFront a × (p ≡ front_of a) × (ps ≡ walk (rest_of a))
+unfolding head behind_head
+front_walked a p ps e = elim (cases_lt (length a) (extent (word_at a 0))) [
+  | inl l ↦
+      let none = walk-end a (λ f. (let w = f.whole in omega (arith, l, w))) in
+      let z = ap length (sym e ∙ none) in absurd (omega (arith, z))
+  | inr l ↦
+      let there : HasFront a = record { header = omega (arith, l); whole = l } in
+      let same = sym e ∙ walk-there a there in
+      (there, ap head same, ap behind_head same)
+]
+
+-- whole pods are walked before what follows them
+pub walk_joined : (ps : List (List ℕ)) (a b : List ℕ) → walk a ≡ ps → walk_size ps ≡ length a → walk (a ++ b) ≡ ps ++ walk b
+walk_joined [] a b e s = ap (λ z. walk (z ++ b)) (nil_from_length a (sym s))
+walk_joined (p ∷ ps) a b e s =
+    let w = front_walked a p ps e in
+    let there = w.0 in
+    let h = there.header in
+    let x = there.whole in
+    let n = extent (word_at a 0) in
+    let size : word_at (a ++ b) 0 ≡ word_at a 0 = word_at-append a b 0 (omega (arith, h)) in
+    let long = length-append a b in
+    let same : extent (word_at (a ++ b) 0) ≡ n = ap extent size in
+    let both : HasFront (a ++ b) = record { header = omega (arith, h, long); whole = omega (arith, same, x, long) } in
+    let front : front_of (a ++ b) ≡ p = ap (λ m. take m (a ++ b)) same ∙ take-append-le n a b x ∙ sym w.1 in
+    let behind : rest_of (a ++ b) ≡ rest_of a ++ b = ap (λ m. drop m (a ++ b)) same ∙ drop-append-le n a b x in
+    let d = length-drop n a in
+    let t = length-take-le n a x in
+    let l = ap length w.1 in
+    let left : walk_size ps ≡ length (rest_of a) = omega (arith, s, d, t, l, x) in
+    walk-there (a ++ b) both ∙ ap (λ z. z ∷ walk (rest_of (a ++ b))) front
+    ∙ ap (λ z. p ∷ z) (ap walk behind ∙ walk_joined ps (rest_of a) b (sym w.2) left)
+
+sizes_joined : (ps qs : List (List ℕ)) → walk_size (ps ++ qs) ≡ walk_size ps + walk_size qs
+sizes_joined [] qs = let e : walk_size qs ≡ 0 + walk_size qs = omega arith in e
+sizes_joined (p ∷ ps) qs = let e = sizes_joined ps qs in omega (arith, e)
+
+shows_joined : (count place : ℕ) (ps qs : List (List ℕ)) (out more : List ℕ) (m n : ℕ) → Shows count place ps out m →
+    Shows (count + length ps) (place + walk_size ps) qs more n → Shows count place (ps ++ qs) (out ++ more) (m + n)
+shows_joined count place [] qs out more m n h k =
+    let c : count + 0 ≡ count = omega arith in
+    let p : place + 0 ≡ place = omega arith in
+    let z = h.1 in
+    let e : n ≡ m + n = omega (arith, z) in
+    subst (λ i. Shows count place qs (out ++ more) i) e
+    (subst (λ l. Shows count place qs l n) (sym (ap (λ l. l ++ more) h.0))
+    (subst (λ i. Shows i place qs more n) c (subst (λ i. Shows (count + 0) i qs more n) p k)))
+shows_joined count place (p ∷ ps) qs out more m n h k =
+    let first = h.0 in
+    let others = h.1 in
+    let s = h.5 in
+    let c : count + length (p ∷ ps) ≡ (count + 1) + length ps = omega arith in
+    let at : place + walk_size (p ∷ ps) ≡ (place + length p) + walk_size ps = omega arith in (
+      first,
+      others ++ more,
+      h.2,
+      h.3 + n,
+      ap (λ l. l ++ more) h.4 ∙ append_assoc (head_line count place) (first ++ others) more ∙ ap (λ l. head_line count place ++ l) (append_assoc first others more),
+      omega (arith, s),
+      h.6,
+      h.7,
+      shows_joined (count + 1) (place + length p) ps qs others more h.3 n h.8
+          (subst (λ i. Shows i ((place + length p) + walk_size ps) qs more n) c (subst (λ i. Shows (count + length (p ∷ ps)) i qs more n) at k)),
+    )
+
+-- the pods are whole, and these are their lines; so many pods and bytes of the input stand before them, and so many of them are refused
+abbrev pub ShowsPods : (count place : ℕ) → (pods out : List ℕ) → (refused : ℕ) → Type 0
+ShowsPods count place pods out refused = (walk_size (walk pods) ≡ length pods) × Shows count place (walk pods) out refused
+
+pub nothing_shown : (count place : ℕ) → ShowsPods count place [] [] 0
+nothing_shown count place = (ap walk_size none_walked, subst (λ ps. Shows count place ps [] 0) (sym none_walked) (refl, refl))
+
+pub shown_more : (count place : ℕ) (first others out more : List ℕ) (m n : ℕ) → ShowsPods count place first out m →
+    ShowsPods (count + length (walk first)) (place + length first) others more n → ShowsPods count place (first ++ others) (out ++ more) (m + n)
+shown_more count place first others out more m n h k =
+    let all = walk_joined (walk first) first others refl h.0 in
+    let s = ap walk_size all ∙ sizes_joined (walk first) (walk others) in
+    let a = h.0 in
+    let b = k.0 in
+    let l = length-append first others in (
+      omega (arith, s, a, b, l),
+      subst (λ ps. Shows count place ps (out ++ more) (m + n)) (sym all)
+          (shows_joined count place (walk first) (walk others) out more m n h.1
+          (subst (λ z. Shows (count + length (walk first)) z (walk others) more n) (ap (λ z. place + z) (sym a)) k.1)),
+    )

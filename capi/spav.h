@@ -133,7 +133,8 @@ enum spav_fault_kind {
 /* Which fault stands first in `in`. No memory is asked for.
  *   0       none: `in` is pods one after another
  *   1       of the kind *kind, at the byte *at, in the pod that begins at the byte *top. There begins a pod inside it, itself, or a key that is cut short
- *   -ELOOP  a pod nests more than 1000 deep, and none was found before */
+ *   -ELOOP  a pod nests more than 1000 deep, not counting what ends where the pod around it does, and none was found before. *top and *at say nothing
+ * After a lenient call was refused, the fault may be one that the lenient reading accepts. */
 int32_t spav_fault(const void *in, size_t n, uint32_t *kind, size_t *top, size_t *at) SPAV_MUST_USE SPAV_NONNULL(3, 4, 5);
 
 /* The kind of a fault in words, for people; of a number that is none, "no fault". */
@@ -144,16 +145,17 @@ const char *spav_fault_text(uint32_t kind);
  *   -ENOMEM  memory was asked for and refused. None is asked for where structs and objects stand at most 1000 deep in one another */
 int32_t spav_is_canonical(const void *in, size_t n) SPAV_MUST_USE;
 
-/* Whether structs and objects stand at most `levels` deep in one another in the pod at the front of `in`: an Int is 0 deep, a struct of Ints 1. No
- * memory is asked for.
- *   1, 0    whether they do; 1 where no pod is at the front
+/* Whether structs and objects stand at most `levels` deep in one another in the pod at the front of `in`: an Int is 0 deep, a struct of Ints 1. It goes
+ * by types and sizes alone, so the pod may be malformed. What stands in a choice isn't counted, though the lenient calls may write it outside of it:
+ * ask again of what they wrote. No memory is asked for.
+ *   1, 0    whether they do; 1 where no whole pod is at the front
  *   -ELOOP  `levels` is more than 1000, and they stand more than 1000 deep */
 int32_t spav_nests_within(const void *in, size_t n, uint32_t levels) SPAV_MUST_USE;
 
 /* Sets each choice among the properties of the object at the front to its default, in place, unless the property has SPAV_FLAG_DONT_FIXATE. No memory
- * is asked for. An accepted object is still accepted; one with a choice of no known shape may be accepted only now.
+ * is asked for. It goes by types and sizes alone. An accepted object is still accepted; one with a choice of no known shape may be accepted only now.
  *   0        done
- *   -EINVAL  no object is at the front */
+ *   -EINVAL  no whole pod of the type Object is at the front */
 int32_t spav_fixate(void *pod, size_t n) SPAV_MUST_USE;
 
 /* Reading. These calls look at types and sizes alone, so the bytes may be anything. They ask for no memory, and write a value only where the answer
@@ -173,7 +175,7 @@ int32_t spav_object(const void *in, size_t n, uint32_t *type, uint32_t *id) SPAV
  *   0        *value, or the pair, is it
  *   -EINVAL  no object is at the front
  *   -ENOENT  no property has the key
- *   -EPROTO  the value is of another type, or isn't as long as that type's values */
+ *   -EPROTO  the value is of another type, isn't as long as that type's values, or is a choice other than None: see spav_find and spav_elements */
 int32_t spav_bool(const void *in, size_t n, uint32_t key, bool *value) SPAV_MUST_USE SPAV_NONNULL(4);
 int32_t spav_id(const void *in, size_t n, uint32_t key, uint32_t *value) SPAV_MUST_USE SPAV_NONNULL(4);
 int32_t spav_int(const void *in, size_t n, uint32_t key, int32_t *value) SPAV_MUST_USE SPAV_NONNULL(4);
@@ -359,6 +361,14 @@ struct spav_event {
  *   -ENOSPC  there are more than `room`: `out` is full of the first of them, and *count is room enough */
 int32_t spav_events(const void *in, size_t n, struct spav_event *out, size_t room, size_t *count) SPAV_MUST_USE SPAV_NONNULL(5);
 
+/* How many bytes the pod takes whose first 8 bytes these are: header, body and padding, 8 to 4294967304. Of a stream, so many have to be there
+ * before the pod can be looked at. */
+static inline uint64_t spav_extent(const void *header) {
+	uint32_t size;
+	memcpy(&size, header, sizeof size);
+	return 8 + (((uint64_t)size + 7) & ~(uint64_t)7);
+}
+
 /* Walking. An iterator without memory over pods one after another, or over properties, which ends at the first that isn't whole. It points into
  * the caller's bytes. */
 struct spav_walk {
@@ -396,7 +406,8 @@ static inline struct spav_walk spav_walk_inside(const struct spav_pod *pod) {
 	return walk;
 }
 
-/* Goes on to the next pod, and says whether there is one. */
+/* Goes on to the next pod, and says whether there is one. Where there is none, `left` and `count` are what remains: nothing, or bytes that are no whole
+ * pod. */
 static inline bool spav_next(struct spav_walk *walk, struct spav_pod *pod) {
 	size_t before = walk->keyed ? 8 : 0;
 	if (walk->count <= before)

@@ -3,11 +3,12 @@
 //!
 //! - `negotiate`: what they meet in, in two lines: by `negotiate_pods`, and by way of values;
 //! - `filter_pods` and `filter`: what they are filtered to, from bytes to bytes, and by way of values;
+//! - `agree`: that on which they agree, with what is left to choose fixated;
 //! - `settle`: what the one pod settles to;
 //! - `format`: behind the rows, each such pod is filtered with each, and what comes is settled.
 #![tactic(auto)]
 
-use example_calls::negotiate_by_values;
+use example_calls::{agreed, negotiate_by_values};
 use spa_filter::{Side, filter, settle};
 use spa_filter_pods::{FilterError, filter_pods};
 use spa_fixed_sized::Refusal;
@@ -46,6 +47,7 @@ fn answer_row(alloc: Global, row: &str, answers: &mut String) -> io::Result<()> 
         }
         "filter_pods" => push_both(answers, label, through_pods(alloc, a, b))?,
         "filter" => push_both(answers, label, through_values(alloc, a, b))?,
+        "agree" => push_both(answers, label, agreement(alloc, a, b))?,
         "settle" => push_settled(answers, label, settled(alloc, a))?,
         _ => (),
     }
@@ -174,6 +176,11 @@ fn by_values(alloc: Global, a: &[u8], b: &[u8]) -> Both<NegotiateError> {
 /// What two pods are filtered to.
 fn through_pods(alloc: Global, a: &[u8], b: &[u8]) -> Both<FilterError> {
     (filter_pods(alloc, a, b), filter_pods(alloc, b, a))
+}
+
+/// That on which two pods agree.
+fn agreement(alloc: Global, a: &[u8], b: &[u8]) -> Both<FilterError> {
+    (agreed(alloc, a, b), agreed(alloc, b, a))
 }
 
 /// What two pods are filtered to, by way of values.

@@ -130,7 +130,7 @@ to_begin_refused (Err e) old mid c h ts us n o x = λ m. at_the_value old mid c 
 
 -- ---- The whole
 
-started_at : (ts us : List Token) (h : Token) (o : Option (Opened × List Token)) (r : Option (Tree × List Token)) → head ts ≡ Some (h, us) →
+pub started_at : (ts us : List Token) (h : Token) (o : Option (Opened × List Token)) (r : Option (Tree × List Token)) → head ts ≡ Some (h, us) →
     opens nothing h us ≡ o → Follows (after_opening [] o) r → ComesTo nothing ts r
 started_at ts us h o r e d s = subst (λ x. Follows (started nothing x) r) (sym e) (subst (λ x. Follows (after_opening [] x) r) (sym d) s)
 

@@ -18,22 +18,22 @@ use Rattle.spa_text_read.proofs.Completeness.{join_none, join_no_properties, joi
 
 -- ---- Options
 
-some≢none : {A : Type 0} (x : A) → Some x ≡ None → ⊥
+pub some≢none : {A : Type 0} (x : A) → Some x ≡ None → ⊥
 some≢none x e = cc
 
-abbrev given : {A : Type 0} → A → Option A → A
+abbrev pub given : {A : Type 0} → A → Option A → A
 given d None = d
 given d (Some x) = x
 
-the_same : {A : Type 0} (x y : A) → Some x ≡ Some y → x ≡ y
+pub the_same : {A : Type 0} (x y : A) → Some x ≡ Some y → x ≡ y
 the_same x y e = ap (given x) e
 
 -- where the second of two steps gave something, so did the first
-bound : {A B : Type 0} (o : Option A) (f : A → Option B) (y : B) → (o >>= f) ≡ Some y → (x : A) × (o ≡ Some x) × (f x ≡ Some y)
+pub bound : {A B : Type 0} (o : Option A) (f : A → Option B) (y : B) → (o >>= f) ≡ Some y → (x : A) × (o ≡ Some x) × (f x ≡ Some y)
 bound None f y e = absurd (some≢none y (sym e))
 bound (Some x) f y e = (x, refl, e)
 
-mapped : {A B : Type 0} (o : Option A) (f : A → B) (y : B) → option_map f o ≡ Some y → (x : A) × (o ≡ Some x) × (f x ≡ y)
+pub mapped : {A B : Type 0} (o : Option A) (f : A → B) (y : B) → option_map f o ≡ Some y → (x : A) × (o ≡ Some x) × (f x ≡ y)
 mapped None f y e = absurd (some≢none y (sym e))
 mapped (Some x) f y e = (x, refl, the_same (f x) y e)
 
@@ -81,7 +81,7 @@ chosen_is enum_choice f q (x ∷ xs) v e = (x, xs, refl, sym (the_same _ _ e))
 chosen_is flags_choice f q (x ∷ xs) v e = (x, xs, refl, sym (the_same _ _ e))
 chosen_is _ f q _ v e = absurd (some≢none v (sym e))
 
-choice_is : (s : Shape) (f : ℕ) (q : Kind) (xs : List Fixed) (v : Tree) → choice_of s f q xs ≡ Some v →
+pub choice_is : (s : Shape) (f : ℕ) (q : Kind) (xs : List Fixed) (v : Tree) → choice_of s f q xs ≡ Some v →
     (x : Fixed) × (ys : List Fixed) × (xs ≡ x ∷ ys) × (v ≡ choice s f q x ys)
 choice_is s f q xs v e = tested (kind_eq q none_kind) e
   where
@@ -118,7 +118,7 @@ leaf_reads (a_pointer t a) c h ts us e = e
 
 -- ---- What is next in a frame
 
-abbrev frame_in : Frame → Next → Frame
+abbrev pub frame_in : Frame → Next → Frame
 frame_in d ended = d
 frame_in d (wants g c h) = g
 
@@ -130,17 +130,17 @@ abbrev token_in : Token → Next → Token
 token_in d ended = d
 token_in d (wants g c h) = h
 
-ended≢wants : (g : Frame) (c : Expected) (h : Token) → ended ≡ wants g c h → ⊥
+pub ended≢wants : (g : Frame) (c : Expected) (h : Token) → ended ≡ wants g c h → ⊥
 ended≢wants g c h e = cc
 
 -- an item is next
-record IsItem (f : Frame) (ts : List Token) (o : Option (List Token)) (g : Frame) (c : Expected) (h : Token) (us : List Token) : Type 0 where
-  none : o ≡ None
-  first : head ts ≡ Some (h, us)
-  same : f ≡ g
-  wanted : expects f ≡ c
+pub record IsItem (f : Frame) (ts : List Token) (o : Option (List Token)) (g : Frame) (c : Expected) (h : Token) (us : List Token) : Type 0 where
+  pub none : o ≡ None
+  pub first : head ts ≡ Some (h, us)
+  pub same : f ≡ g
+  pub wanted : expects f ≡ c
 
-item_back : (f : Frame) (ts : List Token) (o : Option (List Token)) (g : Frame) (c : Expected) (h : Token) (us : List Token) →
+pub item_back : (f : Frame) (ts : List Token) (o : Option (List Token)) (g : Frame) (c : Expected) (h : Token) (us : List Token) →
     next_item f ts o ≡ Some (wants g c h, us) → IsItem f ts o g c h us
 item_back f ts (Some ws) g c h us e =
     let m = mapped (ends f ws) (λ vs. (ended, vs)) (wants g c h, us) e in absurd (ended≢wants g c h (ap (λ p. p.0) m.2))
@@ -162,7 +162,7 @@ bracket_back f ts None us e =
     let m = mapped (head ts) (λ p. (wants f (expects f) p.0, p.1)) (ended, us) e in
     absurd (ended≢wants f (expects f) m.0.0 (sym (ap (λ p. p.0) m.2)))
 
-element_is : (q : Kind) (v : Tree) (x : Fixed) → element_of q v ≡ Some x → (v ≡ fixed x) × (kind_eq (kind_of x) q ≡ true)
+pub element_is : (q : Kind) (v : Tree) (x : Fixed) → element_of q v ≡ Some x → (v ≡ fixed x) × (kind_eq (kind_of x) q ≡ true)
 element_is q (fixed y) x e = tested (kind_eq (kind_of y) q) refl e
   where
     tested : (b : Bool) → kind_eq (kind_of y) q ≡ b → (if b then Some y else None) ≡ Some x → (fixed y ≡ fixed x) × (kind_eq (kind_of x) q ≡ true)

@@ -7,6 +7,8 @@ pub mod Steps
 pub mod Laws
 pub mod Shapes
 pub mod Seen
+pub mod Fitting
+pub mod FramesFit
 pub mod Begun
 pub mod Places
 pub mod Trails

@@ -19,6 +19,8 @@ pub enum Cause {
     Type,
     /// A choice has more or fewer values than its shape takes.
     Count,
+    /// Read strictly, a value that isn't of the type that belongs under its key.
+    KeyType,
     /// Something follows the value.
     End,
 }
@@ -37,6 +39,7 @@ impl Cause {
             Cause::Number => "Number",
             Cause::Type => "Type",
             Cause::Count => "Count",
+            Cause::KeyType => "KeyType",
             Cause::End => "End",
         }
     }
@@ -56,6 +59,7 @@ impl fmt::Display for Cause {
             Cause::Number => write!(f, "a number is malformed or doesn't fit its type"),
             Cause::Type => write!(f, "an array or a choice can't have a value of this type"),
             Cause::Count => write!(f, "a choice has more or fewer values than its shape takes"),
+            Cause::KeyType => write!(f, "a value isn't of the type that belongs under its key"),
             Cause::End => write!(f, "something follows the value"),
         }
     }

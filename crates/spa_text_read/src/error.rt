@@ -1,9 +1,10 @@
 //! Why and where a text isn't read.
 use crate::cause::Cause;
+use crate::fitting::{InPlace, Misfit};
 use std::error::Error;
 use std::fmt;
 
-/// Why and where a text isn't read. It prints the place, the cause in words, and the path where there is one.
+/// Why and where a text isn't read. It prints the place, the cause in words, and where there are such the path and the two types.
 #[derive(Debug, Drop)]
 pub struct TextError {
     /// Why.
@@ -18,6 +19,8 @@ pub struct TextError {
     /// is the last of them. Two points stand for a key of more than 64 bytes, and for what follows 256 bytes. Empty for the outermost, and
     /// where memory ran out, also for the path itself.
     pub path: String,
+    /// Where the cause is KeyType, the value's type and the one that belongs there.
+    pub misfit: Option<Misfit>,
 }
 
 impl fmt::Display for TextError {
@@ -28,9 +31,10 @@ impl fmt::Display for TextError {
 
     fn fmt<W: fmt::Write>(&self, f: &mut fmt::Formatter<W>) -> fmt::Result {
         let at = AtPath(self.path.as_str());
+        let types = InPlace(self.misfit);
         write!(
             f,
-            "line {}, column {}: {}{at}",
+            "line {}, column {}: {}{at}{types}",
             self.line, self.column, self.cause
         )
     }

@@ -1,9 +1,10 @@
 //! Values that are read, and those that are begun.
-ghost use Rattle.std.specs.Prelude.{◌≡◌, ◌≢◌, ◌<◌, ◌≤◌, ◌++◌, ◌∷◌, [], IfErr, IfOk, MatchOption, MatchResult, OnErr, OnOk, Some, None, length, option_map};
+ghost use Rattle.std.specs.Prelude.{◌≡◌, ◌≢◌, ◌<◌, ◌≤◌, ◌++◌, ◌∷◌, [], IfErr, IfOk, MatchOption, MatchResult, OnErr, OnOk, Some, None, false, length, option_map, true};
 ghost use Rattle.json.specs.Json.{after_end_array, read_key};
 ghost use Rattle.json.specs.Reads.{token_of};
 ghost use Rattle.spa_format.specs.Tree.{join_members, join_properties, member, no_properties, no_trees, property};
 ghost use Rattle.spa_text_read.specs.Grammar as grammar;
+ghost use Rattle.spa_text_read.specs.FramesFit.{AdmitsLast, last_fits};
 ghost use Rattle.spa_text_read.specs.Seen.{IsListed, KeepsAtEnd, frame_of, items_in, kind_in, next_of};
 ghost use Rattle.spa_text_read.specs.Steps as steps;
 ghost use Rattle.spa_text_read.specs.Steps.{Frame};
@@ -14,6 +15,7 @@ ghost use Rattle.spa_value.specs.Views.{property_views, views};
 use crate::cause::Cause;
 use crate::chosen::choice_value;
 use crate::element::{element_of, put_element};
+use crate::fitting::{Misfit, Strictness, element_type, misfit_of};
 use crate::names::{expected_under, keys_of, number_of};
 use crate::numerals::unsigned;
 use crate::shape::Shape;
@@ -127,6 +129,19 @@ impl Inside {
         }
     }
 
+    /// What its last property has in place of the type that belongs under the key, where it is an object that is read strictly.
+    pub(crate) fn misfit(&self, strictness: Strictness) -> Option<Misfit>
+        ensures { MatchOption result (AdmitsLast strictness (frame_of self.now)) (λ _. ¬ (AdmitsLast strictness (frame_of self.now))) }
+    {
+        if strictness == Strictness::Plain {
+            return None;
+        }
+        match self {
+            Inside::Object(object) => object.misfit(),
+            _ => None,
+        }
+    }
+
     /// Takes apart what is read, by a loop: it may be nested deep.
     pub(crate) fn give_up(self) {
         match self {
@@ -146,20 +161,8 @@ impl Inside {
 fn element(ids: Table, values: &ValueArray) -> Expected
     ensures { result ≡ grammar.element ids (kind_in values.now) }
 {
-    let type_ = match values {
-        ValueArray::None(_) => SpaTypes::None,
-        ValueArray::Bool(_) => SpaTypes::Bool,
-        ValueArray::Id(_) => SpaTypes::Id,
-        ValueArray::Int(_) => SpaTypes::Int,
-        ValueArray::Long(_) => SpaTypes::Long,
-        ValueArray::Float(_) => SpaTypes::Float,
-        ValueArray::Double(_) => SpaTypes::Double,
-        ValueArray::Rectangle(_) => SpaTypes::Rectangle,
-        ValueArray::Fraction(_) => SpaTypes::Fraction,
-        ValueArray::Fd(_) => SpaTypes::Fd,
-    };
     Expected {
-        type_,
+        type_: element_type(values),
         element: SpaTypes(0),
         ids,
     }
@@ -224,6 +227,16 @@ impl OpenObject {
         self.flags = PropertyFlags::from_bits_retain(flags);
         self.braced = braced;
         Ok(Next::Wants(head, expected_under(keys, key)))
+    }
+
+    /// What the last property has in place of the type that belongs under its key.
+    fn misfit(&self) -> Option<Misfit>
+        ensures { MatchOption result (last_fits self.now.type_ (property_views self.now.properties.items) ≡ true) (λ _. last_fits self.now.type_ (property_views self.now.properties.items) ≡ false) }
+    {
+        match self.properties.last() {
+            Some(property) => misfit_of(self.type_, property),
+            None => None,
+        }
     }
 
     /// Puts the value of the property whose key and flags are read behind the others.

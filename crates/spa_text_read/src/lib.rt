@@ -5,6 +5,7 @@ mod cause;
 mod chosen;
 mod element;
 mod error;
+mod fitting;
 mod inside;
 pub mod laws;
 pub mod names;
@@ -20,4 +21,5 @@ mod tokens;
 
 pub use cause::Cause;
 pub use error::{AtPath, TextError};
+pub use fitting::{FullType, InPlace, Misfit, Strictness};
 pub use reading::{TextReader, read};

@@ -1,7 +1,9 @@
 //! Values read from text.
-ghost use Rattle.std.specs.Prelude.{◌≡◌, ◌≢◌, [], IfErr, IfOk, Some, None, string_bytes};
+ghost use Rattle.std.specs.Prelude.{◌≡◌, ◌≢◌, [], IfErr, IfOk, Some, string_bytes};
 ghost use Rattle.json.specs.Lex.{tokens};
 ghost use Rattle.spa_format.specs.Tree.{Tree};
+ghost use Rattle.spa_text_read.specs.Fitting.{Admits};
+ghost use Rattle.spa_text_read.specs.FramesFit.{AdmitsNone};
 ghost use Rattle.spa_text_read.specs.Grammar.{ReadsAs, nothing};
 ghost use Rattle.spa_text_read.specs.Places.{IsPlace};
 ghost use Rattle.spa_text_read.specs.Steps.{ComesTo};
@@ -9,6 +11,7 @@ ghost use Rattle.spa_value.specs.View.{view};
 
 use crate::cause::Cause;
 use crate::error::TextError;
+use crate::fitting::{Misfit, Strictness};
 use crate::inside::Opened;
 use crate::nest::Nest;
 use crate::opening::open;
@@ -36,42 +39,55 @@ impl TextReader {
     }
 
     /// Reads the value that a text is, as `read` does.
+    #[tactic(auto, using(crate::proofs::Strictly::plainly_refused))]
     pub fn read(&mut self, text: &str) -> Result<Value, TextError>
         ensures value { IfOk result (λ v. ReadsAs nothing (view v) (tokens text.now) []) }
         ensures refused { IfErr result (λ e. e.cause ≢ Cause.OutOfMemory → (v : Tree) → ¬ (ReadsAs nothing v (tokens text.now) [])) }
         ensures no_path { IfErr result (λ e. e.cause ≡ Cause.OutOfMemory → string_bytes e.path ≡ []) }
         ensures path { IfErr result (λ e. e.cause ≢ Cause.OutOfMemory → IsPlace (tokens text.now) (string_bytes e.path)) }
     {
+        self.read_with(text, Strictness::Plain)
+    }
+
+    /// Reads the value that a text is; strictly only where each value under a key of an object is of the type that belongs there: the one
+    /// that PipeWire's tables give, for a choice the type of its values. Any value may stand under a key that they don't know.
+    pub fn read_with(&mut self, text: &str, strictness: Strictness) -> Result<Value, TextError>
+        ensures value { IfOk result (λ v. ReadsAs nothing (view v) (tokens text.now) []) }
+        ensures admitted { IfOk result (λ v. Admits strictness (view v)) }
+        ensures refused { IfErr result (λ e. e.cause ≢ Cause.OutOfMemory → (v : Tree) → ReadsAs nothing v (tokens text.now) [] → ¬ (Admits strictness v)) }
+        ensures no_path { IfErr result (λ e. e.cause ≡ Cause.OutOfMemory → string_bytes e.path ≡ []) }
+        ensures path { IfErr result (λ e. e.cause ≢ Cause.OutOfMemory → IsPlace (tokens text.now) (string_bytes e.path)) }
+    {
         let Ok(mut reader) = Reader::new(text, &mut self.scratch) else {
-            return Err(error_at(Cause::OutOfMemory, text, 0, String::new(self.alloc)));
+            return Err(error_at(NO_MEMORY, text, 0, String::new(self.alloc)));
         };
-        match read_whole(self.alloc, &mut reader) {
+        match read_whole(self.alloc, &mut reader, strictness) {
             Ok(value) => Ok(value),
-            Err(cause) => {
+            Err(why) => {
                 let offset = reader.offset();
                 let has_more = reader.next().is_some();
-                Err(self.refusal(cause, text, offset, has_more))
+                Err(self.refusal(why, text, offset, has_more))
             }
         }
     }
 
     /// The refusal at this byte of the text, behind which there may be more tokens, with its path; without one where memory runs out, also
     /// for the path.
-    fn refusal(&mut self, cause: Cause, text: &str, offset: usize, has_more: bool) -> TextError
-        ensures cause { result.cause ≢ Cause.OutOfMemory → result.cause ≡ cause }
+    fn refusal(&mut self, why: Why, text: &str, offset: usize, has_more: bool) -> TextError
+        ensures cause { result.cause ≢ Cause.OutOfMemory → result.cause ≡ why.cause }
         ensures no_path { result.cause ≡ Cause.OutOfMemory → string_bytes result.path ≡ [] }
         ensures path { result.cause ≢ Cause.OutOfMemory → IsPlace (tokens text.now) (string_bytes result.path) }
     {
-        if cause != Cause::OutOfMemory {
+        if why.cause != Cause::OutOfMemory {
             if let Ok(mut reader) = Reader::new(text, &mut self.scratch) {
                 // A token that isn't JSON is the last one, and ends where it begins.
                 let end = if has_more { offset } else { usize::MAX };
                 if let Ok(path) = path_to(self.alloc, &mut reader, end) {
-                    return error_at(cause, text, offset, path);
+                    return error_at(why, text, offset, path);
                 }
             }
         }
-        error_at(Cause::OutOfMemory, text, offset, String::new(self.alloc))
+        error_at(NO_MEMORY, text, offset, String::new(self.alloc))
     }
 }
 
@@ -89,9 +105,35 @@ pub fn read(alloc: Global, text: &str) -> Result<Value, TextError>
     reader.read(text)
 }
 
+/// Why a text is refused.
+#[derive(Clone, Copy)]
+struct Why {
+    cause: Cause,
+    /// Where the cause is KeyType, the two types.
+    misfit: Option<Misfit>,
+}
+
+impl From<Cause> for Why {
+    ghost use Rattle.spa_text_read.specs.declared.reading.Why.{Why};
+
+    ghost from_gives = { λ cause e. e.cause ≡ cause };
+
+    fn from(cause: Cause) -> Why {
+        Why {
+            cause,
+            misfit: None,
+        }
+    }
+}
+
+const NO_MEMORY: Why = Why {
+    cause: Cause::OutOfMemory,
+    misfit: None,
+};
+
 /// The refusal at this byte of the text.
-fn error_at(cause: Cause, text: &str, offset: usize, path: String) -> TextError
-    ensures cause { result.cause ≡ cause }
+fn error_at(why: Why, text: &str, offset: usize, path: String) -> TextError
+    ensures cause { result.cause ≡ why.cause }
     ensures path { result.path ≡ path }
 {
     let mut line: usize = 1;
@@ -108,57 +150,72 @@ fn error_at(cause: Cause, text: &str, offset: usize, path: String) -> TextError
         }
     }
     TextError {
-        cause,
+        cause: why.cause,
         offset,
         line,
         column,
         path,
+        misfit: why.misfit,
     }
 }
 
 /// Reads a value and the end of the text.
 #[tactic(auto, using(crate::proofs::Soundness::reads_as))]
-fn read_whole(alloc: Global, reader: &mut Reader<'_>) -> Result<Value, Cause>
+fn read_whole(alloc: Global, reader: &mut Reader<'_>, strictness: Strictness) -> Result<Value, Why>
     ensures value { IfOk result (λ v. ReadsAs nothing (view v) reader.old []) }
-    ensures refused { IfErr result (λ e. e ≢ Cause.OutOfMemory → (v : Tree) → ¬ (ReadsAs nothing v reader.old [])) }
+    ensures admitted { IfOk result (λ v. Admits strictness (view v)) }
+    ensures refused { IfErr result (λ e. e.cause ≢ Cause.OutOfMemory → (v : Tree) → ReadsAs nothing v reader.old [] → ¬ (Admits strictness v)) }
 {
-    match read_value(alloc, reader) {
+    match read_value(alloc, reader, strictness) {
         Ok(value) => match reader.next() {
             Some(_) => {
                 discard(value);
-                Err(Cause::End)
+                Err(Why::from(Cause::End))
             }
             None => Ok(value),
         },
-        Err(cause) => Err(cause),
+        Err(why) => Err(why),
     }
 }
 
 /// Reads a value: also one that is nested deep, since what is begun is kept in a list.
-fn read_value(alloc: Global, reader: &mut Reader<'_>) -> Result<Value, Cause>
+fn read_value(alloc: Global, reader: &mut Reader<'_>, strictness: Strictness) -> Result<Value, Why>
     ensures value { IfOk result (λ v. ComesTo nothing reader.old (Some (view v, reader.new))) }
-    ensures refused { IfErr result (λ e. e ≢ Cause.OutOfMemory → ComesTo nothing reader.old None) }
+    ensures admitted { IfOk result (λ v. Admits strictness (view v)) }
+    ensures refused { IfErr result (λ e. e.cause ≢ Cause.OutOfMemory → AdmitsNone strictness reader.old) }
 {
     let Some(first) = head(reader) else {
-        return Err(Cause::Token);
+        return Err(Why::from(Cause::Token));
     };
     let inner = match open(alloc, reader, first, Expected::NOTHING) {
         Ok(Opened::Leaf(value)) => return Ok(value),
         Ok(Opened::Begun(inside)) => inside,
-        Err(cause) => return Err(cause),
+        Err(cause) => return Err(Why::from(cause)),
     };
     let outer = Vec::new(alloc);
     let mut nest = Nest { inner, outer };
     loop {
         match nest.step(alloc, reader) {
-            Ok(true) => {}
+            Ok(true) => match nest.inner.misfit(strictness) {
+                None => {}
+                Some(misfit) => {
+                    nest.give_up();
+                    return Err(Why {
+                        cause: Cause::KeyType,
+                        misfit: Some(misfit),
+                    });
+                }
+            },
             Ok(false) => {
                 let Nest { inner, outer: _ } = nest;
-                return inner.into_value();
+                match inner.into_value() {
+                    Ok(value) => return Ok(value),
+                    Err(cause) => return Err(Why::from(cause)),
+                }
             }
-            Err(why) => {
+            Err(cause) => {
                 nest.give_up();
-                return Err(why);
+                return Err(Why::from(cause));
             }
         }
     }

@@ -1,6 +1,6 @@
 use Rattle.std.proofs.Common.{[], ◌∙◌, subst, sym}
 use Rattle.spa_text_read.specs.Grammar.{ReadsAs, nothing}
-use Rattle.spa_text_read.proofs.reading.TextReader.read.Goals as goal
+use Rattle.spa_text_read.proofs.reading.TextReader.read_with.Goals as goal
 
 pub returns-in-Err-clause-refused : goal.returns-in-Err-clause-refused
 returns-in-Err-clause-refused c = λ m v r.

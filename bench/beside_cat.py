@@ -1,56 +1,92 @@
 #!/usr/bin/env python3
-"""beside_cat.py [INPUT ..]: how many times as long as `cat` the command `podtool rewrite` takes.
+"""beside_cat.py [INPUT ..]: processor time and memory of the programs beside `cat`.
 
-Both run in turn, ROUNDS times (from the environment, 101), on inputs that make.py wrote to bench/out/inputs, or to the
-folder INPUTS. Each reads standard input from the file, which is in memory by then, and writes into a pipe that another
-`cat` empties at once. A shared machine is disturbed for seconds at a time, and now and then a `cat` alone is lucky with
-its caches: so the medians are compared, and the best are told beside them. The program has to be built: `./podtool`.
+Each command runs in turn, ROUNDS times (from the environment, 101), on inputs that make.py wrote to bench/out/inputs, or to the folder INPUTS; an
+INPUT that ends in .pod is a file. A command reads standard input from the file, which is in memory by then, and writes into a pipe that another `cat`
+empties, or with OUT=null to /dev/null. Counted is the processor time of its process alone, of the system's part too. A shared machine is disturbed for
+seconds at a time, and now and then a `cat` alone is lucky with its caches: so medians are compared, and the best are printed beside them. Of what
+writes as input comes, `peak` is the most memory that was resident, with the program's own text and the C library; `own` is what the process alone has
+of it, stack and heap, when all is read. Programs run that are built: `./podtool`, `./pod`, and in bench/out `stream` by bench/build, `calls` of calls.c.
 """
 
+import fcntl
 import os
 import pathlib
 import statistics
 import subprocess
 import sys
+import termios
 import time
 
 HERE = pathlib.Path(__file__).resolve().parent
-PROGRAM = HERE.parent / "crates" / "podtool" / "out" / "podtool"
+CRATES = HERE.parent / "crates"
 INPUTS = pathlib.Path(os.environ.get("INPUTS", HERE / "out" / "inputs"))
 ROUNDS = int(os.environ.get("ROUNDS", "101"))
 NAMES = ("array-of-ints", "bytes", "mixed", "dirty-mixed", "struct-of-ints", "struct-of-strings")
+PROGRAMS = {it: pathlib.Path(os.environ.get(it.upper(), CRATES / it / "out" / it)) for it in ("pod", "podtool")}
+PROGRAMS |= {it: HERE / "out" / it for it in ("stream", "calls")}
+WORDS = ("cat", "stream", "podtool rewrite", "pod rewrite --stream", "pod json --stream", "pod show --stream", "calls debug 1")
+COMMANDS = [it.split() for it in WORDS if it == "cat" or PROGRAMS[it.split()[0]].exists()]
 
 # As the script `podtool` sets it.
 MALLOC = "glibc.malloc"
 TUNABLES = f"{MALLOC}.hugetlb=1:{MALLOC}.mmap_threshold=4294967296:{MALLOC}.top_pad=4194304"
+ENVIRONMENT = {**os.environ, "GLIBC_TUNABLES": os.environ.get("GLIBC_TUNABLES", TUNABLES)}
+
+
+def words_of(command):
+    return [PROGRAMS.get(command[0], command[0]), *command[1:]]
 
 
 def milliseconds(command, path):
-    """How long the command takes on this input."""
-    environment = {**os.environ, "GLIBC_TUNABLES": TUNABLES}
-    with open(path, "rb") as given:
-        begun = time.perf_counter()
-        first = subprocess.Popen(command, stdin=given, stdout=subprocess.PIPE, env=environment)
-        with first.stdout as written:
-            second = subprocess.Popen(["cat"], stdin=written, stdout=subprocess.DEVNULL)
-        statuses = first.wait(), second.wait()
-        taken = time.perf_counter() - begun
-    if statuses != (0, 0):
-        sys.exit(f"beside_cat.py: {command} ended with {statuses}")
-    return 1000 * taken
+    """How long processors work for the command on this input."""
+    to_pipe = os.environ.get("OUT") != "null"
+    with open(path, "rb") as given, open(os.devnull, "wb") as nowhere:
+        child = subprocess.Popen(words_of(command), stdin=given, stdout=subprocess.PIPE if to_pipe else nowhere, env=ENVIRONMENT)
+        reader = subprocess.Popen(["cat"], stdin=child.stdout, stdout=nowhere) if to_pipe else None
+        _, status, used = os.wait4(child.pid, 0)
+        child.returncode = os.waitstatus_to_exitcode(status)
+        if to_pipe:
+            child.stdout.close()
+            reader.wait()
+    if child.returncode:
+        sys.exit(f"beside_cat.py: {command} ended with {child.returncode}")
+    return 1000 * (used.ru_utime + used.ru_stime)
+
+
+def memory(command, path):
+    """KiB that are resident at most, and those of them that are the process's own, once it waits for more input."""
+    with subprocess.Popen(words_of(command), stdin=subprocess.PIPE, stdout=subprocess.DEVNULL, env=ENVIRONMENT) as child:
+        with open(path, "rb") as given:
+            while piece := given.read(1 << 16):
+                child.stdin.write(piece)
+        child.stdin.flush()
+        of_child = pathlib.Path(f"/proc/{child.pid}")
+        left = bytearray(4)
+        while True:
+            fcntl.ioctl(child.stdin, termios.FIONREAD, left)
+            if not any(left) and (of_child / "stat").read_text(encoding="utf-8").rpartition(")")[2].split()[0] == "S":
+                break
+            time.sleep(0.01)
+        lines = dict(line.split(":", 1) for line in (of_child / "status").read_text(encoding="utf-8").splitlines())
+        child.stdin.close()
+    return [int(lines[it].split()[0]) for it in ("VmHWM", "RssAnon")]
 
 
 def main():
-    print("| Input | `cat`, ms: median, best | `rewrite`, ms: median, best | Times: median, best |")
-    print("|---|---|---|---|")
     for name in sys.argv[1:] or NAMES:
-        path = INPUTS / f"{name}.pod"
+        path = pathlib.Path(name) if name.endswith(".pod") else INPUTS / f"{name}.pod"
         path.read_bytes()
-        pairs = [(milliseconds(["cat"], path), milliseconds([PROGRAM, "rewrite"], path)) for _ in range(ROUNDS)]
-        cats, rewrites = zip(*pairs)
-        median, other = statistics.median(cats), statistics.median(rewrites)
-        best, least = min(cats), min(rewrites)
-        print(f"| {name} | {median:.1f}, {best:.1f} | {other:.1f}, {least:.1f} | {other / median:.2f}, {least / best:.2f} |")
+        size = path.stat().st_size
+        taken = [[milliseconds(it, path) for it in COMMANDS] for _ in range(ROUNDS)]
+        print(f"{name}, {size / 1e6:.1f} MB, at a load of {os.getloadavg()[0]:.1f}")
+        print(f"{'':22}{'ms: median':>10}{'best':>8}{'times cat: median':>20}{'best':>8}{'MB/s: best':>12}{'KiB: peak':>12}{'own':>8}")
+        columns = list(zip(*taken))
+        for command, times in zip(COMMANDS, columns):
+            median, best = statistics.median(times), min(times)
+            times_cat = median / statistics.median(columns[0]), best / min(columns[0])
+            peak, own = memory(command, path) if command[-1] in ("cat", "stream", "--stream") else ("", "")
+            print(f"{' '.join(command):22}{median:10.1f}{best:8.1f}{times_cat[0]:20.2f}{times_cat[1]:8.2f}{size / best / 1000:12.0f}{peak:12}{own:8}")
 
 
 main()

@@ -1,10 +1,11 @@
 -- What binary searches of the tables find.
-use Rattle.std.proofs.Common.{◌≡◌, ℕ, ◌==◌, true, List, length, get_or, map, Some, None, option_map, Result, MatchResult, Bor, Ok, Err, refl, sym, ap, ◌∙◌, arith}
-use Rattle.std.specs.List.{find}
+use Rattle.std.proofs.Common.{◌≡◌, ◌<◌, ℕ, ◌==◌, true, List, length, get_or, map, Some, None, option_map, Result, MatchResult, Bor, Ok, Err, refl, sym, ap, ◌∙◌, arith}
+use Rattle.std.specs.List.{HoldsAt, find}
 use Rattle.std.specs.List.Sorted.{IsSearchInRange, IsBinarySearchResult}
 use Rattle.std.specs.Str.{bytes_eq}
 use Rattle.std.specs.Cmp.Lexicographic.{slice_cmp}
 use Rattle.std.specs.Ordering.{is_eq, nat_cmp}
+use Rattle.std.specs.declared.cmp.Ordering.TheVariants.{Equal}
 use Rattle.std.proofs.lemmas.Bool.Decides.{nat_tests}
 use Rattle.std.proofs.lemmas.Cmp.{nat_cmp_total, nat_list_cmp_total}
 use Rattle.std.proofs.lemmas.Map.Text.{is_eq-slice_cmp}
@@ -18,6 +19,9 @@ use Rattle.spa_names.proofs.Searching.{rises, rises-map, find-map, searched}
 
 is_eq-nat_cmp : (x y : ℕ) → (x == y) ≡ is_eq (nat_cmp x y)
 is_eq-nat_cmp x y = grind (arith, nat_tests)
+
+nat_cmp-same : (x : ℕ) → nat_cmp x x ≡ Equal
+nat_cmp-same x = grind (arith, nat_tests)
 
 module _ (table : Table) (number : ℕ) (entries : List (ℕ × Bor (List ℕ) × ℕ × ℕ)) (same : map row_of entries ≡ rows_of table) where
   entries_rise : rises nat_cmp (λ entry. entry.0) entries ≡ true
@@ -34,6 +38,12 @@ module _ (table : Table) (number : ℕ) (entries : List (ℕ × Bor (List ℕ) �
   entry_found (Err at) in_range is =
       let found = searched nat_cmp_total (λ entry. entry.0) number (λ entry. entry.0 == number) (λ entry. is_eq-nat_cmp entry.0 number) entries entries_rise (Err at) in_range is in
       sym (row_at-entries ∙ ap (option_map row_of) found)
+
+  -- an entry that has the number is the table's
+  pub entry_there : (at : ℕ) (entry : ℕ × Bor (List ℕ) × ℕ × ℕ) → at < length entries → HoldsAt (λ other. entry ≡ other) entries at → entry.0 ≡ number →
+      Some (row_of entry) ≡ row_at table number
+  entry_there at entry in_range there is =
+      ap (λ e. Some (row_of e)) (there entry) ∙ entry_found (Ok at) in_range (λ d. ap (λ e. nat_cmp e.0 number) (sym (there d)) ∙ rw is (nat_cmp-same number)) entry
 
 module _ (table : Table) (name : List ℕ) (namings : List (Bor (List ℕ) × ℕ)) (same : map naming_of namings ≡ namings_of table) where
   namings_rise : rises (slice_cmp nat_cmp) (λ naming. naming.0.now) namings ≡ true

@@ -101,6 +101,14 @@ fn entry_of(table: Table, number: u32) -> Option<Entry>
     ensures { option_map row_of result ≡ row_at table number }
 {
     let entries = entries_of(table);
+    // Where the table leaves out no number before this one, its entry is as far behind the first as the numbers are apart.
+    if let Some(first) = entries.first() {
+        if let Some(entry) = entries.get(number.wrapping_sub(first.0) as usize) {
+            if entry.0 == number {
+                return Some(*entry);
+            }
+        }
+    }
     match entries.binary_search_by_key(&number, |entry| entry.0) {
         Ok(at) => Some(entries[at]),
         Err(_) => None,

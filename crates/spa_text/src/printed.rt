@@ -118,6 +118,7 @@ fn scalar_name(scalar: Scalar) -> &'static str
 }
 
 /// Begins a number of this type: with an object of its name, unless it is expected. Whether a brace follows it.
+#[inline(always)]
 fn begin_number(out: &mut Out, scalar: Scalar, expected: u32) -> Result<bool, AllocError>
     ensures { IfOk result (λ braced. BeginsNumber braced expected scalar out.old.tokens out.new.tokens) }
 {

@@ -4,6 +4,7 @@ ghost use Rattle.std.specs.Str.{IsUtf8};
 ghost use Rattle.json.specs.Lex.{tokens};
 ghost use Rattle.spa_format.specs.Tree.{member_node_count, node_count, struct};
 ghost use Rattle.spa_text_read.specs.Grammar.{ReadsAs, an_object, key_number, nothing};
+ghost use Rattle.spa_text_read.specs.Numerals.{unsigned};
 ghost use Rattle.spa_text.specs.Line.{AreGood, HasNoEnd};
 ghost use Rattle.spa_text.specs.Left.{IsLess, PrintsNext, PrintsOrBegins, PrintsWhole, left_count};
 ghost use Rattle.spa_text.specs.Printed as printed;
@@ -167,6 +168,7 @@ fn print_or_begin<'a>(
 }
 
 /// Prints a value that has no members; nothing of one that has.
+#[inline(always)]
 fn print_whole(
     alloc: Global,
     out: &mut Out,
@@ -298,13 +300,26 @@ fn next_property<'a>(
     }
 }
 
+/// The number that a name is, if it is one. Hardly any begins with a digit, and the others needn't be read.
+#[inline(always)]
+fn number_in(name: &str) -> Option<u32>
+    ensures { result ≡ unsigned name.now }
+{
+    if let Some(first) = name.as_bytes().first() {
+        if *first > b'9' {
+            return None;
+        }
+    }
+    unsigned(name)
+}
+
 /// The name that is printed for a key: none that would be read as a number.
 fn key_name(keys: Table, key: u32) -> Option<&'static str>
     ensures number { IfSome result (λ name. key_number keys name.now ≡ Some key) }
     ensures text { MatchOption result (key_text keys key ≡ decimal key) (λ name. key_text keys key ≡ name.now) }
 {
     let name = name_of(keys, key)?;
-    match unsigned(name) {
+    match number_in(name) {
         Some(_) => None,
         None => Some(name),
     }

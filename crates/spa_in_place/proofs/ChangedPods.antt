@@ -1,18 +1,19 @@
 -- Pods that are replaced by their encodings, and canonical ones behind them that are moved.
-use Rattle.std.proofs.Common.{◌≡◌, ℕ, ◌+◌, ◌-◌, List, [], ◌++◌, length, take, drop, sym, ap, ◌∙◌, subst, arith, length-drop}
+use Rattle.std.proofs.Common.{◌≡◌, ◌≤◌, ℕ, ◌+◌, ◌-◌, List, [], ◌++◌, length, take, drop, sym, ap, ◌∙◌, subst, arith, length-drop}
 use Rattle.std.specs.Prelude.{false}
-use Rattle.std.proofs.lemmas.List.{drop-append-le, drop_at, length-take-le, take-append-drop, take-append-le, take_all}
+use Rattle.std.proofs.lemmas.List.{drop-append-le, drop-drop, drop_at, length-take-le, take-append-drop, take-append-le, take_all}
 use Rattle.spa_format.specs.Tree.{join_members}
 use Rattle.spa_format.specs.Pod.{AreMembers}
 use Rattle.spa_format.specs.Encoding.{member_encodings}
 use Rattle.spa_format.proofs.Sequences.{members_joined}
-use Rattle.spa_in_place.specs.MovedRuns.{MovesRun}
 use Rattle.spa_rewrite.specs.Look.{AreChanged}
 use Rattle.spa_rewrite.specs.Placed.{WritesPods}
 use Rattle.spa_rewrite.specs.Rewriting.{AreRewritten}
 use Rattle.spa_rewrite.specs.declared.look.ChangedPods.{ChangedPods}
 use Rattle.spa_rewrite.proofs.Stretches.{member_encodings-join}
-use Rattle.spa_rewrite.proofs.WrittenAcross.{further_behind}
+use borrow.Rule.Slice.PartMut.{put_mid}
+use Rattle.spa_rewrite.proofs.Runs.{IsCarried, run_carried}
+use Rattle.spa_rewrite.proofs.Written.{further_behind}
 
 -- what was written of them all
 pub record ChangesPlaced (pods new : List ℕ) (c : ChangedPods) : Type 0 where
@@ -20,7 +21,7 @@ pub record ChangesPlaced (pods new : List ℕ) (c : ChangedPods) : Type 0 where
   pub behind : drop (length pods - c.surplus) new ≡ drop (length pods - c.surplus) pods
 
 pub changes_placed : (pods sub now new : List ℕ) (c : ChangedPods) (end tail : ℕ) → AreChanged pods c → now ≡ sub ++ drop c.len pods → length sub ≡ c.len →
-    WritesPods false (take c.len pods) (take c.len pods) sub end → tail ≡ length pods - c.len → MovesRun now new c.len end tail → ChangesPlaced pods new c
+    WritesPods false (take c.len pods) (take c.len pods) sub end → tail ≡ length pods - c.len → IsCarried (take tail (drop c.len now)) now new end tail → ChangesPlaced pods new c
 changes_placed pods sub now new c end tail h n l w t m =
     let s = h.shorter in
     let k = h.canonical in
@@ -54,3 +55,15 @@ changes_placed pods sub now new c end tail h n l w t m =
       );
       behind = ap (λ i. drop i new) at ∙ m.behind ∙ further_behind now pods end (end + tail) (omega arith) kept ∙ ap (λ i. drop i pods) (sym at);
     }
+
+-- the canonical pods behind them, which are moved at once
+pub tail_carried : (now sub sub_old part : List ℕ) (len end k start stop : ℕ) → end ≤ len → len ≤ length now → start ≡ len - end → stop ≡ length now - end →
+    part ≡ take (stop - start) (drop start sub_old) → sub ≡ part ++ drop (length part) sub_old → sub_old ≡ drop end now → k ≡ length now - end →
+    IsCarried (take (length now - len) (drop len now)) now (put_mid end k now sub) end (length now - len)
+tail_carried now sub sub_old part len end k start stop low within e f p s o n =
+    let tail = length now - len in
+    let at : end + start ≡ len = omega arith in
+    let long : stop - start ≡ len + tail - len = omega arith in
+    let is : part ≡ take (len + tail - len) (drop len now) =
+    p ∙ ap (λ x. take (stop - start) (drop start x)) o ∙ ap (take (stop - start)) (drop-drop start end now ∙ ap (λ i. drop i now) at) ∙ ap (λ i. take i (drop len now)) long in
+    run_carried now now sub sub_old part len end tail k (omega arith) (omega arith) is s o n

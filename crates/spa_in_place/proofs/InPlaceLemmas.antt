@@ -23,7 +23,7 @@ use Rattle.spa_rewrite.proofs.Patches.{put_end}
 use Rattle.spa_rewrite.proofs.FirstPods.{accepted_behind, left_behind_pods}
 use Rattle.spa_rewrite.proofs.Stretches.{both_rewritten, list_refused, member_encodings-join}
 use Rattle.spa_rewrite.proofs.Appended.{written_behind}
-use Rattle.spa_rewrite.proofs.WrittenAcross.{drop_past, take_past}
+use Rattle.spa_rewrite.proofs.Written.{drop_past, take_past}
 
 -- what is left begins behind so many bytes
 pub left_at : (input left : List ℕ) (at : ℕ) → IsLeft input left → at ≡ length input - length left → drop at input ≡ left

@@ -11,11 +11,11 @@ ghost use Rattle.spa_rewrite.specs.Steady.{AreSteadyWithin};
 ghost use Rattle.spa_scan.specs.Depth.{levels_looked_into};
 
 use crate::into::put_first;
-use crate::place::{move_run, place_all};
 use spa_bodies::error_at;
 use spa_fixed_sized::{DeserializeError, Fault};
 use spa_rewrite::{
-    ChangedPods, Rejected, canonical_stretch, changed_pods, patch_all, rewrite_all, steady_stretch,
+    ChangedPods, Rejected, Source, Within, canonical_stretch, changed_pods, patch_all, rewrite_all,
+    steady_stretch, write_all,
 };
 use std::alloc::Global;
 
@@ -77,9 +77,16 @@ fn place_rest(changed: ChangedPods, pods: &mut [u8])
     ensures rewritten { AreRewritten pods.old [] (take (length pods.old - changed.surplus) pods.new) }
     ensures behind { drop (length pods.old - changed.surplus) pods.new ≡ drop (length pods.old - changed.surplus) pods.old }
 {
-    let tail = pods.len() - changed.len;
-    let end = place_all(changed.surplus, &mut pods[..changed.len]);
-    move_run(pods, changed.len, end, tail);
+    let source = Within {
+        start: 0,
+        end: changed.len,
+    };
+    let end = write_all(changed.surplus, source, &mut pods[..changed.len]);
+    let tail = Within {
+        start: changed.len - end,
+        end: pods.len() - end,
+    };
+    tail.carry(&mut pods[end..]);
 }
 
 /// Puts the rewritings of all pods that the input is into an output of the same length, and answers true, where each of them is found to

@@ -4,7 +4,7 @@ ghost use Rattle.spa_rewrite.specs.Rewriting.{AreRewritten};
 ghost use Rattle.spa_rewrite.specs.Shorter.{ArePodsWithin, AreRewrittenAs, AreShorter};
 ghost use Rattle.spa_scan.specs.Depth.{levels_looked_into};
 
-use spa_rewrite::{Rejected, canonical_stretch, patch_all, surplus_of_each, write_all};
+use spa_rewrite::{Apart, Rejected, canonical_stretch, patch_all, surplus_of_each, write_pods};
 
 /// Writes the rewritings of all pods of the input to the front of an output that is at least as long as the input, and answers how many
 /// bytes they take; what is behind them stays as it was. To a shorter output it writes nothing, and answers the length alone. It takes no memory.
@@ -68,7 +68,7 @@ fn write_rest(surplus: usize, pods: &[u8], out: &mut [u8])
         return;
     }
     if surplus > 0 {
-        write_all(pods, out);
+        write_pods(false, Apart { bytes: pods }, out);
         return;
     }
     write_steady(surplus, pods, out);

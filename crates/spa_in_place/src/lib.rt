@@ -3,7 +3,6 @@
 
 mod in_place;
 mod into;
-mod place;
 
 pub use in_place::{rewrite_across, rewrite_in_place};
 pub use into::rewrite_into;

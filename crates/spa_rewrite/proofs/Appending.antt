@@ -19,7 +19,7 @@ use Rattle.spa_rewrite.specs.declared.look.AcceptedPod.{AcceptedPod}
 use Rattle.spa_rewrite.proofs.Rewritten.{parted}
 use Rattle.spa_rewrite.proofs.SteadyFound.{never}
 use Rattle.spa_rewrite.proofs.Stretches.{member_encodings-join}
-use Rattle.spa_rewrite.proofs.WrittenAcross.{take_past}
+use Rattle.spa_rewrite.proofs.Written.{take_past}
 
 -- canonical pods are copied,
 pub canonical_encodings : (pods old new : List ℕ) → AreCanonical pods → new ≡ old ++ pods → AppendsEncodings pods old new

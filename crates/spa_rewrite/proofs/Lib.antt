@@ -19,6 +19,9 @@ pub mod Lacking
 pub mod Appended
 pub mod Places
 pub mod PlacedBodies
-pub mod WrittenAcross
+pub mod Written
+pub mod Sourced
+pub mod Chains
+pub mod Runs
 pub mod Appending
 pub mod Changed

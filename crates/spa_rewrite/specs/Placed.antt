@@ -1,11 +1,12 @@
 -- Rewritings that are put where the caller says: docs/FORMAT.md, "The encoding of a value".
-use Rattle.std.specs.Prelude.{◌≡◌, ◌%◌, ◌+◌, ◌-◌, ◌≤◌, ◌++◌, ℕ, List, length, drop, take, Bool, true, false}
+use Rattle.std.specs.Prelude.{◌≡◌, ◌%◌, ◌+◌, ◌-◌, ◌<◌, ◌≤◌, ◌++◌, ℕ, List, length, drop, take, Bool, true, false}
 use Rattle.spa_format.specs.Words.{word_bytes}
 use Rattle.spa_format.specs.Tree.{Tree, Trees, Properties, object_type, struct_type}
 use Rattle.spa_format.specs.Pod.{AreMembers, AreProperties, IsPod}
 use Rattle.spa_format.specs.Encoding.{encoding_of, member_encodings, property_encodings}
 use Rattle.spa_format.specs.Typed.{IsBytes}
-use Rattle.spa_rewrite.specs.Steady.{HoldsPods, IsPodOf, key_size}
+use Rattle.spa_rewrite.specs.Look.{AreCanonicalInside}
+use Rattle.spa_rewrite.specs.Steady.{ArePatched, AreSteady, HoldsPods, IsPodOf, key_size}
 
 -- this is the rewriting of a pod
 abbrev pub IsPlaced : List ℕ → List ℕ → Type 0
@@ -59,8 +60,31 @@ abbrev pub type_inside : Bool → ℕ
 type_inside true = object_type
 type_inside false = struct_type
 
--- the header of a struct or an object whose rewriting ends there is behind what is written, and an object's type and id are behind it
-pub record PutsHeader (keyed : Bool) (old new : List ℕ) (at to end body : ℕ) : Type 0 where
+-- The header of a struct or an object whose encoding ends there is behind what is written, and an object's type and id, the first of these bytes, behind it.
+pub record PutsHeader (keyed : Bool) (key old new : List ℕ) (to end body : ℕ) : Type 0 where
   pub there : body ≡ to + 8 + key_size keyed
-  pub front : take body new ≡ take to old ++ ((word_bytes (end - (to + 8)) ++ word_bytes (type_inside keyed)) ++ take (key_size keyed) (drop (at + 8) old))
+  pub front : take body new ≡ take to old ++ ((word_bytes (end - (to + 8)) ++ word_bytes (type_inside keyed)) ++ take (key_size keyed) key)
   pub behind : drop body new ≡ drop body old
+
+-- pods that are canonical, or as long as their encodings
+abbrev pub AreRun : Bool → Bool → List ℕ → Type 0
+AreRun false keyed run = AreCanonicalInside keyed run
+AreRun true keyed run = (keyed ≡ false) × AreSteady run
+
+-- what is written of them
+abbrev pub IsRunWritten : Bool → List ℕ → List ℕ → Type 0
+IsRunWritten false run new = new ≡ run
+IsRunWritten true run new = ArePatched false run new
+
+-- the first of these pods, so many bytes, are a run
+pub record BeginsRun (unpatched keyed : Bool) (left : List ℕ) (len : ℕ) : Type 0 where
+  pub some : 0 < len
+  pub within : len ≤ length left
+  pub its : AreRun unpatched keyed (take len left)
+
+-- what is written of a run, so many bytes, is behind what is written
+pub record PutsRun (unpatched : Bool) (run old new : List ℕ) (to len : ℕ) : Type 0 where
+  pub written : List ℕ
+  pub its : IsRunWritten unpatched run written
+  pub front : take (to + len) new ≡ take to old ++ written
+  pub behind : drop (to + len) new ≡ drop (to + len) old

@@ -21,7 +21,7 @@ pub(crate) const WORD_LEN: usize = 4;
 
 /// The length in bytes of a whole pod whose body is one or two words; also where the second header in a pod ends: an object's
 /// type and id, an array's child header, or a choice's shape and flags.
-pub const SECOND_HEADER: usize = 16;
+pub(crate) const SECOND_HEADER: usize = 16;
 
 /// Where the child header of a choice ends, and its values begin.
 const VALUES_AT: usize = 24;
@@ -175,7 +175,7 @@ fn begins_word_property(input: &[u8]) -> bool
 
 /// Whether the pod at the front is there, and a word that is no truth value.
 #[inline(always)]
-pub fn begins_word(input: &[u8]) -> bool
+pub(crate) fn begins_word(input: &[u8]) -> bool
     ensures { result ≡ true → BeginsWord input.now }
 {
     if input.len() < SECOND_HEADER {
@@ -202,7 +202,7 @@ fn is_word_type(type_: u32) -> bool
 
 /// The place behind so many bytes of a header from a place on, and behind a key and flags where `keyed` is set.
 #[inline(always)]
-pub fn place_behind(bytes: &[u8], at: usize, header: usize, keyed: bool) -> usize
+pub(crate) fn place_behind(bytes: &[u8], at: usize, header: usize, keyed: bool) -> usize
     requires { at + header + key_size keyed ≤ length bytes.now }
     ensures { result ≡ at + header + key_size keyed }
 {
@@ -250,7 +250,7 @@ fn patch_pod(type_: u32, size: usize, pod: &mut [u8])
 
 /// Replaces a pod of this type and this size of a body, which holds no others, by its encoding, if that is as long.
 #[inline(always)]
-pub fn patch_leaf(type_: u32, size: usize, pod: &mut [u8])
+pub(crate) fn patch_leaf(type_: u32, size: usize, pod: &mut [u8])
     requires pod { IsPodOf pod.old type_ size }
     requires no_struct { type_ ≢ struct_type }
     requires no_object { type_ ≢ object_type }
@@ -337,7 +337,7 @@ pub(crate) fn patch_choice(size: usize, pod: &mut [u8])
 
 /// Replaces a choice of this shape, which takes so many bytes of values, by its encoding, if that is as long. Its size word isn't read.
 #[inline(always)]
-pub fn patch_values(shape: u32, len: usize, pod: &mut [u8])
+pub(crate) fn patch_values(shape: u32, len: usize, pod: &mut [u8])
     requires room { 24 + len ≤ length pod.old }
     requires fits { 16 + len < size_limit }
     ensures { TakesValues shape len pod.old pod.new }
@@ -351,7 +351,7 @@ pub fn patch_values(shape: u32, len: usize, pod: &mut [u8])
 }
 
 /// How many bytes of values a choice of this shape takes, where one has this size, of all that it holds.
-pub fn taken_len(shape: u32, size: usize, all: usize) -> usize
+pub(crate) fn taken_len(shape: u32, size: usize, all: usize) -> usize
     requires { size < size_limit }
     ensures { (s : Shape) → shape ≡ shape_number s → result ≡ bytes_taken s size all }
 {

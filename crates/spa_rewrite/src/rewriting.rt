@@ -20,11 +20,12 @@ ghost use Rattle.spa_scan.specs.Canonical.{AreCanonical, IsStretch};
 ghost use Rattle.spa_scan.specs.Depth.{depth_of, levels_looked_into};
 ghost use Rattle.spa_value.specs.View.{view};
 
-use crate::across::write_all;
 use crate::leading::{canonical_pods, canonical_stretch, steady_pods};
 use crate::look::{AcceptedPod, DEEP_BODY, FEW, Rejected, look_at_front, look_at_pods};
 use crate::patch::patch_all;
+use crate::source::Apart;
 use crate::steady::Inside;
+use crate::write::write_pods;
 use spa_bodies::error_at;
 use spa_fixed_sized::{DeserializeError, Refusal};
 use spa_read::{Refused, read_value};
@@ -347,7 +348,7 @@ fn append_pods(pods: &[u8], surplus: usize, out: &mut Vec<u8>) -> Option<()>
         return None;
     };
     if surplus > 0 {
-        let len = write_all(pods, &mut out[at..]);
+        let len = write_pods(false, Apart { bytes: pods }, &mut out[at..]);
         out.truncate(at + len);
     } else {
         patch_all(&mut out[at..]);

@@ -3,7 +3,7 @@ use Rattle.std.proofs.lemmas.List.{take_rest}
 use Rattle.spa_scan.specs.Depth.{levels_looked_into}
 use Rattle.spa_rewrite.specs.Shorter.{ArePodsWithin}
 use Rattle.spa_rewrite.proofs.ShorterLemmas.{shorter_behind, within_behind}
-use Rattle.spa_rewrite.proofs.WrittenAcross.{into_told, into_written}
+use Rattle.spa_rewrite.proofs.Written.{into_told, into_written}
 use Rattle.spa_in_place.proofs.into.rewrite_into.Goals as goal
 
 pub returns-in_default-clause-missed : goal.returns-in_default-clause-missed

@@ -12,14 +12,14 @@ returns-then-surplus-gt0-clause-appended c =
     let d = c.deref_mut.result.now in
     let at = c.len-at.result in
     let k = length d - at in
-    let len = c.write_all-len.result in
-    let over = c.write_all-len.new.out in
+    let len = c.write_pods-len.result in
+    let over = c.write_pods-len.new.out in
     let same : vec_len c.args.out.now ≡ length old = search rules in
     let n : at ≡ length old = c.len-at.ensures ∙ same in
     let items : d ≡ old ++ c.args.pods.now = c.deref_mut.ensures.value ∙ c.in-Ok.ensures.items in
-    let w = written_behind old c.args.pods.now over d at k n items refl c.write_all-len.auto.out in
+    let w = written_behind old c.args.pods.now over d at k n items refl c.write_pods-len.auto.out in
     let whole = with_items_is c.extend_from_slice.new.self (take at d ++ (over ++ drop k (drop at d))) (w.long ∙ c.deref_mut.ensures.len) in
-    written_encodings c.args.pods.now old _ over _ at len c.write_all-len.ensures n
+    written_encodings c.args.pods.now old _ over _ at len c.write_pods-len.ensures n
     (c.truncate.ensures.items ∙ ap (take (at + len)) (whole ∙ w.same))
 
 pub returns-else-surplus-gt0-clause-appended : goal.returns-else-surplus-gt0-clause-appended

@@ -2,11 +2,11 @@
 
 use crate::shims::prelude::*;
 use crate::parts::spa_in_place::into::put_first;
-use crate::parts::spa_in_place::place::{move_run, place_all};
 use crate::parts::spa_bodies::error_at;
 use crate::parts::spa_fixed_sized::{DeserializeError, Fault};
 use crate::parts::spa_rewrite::{
-    ChangedPods, Rejected, canonical_stretch, changed_pods, patch_all, rewrite_all, steady_stretch,
+    ChangedPods, Rejected, Source, Within, canonical_stretch, changed_pods, patch_all, rewrite_all,
+    steady_stretch, write_all,
 };
 
 /// Puts the rewritings of all pods that the bytes are at their front, and answers how many bytes these take: never more than the
@@ -52,9 +52,16 @@ pub fn rewrite_in_place(
 /// Replaces pods by their encodings, at their front. Canonical pods behind the last one that isn't are moved at once.
 #[cfg_attr(not(debug_assertions), inline(always))]
 fn place_rest(changed: ChangedPods, pods: &mut [u8]) {
-    let tail = pods.len() - changed.len;
-    let end = place_all(changed.surplus, &mut pods[..changed.len]);
-    move_run(pods, changed.len, end, tail);
+    let source = Within {
+        start: 0,
+        end: changed.len,
+    };
+    let end = write_all(changed.surplus, source, &mut pods[..changed.len]);
+    let tail = Within {
+        start: changed.len - end,
+        end: pods.len() - end,
+    };
+    tail.carry(&mut pods[end..]);
 }
 
 /// Puts the rewritings of all pods that the input is into an output of the same length, and answers true, where each of them is found to

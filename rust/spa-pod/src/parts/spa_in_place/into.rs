@@ -1,7 +1,7 @@
 //! Pods rewritten into another buffer, where they may get shorter.
 
 use crate::shims::prelude::*;
-use crate::parts::spa_rewrite::{Rejected, canonical_stretch, patch_all, surplus_of_each, write_all};
+use crate::parts::spa_rewrite::{Apart, Rejected, canonical_stretch, patch_all, surplus_of_each, write_pods};
 
 /// Writes the rewritings of all pods of the input to the front of an output that is at least as long as the input, and answers how many
 /// bytes they take; what is behind them stays as it was. To a shorter output it writes nothing, and answers the length alone. It takes no memory.
@@ -47,7 +47,7 @@ fn write_rest(surplus: usize, pods: &[u8], out: &mut [u8]) {
         return;
     }
     if surplus > 0 {
-        write_all(pods, out);
+        write_pods(false, Apart { bytes: pods }, out);
         return;
     }
     write_steady(surplus, pods, out);

@@ -2,7 +2,6 @@
 use crate::shims::prelude::*;
 mod in_place;
 mod into;
-mod place;
 
 pub use in_place::{rewrite_across, rewrite_in_place};
 pub use into::rewrite_into;

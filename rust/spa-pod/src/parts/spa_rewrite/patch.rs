@@ -14,7 +14,7 @@ pub(crate) const WORD_LEN: usize = 4;
 
 /// The length in bytes of a whole pod whose body is one or two words; also where the second header in a pod ends: an object's
 /// type and id, an array's child header, or a choice's shape and flags.
-pub const SECOND_HEADER: usize = 16;
+pub(crate) const SECOND_HEADER: usize = 16;
 
 /// Where the child header of a choice ends, and its values begin.
 const VALUES_AT: usize = 24;
@@ -143,7 +143,7 @@ fn begins_word_property(input: &[u8]) -> bool {
 
 /// Whether the pod at the front is there, and a word that is no truth value.
 #[cfg_attr(not(debug_assertions), inline(always))]
-pub fn begins_word(input: &[u8]) -> bool {
+pub(crate) fn begins_word(input: &[u8]) -> bool {
     if input.len() < SECOND_HEADER {
         return false;
     }
@@ -166,7 +166,7 @@ fn is_word_type(type_: u32) -> bool {
 
 /// The place behind so many bytes of a header from a place on, and behind a key and flags where `keyed` is set.
 #[cfg_attr(not(debug_assertions), inline(always))]
-pub fn place_behind(bytes: &[u8], at: usize, header: usize, keyed: bool) -> usize {
+pub(crate) fn place_behind(bytes: &[u8], at: usize, header: usize, keyed: bool) -> usize {
     if keyed {
         at + header + HEADER_LEN
     } else {
@@ -205,7 +205,7 @@ fn patch_pod(type_: u32, size: usize, pod: &mut [u8]) {
 
 /// Replaces a pod of this type and this size of a body, which holds no others, by its encoding, if that is as long.
 #[cfg_attr(not(debug_assertions), inline(always))]
-pub fn patch_leaf(type_: u32, size: usize, pod: &mut [u8]) {
+pub(crate) fn patch_leaf(type_: u32, size: usize, pod: &mut [u8]) {
     match SpaTypes(type_) {
         SpaTypes::Bool => patch_bool(size, pod),
         SpaTypes::Pointer => patch_pointer(size, pod),
@@ -271,7 +271,7 @@ pub(crate) fn patch_choice(size: usize, pod: &mut [u8]) {
 
 /// Replaces a choice of this shape, which takes so many bytes of values, by its encoding, if that is as long. Its size word isn't read.
 #[cfg_attr(not(debug_assertions), inline(always))]
-pub fn patch_values(shape: u32, len: usize, pod: &mut [u8]) {
+pub(crate) fn patch_values(shape: u32, len: usize, pod: &mut [u8]) {
     let type_ = u32_at(pod, VALUES_AT - WORD_LEN);
     let flags = written_flags(shape, u32_at(pod, HEADER_LEN + SECOND_WORD));
     let header = two_words((SECOND_HEADER + len) as u32, SpaTypes::Choice.0);
@@ -281,7 +281,7 @@ pub fn patch_values(shape: u32, len: usize, pod: &mut [u8]) {
 }
 
 /// How many bytes of values a choice of this shape takes, where one has this size, of all that it holds.
-pub fn taken_len(shape: u32, size: usize, all: usize) -> usize {
+pub(crate) fn taken_len(shape: u32, size: usize, all: usize) -> usize {
     match shape {
         NONE_SHAPE => size,
         RANGE_SHAPE => 3 * size,

@@ -4,11 +4,12 @@
 //! written over it. What nests too deep for that is read as a value, which is written.
 
 use crate::shims::prelude::*;
-use crate::parts::spa_rewrite::across::write_all;
 use crate::parts::spa_rewrite::leading::{canonical_pods, canonical_stretch, steady_pods};
 use crate::parts::spa_rewrite::look::{AcceptedPod, DEEP_BODY, FEW, Rejected, look_at_front, look_at_pods};
 use crate::parts::spa_rewrite::patch::patch_all;
+use crate::parts::spa_rewrite::source::Apart;
 use crate::parts::spa_rewrite::steady::Inside;
+use crate::parts::spa_rewrite::write::write_pods;
 use crate::parts::spa_bodies::error_at;
 use crate::parts::spa_fixed_sized::{DeserializeError, Refusal};
 use crate::parts::spa_read::{Refused, read_value};
@@ -256,7 +257,7 @@ fn append_pods(pods: &[u8], surplus: usize, out: &mut Vec<u8>) -> Option<()> {
         return None;
     };
     if surplus > 0 {
-        let len = write_all(pods, &mut out[at..]);
+        let len = write_pods(false, Apart { bytes: pods }, &mut out[at..]);
         out.truncate(at + len);
     } else {
         patch_all(&mut out[at..]);

@@ -5,7 +5,7 @@ pub mod Steps
 pub mod Objects
 pub mod Plain
 pub mod Passing
-pub mod Settled
+pub mod FixedObjects
 pub mod CommonPods
 pub mod EnumValues
 pub mod RangeValues

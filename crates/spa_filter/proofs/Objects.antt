@@ -9,8 +9,8 @@ use Rattle.spa_value.specs.Views.{property_views}
 use Rattle.spa_value.specs.ObjectLaws.{ObjectsHaveTheirFields, ObjectsAreMadeOfFields}
 use Rattle.spa_filter.specs.declared.error.FilterError.{FilterError}
 use Rattle.spa_filter.specs.declared.error.FilterError.TheVariants.{TypeMismatch}
-use Rattle.spa_keyed_objects.specs.Keys.{keys_of}
-use Rattle.spa_filter.specs.Filtering.{FiltersKeys, AgreeAt, IsFilter, CanFilter}
+use Rattle.spa_keyed_objects.specs.Keys.{AtKey, HoldsAtKeys, keys_of}
+use Rattle.spa_filter.specs.Filtering.{Agree, CanFilter, Filters, IsFilter}
 use Rattle.spa_filter.specs.Settling.{settled_properties, settled_of}
 use Rattle.spa_filter.specs.Refusals.{IsRefusal, AreRefused}
 use Rattle.spa_filter.proofs.Agreeing.{AreRefused-properties}
@@ -54,7 +54,7 @@ module _ (fields : ObjectsHaveTheirFields) (made : ObjectsAreMadeOfFields) (o p 
         both (λ v w. AreRefused v w e) refused
 
     pub objects_filter : (rs : Vec Property Global) →
-        FiltersKeys (property_views xs) (property_views ys) (join_properties (property_views xs) (property_views ys))
+        HoldsAtKeys Filters (property_views xs) (property_views ys) (join_properties (property_views xs) (property_views ys))
         (property_views rs.items) →
         let f = out-Object o in
         let met = roll-Object (record { type_ = f.type_; id = f.id; properties = rs }) in
@@ -67,7 +67,7 @@ module _ (fields : ObjectsHaveTheirFields) (made : ObjectsAreMadeOfFields) (o p 
         both (λ v w. IsFilter v w (object_view met)) one_type
 
     pub objects_can :
-        All (AgreeAt (property_views xs) (property_views ys))
+        All (AtKey Agree (property_views xs) (property_views ys))
         (keys_of (join_properties (property_views xs) (property_views ys))) →
         CanFilter (object_view o) (object_view p)
     objects_can agree = both CanFilter (sym one, agree)

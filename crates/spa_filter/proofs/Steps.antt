@@ -7,15 +7,17 @@ use Rattle.spa_value.specs.declared.object.Property.{Property}
 use Rattle.spa_value.specs.View.{view}
 use Rattle.spa_value.specs.Views.{property_views, property_view}
 use Rattle.spa_value.specs.ObjectLaws.{PropertyListsGoOn, PropertyListsAreCut}
-use Rattle.spa_keyed_objects.specs.Keys.{key_list}
+use Rattle.spa_keyed_objects.specs.Keys.{AtKey, HoldsAtKeys, key_list}
 use Rattle.spa_keyed_objects.specs.PropertyLists.{HasKeys, IsAdded, IsPushed, found_at}
+use Rattle.spa_keyed_objects.proofs.Holding.{HoldsAtKeys-seen, HoldsAtKeys-new}
+use Rattle.spa_keyed_objects.proofs.Lookups.{offered_at-either}
 use Rattle.spa_keyed_objects.proofs.KeySets.{join_properties-assoc, there, absent, more_keys}
 use Rattle.spa_filter.specs.declared.error.FilterError.{FilterError}
 use Rattle.spa_filter.specs.declared.filtering.Filtered.{Filtered}
-use Rattle.spa_filter.specs.Filtering.{Filters, FiltersKeys, Agree, AgreeAt}
+use Rattle.spa_filter.specs.Filtering.{Filters, Agree}
 use Rattle.spa_filter.specs.PropertyLists.{IsFiltered, IsPart}
 use Rattle.spa_filter.specs.Refusals.{IsKeyRefusal, IsRefusal}
-use Rattle.spa_filter.proofs.Agreeing.{FiltersKeys-seen, FiltersKeys-new, IsRefusal-next, AgreeAt-push, found_there}
+use Rattle.spa_filter.proofs.Agreeing.{IsRefusal-next, Agree-push}
 
 -- what stands before a side, and the side's properties up to the i-th
 abbrev pub these : (before side : List Property) → ℕ → Properties
@@ -47,12 +49,6 @@ module _ (go_on : PropertyListsGoOn) (are_cut : PropertyListsAreCut) (ours their
       (sym (join_properties-assoc (property_views before) (property_views (take i side)) behind))
       ∙ join_properties-assoc (these before side i) behind part.rest
 
-  -- its key is found on one of the sides
-  pub key_found : found_at p.key ours ≡ None → ¬ (found_at p.key theirs ≡ None)
-  key_found =
-      found_there (property_views ours) (property_views theirs) (these before side i)
-      (join_properties after part.rest) p.key p.flags.0 (view p.value) at
-
   -- its key was added to the keys, in which it was new or not
   module _ (is_new : Bool) (keys : BTreeSet ℕ) (added : IsAdded f.keys p.key is_new keys) where
     keys_now : HasKeys keys (these before side (i + 1))
@@ -63,9 +59,9 @@ module _ (go_on : PropertyListsGoOn) (are_cut : PropertyListsAreCut) (ours their
     seen was =
         record {
           filters =
-              subst (λ ss. FiltersKeys (property_views ours) (property_views theirs) ss met) one_more
-              (FiltersKeys-seen (property_views ours) (property_views theirs) (these before side i) met p.key h.filters
-              p.flags.0 (view p.value) (there p f.keys keys is_new added (these before side i) h.keys was));
+              subst (λ ss. HoldsAtKeys Filters (property_views ours) (property_views theirs) ss met) one_more
+              (HoldsAtKeys-seen Filters (property_views ours) (property_views theirs) (these before side i) met h.filters
+              p.key p.flags.0 (view p.value) (there p f.keys keys is_new added (these before side i) h.keys was));
           agree = h.agree;
           keys = keys_now;
         }
@@ -78,17 +74,23 @@ module _ (go_on : PropertyListsGoOn) (are_cut : PropertyListsAreCut) (ours their
     new was q now same pushed kept filters agree =
         let pushed_here = pushed ∙ ap (λ k. join_properties met (property k q.flags.0 (view q.value) no_properties)) same in
         let added =
-        FiltersKeys-new (property_views ours) (property_views theirs) (these before side i) met p.key h.filters
-        p.flags.0 q.flags.0 (view p.value) (view q.value) (absent p f.keys keys is_new added (these before side i) h.keys was) filters in
+        HoldsAtKeys-new Filters (property_views ours) (property_views theirs) (these before side i) met h.filters
+        p.key p.flags.0 (view p.value) (absent p f.keys keys is_new added (these before side i) h.keys was) q.flags.0 (view q.value) filters in
         let all =
-        AgreeAt-push (property_views ours) (property_views theirs) met p.key q.flags.0 (view q.value) h.agree agree in
+        Agree-push (property_views ours) (property_views theirs) met p.key q.flags.0 (view q.value) h.agree agree in
         record {
           filters =
-              subst (λ rs. FiltersKeys (property_views ours) (property_views theirs) (these before side (i + 1)) rs) (sym pushed_here)
-              (subst (λ ss. FiltersKeys (property_views ours) (property_views theirs) ss (join_properties met (property p.key q.flags.0 (view q.value) no_properties))) one_more added);
-          agree = subst (λ rs. All (AgreeAt (property_views ours) (property_views theirs)) (key_list rs)) (sym pushed_here) all;
+              subst (λ rs. HoldsAtKeys Filters (property_views ours) (property_views theirs) (these before side (i + 1)) rs) (sym pushed_here)
+              (subst (λ ss. HoldsAtKeys Filters (property_views ours) (property_views theirs) ss (join_properties met (property p.key q.flags.0 (view q.value) no_properties))) one_more added);
+          agree = subst (λ rs. All (AtKey Agree (property_views ours) (property_views theirs)) (key_list rs)) (sym pushed_here) all;
           keys = subst (λ ks. HasKeys ks (these before side (i + 1))) (sym kept) keys_now;
         }
+
+    -- its key was not there, and is found on one of the sides
+    pub key_found : is_new ≡ true → found_at p.key ours ≡ None → ¬ (found_at p.key theirs ≡ None)
+    key_found was =
+        offered_at-either (property_views ours) (property_views theirs) (these before side i)
+        (join_properties after part.rest) p.key p.flags.0 (view p.value) at (absent p f.keys keys is_new added (these before side i) h.keys was)
 
     -- its key was not there, and is refused
     pub refused : is_new ≡ true → (why : FilterError) →
@@ -96,4 +98,4 @@ module _ (go_on : PropertyListsGoOn) (are_cut : PropertyListsAreCut) (ours their
         IsRefusal (property_views ours) (property_views theirs) why
     refused was why r =
         IsRefusal-next (property_views ours) (property_views theirs) (these before side i) met p.key h.filters
-        p.flags.0 (view p.value) (join_properties after part.rest) why at h.agree (absent p f.keys keys is_new added (these before side i) h.keys was) r
+        p.flags.0 (view p.value) (join_properties after part.rest) at h.agree (absent p f.keys keys is_new added (these before side i) h.keys was) why r

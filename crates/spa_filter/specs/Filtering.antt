@@ -1,8 +1,8 @@
 -- When two objects can be filtered, and what their filter is: docs/NEGOTIATION.md, "To filter".
 use Rattle.std.specs.Prelude.{⊤, ◌≡◌, ℕ, Option, Some, None, bit_and}
 use Rattle.std.specs.List.{All}
-use Rattle.spa_format.specs.Tree.{Tree, object, Properties, no_properties, property, join_properties}
-use Rattle.spa_keyed_objects.specs.Keys.{Offered, key_list, keys_of, offered_at}
+use Rattle.spa_format.specs.Tree.{Tree, object, join_properties}
+use Rattle.spa_keyed_objects.specs.Keys.{AtKey, HoldsAtKeys, Offered, keys_of}
 use Rattle.spa_filter_offers.specs.Admits.{AreSupported, HasCommon, IsMeeting}
 use Rattle.spa_filter.specs.Keys.{IsMandatory}
 
@@ -14,18 +14,6 @@ Filters (Some a) None flags x = (flags ≡ a.flags) × (x ≡ a.value)
 Filters None (Some b) flags x = (flags ≡ b.flags) × (x ≡ b.value)
 Filters None None flags x = ⊥
 
--- each property has the flags and the value to which the two sides filter under its key
-abbrev pub FiltersEach : (ours theirs : Properties) → Properties → Type 0
-FiltersEach ours theirs no_properties = ⊤
-FiltersEach ours theirs (property key flags x rest) =
-    Filters (offered_at key ours) (offered_at key theirs) flags x × FiltersEach ours theirs rest
-
--- met has each key of these properties once, in the order in which they first occur, with the flags and the value to which
--- the two sides filter under it
-pub record FiltersKeys (ours theirs these met : Properties) : Type 0 where
-  pub keys : key_list met ≡ keys_of these
-  pub values : FiltersEach ours theirs met
-
 -- the two sides agree under a key: where both have it, both values are supported and some value is admitted by
 -- both; where one has it, it isn't mandatory there
 abbrev pub Agree : Option Offered → Option Offered → Type 0
@@ -34,14 +22,10 @@ Agree (Some a) None = ¬ (IsMandatory a.flags)
 Agree None (Some b) = ¬ (IsMandatory b.flags)
 Agree None None = ⊤
 
--- the two sides, with these properties, agree under this key
-abbrev pub AgreeAt : Properties → Properties → ℕ → Type 0
-AgreeAt ours theirs key = Agree (offered_at key ours) (offered_at key theirs)
-
 -- the two objects are of one type, and agree under each key of either
 abbrev pub CanFilter : Tree → Tree → Type 0
 CanFilter (object type our_id ours) (object its_type its_id theirs) =
-    (its_type ≡ type) × All (AgreeAt ours theirs) (keys_of (join_properties ours theirs))
+    (its_type ≡ type) × All (AtKey Agree ours theirs) (keys_of (join_properties ours theirs))
 CanFilter _ _ = ⊥
 
 -- The two objects, of one type, filter to the third, which has that type and the first's id. It has the keys of the first and then
@@ -49,5 +33,5 @@ CanFilter _ _ = ⊥
 abbrev pub IsFilter : Tree → Tree → Tree → Type 0
 IsFilter (object type our_id ours) (object its_type its_id theirs) (object met_type met_id met) =
     (its_type ≡ type) × (met_type ≡ type) × (met_id ≡ our_id)
-    × FiltersKeys ours theirs (join_properties ours theirs) met
+    × HoldsAtKeys Filters ours theirs (join_properties ours theirs) met
 IsFilter _ _ _ = ⊥

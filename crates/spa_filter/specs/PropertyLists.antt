@@ -4,16 +4,16 @@ use Rattle.std.specs.List.{All}
 use Rattle.spa_format.specs.Tree.{Properties, join_properties}
 use Rattle.spa_value.specs.declared.object.Property.{Property}
 use Rattle.spa_value.specs.Views.{property_views}
-use Rattle.spa_keyed_objects.specs.Keys.{key_list}
+use Rattle.spa_keyed_objects.specs.Keys.{AtKey, HoldsAtKeys, key_list}
 use Rattle.spa_keyed_objects.specs.PropertyLists.{HasKeys}
-use Rattle.spa_filter.specs.Filtering.{FiltersKeys, AgreeAt}
+use Rattle.spa_filter.specs.Filtering.{Agree, Filters}
 use Rattle.spa_filter.specs.declared.filtering.Filtered.{Filtered}
 
 -- the outcome so far has the properties to which the two sides filter under these keys, the sides agree under each,
 -- and the set has the keys
 pub record IsFiltered (ours theirs : List Property) (these : Properties) (f : Filtered) : Type 0 where
-  pub filters : FiltersKeys (property_views ours) (property_views theirs) these (property_views f.met.properties.items)
-  pub agree : All (AgreeAt (property_views ours) (property_views theirs))
+  pub filters : HoldsAtKeys Filters (property_views ours) (property_views theirs) these (property_views f.met.properties.items)
+  pub agree : All (AtKey Agree (property_views ours) (property_views theirs))
       (key_list (property_views f.met.properties.items))
   pub keys : HasKeys f.keys these
 

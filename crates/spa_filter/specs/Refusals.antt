@@ -1,11 +1,10 @@
 -- Why two objects aren't filtered: docs/NEGOTIATION.md, "To filter".
-use Rattle.std.specs.Prelude.{⊤, ◌≡◌, ℕ, List, ◌∷◌, ◌++◌, Option, Some, None}
-use Rattle.std.specs.List.{All}
+use Rattle.std.specs.Prelude.{⊤, ◌≡◌, ℕ, Option, Some, None}
 use Rattle.spa_format.specs.Tree.{Tree, object, Properties, join_properties}
-use Rattle.spa_keyed_objects.specs.Keys.{Offered, keys_of, offered_at}
+use Rattle.spa_keyed_objects.specs.Keys.{IsFirstRefused, Offered, keys_of}
 use Rattle.spa_filter_offers.specs.Admits.{AreSupported, HasCommon}
 use Rattle.spa_filter.specs.Keys.{IsMandatory}
-use Rattle.spa_filter.specs.Filtering.{AgreeAt}
+use Rattle.spa_filter.specs.Filtering.{Agree}
 use Rattle.spa_filter.specs.declared.error.FilterError.{FilterError}
 use Rattle.spa_filter.specs.declared.error.FilterError.TheVariants.{TypeMismatch, Missing, Unsupported, Disjoint, OutOfMemory}
 
@@ -25,14 +24,10 @@ abbrev pub AreDisjoint : Option Offered → Option Offered → Type 0
 AreDisjoint (Some a) (Some b) = AreSupported a.value b.value × ¬ (HasCommon a.value b.value)
 AreDisjoint _ _ = ⊥
 
--- of the keys of both sides, ours first, this is the first under which the two don't agree, and the refusal `Stands` holds there
-pub record IsRefusedAt (Stands : Option Offered → Option Offered → Type 0)
-    (ours theirs : Properties) (key : ℕ) : Type 0 where
-  pub before : List ℕ
-  pub after : List ℕ
-  pub order : keys_of (join_properties ours theirs) ≡ before ++ key ∷ after
-  pub agreed : All (AgreeAt ours theirs) before
-  pub stands : Stands (offered_at key ours) (offered_at key theirs)
+-- of the keys of both sides, ours first, this is the first under which the two don't agree, and the refusal stands there
+abbrev pub IsRefusedAt : (Stands : Option Offered → Option Offered → Type 0) → (ours theirs : Properties) → ℕ → Type 0
+IsRefusedAt Stands ours theirs key =
+    IsFirstRefused Agree Stands ours theirs (keys_of (join_properties ours theirs)) key
 
 -- the refusal is one of two values under this key
 abbrev pub IsValueRefusal : ℕ → Tree → Tree → FilterError → Type 0

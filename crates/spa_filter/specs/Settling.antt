@@ -1,8 +1,8 @@
 -- An object with each choice at its default, and how that settles a filter: docs/NEGOTIATION.md, "To filter".
-use Rattle.std.specs.Prelude.{⊤, ◌≡◌, Option, Some, None}
+use Rattle.std.specs.Prelude.{◌≡◌, ℕ, Option, Some, None}
 use Rattle.spa_format.specs.Tree.{Tree, object, Properties, no_properties, property, join_properties}
 use Rattle.spa_filter_offers.specs.Admits.{plain_of, IsCommon, IsPlain}
-use Rattle.spa_keyed_objects.specs.Keys.{Offered, key_list, keys_of, offered_at}
+use Rattle.spa_keyed_objects.specs.Keys.{HoldsAtKeys, Offered}
 use Rattle.spa_filter.specs.Filtering.{IsFilter}
 
 -- the properties, each with its plain value, or with the default of its choice
@@ -22,18 +22,16 @@ Settles (Some a) None x = x ≡ plain_of a.value
 Settles None (Some b) x = x ≡ plain_of b.value
 Settles None None x = ⊥
 
--- each property has a plain value that settles its key
-abbrev pub SettlesEach : (ours theirs : Properties) → Properties → Type 0
-SettlesEach ours theirs no_properties = ⊤
-SettlesEach ours theirs (property key flags x rest) =
-    IsPlain x × Settles (offered_at key ours) (offered_at key theirs) x × SettlesEach ours theirs rest
+-- x is a plain value that settles the key, whatever the flags are
+abbrev pub IsFixedAt : Option Offered → Option Offered → ℕ → Tree → Type 0
+IsFixedAt ours theirs flags x = IsPlain x × Settles ours theirs x
 
 -- The third object is a fixed one that the two sides admit: it has the type of both and the first's id, each key of
 -- either once, and a plain value under each that settles it.
 abbrev pub IsFixedFor : Tree → Tree → Tree → Type 0
 IsFixedFor (object type our_id ours) (object its_type its_id theirs) (object met_type met_id met) =
     (its_type ≡ type) × (met_type ≡ type) × (met_id ≡ our_id)
-    × (key_list met ≡ keys_of (join_properties ours theirs)) × SettlesEach ours theirs met
+    × HoldsAtKeys IsFixedAt ours theirs (join_properties ours theirs) met
 IsFixedFor _ _ _ = ⊥
 
 -- an object to which two filter, settled, is a fixed object that both admit

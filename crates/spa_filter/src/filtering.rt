@@ -2,11 +2,11 @@
 ghost use Rattle.std.specs.Prelude.{◌≡◌, IfErr, IfOk, None, OnOk, Some};
 ghost use Rattle.std.specs.List.{All};
 ghost use Rattle.spa_format.specs.Tree.{join_properties};
-ghost use Rattle.spa_keyed_objects.specs.Keys.{keys_of};
+ghost use Rattle.spa_keyed_objects.specs.Keys.{AtKey, HoldsAtKeys, keys_of};
 ghost use Rattle.spa_keyed_objects.specs.PropertyLists.{IsKeyed, found_at, offered_by};
 ghost use Rattle.spa_value.specs.View.{object_view, view};
 ghost use Rattle.spa_value.specs.Views.{property_views};
-ghost use Rattle.spa_filter.specs.Filtering.{Agree, AgreeAt, CanFilter, Filters, FiltersKeys, IsFilter};
+ghost use Rattle.spa_filter.specs.Filtering.{Agree, CanFilter, Filters, IsFilter};
 ghost use Rattle.spa_filter.specs.Keys.{IsMandatory};
 ghost use Rattle.spa_filter.specs.PropertyLists.{IsFiltered, IsPart};
 ghost use Rattle.spa_filter.specs.Refusals.{AreRefused, IsKeyRefusal, IsRefusal, OnDisagreement};
@@ -64,8 +64,8 @@ struct Filtered {
 
 /// The properties of the object to which two objects with these properties are filtered.
 fn filter_lists(alloc: Global, a: &[Property], b: &[Property]) -> Result<Vec<Property>, FilterError>
-    ensures filters { IfOk result (λ met. FiltersKeys (property_views a.now) (property_views b.now) (join_properties (property_views a.now) (property_views b.now)) (property_views met.items)) }
-    ensures agreed { OnOk result (All (AgreeAt (property_views a.now) (property_views b.now)) (keys_of (join_properties (property_views a.now) (property_views b.now)))) }
+    ensures filters { IfOk result (λ met. HoldsAtKeys Filters (property_views a.now) (property_views b.now) (join_properties (property_views a.now) (property_views b.now)) (property_views met.items)) }
+    ensures agreed { OnOk result (All (AtKey Agree (property_views a.now) (property_views b.now)) (keys_of (join_properties (property_views a.now) (property_views b.now)))) }
     ensures cause { IfErr result (IsRefusal (property_views a.now) (property_views b.now)) }
 {
     let ours = Keyed::new(alloc, a)?;

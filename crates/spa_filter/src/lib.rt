@@ -17,6 +17,6 @@ mod values;
 pub use common_pods::put_common;
 pub use error::FilterError;
 pub use filtering::filter;
-pub use settling::settle;
+pub use settling::{into_settled, settle, settled};
 pub use spa_keyed_objects::Side;
 pub use values::common;

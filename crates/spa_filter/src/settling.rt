@@ -48,12 +48,22 @@ fn settled_list(alloc: Global, properties: &[Property]) -> Result<Vec<Property>,
 }
 
 /// A copy of the value where it is plain, and the default where it is a choice. Refused only for want of memory.
-fn settled(value: &Value) -> Result<Value, AllocError>
+pub fn settled(value: &Value) -> Result<Value, AllocError>
     ensures { IfOk result (λ settled. view settled ≡ plain_of (view value.now)) }
 {
     match value {
         Value::Choice(choice) => Ok(settled_choice(choice)),
         _ => Ok(value.clone()?),
+    }
+}
+
+/// The value itself where it is plain, and the default where it is a choice.
+pub fn into_settled(value: Value) -> Value
+    ensures { view result ≡ plain_of (view value) }
+{
+    match value {
+        Value::Choice(choice) => settled_choice(&choice),
+        plain => plain,
     }
 }
 

@@ -11,16 +11,18 @@ use Rattle.spa_object_view.specs.Written.{AreBehind, AreWritten, BeginsWritten, 
 use Rattle.spa_object_view.proofs.Both.{begin_both}
 use Rattle.spa_object_view.proofs.Joined.{behind_none, behind_on, join_properties-assoc, object_large, object_written}
 use Rattle.spa_object_view.proofs.Sides.{IsNext}
-use Rattle.spa_filter.specs.Filtering.{AgreeAt, CanFilter}
-use Rattle.spa_keyed_objects.specs.Keys.{contains, key_list, keys_of, offered_at}
+use Rattle.spa_filter.specs.Filtering.{Agree, CanFilter, Filters}
+use Rattle.spa_keyed_objects.specs.Keys.{AtKey, contains, key_list, keys_of, offered, offered_at}
+use Rattle.spa_keyed_objects.proofs.Holding.{HoldsAtKeys-new, HoldsAtKeys-none, HoldsAtKeys-seen, first_lacks, second_offers}
+use Rattle.spa_keyed_objects.proofs.Lookups.{offered_at-absent, offered_at-joined}
 use Rattle.spa_filter.specs.Refusals.{AreRefused, IsKeyRefusal, IsRefusal}
 use Rattle.spa_filter.specs.declared.error.FilterError.{FilterError}
 use Rattle.spa_filter.specs.declared.error.FilterError.TheVariants.{Missing, Unsupported, Disjoint, OutOfMemory}
-use Rattle.spa_filter.proofs.Agreeing.{AgreeAt-push, AreRefused-properties, FiltersKeys-new, FiltersKeys-seen, IsRefusal-next}
+use Rattle.spa_filter.proofs.Agreeing.{Agree-push, AreRefused-properties, IsRefusal-next}
 use Rattle.spa_filter_pods.specs.Fronts.{FilterIn, FilterTooLarge}
-use Rattle.spa_filter_pods.specs.Written.{AreViewsRefused, IsFilteredBehind, IsPutAs, IsPutBehind, IsPutBy, offered}
+use Rattle.spa_filter_pods.specs.Written.{AreViewsRefused, IsFilteredBehind, IsPutAs, IsPutBehind, IsPutBy}
 use Rattle.spa_filter_pods.specs.declared.answer.Answer.{Answer}
-use Rattle.spa_filter_pods.proofs.Lookups.{has_contains, offered_at-absent, offered_at-before, offered_at-behind, offered_at-joined}
+use Rattle.spa_filter_pods.proofs.Lookups.{has_contains}
 
 -- what was too large stays so behind others, and before them
 large_before : (ps qs : Properties) → SomeValueTooLarge ps → SomeValueTooLarge (join_properties ps qs)
@@ -55,7 +57,7 @@ pub seen : {ps qs these : Properties} {head : List ℕ} {out : Answer} (k f : �
 seen {ps} {qs} {these} k f v there m =
     record {
       met = m.met;
-      filters = FiltersKeys-seen ps qs these m.met k m.filters f v (sym (has_contains k these) ∙ there);
+      filters = HoldsAtKeys-seen Filters ps qs these m.met m.filters k f v (sym (has_contains k these) ∙ there);
       agree = m.agree;
       held = m.held;
     }
@@ -67,8 +69,8 @@ put : (ps qs these : Properties) (head : List ℕ) (old new : Answer) (k f : ℕ
 put ps qs these head old new k f v fresh l p m =
     record {
       met = join_properties m.met (property k p.flags p.value no_properties);
-      filters = FiltersKeys-new ps qs these m.met k m.filters f p.flags v p.value (sym (has_contains k these) ∙ fresh) p.filters;
-      agree = AgreeAt-push ps qs m.met k p.flags p.value m.agree p.agree;
+      filters = HoldsAtKeys-new Filters ps qs these m.met m.filters k f v (sym (has_contains k these) ∙ fresh) p.flags p.value p.filters;
+      agree = Agree-push ps qs m.met k p.flags p.value m.agree p.agree;
       held = held_on k p.flags p.value m.met head old new l m.held p.put;
     }
 
@@ -86,8 +88,8 @@ module _ {ps qs : Properties} {b left pod rest head : List ℕ} {old : Answer} {
   first_refused e r =
       let along = ap (λ z. join_properties z qs) n.all ∙ join_properties-assoc n.done (property k f n.value n.behind) qs in
       let refused = subst (λ o. IsKeyRefusal k o (offered_at k qs) e) (sym offered_first) r in
-      IsRefusal-next ps qs n.done n.holds.met k n.holds.filters f n.value (join_properties n.behind qs) e along n.holds.agree
-      (sym (has_contains k n.done) ∙ fresh) refused
+      IsRefusal-next ps qs n.done n.holds.met k n.holds.filters f n.value (join_properties n.behind qs) along n.holds.agree
+      (sym (has_contains k n.done) ∙ fresh) e refused
 
 -- and one that the second side alone has
 module _ {ps qs : Properties} {b left pod rest head : List ℕ} {old : Answer} {k f bound : ℕ}
@@ -96,12 +98,10 @@ module _ {ps qs : Properties} {b left pod rest head : List ℕ} {old : Answer} {
   absent = sym (has_contains k (join_properties ps n.done)) ∙ fresh
 
   none_offered : offered_at k ps ≡ None
-  none_offered = offered_at-before k ps n.done (offered_at-absent k (join_properties ps n.done) absent)
+  none_offered = first_lacks ps n.done k absent
 
   offered_other : offered_at k qs ≡ Some (offered f n.value)
-  offered_other =
-      offered_at-joined k f n.value n.done n.behind qs n.all
-      (sym (offered_at-behind k ps n.done none_offered) ∙ offered_at-absent k (join_properties ps n.done) absent)
+  offered_other = second_offers ps qs n.done n.behind k f n.value n.all absent
 
   pub other_put : {new : Answer} → k < 2 ^ 32 → IsPutBy None (Some (offered f n.value)) k old new →
       IsFilteredBehind ps qs (join_properties (join_properties ps n.done) (property k f n.value no_properties)) head new
@@ -111,7 +111,7 @@ module _ {ps qs : Properties} {b left pod rest head : List ℕ} {old : Answer} {
   other_refused e r =
       let along = ap (join_properties ps) n.all ∙ sym (join_properties-assoc ps n.done (property k f n.value n.behind)) in
       let refused : IsKeyRefusal k (offered_at k ps) (offered_at k qs) e = rw (none_offered, offered_other) r in
-      IsRefusal-next ps qs (join_properties ps n.done) n.holds.met k n.holds.filters f n.value n.behind e along n.holds.agree absent refused
+      IsRefusal-next ps qs (join_properties ps n.done) n.holds.met k n.holds.filters f n.value n.behind along n.holds.agree absent e refused
 
 held_none : (head : List ℕ) (b : Bool) → b ≡ false → MatchBool b (SomeValueTooLarge no_properties) (AreBehind no_properties head head)
 held_none head true e = absurd (true≢false e)
@@ -121,8 +121,8 @@ held_none head false e = behind_none head
 pub none_passed : (ps qs : Properties) (out : Answer) → out.is_large ≡ false → IsFilteredBehind ps qs no_properties out.bytes.items out
 none_passed ps qs out e = record {
   met = no_properties;
-  filters = record { keys = refl; values = tt };
-  agree = All-nil (AgreeAt ps qs);
+  filters = HoldsAtKeys-none Filters ps qs;
+  agree = All-nil (AtKey Agree ps qs);
   held = held_none out.bytes.items out.is_large e;
 }
 
@@ -168,7 +168,7 @@ module _ (a b ours theirs first : List ℕ) (second third : Answer) (t i u j : �
       let qs = k.values in
       let n = all_filtered in
       let held = subst (λ head. AreBehind n.met head third.bytes.items) o (small_held third.is_large z n.held) in
-      let agreed : All (AgreeAt ps qs) (keys_of (join_properties ps qs)) = subst (All (AgreeAt ps qs)) n.filters.keys n.agree in
+      let agreed : All (AtKey Agree ps qs) (keys_of (join_properties ps qs)) = subst (All (AtKey Agree ps qs)) n.filters.keys n.agree in
       let w = object_written t i n.met third.bytes.items bytes ft fi held s d in
       record {
         can = begin_both h k (sym e, agreed);

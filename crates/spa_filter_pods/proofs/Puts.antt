@@ -12,7 +12,8 @@ use Rattle.spa_filter.specs.Keys.{IsMandatory}
 use Rattle.spa_filter.specs.Refusals.{IsKeyRefusal}
 use Rattle.spa_filter.specs.declared.error.FilterError.{FilterError}
 use Rattle.spa_filter.specs.declared.error.FilterError.TheVariants.{Unsupported, Disjoint, TooLarge, OutOfMemory}
-use Rattle.spa_filter_pods.specs.Written.{IsPutAs, IsPutBehind, IsPutBy, offered}
+use Rattle.spa_keyed_objects.specs.Keys.{offered}
+use Rattle.spa_filter_pods.specs.Written.{IsPutAs, IsPutBehind, IsPutBy}
 use Rattle.spa_filter_pods.specs.declared.answer.Answer.{Answer}
 
 -- the word for what is written, of the crate below

@@ -5,18 +5,14 @@ use Rattle.spa_format.specs.Words.{size_limit, word_bytes}
 use Rattle.spa_format.specs.Tree.{Tree, Properties}
 use Rattle.spa_format.specs.Writable.{IsTooLarge, SomeValueTooLarge}
 use Rattle.spa_object_view.specs.Written.{AreBehind, IsWritten}
-use Rattle.spa_keyed_objects.specs.Keys.{Offered, key_list}
-use Rattle.spa_filter.specs.Filtering.{Agree, AgreeAt, Filters, FiltersKeys}
+use Rattle.spa_keyed_objects.specs.Keys.{AtKey, HoldsAtKeys, Offered, key_list}
+use Rattle.spa_filter.specs.Filtering.{Agree, Filters}
 use Rattle.spa_filter.specs.Refusals.{AreRefused}
 use Rattle.spa_filter.specs.declared.error.FilterError.{FilterError}
 use Rattle.spa_filter.specs.declared.error.FilterError.TheVariants.{TooLarge}
 use Rattle.spa_object_view.specs.Fronts.{BeginBoth}
 use Rattle.spa_filter_pods.specs.Fronts.{FilterTooLarge}
 use Rattle.spa_filter_pods.specs.declared.answer.Answer.{Answer}
-
--- the flags and the value of a property
-abbrev pub offered : ℕ → Tree → Offered
-offered flags value = record { flags = flags; value = value }
 
 -- a property with this key, these flags and this value was appended, canonical
 pub record IsPutBehind (key flags : ℕ) (value : Tree) (old new : Answer) : Type 0 where
@@ -43,8 +39,8 @@ pub record IsPutBy (ours theirs : Option Offered) (key : ℕ) (old new : Answer)
 -- each; or the properties can't be written
 pub record IsFilteredBehind (ours theirs these : Properties) (head : List ℕ) (out : Answer) : Type 0 where
   pub met : Properties
-  pub filters : FiltersKeys ours theirs these met
-  pub agree : All (AgreeAt ours theirs) (key_list met)
+  pub filters : HoldsAtKeys Filters ours theirs these met
+  pub agree : All (AtKey Agree ours theirs) (key_list met)
   pub held : MatchBool out.is_large (SomeValueTooLarge met) (AreBehind met head out.bytes.items)
 
 -- the bytes of an outcome that has all its properties

@@ -3,7 +3,8 @@ ghost use Rattle.std.specs.Prelude.{◌≡◌, IfErr, IfOk, None, OnOk, Some, fa
 ghost use Rattle.spa_format.specs.Tree.{Tree};
 ghost use Rattle.spa_filter.specs.Refusals.{IsKeyRefusal};
 ghost use Rattle.spa_filter.specs.declared.error.FilterError.TheVariants.{OutOfMemory};
-ghost use Rattle.spa_filter_pods.specs.Written.{IsEnded, IsPutBy, IsUnended, offered};
+ghost use Rattle.spa_keyed_objects.specs.Keys.{offered};
+ghost use Rattle.spa_filter_pods.specs.Written.{IsEnded, IsPutBy, IsUnended};
 ghost use Rattle.spa_object_view.specs.Written.{IsWritten, open_header};
 
 use crate::common_pods::put_met;

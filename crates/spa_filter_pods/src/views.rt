@@ -3,10 +3,10 @@ ghost use Rattle.std.specs.Prelude.{◌≡◌, ◌<◌, IfErr, IfOk, List, None,
 ghost use Rattle.spa_format.specs.Tree.{Properties, Tree, join_properties};
 ghost use Rattle.spa_format.specs.Words.{size_limit};
 ghost use Rattle.spa_filter.specs.Filtering.{CanFilter};
-ghost use Rattle.spa_keyed_objects.specs.Keys.{offered_at};
+ghost use Rattle.spa_keyed_objects.specs.Keys.{offered, offered_at};
 ghost use Rattle.spa_filter.specs.Refusals.{IsKeyRefusal, IsRefusal};
 ghost use Rattle.spa_filter_pods.specs.Fronts.{FilterIn};
-ghost use Rattle.spa_filter_pods.specs.Written.{AreViewsRefused, IsFilteredBehind, IsPutBy, offered};
+ghost use Rattle.spa_filter_pods.specs.Written.{AreViewsRefused, IsFilteredBehind, IsPutBy};
 ghost use Rattle.spa_object_view.specs.Fronts.{BeginBoth, BeginsView};
 ghost use Rattle.spa_object_view.specs.KeyOrder.{IsKeyed};
 ghost use Rattle.spa_object_view.specs.Written.{AreWritten, IsWritten};

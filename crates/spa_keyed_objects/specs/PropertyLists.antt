@@ -8,7 +8,7 @@ use Rattle.spa_format.specs.Tree.{Properties, no_properties, property, join_prop
 use Rattle.spa_value.specs.declared.object.Property.{Property}
 use Rattle.spa_value.specs.View.{view}
 use Rattle.spa_value.specs.Views.{property_views}
-use Rattle.spa_keyed_objects.specs.Keys.{Offered, offered_at, key_list, contains}
+use Rattle.spa_keyed_objects.specs.Keys.{Offered, offered, offered_at, key_list, contains}
 use Rattle.spa_keyed_objects.specs.declared.keyed.Keyed.{Keyed}
 
 -- the flags and the value of the first of these properties with the key; None where none has it
@@ -17,7 +17,7 @@ found_at key properties = offered_at key (property_views properties)
 
 -- the flags and the value of a property
 abbrev pub offered_by : Property → Offered
-offered_by p = record { flags = p.flags.0; value = view p.value }
+offered_by p = offered p.flags.0 (view p.value)
 
 -- the flags and the value that were found are those of the property at this index, or nothing was found
 abbrev pub IsFoundAt : List Property → Option Offered → Option ℕ → Type 0

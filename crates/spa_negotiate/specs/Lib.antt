@@ -1,5 +1,5 @@
 pub use Rattle.spa_negotiate_objects.specs.Admits
-pub use Rattle.spa_negotiate_objects.specs.Keys
+pub use Rattle.spa_keyed_objects.specs.Keys
 pub use Rattle.spa_negotiate_objects.specs.Meeting
 pub use Rattle.spa_negotiate_objects.specs.Refusals
 pub use Rattle.spa_negotiate_pods.specs.Fronts

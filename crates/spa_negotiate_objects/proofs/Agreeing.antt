@@ -1,150 +1,88 @@
--- What a value admits, by what it offers; and what follows where a value is admitted.
-use Rattle.std.proofs.Common.{◌≡◌, List, ◌∷◌, map, sym, subst, Option, Some, None}
-use Rattle.std.proofs.lemmas.List.Elements.{All-cons, All-map, All-contains}
-use Rattle.spa_format.specs.Kind.{id_kind, int_kind, long_kind}
-use Rattle.spa_format.specs.Tree.{none_choice, range_choice, enum_choice, Tree, fixed, choice}
-use Rattle.spa_negotiate_objects.specs.declared.offer.Rule.{Rule}
-use Rattle.spa_negotiate_objects.specs.declared.offer.Offer.{Offer}
-use Rattle.spa_negotiate_objects.specs.Admits.{IsPlain, IsSupported, IsAtMost, Admits, plain_of}
-use Rattle.std.specs.BTreeSet.{BTreeSet}
+-- Supported values; and two values by their refusal, their filter, and what is found of them.
+use Rattle.std.proofs.Common.{◌≡◌, ◌≢◌, ℕ, Bool, false, ◌&&◌, refl, sym, subst, Option, Some, None, Result, Ok, Err, IfOk, IfErr, OnOk}
+use Rattle.spa_format.specs.Kind.{Kind, id_kind, int_kind, long_kind}
+use Rattle.spa_format.specs.Tree.{none_choice, range_choice, enum_choice, Tree, choice}
 use Rattle.spa_value.specs.View.{view}
-use Rattle.spa_filter_offers.specs.declared.numbers.Numbers.{Numbers}
-use Rattle.spa_negotiate_objects.specs.Numbering.{HasAll}
-use Rattle.spa_negotiate_objects.specs.Offers.{rule_of, further_values_of, indexed_of, IsSupportedRule, IsIndexedBy, IsIndexed, AdmitsBy, IsOfferOf, OfferAdmits}
-use Rattle.spa_negotiate_objects.specs.Meeting.{Settles, Agree}
-
--- what a value admits is admitted by its rule, default and further values,
-AdmitsBy-value : (v x : Tree) → Admits v x → AdmitsBy (rule_of v) (plain_of v) (further_values_of v) x
-AdmitsBy-value (choice none_choice f k d vs) x h = h
-AdmitsBy-value (choice enum_choice f k d vs) x h = h
-AdmitsBy-value (choice range_choice f id_kind d (l ∷ m ∷ vs)) x h = (h.1, h.2)
-AdmitsBy-value (choice range_choice f int_kind d (l ∷ m ∷ vs)) x h = (h.1, h.2)
-AdmitsBy-value (choice range_choice f long_kind d (l ∷ m ∷ vs)) x h = (h.1, h.2)
-AdmitsBy-value (choice range_choice f k d (l ∷ m ∷ vs)) x h = absurd h.0
-AdmitsBy-value (choice range_choice f k d _) x h = absurd h
-AdmitsBy-value (choice _ f k d vs) x h = absurd h
-AdmitsBy-value v x h = h
-
--- and what these admit, the value does
-Admits-rule : (v x : Tree) → AdmitsBy (rule_of v) (plain_of v) (further_values_of v) x → Admits v x
-Admits-rule (choice none_choice f k d vs) x h = h
-Admits-rule (choice enum_choice f k d vs) x h = h
-Admits-rule (choice range_choice f id_kind d (l ∷ m ∷ vs)) x h = (tt, h.0, h.1)
-Admits-rule (choice range_choice f int_kind d (l ∷ m ∷ vs)) x h = (tt, h.0, h.1)
-Admits-rule (choice range_choice f long_kind d (l ∷ m ∷ vs)) x h = (tt, h.0, h.1)
-Admits-rule (choice range_choice f id_kind d _) x h = absurd h
-Admits-rule (choice range_choice f int_kind d _) x h = absurd h
-Admits-rule (choice range_choice f long_kind d _) x h = absurd h
-Admits-rule (choice range_choice f k d vs) x h = absurd h
-Admits-rule (choice _ f k d vs) x h = absurd h
-Admits-rule v x h = h
-
--- equal rules, defaults and further values admit the same
-AdmitsBy-same : (r s : Rule) (d e : Tree) (vs ws : List Tree) (x : Tree) → r ≡ s → d ≡ e → vs ≡ ws →
-    AdmitsBy r d vs x → AdmitsBy s e ws x
-AdmitsBy-same r s d e vs ws x p q t h =
-    subst (λ y. AdmitsBy s e y x) t
-    (subst (λ y. AdmitsBy s y vs x) q (subst (λ y. AdmitsBy y d vs x) p h))
-
--- what a value admits, its offer does,
-pub OfferAdmits-value : (v : Tree) (o : Offer) → IsOfferOf v o → (x : Tree) → Admits v x →
-    OfferAdmits o x
-OfferAdmits-value v o i x h =
-    AdmitsBy-same _ _ _ _ _ _ x (sym i.rule) (sym i.default) (sym i.values) (AdmitsBy-value v x h)
-
--- and what its offer admits, the value does
-pub Admits-offer : (v : Tree) (o : Offer) → IsOfferOf v o → (x : Tree) → OfferAdmits o x →
-    Admits v x
-Admits-offer v o i x h = Admits-rule v x (AdmitsBy-same _ _ _ _ _ _ x i.rule i.default i.values h)
-
--- what a value's rule looks up is in an index of the value's,
-IsIndexedBy-value : (v : Tree) (index : BTreeSet Numbers) → HasAll index (indexed_of v) →
-    IsIndexedBy (rule_of v) (plain_of v ∷ further_values_of v) index
-IsIndexedBy-value (choice none_choice f k d vs) index h = tt
-IsIndexedBy-value (choice enum_choice f k d vs) index h = h
-IsIndexedBy-value (choice range_choice f id_kind d vs) index h = tt
-IsIndexedBy-value (choice range_choice f int_kind d vs) index h = tt
-IsIndexedBy-value (choice range_choice f long_kind d vs) index h = tt
-IsIndexedBy-value (choice range_choice f k d vs) index h = tt
-IsIndexedBy-value (choice _ f k d vs) index h = tt
-IsIndexedBy-value v index h = tt
-
--- and so in that of its offer
-pub IsIndexed-offer : (v : Tree) (o : Offer) → IsOfferOf v o → HasAll o.index (indexed_of v) →
-    IsIndexed o
-IsIndexed-offer v o i h =
-    let own = IsIndexedBy-value v o.index h in
-    subst (λ r. IsIndexedBy r (view o.default ∷ map view o.values.items) o.index) (sym i.rule)
-    (subst (λ d. IsIndexedBy (rule_of v) (d ∷ map view o.values.items) o.index) (sym i.default)
-    (subst (λ vs. IsIndexedBy (rule_of v) (plain_of v ∷ vs) o.index) (sym i.values) own))
-
--- a supported value has the rule of one,
-pub IsSupportedRule-value : (v : Tree) → IsSupported v → IsSupportedRule (rule_of v)
-IsSupportedRule-value (choice none_choice f k d vs) h = tt
-IsSupportedRule-value (choice enum_choice f k d vs) h = tt
-IsSupportedRule-value (choice range_choice f id_kind d vs) h = tt
-IsSupportedRule-value (choice range_choice f int_kind d vs) h = tt
-IsSupportedRule-value (choice range_choice f long_kind d vs) h = tt
-IsSupportedRule-value (choice range_choice f k d vs) h = absurd h
-IsSupportedRule-value (choice _ f k d vs) h = absurd h
-IsSupportedRule-value v h = tt
-
--- and no other value has
-pub IsSupported-rule : (v : Tree) → IsSupportedRule (rule_of v) → IsSupported v
-IsSupported-rule (choice none_choice f k d vs) h = tt
-IsSupported-rule (choice enum_choice f k d vs) h = tt
-IsSupported-rule (choice range_choice f id_kind d vs) h = tt
-IsSupported-rule (choice range_choice f int_kind d vs) h = tt
-IsSupported-rule (choice range_choice f long_kind d vs) h = tt
-IsSupported-rule (choice range_choice f k d vs) h = absurd h
-IsSupported-rule (choice _ f k d vs) h = absurd h
-IsSupported-rule v h = tt
+use Rattle.spa_value.specs.declared.value.Value.{Value}
+use Rattle.spa_keyed_objects.specs.Keys.{Offered}
+use Rattle.spa_filter_order.specs.Order as order
+use Rattle.spa_filter_offers.specs.Admits as filters
+use Rattle.spa_filter.specs.Refusals as filters_not
+use Rattle.spa_filter.specs.declared.error.FilterError.{FilterError}
+use Rattle.spa_filter.specs.declared.error.FilterError.TheVariants as cause
+use Rattle.spa_negotiate_objects.specs.declared.error.NegotiateError.{NegotiateError}
+use Rattle.spa_negotiate_objects.specs.declared.error.NegotiateError.TheVariants.{Unsupported, Disjoint, OutOfMemory}
+use Rattle.spa_negotiate_objects.specs.Admits.{AreSupported, HasCommon, IsCommon, IsPlain, IsRangeKind, IsSupported, plain_of}
+use Rattle.spa_negotiate_objects.specs.Meeting.{IsMetAt}
+use Rattle.spa_negotiate_objects.specs.Refusals.{IsKeyRefusal, IsValueRefusal}
 
 -- a plain value is supported
 pub IsSupported-plain : (v : Tree) → IsPlain v → IsSupported v
 IsSupported-plain (choice s f k d vs) h = absurd h
 IsSupported-plain _ h = tt
 
--- a supported value's offer has a supported rule,
-pub IsSupportedRule-offer : (v : Tree) (o : Offer) → IsOfferOf v o → IsSupported v →
-    IsSupportedRule o.rule
-IsSupportedRule-offer v o i h = subst IsSupportedRule (sym i.rule) (IsSupportedRule-value v h)
+-- a default is plain
+pub IsPlain-plain_of : (v : Tree) → IsPlain (plain_of v)
+IsPlain-plain_of (choice s f k d vs) = tt
+IsPlain-plain_of _ = tt
 
--- and no other value's has
-pub IsSupported-offer : (v : Tree) (o : Offer) → IsOfferOf v o → IsSupportedRule o.rule →
-    IsSupported v
-IsSupported-offer v o i h = IsSupported-rule v (subst IsSupportedRule i.rule h)
+ordered : (k : Kind) → IsRangeKind k → order.IsOrderedKind k
+ordered id_kind h = tt
+ordered int_kind h = tt
+ordered long_kind h = tt
+ordered _ h = absurd h
 
--- what is at least another value is plain
-IsPlain-above : (l x : Tree) → IsAtMost l x → IsPlain x
-IsPlain-above (fixed l) (fixed x) h = tt
-IsPlain-above (fixed l) _ h = absurd h
-IsPlain-above _ x h = absurd h
+-- a supported value is supported to filter, and isn't Flags
+to_filter : (v : Tree) → IsSupported v → filters.IsSupported v × (filters.is_flags v ≡ false)
+to_filter (choice none_choice f k d vs) h = (tt, refl)
+to_filter (choice enum_choice f k d vs) h = (tt, refl)
+to_filter (choice range_choice f k d vs) h = (ordered k h, refl)
+to_filter (choice _ f k d vs) h = absurd h
+to_filter _ h = (tt, refl)
 
--- what is admitted is plain
-pub IsPlain-admitted : (v x : Tree) → Admits v x → IsPlain x
-IsPlain-admitted (choice none_choice f k d vs) x h = subst IsPlain (sym h) tt
-IsPlain-admitted (choice enum_choice f k d vs) x h =
-    let rest = map (λ v. fixed v) vs in
-    let each = All-map IsPlain (λ v. fixed v) vs (λ k e l. tt) in
-    All-contains IsPlain (fixed d ∷ rest) x (All-cons IsPlain (fixed d) rest tt each) h
-IsPlain-admitted (choice range_choice f k d (l ∷ m ∷ vs)) x h = IsPlain-above (fixed l) x h.1
-IsPlain-admitted (choice range_choice f k d _) x h = absurd h
-IsPlain-admitted (choice _ f k d vs) x h = absurd h
-IsPlain-admitted v x h = subst IsPlain (sym h) tt
+no_first : (p q : Bool) → p ≡ false → (p && q) ≡ false
+no_first p q e = subst (λ b. (b && q) ≡ false) (sym e) refl
 
--- a value that admits another one is supported
-IsSupported-admitting : (v x : Tree) → Admits v x → IsSupported v
-IsSupported-admitting (choice none_choice f k d vs) x h = tt
-IsSupported-admitting (choice enum_choice f k d vs) x h = tt
-IsSupported-admitting (choice range_choice f k d (l ∷ m ∷ vs)) x h = h.0
-IsSupported-admitting (choice range_choice f k d _) x h = absurd h
-IsSupported-admitting (choice _ f k d vs) x h = absurd h
-IsSupported-admitting v x h = tt
+no_second : (p q : Bool) → q ≡ false → (p && q) ≡ false
+no_second false q e = refl
+no_second _ q e = e
 
--- the two sides agree under a key that is settled
-pub Agree-settled : (o p : Option Tree) (x : Tree) → Settles o p x → Agree o p
-Agree-settled (Some v) (Some w) x h =
-    (IsSupported-admitting v x h.0, IsSupported-admitting w x h.1, (x, h))
-Agree-settled (Some v) None x h = tt
-Agree-settled None p x h = tt
+pair_to_filter : (v w : Tree) → AreSupported v w → filters.AreSupported v w
+pair_to_filter v w h =
+    let first = to_filter v h.0 in
+    let second = to_filter w h.1 in
+    (first.0, second.0, (no_first _ _ first.1, no_second _ _ second.1))
+
+-- two supported values that don't filter, but for want of memory, have no value in common
+pub none_in_common : (key : ℕ) (v w : Tree) (e : FilterError) → filters_not.IsValueRefusal key v w e → e ≢ cause.OutOfMemory →
+    AreSupported v w → ¬ (HasCommon v w)
+none_in_common key v w (cause.Unsupported k) h n s = absurd (h.1 (pair_to_filter v w s))
+none_in_common key v w (cause.Disjoint k) h n s = h.2
+none_in_common key v w cause.OutOfMemory h n s = absurd (n refl)
+none_in_common key v w _ h n s = absurd h
+
+-- what two values that stand under a key meet in, and why they don't, where `found` is what the other side offers there
+module _ (a b : Offered) (found : Option Offered) (is : found ≡ Some b) where
+  pub met_at : (r : Result Value NegotiateError) → IfOk r (λ x. IsPlain (view x)) → OnOk r (AreSupported a.value b.value) →
+      IfOk r (λ x. IsCommon a.value b.value (view x)) → IfOk r (λ x. IsMetAt (Some a) found 0 (view x))
+  met_at (Ok x) p s c = subst (λ o. IsMetAt (Some a) o 0 (view x)) (sym is) (refl, p, (s, (view x, c)), c)
+  met_at (Err e) p s c = tt
+
+  by_cause : (key : ℕ) (e : NegotiateError) → IsValueRefusal key a.value b.value e → IsKeyRefusal key (Some a) (Some b) e
+  by_cause key (Unsupported k) h = h
+  by_cause key (Disjoint k) h = (h.0, (h.1, h.2))
+  by_cause key OutOfMemory h = h
+  by_cause key _ h = h
+
+  pub refused_value : (key : ℕ) (e : NegotiateError) → IsValueRefusal key a.value b.value e → IsKeyRefusal key (Some a) found e
+  refused_value key e h = subst (λ o. IsKeyRefusal key (Some a) o e) (sym is) (by_cause key e h)
+
+  pub refused_at : (key : ℕ) (r : Result Value NegotiateError) → IfErr r (IsValueRefusal key a.value b.value) →
+      IfErr r (IsKeyRefusal key (Some a) found)
+  refused_at key (Ok x) h = tt
+  refused_at key (Err e) h = refused_value key e h
+
+-- what settles the key of one side alone
+pub met_alone : (a : Offered) (found : Option Offered) (x : Tree) → found ≡ None → x ≡ plain_of a.value → IsMetAt (Some a) found 0 x
+met_alone a found x is s =
+    subst (λ o. IsMetAt (Some a) o 0 x) (sym is) (refl, subst IsPlain (sym s) (IsPlain-plain_of a.value), tt, s)

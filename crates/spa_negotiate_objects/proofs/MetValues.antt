@@ -1,47 +1,35 @@
 -- What holds of the values of two objects, and of all values of fixed size, holds of those of the object in which they meet.
-use Rattle.std.proofs.Common.{◌≡◌, ℕ, ◌∷◌, ◌==◌, ◌∙◌, Bool, true, false, if◌then◌else◌, map, refl, sym, ap, subst, inl, inr, Option, Some, None}
-use Rattle.std.proofs.lemmas.List.Elements.{All-cons, All-map, All-contains}
+use Rattle.std.proofs.Common.{◌≡◌, ℕ, ◌==◌, ◌∙◌, Bool, true, false, if◌then◌else◌, refl, sym, ap, subst, inl, inr, Option, Some, None}
 use Rattle.spa_format.specs.Fixation.{are_settled, is_settled}
 use Rattle.spa_format.specs.Kind.{Fixed}
 use Rattle.spa_format.specs.Normal.{normal_of, normal_properties}
-use Rattle.spa_format.specs.Tree.{none_choice, range_choice, enum_choice, Tree, fixed, choice, object, Properties, no_properties, property}
+use Rattle.spa_format.specs.Tree.{Tree, fixed, choice, object, Properties, no_properties, property}
 use Rattle.spa_format.specs.Writable.{HasNul, SomeValueHasNul}
-use Rattle.spa_negotiate_objects.specs.Admits.{IsPlain, IsAtMost, Admits, plain_of}
-use Rattle.spa_negotiate_objects.specs.Keys.{value_at}
-use Rattle.spa_negotiate_objects.specs.Meeting.{Settles, SettlesEach, Meet}
+use Rattle.spa_keyed_objects.specs.Keys.{HoldsOfEach, Offered, offered, offered_at}
+use Rattle.spa_negotiate_objects.specs.Admits.{IsPlain, Admits, plain_of}
+use Rattle.spa_negotiate_objects.specs.Meeting.{IsMetAt, Meet, Settles}
 
 module _ (P : Tree → Type 0) (of_fixed : (x : Fixed) → P (fixed x)) where
   -- it holds of the value of each property
-  abbrev HoldsOfEach : Properties → Type 0
-  HoldsOfEach no_properties = Unit {0}
-  HoldsOfEach (property k f v ps) = P v × HoldsOfEach ps
+  abbrev AreAll : Properties → Type 0
+  AreAll no_properties = Unit {0}
+  AreAll (property k f v ps) = P v × AreAll ps
 
-  holds-found_by : (k : ℕ) (v x : Tree) (ps : Properties) (b : Bool) → P v →
-      (value_at k ps ≡ Some x → P x) → (if b then Some v else value_at k ps) ≡ Some x → P x
-  holds-found_by k v x ps true p more e = let same : v ≡ x = cc in subst P same p
-  holds-found_by k v x ps false p more e = more e
+  holds-found_by : (k f : ℕ) (v : Tree) (o : Offered) (ps : Properties) (b : Bool) → P v →
+      (offered_at k ps ≡ Some o → P o.value) → (if b then Some (offered f v) else offered_at k ps) ≡ Some o → P o.value
+  holds-found_by k f v o ps true p more e = let same : v ≡ o.value = cc in subst P same p
+  holds-found_by k f v o ps false p more e = more e
 
   -- so of one that is found
-  holds-found : (k : ℕ) (ps : Properties) → HoldsOfEach ps → (x : Tree) → value_at k ps ≡ Some x → P x
-  holds-found k no_properties h x e = cc
-  holds-found k (property j f v ps) h x e =
-      holds-found_by k v x ps (j == k) h.0 (holds-found k ps h.1 x) e
-
-  holds-above : (l x : Tree) → IsAtMost l x → P x
-  holds-above (fixed l) (fixed x) h = of_fixed x
-  holds-above (fixed l) _ h = absurd h
-  holds-above _ x h = absurd h
+  holds-found : (k : ℕ) (ps : Properties) → AreAll ps → (o : Offered) → offered_at k ps ≡ Some o → P o.value
+  holds-found k no_properties h o e = cc
+  holds-found k (property j f v ps) h o e =
+      holds-found_by k f v o ps (j == k) h.0 (holds-found k ps h.1 o) e
 
   -- of what it admits
   holds-admitted : (v x : Tree) → P v → Admits v x → P x
-  holds-admitted (choice none_choice f k d vs) x p h = subst P (sym h) (of_fixed d)
-  holds-admitted (choice enum_choice f k d vs) x p h =
-      let rest = map (λ v. fixed v) vs in
-      let each = All-map P (λ v. fixed v) vs (λ k e l. of_fixed _) in
-      All-contains P (fixed d ∷ rest) x (All-cons P (fixed d) rest (of_fixed d) each) h
-  holds-admitted (choice range_choice f k d (l ∷ m ∷ vs)) x p h = holds-above (fixed l) x h.1
-  holds-admitted (choice range_choice f k d _) x p h = absurd h
-  holds-admitted (choice _ f k d vs) x p h = absurd h
+  holds-admitted (choice s f k d vs) (fixed x) p h = of_fixed x
+  holds-admitted (choice s f k d vs) _ p h = absurd h
   holds-admitted v x p h = subst P (sym h) p
 
   -- of its default
@@ -50,31 +38,30 @@ module _ (P : Tree → Type 0) (of_fixed : (x : Fixed) → P (fixed x)) where
   holds-plain_of v p = p
 
   -- of what settles a key,
-  holds-settling : (o p : Option Tree) (x : Tree) → ((v : Tree) → o ≡ Some v → P v) →
-      ((v : Tree) → p ≡ Some v → P v) → Settles o p x → P x
-  holds-settling (Some v) (Some w) x h i s = holds-admitted v x (h v refl) s.0
-  holds-settling (Some v) None x h i s = subst P (sym s) (holds-plain_of v (h v refl))
-  holds-settling None (Some w) x h i s = subst P (sym s) (holds-plain_of w (i w refl))
+  holds-settling : (o p : Option Offered) (x : Tree) → ((a : Offered) → o ≡ Some a → P a.value) →
+      ((a : Offered) → p ≡ Some a → P a.value) → Settles o p x → P x
+  holds-settling (Some a) (Some b) x h i s = holds-admitted a.value x (h a refl) s.0
+  holds-settling (Some a) None x h i s = subst P (sym s) (holds-plain_of a.value (h a refl))
+  holds-settling None (Some b) x h i s = subst P (sym s) (holds-plain_of b.value (i b refl))
   holds-settling None None x h i s = absurd s
 
   -- and of what settles all of them
-  holds-settled : (ps qs rs : Properties) → HoldsOfEach ps → HoldsOfEach qs → SettlesEach ps qs rs →
-      HoldsOfEach rs
+  holds-settled : (ps qs rs : Properties) → AreAll ps → AreAll qs → HoldsOfEach IsMetAt ps qs rs → AreAll rs
   holds-settled ps qs no_properties h i s = tt
   holds-settled ps qs (property k f x rs) h i s =
       let ours = holds-found k ps h in
       let theirs = holds-found k qs i in
-      (holds-settling (value_at k ps) (value_at k qs) x ours theirs s.2, holds-settled ps qs rs h i s.3)
+      (holds-settling (offered_at k ps) (offered_at k qs) x ours theirs s.0.3, holds-settled ps qs rs h i s.1)
 
 -- the value holds no NUL
 abbrev NoNul : Tree → Type 0
 NoNul v = ¬ (HasNul v)
 
-no_nul-each : (ps : Properties) → ¬ (SomeValueHasNul ps) → HoldsOfEach NoNul (λ x h. h) ps
+no_nul-each : (ps : Properties) → ¬ (SomeValueHasNul ps) → AreAll NoNul (λ x h. h) ps
 no_nul-each no_properties n = tt
 no_nul-each (property k f v ps) n = (λ h. n (inl h), no_nul-each ps (λ h. n (inr h)))
 
-no_nul-all : (ps : Properties) → HoldsOfEach NoNul (λ x h. h) ps → ¬ (SomeValueHasNul ps)
+no_nul-all : (ps : Properties) → AreAll NoNul (λ x h. h) ps → ¬ (SomeValueHasNul ps)
 no_nul-all no_properties n h = h
 no_nul-all (property k f v ps) n h = elim h [ inl l ↦ n.0 l | inr l ↦ no_nul-all ps n.1 l ]
 
@@ -91,14 +78,14 @@ NoNul-met _ w x n m h = absurd h
 abbrev IsNormal : Tree → Type 0
 IsNormal v = normal_of v ≡ v
 
-normal-each : (ps : Properties) → normal_properties ps ≡ ps → HoldsOfEach IsNormal (λ x. refl) ps
+normal-each : (ps : Properties) → normal_properties ps ≡ ps → AreAll IsNormal (λ x. refl) ps
 normal-each no_properties e = tt
 normal-each (property k f v ps) e =
     let first : normal_of v ≡ v = cc in
     let rest : normal_properties ps ≡ ps = cc in
     (first, normal-each ps rest)
 
-normal-all : (ps : Properties) → HoldsOfEach IsNormal (λ x. refl) ps → normal_properties ps ≡ ps
+normal-all : (ps : Properties) → AreAll IsNormal (λ x. refl) ps → normal_properties ps ≡ ps
 normal-all no_properties h = refl
 normal-all (property k f v ps) h = let rest = normal-all ps h.1 in cc (h.0, rest)
 
@@ -119,11 +106,11 @@ is_settled-plain (choice s f k d vs) h = absurd h
 is_settled-plain _ h = refl
 
 -- properties that settle keys need no fixation
-pub are_settled-met : (ps qs rs : Properties) → SettlesEach ps qs rs → are_settled rs ≡ true
+pub are_settled-met : (ps qs rs : Properties) → HoldsOfEach IsMetAt ps qs rs → are_settled rs ≡ true
 are_settled-met ps qs no_properties h = refl
 are_settled-met ps qs (property k f x rs) h =
-    let first = is_settled-plain x h.1 in
-    ap (λ b. if b then are_settled rs else false) first ∙ are_settled-met ps qs rs h.3
+    let first = is_settled-plain x h.0.1 in
+    ap (λ b. if b then are_settled rs else false) first ∙ are_settled-met ps qs rs h.1
 
 -- nor does an object in which two meet
 pub are_settled-object : (v w : Tree) (t i : ℕ) (rs : Properties) → Meet v w (object t i rs) →

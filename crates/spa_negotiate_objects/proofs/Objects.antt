@@ -9,10 +9,11 @@ use Rattle.spa_value.specs.Views.{property_views}
 use Rattle.spa_value.specs.ObjectLaws.{ObjectsHaveTheirFields, ObjectsAreMadeOfFields}
 use Rattle.spa_negotiate_objects.specs.declared.error.NegotiateError.{NegotiateError}
 use Rattle.spa_negotiate_objects.specs.declared.error.NegotiateError.TheVariants.{TypeMismatch}
-use Rattle.spa_negotiate_objects.specs.Meeting.{SettlesKeys, AgreeAt, Meet, CanMeet}
-use Rattle.spa_negotiate_objects.specs.PropertyLists.{SettlesListed}
+use Rattle.spa_keyed_objects.specs.Keys.{AtKey, HoldsAtKeys}
+use Rattle.spa_negotiate_objects.specs.Meeting.{Agree, CanMeet, IsMetAt, Meet}
+use Rattle.spa_negotiate_objects.specs.PropertyLists.{AreSettled}
 use Rattle.spa_negotiate_objects.specs.Refusals.{IsRefusal, AreRefused}
-use Rattle.spa_negotiate_objects.proofs.Settling.{AgreeAt-settled}
+use Rattle.spa_negotiate_objects.proofs.Settling.{agree_settled}
 use Rattle.spa_negotiate_objects.proofs.Refusing.{AreRefused-properties}
 
 module _ (fields : ObjectsHaveTheirFields) (made : ObjectsAreMadeOfFields) (o p : Object) where
@@ -54,7 +55,7 @@ module _ (fields : ObjectsHaveTheirFields) (made : ObjectsAreMadeOfFields) (o p 
         both (λ v w. AreRefused v w e) refused
 
     pub objects_meet : (rs : Vec Property Global) →
-        SettlesListed xs ys (join_properties (property_views xs) (property_views ys)) rs.items →
+        AreSettled xs ys (join_properties (property_views xs) (property_views ys)) rs.items →
         let f = out-Object o in
         let met = roll-Object (record { type_ = f.type_; id = f.id; properties = rs }) in
         Meet (object_view o) (object_view p) (object_view met)
@@ -66,9 +67,9 @@ module _ (fields : ObjectsHaveTheirFields) (made : ObjectsAreMadeOfFields) (o p 
         both (λ v w. Meet v w (object_view met)) one_type
 
     pub objects_can : (rs : Properties) →
-        SettlesKeys (property_views xs) (property_views ys) (property_views xs) rs →
+        HoldsAtKeys IsMetAt (property_views xs) (property_views ys) (property_views xs) rs →
         CanMeet (object_view o) (object_view p)
     objects_can rs h =
-        let each = AgreeAt-settled (property_views xs) (property_views ys) rs h.values in
-        let agree = subst (All (AgreeAt (property_views xs) (property_views ys))) h.keys each in
+        let each = agree_settled (property_views xs) (property_views ys) rs h.values in
+        let agree = subst (All (AtKey Agree (property_views xs) (property_views ys))) h.keys each in
         both CanMeet (sym one, agree)

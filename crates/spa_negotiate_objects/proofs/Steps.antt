@@ -1,5 +1,5 @@
 -- Steps of a negotiation: one more property is looked at.
-use Rattle.std.proofs.Common.{◌≡◌, ℕ, ◌+◌, ◌<◌, Bool, true, false, List, length, take, drop, get_or, sym, ap, ◌∙◌, subst, Some}
+use Rattle.std.proofs.Common.{◌≡◌, ℕ, ◌+◌, ◌<◌, Bool, true, false, List, length, take, drop, get_or, refl, sym, ap, ◌∙◌, subst, Some}
 use Rattle.std.specs.BTreeSet.{BTreeSet}
 use Rattle.spa_format.specs.Tree.{Tree, Properties, no_properties, property, join_properties}
 use Rattle.spa_value.specs.declared.object.Property.{Property}
@@ -8,14 +8,16 @@ use Rattle.spa_value.specs.Views.{property_views, property_view}
 use Rattle.spa_value.specs.ObjectLaws.{PropertyListsGoOn, PropertyListsAreCut}
 use Rattle.spa_negotiate_objects.specs.declared.error.NegotiateError.{NegotiateError}
 use Rattle.spa_negotiate_objects.specs.declared.negotiation.Settled.{Settled}
-use Rattle.spa_negotiate_objects.specs.Admits.{IsPlain, plain_of}
-use Rattle.spa_keyed_objects.specs.PropertyLists.{HasKeys, IsAdded}
+use Rattle.spa_keyed_objects.specs.Keys.{HoldsAtKeys}
+use Rattle.spa_keyed_objects.specs.PropertyLists.{HasKeys, IsAdded, found_at, offered_by}
+use Rattle.spa_keyed_objects.proofs.Holding.{HoldsAtKeys-seen, HoldsAtKeys-first, HoldsAtKeys-other}
 use Rattle.spa_keyed_objects.proofs.KeySets.{join_properties-assoc, there, absent, more_keys}
-use Rattle.spa_negotiate_objects.specs.Meeting.{Settles, SettlesKeys}
-use Rattle.spa_negotiate_objects.specs.PropertyLists.{found_at, SettlesListed, IsSettled}
+use Rattle.spa_negotiate_objects.specs.Admits.{IsPlain, plain_of}
+use Rattle.spa_negotiate_objects.specs.Meeting.{IsMetAt}
+use Rattle.spa_negotiate_objects.specs.PropertyLists.{AreSettled, IsSettled}
 use Rattle.spa_negotiate_objects.specs.Refusals.{IsKeyRefusal, IsRefusal}
-use Rattle.spa_negotiate_objects.proofs.Settling.{SettlesKeys-seen, SettlesKeys-first, SettlesKeys-other}
-use Rattle.spa_negotiate_objects.proofs.Refusing.{IsRefusal-first}
+use Rattle.spa_negotiate_objects.proofs.Agreeing.{IsPlain-plain_of}
+use Rattle.spa_negotiate_objects.proofs.Settling.{IsRefusal-first}
 
 -- the first side's properties up to the i-th
 abbrev pub firsts : (ours : List Property) → ℕ → Properties
@@ -43,22 +45,22 @@ module _ (go_on : PropertyListsGoOn) (are_cut : PropertyListsAreCut) (ours their
     first_keys = subst (HasKeys keys) one_more_first (more_keys p s.keys keys is_new added (firsts ours i) h.keys)
 
     -- its key was there
-    pub first_seen : is_new ≡ false → SettlesListed ours theirs (firsts ours (i + 1)) s.met.properties.items
+    pub first_seen : is_new ≡ false → AreSettled ours theirs (firsts ours (i + 1)) s.met.properties.items
     first_seen was =
         let os = property_views ours in
         let ts = property_views theirs in
         let met = property_views s.met.properties.items in
         let before = firsts ours i in
         let key = there p s.keys keys is_new added before h.keys was in
-        subst (λ ss. SettlesListed ours theirs ss s.met.properties.items) one_more_first
-        (SettlesKeys-seen os ts before met p.key h.settles p.flags.0 (view p.value) key)
+        subst (λ ss. AreSettled ours theirs ss s.met.properties.items) one_more_first
+        (HoldsAtKeys-seen IsMetAt os ts before met h.settles p.key p.flags.0 (view p.value) key)
 
     -- its key was not there, and x settles it
     pub first_new : is_new ≡ true → (now : List Property) (x : Tree) →
-        IsPushed s.met.properties.items p.key x now → IsPlain x →
-        Settles (Some (view p.value)) (found_at p.key theirs) x →
-        SettlesListed ours theirs (firsts ours (i + 1)) now
-    first_new was now x m plain settles =
+        IsPushed s.met.properties.items p.key x now →
+        IsMetAt (Some (offered_by p)) (found_at p.key theirs) 0 x →
+        AreSettled ours theirs (firsts ours (i + 1)) now
+    first_new was now x m settles =
         let os = property_views ours in
         let ts = property_views theirs in
         let met = property_views s.met.properties.items in
@@ -67,14 +69,13 @@ module _ (go_on : PropertyListsGoOn) (are_cut : PropertyListsAreCut) (ours their
         let at = are_cut ours i p l e in
         let key = absent p s.keys keys is_new added before h.keys was in
         let new =
-        SettlesKeys-first os ts before met behind p.key p.flags.0 (view p.value) x at h.settles key
-        plain settles in
-        subst (λ ss. SettlesListed ours theirs ss now) one_more_first
-        (subst (λ rs. SettlesKeys os ts (join_properties before (property_view p)) rs) (sym m) new)
+        HoldsAtKeys-first IsMetAt os ts before met h.settles p.key p.flags.0 (view p.value) key 0 x behind at settles in
+        subst (λ ss. AreSettled ours theirs ss now) one_more_first
+        (subst (λ rs. HoldsAtKeys IsMetAt os ts (join_properties before (property_view p)) rs) (sym m) new)
 
     -- its key was not there, and is refused
     pub first_refused : is_new ≡ true → (why : NegotiateError) →
-        IsKeyRefusal p.key (Some (view p.value)) (found_at p.key theirs) why →
+        IsKeyRefusal p.key (Some (offered_by p)) (found_at p.key theirs) why →
         IsRefusal (property_views ours) (property_views theirs) why
     first_refused was why r =
         let os = property_views ours in
@@ -84,7 +85,7 @@ module _ (go_on : PropertyListsGoOn) (are_cut : PropertyListsAreCut) (ours their
         let behind = property_views (drop (i + 1) ours) in
         let at = are_cut ours i p l e in
         let key = absent p s.keys keys is_new added before h.keys was in
-        IsRefusal-first os ts before met behind p.key p.flags.0 (view p.value) why at h.settles key r
+        IsRefusal-first os ts before met behind p.key p.flags.0 (view p.value) at h.settles key why r
 
   -- p is the second side's: the first side's keys are settled, and the second side's before it
   module _ (l : i < length theirs) (e : p ≡ get_or theirs i p)
@@ -100,21 +101,21 @@ module _ (go_on : PropertyListsGoOn) (are_cut : PropertyListsAreCut) (ours their
 
     -- its key was there
     pub other_seen : is_new ≡ false →
-        SettlesListed ours theirs (others ours theirs (i + 1)) s.met.properties.items
+        AreSettled ours theirs (others ours theirs (i + 1)) s.met.properties.items
     other_seen was =
         let os = property_views ours in
         let ts = property_views theirs in
         let met = property_views s.met.properties.items in
         let before = others ours theirs i in
         let key = there p s.keys keys is_new added before h.keys was in
-        subst (λ ss. SettlesListed ours theirs ss s.met.properties.items) one_more_other
-        (SettlesKeys-seen os ts before met p.key h.settles p.flags.0 (view p.value) key)
+        subst (λ ss. AreSettled ours theirs ss s.met.properties.items) one_more_other
+        (HoldsAtKeys-seen IsMetAt os ts before met h.settles p.key p.flags.0 (view p.value) key)
 
     -- its key was not there, and its default settles it
     pub other_new : is_new ≡ true → (now : List Property) (x : Tree) →
-        IsPushed s.met.properties.items p.key x now → IsPlain x → x ≡ plain_of (view p.value) →
-        SettlesListed ours theirs (others ours theirs (i + 1)) now
-    other_new was now x m plain settles =
+        IsPushed s.met.properties.items p.key x now → x ≡ plain_of (view p.value) →
+        AreSettled ours theirs (others ours theirs (i + 1)) now
+    other_new was now x m settles =
         let os = property_views ours in
         let ts = property_views theirs in
         let met = property_views s.met.properties.items in
@@ -122,8 +123,9 @@ module _ (go_on : PropertyListsGoOn) (are_cut : PropertyListsAreCut) (ours their
         let behind = property_views (drop (i + 1) theirs) in
         let at = are_cut theirs i p l e in
         let key = absent p s.keys keys is_new added before h.keys was in
+        let plain = subst IsPlain (sym settles) (IsPlain-plain_of (view p.value)) in
         let new =
-        SettlesKeys-other os ts (firsts theirs i) met behind p.key p.flags.0 (view p.value) x at
-        h.settles key plain settles in
-        subst (λ ss. SettlesListed ours theirs ss now) one_more_other
-        (subst (λ rs. SettlesKeys os ts (join_properties before (property_view p)) rs) (sym m) new)
+        HoldsAtKeys-other IsMetAt os ts (firsts theirs i) met h.settles p.key p.flags.0 (view p.value) key 0 x behind at
+        (refl, plain, tt, settles) in
+        subst (λ ss. AreSettled ours theirs ss now) one_more_other
+        (subst (λ rs. HoldsAtKeys IsMetAt os ts (join_properties before (property_view p)) rs) (sym m) new)

@@ -1,35 +1,35 @@
 -- Why two objects don't meet: docs/NEGOTIATION.md, "Refusals".
-use Rattle.std.specs.Prelude.{⊤, ◌≡◌, ℕ, List, ◌∷◌, ◌++◌, Option, Some}
-use Rattle.std.specs.List.{All}
+use Rattle.std.specs.Prelude.{⊤, ◌≡◌, ℕ, Option, Some}
 use Rattle.spa_format.specs.Tree.{Tree, object, Properties}
-use Rattle.spa_negotiate_objects.specs.Admits.{IsSupported, HasCommon}
-use Rattle.spa_keyed_objects.specs.Keys.{keys_of}
-use Rattle.spa_negotiate_objects.specs.Keys.{value_at}
-use Rattle.spa_negotiate_objects.specs.Meeting.{AgreeAt}
+use Rattle.spa_keyed_objects.specs.Keys.{IsFirstRefused, Offered, keys_of}
+use Rattle.spa_negotiate_objects.specs.Admits.{AreSupported, HasCommon}
+use Rattle.spa_negotiate_objects.specs.Meeting.{Agree}
 use Rattle.spa_negotiate_objects.specs.declared.error.NegotiateError.{NegotiateError}
 use Rattle.spa_negotiate_objects.specs.declared.error.NegotiateError.TheVariants.{TypeMismatch, Unsupported, Disjoint, OutOfMemory}
 
 -- both sides have the key, and a value of theirs isn't supported
-abbrev pub AreUnsupported : Option Tree → Option Tree → Type 0
-AreUnsupported (Some v) (Some w) = ¬ (IsSupported v × IsSupported w)
+abbrev pub AreUnsupported : Option Offered → Option Offered → Type 0
+AreUnsupported (Some a) (Some b) = ¬ (AreSupported a.value b.value)
 AreUnsupported _ _ = ⊥
 
 -- both sides have the key with supported values, and no value is admitted by both
-abbrev pub AreDisjoint : Option Tree → Option Tree → Type 0
-AreDisjoint (Some v) (Some w) = IsSupported v × IsSupported w × ¬ (HasCommon v w)
+abbrev pub AreDisjoint : Option Offered → Option Offered → Type 0
+AreDisjoint (Some a) (Some b) = AreSupported a.value b.value × ¬ (HasCommon a.value b.value)
 AreDisjoint _ _ = ⊥
 
--- this is the first of our keys under which the two sides don't agree, and the refusal `Stands` holds there
-pub record IsRefusedAt (Stands : Option Tree → Option Tree → Type 0) (ours theirs : Properties)
-    (key : ℕ) : Type 0 where
-  pub before : List ℕ
-  pub after : List ℕ
-  pub order : keys_of ours ≡ before ++ key ∷ after
-  pub agreed : All (AgreeAt ours theirs) before
-  pub stands : Stands (value_at key ours) (value_at key theirs)
+-- this is the first of our keys under which the two sides don't agree, and the refusal stands there
+abbrev pub IsRefusedAt : (Stands : Option Offered → Option Offered → Type 0) → (ours theirs : Properties) → ℕ → Type 0
+IsRefusedAt Stands ours theirs key = IsFirstRefused Agree Stands ours theirs (keys_of ours) key
+
+-- the refusal is one of two values under this key
+abbrev pub IsValueRefusal : ℕ → Tree → Tree → NegotiateError → Type 0
+IsValueRefusal key v w (Unsupported k) = (k ≡ key) × ¬ (AreSupported v w)
+IsValueRefusal key v w (Disjoint k) = (k ≡ key) × AreSupported v w × ¬ (HasCommon v w)
+IsValueRefusal key v w OutOfMemory = ⊤
+IsValueRefusal key v w _ = ⊥
 
 -- the refusal is one of the two sides' values under this key
-abbrev pub IsKeyRefusal : ℕ → Option Tree → Option Tree → NegotiateError → Type 0
+abbrev pub IsKeyRefusal : ℕ → Option Offered → Option Offered → NegotiateError → Type 0
 IsKeyRefusal key ours theirs (Unsupported k) = (k ≡ key) × AreUnsupported ours theirs
 IsKeyRefusal key ours theirs (Disjoint k) = (k ≡ key) × AreDisjoint ours theirs
 IsKeyRefusal key ours theirs OutOfMemory = ⊤

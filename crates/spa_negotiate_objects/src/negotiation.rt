@@ -1,19 +1,18 @@
 //! Negotiates two objects.
-ghost use Rattle.std.specs.Prelude.{◌≡◌, IfErr, IfOk, List, MatchOption, None, OnOk, Some};
+ghost use Rattle.std.specs.Prelude.{◌≡◌, IfErr, IfOk, List, OnOk, Some};
 ghost use Rattle.spa_format.specs.Tree.{join_properties};
 ghost use Rattle.spa_value.specs.declared.object.Property.{Property};
 ghost use Rattle.spa_value.specs.View.{object_view, view};
 ghost use Rattle.spa_value.specs.Views.{property_views};
-ghost use Rattle.spa_negotiate_objects.specs.Admits.{IsCommon, IsPlain};
-ghost use Rattle.spa_negotiate_objects.specs.Meeting.{CanMeet, Meet, Settles};
-ghost use Rattle.spa_negotiate_objects.specs.Offers.{BothAdmit, IsIndexed, IsOfferRefusal};
-ghost use Rattle.spa_keyed_objects.specs.PropertyLists.{IsKeyed};
-ghost use Rattle.spa_negotiate_objects.specs.PropertyLists.{IsSettled, SettlesListed, found_at};
-ghost use Rattle.spa_negotiate_objects.specs.Refusals.{AreRefused, IsKeyRefusal, IsRefusal, OnDisagreement};
+ghost use Rattle.spa_keyed_objects.specs.PropertyLists.{IsKeyed, found_at, offered_by};
+ghost use Rattle.spa_negotiate_objects.specs.Admits.{AreSupported, IsCommon, IsPlain};
+ghost use Rattle.spa_negotiate_objects.specs.Meeting.{CanMeet, IsMetAt, Meet};
+ghost use Rattle.spa_negotiate_objects.specs.PropertyLists.{AreSettled, IsSettled};
+ghost use Rattle.spa_negotiate_objects.specs.Refusals.{AreRefused, IsKeyRefusal, IsRefusal, IsValueRefusal, OnDisagreement};
 
-use crate::admission::first_common;
 use crate::error::NegotiateError;
-use crate::offer::{Offer, offer_of, settled};
+use crate::support::is_supported;
+use spa_filter::{FilterError, into_settled, settled};
 use spa_keyed_objects::{Keyed, Met, add_key, push};
 use spa_value::laws::{objects_are_their_fields, property_lists_are_in_order};
 use spa_value::{Object, Property, Value};
@@ -88,7 +87,7 @@ fn settle_first(alloc: Global, a: &[Property], b: &Keyed<'_>) -> Result<Settled,
 
 /// The properties of the outcome for the keys of the first side, and behind them those for the keys that only the second side has.
 fn settle_rest(first: Settled, b: &[Property]) -> Result<Vec<Property>, AllocError>
-    ensures { IfOk result (λ met. (a : List Property) → IsSettled a b.now (property_views a) first → SettlesListed a b.now (join_properties (property_views a) (property_views b.now)) met.items) }
+    ensures { IfOk result (λ met. (a : List Property) → IsSettled a b.now (property_views a) first → AreSettled a b.now (join_properties (property_views a) (property_views b.now)) met.items) }
 {
     property_lists_are_in_order();
     let Settled { mut met, mut keys } = first;
@@ -105,57 +104,32 @@ fn settle_rest(first: Settled, b: &[Property]) -> Result<Vec<Property>, AllocErr
 /// The plain value that the outcome has under the key of a property of the first side, where `others` are the properties of the second.
 fn settle(alloc: Global, property: &Property, others: &Keyed<'_>) -> Result<Value, NegotiateError>
     requires { IsKeyed others.now }
-    ensures plain { IfOk result (λ x. IsPlain (view x)) }
-    ensures settles { IfOk result (λ x. Settles (Some (view property.now.value)) (found_at property.now.key others.now.properties.now) (view x)) }
-    ensures cause { IfErr result (IsKeyRefusal property.now.key (Some (view property.now.value)) (found_at property.now.key others.now.properties.now)) }
+    ensures met { IfOk result (λ x. IsMetAt (Some (offered_by property.now)) (found_at property.now.key others.now.properties.now) 0 (view x)) }
+    ensures cause { IfErr result (IsKeyRefusal property.now.key (Some (offered_by property.now)) (found_at property.now.key others.now.properties.now)) }
 {
-    match value_of(others, property.key) {
-        Some(other) => common(alloc, property.key, &property.value, other),
+    match others.find(property.key) {
+        Some(other) => common(alloc, property.key, &property.value, &other.value),
         None => Ok(settled(&property.value)?),
     }
 }
 
-/// The value of the first property with this key. None: no property has it.
-fn value_of<'a>(properties: &Keyed<'a>, key: u32) -> Option<&'a Value>
-    requires { IsKeyed properties.now }
-    ensures { MatchOption result (found_at key properties.now.properties.now ≡ None) (λ value. found_at key properties.now.properties.now ≡ Some (view value.now)) }
-{
-    match properties.find(key) {
-        Some(property) => Some(&property.value),
-        None => None,
-    }
-}
-
 /// Negotiates two values: answers a plain value that both admit, which under a key of two objects is the value of the object in which they meet.
+/// It is the default of the value to which the two filter.
 ///
 /// Refused as `Unsupported` of the key where no common value is sought for one of the two, else as `Disjoint` of the key where no value is
 /// admitted by both, and as `OutOfMemory`.
 pub fn common(alloc: Global, key: u32, a: &Value, b: &Value) -> Result<Value, NegotiateError>
     ensures plain { IfOk result (λ x. IsPlain (view x)) }
+    ensures supported { OnOk result (AreSupported (view a.now) (view b.now)) }
     ensures common { IfOk result (λ x. IsCommon (view a.now) (view b.now) (view x)) }
-    ensures cause { IfErr result (IsKeyRefusal key (Some (view a.now)) (Some (view b.now))) }
+    ensures cause { IfErr result (IsValueRefusal key (view a.now) (view b.now)) }
 {
-    let first = offer_of(alloc, a)?;
-    let second = offer_of(alloc, b)?;
-    common_of(alloc, key, &first, &second)
-}
-
-/// A plain value that both offers admit, with the refusals of `common`.
-fn common_of(
-    alloc: Global,
-    key: u32,
-    first: &Offer,
-    second: &Offer,
-) -> Result<Value, NegotiateError>
-    requires { IsIndexed first.now × IsIndexed second.now }
-    ensures common { IfOk result (λ x. BothAdmit first.now second.now (view x)) }
-    ensures cause { IfErr result (IsOfferRefusal key first.now second.now) }
-{
-    if !first.rule.is_supported() || !second.rule.is_supported() {
+    if !is_supported(a) || !is_supported(b) {
         return Err(NegotiateError::Unsupported(key));
     }
-    match first_common(alloc, first, second)? {
-        Some(value) => Ok(value.clone()?),
-        None => Err(NegotiateError::Disjoint(key)),
+    match spa_filter::common(alloc, key, a, b) {
+        Ok(met) => Ok(into_settled(met)),
+        Err(FilterError::OutOfMemory) => Err(NegotiateError::OutOfMemory),
+        Err(_) => Err(NegotiateError::Disjoint(key)),
     }
 }

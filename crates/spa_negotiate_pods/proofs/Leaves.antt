@@ -1,12 +1,12 @@
 -- Values without members, read from borrowed pods, and beside values with members.
-use Rattle.std.proofs.Common.{◌≡◌, ◌≢◌, ℕ, List, refl, sym, ◌∙◌, subst, Some}
+use Rattle.std.proofs.Common.{◌≡◌, ◌≢◌, ℕ, List, refl, sym, ◌∙◌, subst}
 use Rattle.spa_format.specs.Pod.{IsBody, IsPod}
 use Rattle.spa_format.specs.Tree.{Tree, struct, object, struct_type, object_type, type_of}
 use Rattle.spa_format.proofs.Shapes.{object_only, struct_only}
 use Rattle.spa_bytes.specs.Opening.{Opens}
 use Rattle.spa_bodies.specs.Written.{IsLeaf}
 use Rattle.spa_negotiate_objects.specs.Admits.{IsSupported}
-use Rattle.spa_negotiate_objects.specs.Refusals.{IsKeyRefusal}
+use Rattle.spa_negotiate_objects.specs.Refusals.{IsValueRefusal}
 use Rattle.spa_negotiate_objects.specs.declared.error.NegotiateError.TheVariants.{Disjoint}
 use Rattle.spa_negotiate_objects.proofs.Agreeing.{IsSupported-plain}
 use Rattle.spa_negotiate_pods.proofs.Putting.{none_beside, plain_with_members}
@@ -36,8 +36,8 @@ leaf_read one pod body rest type read o t b v p =
 
 -- beside a value with members, on either side, a value without them is disjoint, where it is supported
 pub disjoint_beside : (key : ℕ) (leaf v : Tree) → IsLeaf leaf → IsSupported leaf → ¬ (IsLeaf v) →
-    IsKeyRefusal key (Some v) (Some leaf) (Disjoint key) × IsKeyRefusal key (Some leaf) (Some v) (Disjoint key)
+    IsValueRefusal key v leaf (Disjoint key) × IsValueRefusal key leaf v (Disjoint key)
 disjoint_beside key leaf v n s h =
     let plain = IsSupported-plain v (plain_with_members v h) in
     let none = none_beside v leaf h n in
-    ((refl, (plain, s, λ x. none x.0 x.1.0 x.1.1)), (refl, (s, plain, λ x. none x.0 x.1.1 x.1.0)))
+    ((refl, (plain, s), λ x. none x.0 x.1.0 x.1.1), (refl, (s, plain), λ x. none x.0 x.1.1 x.1.0))

@@ -9,16 +9,16 @@ use Rattle.spa_object_view.proofs.Both.{begin_both}
 use Rattle.spa_object_view.proofs.Joined.{behind_none, behind_on, object_large, object_written}
 use Rattle.spa_object_view.proofs.Sides.{IsNext}
 use Rattle.spa_negotiate_objects.specs.Admits.{plain_of}
-use Rattle.spa_keyed_objects.specs.Keys.{contains, key_list, keys_of}
-use Rattle.spa_negotiate_objects.specs.Keys.{value_at}
-use Rattle.spa_negotiate_objects.specs.Meeting.{AgreeAt, CanMeet, SettlesKeys}
+use Rattle.spa_keyed_objects.specs.Keys.{AtKey, HoldsAtKeys, contains, key_list, keys_of, offered, offered_at}
+use Rattle.spa_keyed_objects.proofs.Holding.{HoldsAtKeys-first, HoldsAtKeys-none, HoldsAtKeys-other, HoldsAtKeys-seen}
+use Rattle.spa_negotiate_objects.specs.Meeting.{Agree, CanMeet, IsMetAt}
 use Rattle.spa_negotiate_objects.specs.Refusals.{AreRefused, IsKeyRefusal, IsRefusal}
 use Rattle.spa_negotiate_objects.specs.declared.error.NegotiateError.{NegotiateError}
 use Rattle.spa_negotiate_objects.specs.declared.error.NegotiateError.TheVariants.{Unsupported, Disjoint, OutOfMemory}
-use Rattle.spa_negotiate_objects.proofs.Refusing.{AreRefused-properties, IsRefusal-first}
-use Rattle.spa_negotiate_objects.proofs.Settling.{AgreeAt-settled, SettlesKeys-seen, SettlesKeys-first, SettlesKeys-other}
+use Rattle.spa_negotiate_objects.proofs.Refusing.{AreRefused-properties}
+use Rattle.spa_negotiate_objects.proofs.Settling.{IsRefusal-first, agree_settled}
 use Rattle.spa_negotiate_pods.specs.Fronts.{AreViewsRefused, MeetIn, MeetTooLarge}
-use Rattle.spa_negotiate_pods.specs.Written.{IsMetBehind, IsPut, IsSettledBy}
+use Rattle.spa_negotiate_pods.specs.Written.{IsMetBehind, IsMetPut, IsPut}
 
 has_contains : (k : ℕ) (ps : Properties) → has_key k ps ≡ contains k (key_list ps)
 has_contains k no_properties = refl
@@ -26,17 +26,17 @@ has_contains k (property j f v ps) = ap (λ y. if j == k then true else y) (has_
 
 -- no property is passed yet
 pub none_passed : (ps qs : Properties) (head : List ℕ) → IsMetBehind ps qs no_properties head head
-none_passed ps qs head = record { met = no_properties; held = behind_none head; settles = record { keys = refl; values = tt } }
+none_passed ps qs head = record { met = no_properties; held = behind_none head; settles = HoldsAtKeys-none IsMetAt ps qs }
 
 -- one more is, of a key that was there
 pub seen : {ps qs these : Properties} {head out : List ℕ} (k f : ℕ) (v : Tree) → has_key k these ≡ true → IsMetBehind ps qs these head out →
     IsMetBehind ps qs (join_properties these (property k f v no_properties)) head out
 seen {ps} {qs} {these} k f v there m =
-    record { met = m.met; held = m.held; settles = SettlesKeys-seen ps qs these m.met k m.settles f v (sym (has_contains k these) ∙ there) }
+    record { met = m.met; held = m.held; settles = HoldsAtKeys-seen IsMetAt ps qs these m.met m.settles k f v (sym (has_contains k these) ∙ there) }
 
 -- one of a new key is put
 put : (ps qs these next : Properties) (head old new : List ℕ) (k : ℕ) (x : Tree) → k < 2 ^ 32 → (m : IsMetBehind ps qs these head old) → IsPut k x old new →
-    SettlesKeys ps qs next (join_properties m.met (property k 0 x no_properties)) → IsMetBehind ps qs next head new
+    HoldsAtKeys IsMetAt ps qs next (join_properties m.met (property k 0 x no_properties)) → IsMetBehind ps qs next head new
 put ps qs these next head old new k x l m p s =
     record {
       met = join_properties m.met (property k 0 x no_properties);
@@ -47,15 +47,15 @@ put ps qs these next head old new k x l m p s =
 -- a new key of the first side,
 module _ {ps qs : Properties} {b left pod rest head old : List ℕ} {k f bound : ℕ}
     (n : IsNext no_properties ps b left pod rest k f bound (λ these. IsMetBehind ps qs these head old)) (fresh : has_key k n.done ≡ false) where
-  pub first_put : {new : List ℕ} → k < 2 ^ 32 → IsSettledBy (Some n.value) (value_at k qs) k old new →
+  pub first_put : {new : List ℕ} → k < 2 ^ 32 → IsMetPut (Some (offered f n.value)) (offered_at k qs) k old new →
       IsMetBehind ps qs (join_properties n.done (property k f n.value no_properties)) head new
   first_put {new} l p =
       put ps qs n.done (join_properties n.done (property k f n.value no_properties)) head old new k p.value l n.holds p.put
-      (SettlesKeys-first ps qs n.done n.holds.met n.behind k f n.value p.value n.all n.holds.settles (sym (has_contains k n.done) ∙ fresh) p.put.plain p.settles)
+      (HoldsAtKeys-first IsMetAt ps qs n.done n.holds.met n.holds.settles k f n.value (sym (has_contains k n.done) ∙ fresh) 0 p.value n.behind n.all p.met)
 
-  pub first_refused : (e : NegotiateError) → IsKeyRefusal k (Some n.value) (value_at k qs) e → IsRefusal ps qs e
+  pub first_refused : (e : NegotiateError) → IsKeyRefusal k (Some (offered f n.value)) (offered_at k qs) e → IsRefusal ps qs e
   first_refused e r =
-      IsRefusal-first ps qs n.done n.holds.met n.behind k f n.value e n.all n.holds.settles (sym (has_contains k n.done) ∙ fresh) r
+      IsRefusal-first ps qs n.done n.holds.met n.behind k f n.value n.all n.holds.settles (sym (has_contains k n.done) ∙ fresh) e r
 
 -- and one that the second side alone has
 module _ {ps qs : Properties} {b left pod rest head old : List ℕ} {k f bound : ℕ}
@@ -65,7 +65,8 @@ module _ {ps qs : Properties} {b left pod rest head old : List ℕ} {k f bound :
   other_put {new} l p =
       let before = join_properties ps n.done in
       put ps qs before (join_properties before (property k f n.value no_properties)) head old new k (plain_of n.value) l n.holds p
-      (SettlesKeys-other ps qs n.done n.holds.met n.behind k f n.value (plain_of n.value) n.all n.holds.settles (sym (has_contains k before) ∙ fresh) p.plain refl)
+      (HoldsAtKeys-other IsMetAt ps qs n.done n.holds.met n.holds.settles k f n.value (sym (has_contains k before) ∙ fresh) 0 (plain_of n.value) n.behind n.all
+      (refl, p.plain, tt, refl))
 
 -- what two objects of one type are refused for under a key is none of the size of the answer
 not_large : (a b : List ℕ) (ps qs : Properties) (e : NegotiateError) → IsRefusal ps qs e → BeginBoth a b (λ v w. AreRefused v w e) → AreViewsRefused a b e
@@ -103,7 +104,7 @@ module _ (a b ours theirs first second third : List ℕ) (t i u j : ℕ) (h : Be
       let m = f ps qs h.written k.written in
       let n = all_met in
       let held = subst (λ head. AreBehind n.met head third) o n.held in
-      let agreed : All (AgreeAt ps qs) (keys_of ps) = subst (All (AgreeAt ps qs)) m.settles.keys (AgreeAt-settled ps qs m.met m.settles.values) in
+      let agreed : All (AtKey Agree ps qs) (keys_of ps) = subst (All (AtKey Agree ps qs)) m.settles.keys (agree_settled ps qs m.met m.settles.values) in
       let w = object_written t i n.met third bytes ft fi held s d in
       record {
         can = begin_both h k (sym e, agreed);

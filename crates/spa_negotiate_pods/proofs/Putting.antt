@@ -15,16 +15,16 @@ use Rattle.spa_format.proofs.FixedKinds.{kind_of_content, typed_content, same_ki
 use Rattle.spa_format.proofs.Unique.{one_value}
 use Rattle.spa_format.proofs.WordLemmas.{IsBytes-take, length-word_bytes, word_at-take}
 use Rattle.spa_scan.proofs.Words.{content_kept, word_there, wide_back, wide_of_take}
-use Rattle.spa_negotiate_objects.specs.Admits.{Admits, IsAtMost, IsPlain, plain_of}
-use Rattle.spa_negotiate_objects.specs.Refusals.{IsKeyRefusal}
+use Rattle.spa_negotiate_objects.specs.Admits.{Admits, IsPlain, plain_of}
+use Rattle.spa_keyed_objects.specs.Keys.{Offered, offered, offered_at}
+use Rattle.spa_negotiate_objects.specs.Refusals.{IsKeyRefusal, IsValueRefusal}
 use Rattle.spa_negotiate_objects.specs.declared.error.NegotiateError.{NegotiateError}
 use Rattle.spa_negotiate_objects.specs.declared.error.NegotiateError.TheVariants.{Disjoint}
-use Rattle.spa_negotiate_objects.proofs.Agreeing.{IsSupported-plain}
-use Rattle.spa_negotiate_objects.specs.Keys.{value_at}
+use Rattle.spa_negotiate_objects.proofs.Agreeing.{IsSupported-plain, met_alone, refused_value}
 use Rattle.spa_negotiate_pods.specs.Offering.{IsOffer, IsShared, value_of}
 use Rattle.spa_bodies.specs.Written.{IsLeaf}
 use Rattle.spa_object_view.specs.Written.{Found, IsFound, IsWritten, found_at}
-use Rattle.spa_negotiate_pods.specs.Written.{IsCommonPut, IsPut, IsSettledBy}
+use Rattle.spa_negotiate_pods.specs.Written.{IsCommonEncoded, IsCommonPut, IsMetPut, IsPut}
 use Rattle.spa_negotiate_pods.specs.declared.offer_view.OfferView.{OfferView}
 
 -- the encoding of what a body says, which holds no truth value but 0 and 1
@@ -155,21 +155,10 @@ written_fixed x f t w =
     let writable = subst IsWritable f.1 w in
     subst (λ z. IsWritten z (encoding_of z)) (sym f.1) (record { its_pod = encoding_is_pod (fixed f.0) typed writable; same = refl })
 
-above : (low x : Tree) → IsAtMost low x → (y : Fixed) × (x ≡ fixed y)
-above (fixed l) (fixed x) h = (x, refl)
-above (fixed l) _ h = absurd h
-above _ x h = absurd h
-
 -- what a value that is written admits is written as its encoding
 written_admitted : (v x : Tree) (pod : List ℕ) → IsWritten v pod → Admits v x → IsTyped x → IsWritable x → IsWritten x (encoding_of x)
-written_admitted (choice none_choice f k d vs) x pod i h t w = written_fixed x (d, h) t w
-written_admitted (choice enum_choice f k d vs) x pod i h t w =
-    written_fixed x
-    (All-contains (λ z. (y : Fixed) × (z ≡ fixed y)) (fixed d ∷ map (λ y. fixed y) vs) x
-    (All-cons (λ z. (y : Fixed) × (z ≡ fixed y)) (fixed d) (map (λ y. fixed y) vs) (d, refl) (All-map (λ z. (y : Fixed) × (z ≡ fixed y)) (λ y. fixed y) vs (λ i e l. (_, refl)))) h) t w
-written_admitted (choice range_choice f k d (low ∷ high ∷ vs)) x pod i h t w = written_fixed x (above (fixed low) x h.1) t w
-written_admitted (choice range_choice f k d _) x pod i h t w = absurd h
-written_admitted (choice _ f k d vs) x pod i h t w = absurd h
+written_admitted (choice s f k d vs) (fixed x) pod i h t w = written_fixed (fixed x) (x, refl) t w
+written_admitted (choice s f k d vs) _ pod i h t w = absurd h
 written_admitted v x pod i h t w =
     let itself : IsWritten v (encoding_of v) = record { its_pod = subst (λ b. IsPod b v) i.same i.its_pod; same = refl } in
     subst (λ z. IsWritten z (encoding_of z)) (sym h) itself
@@ -183,47 +172,35 @@ pub put_plain : (v : Tree) (key : ℕ) (pod old new : List ℕ) → IsPlain v �
 put_plain v key pod old new h w p =
     subst (λ x. IsPut key x old new) (sym (plain_itself v h)) (record { plain = h; pod = pod; written = w; parts = p })
 
-pub put_same : (v w : Tree) (key : ℕ) (pod other old new : List ℕ) → IsPlain v → pod ≡ other → IsWritten v pod → IsWritten w other →
-    new ≡ old ++ ((word_bytes key ++ word_bytes 0) ++ pod) → IsSettledBy (Some v) (Some w) key old new
-put_same v w key pod other old new h e first second p =
+pub put_same : (v w : Tree) (key : ℕ) (pod other old new : List ℕ) → IsPlain v → IsPlain w → pod ≡ other → IsWritten v pod → IsWritten w other →
+    new ≡ old ++ ((word_bytes key ++ word_bytes 0) ++ pod) → IsCommonPut v w key old new
+put_same v w key pod other old new h i e first second p =
     let same : v ≡ w = one_value other v w (subst (λ b. IsPod b v) e first.its_pod) second.its_pod in
     let admitted = admits_itself v h in
     record {
       value = v;
-      settles = (admitted, subst (λ x. Admits x v) same admitted);
+      supported = (IsSupported-plain v h, IsSupported-plain w i);
+      common = (admitted, subst (λ x. Admits x v) same admitted);
       put = record { plain = h; pod = pod; written = first; parts = p };
     }
 
 -- two plain values that are written in two ways have none in common
 pub plain_apart : (v w : Tree) (key : ℕ) (pod other : List ℕ) → IsPlain v → IsPlain w → ¬ (pod ≡ other) → IsWritten v pod → IsWritten w other →
-    IsKeyRefusal key (Some v) (Some w) (Disjoint key)
+    IsValueRefusal key v w (Disjoint key)
 plain_apart v w key pod other h i n first second = (
   refl,
-  (
-    IsSupported-plain v h,
-    IsSupported-plain w i,
-    λ s. n (first.same ∙ ap encoding_of (sym (plain_admits v s.0 h s.1.0) ∙ plain_admits w s.0 i s.1.1) ∙ sym second.same),
-  ),
+  (IsSupported-plain v h, IsSupported-plain w i),
+  λ s. n (first.same ∙ ap encoding_of (sym (plain_admits v s.0 h s.1.0) ∙ plain_admits w s.0 i s.1.1) ∙ sym second.same),
 )
 
 pub plain_with_members : (v : Tree) → ¬ (IsLeaf v) → IsPlain v
 plain_with_members (choice s f k d vs) h = h tt
 plain_with_members _ h = tt
 
-within_range : (low x : Tree) → IsAtMost low x → IsLeaf x
-within_range (fixed l) (fixed x) h = tt
-within_range (fixed l) _ h = absurd h
-within_range _ x h = absurd h
-
 -- what a value without members admits has none
 leaf_admits : (w x : Tree) → IsLeaf w → Admits w x → IsLeaf x
-leaf_admits (choice none_choice f k d vs) x n h = subst IsLeaf (sym h) tt
-leaf_admits (choice enum_choice f k d vs) x n h =
-    All-contains IsLeaf (fixed d ∷ map (λ y. fixed y) vs) x
-    (All-cons IsLeaf (fixed d) (map (λ y. fixed y) vs) tt (All-map IsLeaf (λ y. fixed y) vs (λ i e l. tt))) h
-leaf_admits (choice range_choice f k d (low ∷ high ∷ vs)) x n h = within_range (fixed low) x h.1
-leaf_admits (choice range_choice f k d _) x n h = absurd h
-leaf_admits (choice _ f k d vs) x n h = absurd h
+leaf_admits (choice s f k d vs) (fixed x) n h = tt
+leaf_admits (choice s f k d vs) _ n h = absurd h
 leaf_admits w x n h = subst IsLeaf (sym h) n
 
 -- a value with members admits itself alone, and one without members doesn't admit it
@@ -231,50 +208,54 @@ pub none_beside : (v w : Tree) → ¬ (IsLeaf v) → IsLeaf w → (x : Tree) →
 none_beside v w h n x a b = h (subst IsLeaf (plain_admits v x (plain_with_members v h) a) (leaf_admits w x n b))
 
 -- a value that two values admit was put, as it is written
-pub put_admitted : (v w : Tree) (key : ℕ) (pod old new : List ℕ) → IsWritten v pod → IsCommonPut v w key old new → IsSettledBy (Some v) (Some w) key old new
+pub put_admitted : (v w : Tree) (key : ℕ) (pod old new : List ℕ) → IsWritten v pod → IsCommonEncoded v w key old new → IsCommonPut v w key old new
 put_admitted v w key pod old new first c =
     record {
       value = c.value;
-      settles = c.common;
+      supported = c.supported;
+      common = c.common;
       put = record { plain = c.plain; pod = encoding_of c.value; written = written_admitted v c.value pod first c.common.0 c.typed c.writable; parts = c.parts };
     }
 
 pub put_shared : (v w : Tree) (a : OfferView) (key : ℕ) (value old new : List ℕ) → IsOffer v a → IsShared v w a.type_ value →
-    PutsValue key a.type_ a.size value old new → IsSettledBy (Some v) (Some w) key old new
+    PutsValue key a.type_ a.size value old new → IsCommonPut v w key old new
 put_shared v w a key value old new o s p =
     let same : o.kind ≡ s.kind = same_kind o.kind s.kind (sym o.its_type ∙ s.its_type) in
     record {
       value = fixed (value_of s.kind value);
-      settles = s.common;
+      supported = (s.first.0, s.second.0);
+      common = (s.first.1, s.second.1);
       put = p s.kind s.its_type (o.its_size ∙ ap body_size same);
     }
 
--- the value that was found, by the words of the crate below
-abbrev value_in : Option Found → Option Tree
-value_in None = None
-value_in (Some f) = Some f.value
+-- what was found in bytes, by the record of the crate above
+abbrev to_offered : Option Found → Option Offered
+to_offered None = None
+to_offered (Some f) = Some (offered f.flags f.value)
 
-value_found_by : (k f : ℕ) (v : Tree) (ps : Properties) (b : Bool) → value_at k ps ≡ value_in (found_at k ps) →
-    (if b then Some v else value_at k ps) ≡ value_in (if b then Some (record { flags = f; value = v }) else found_at k ps)
-value_found_by k f v ps true more = refl
-value_found_by k f v ps false more = more
+offered_found_by : (k f : ℕ) (v : Tree) (ps : Properties) (b : Bool) → offered_at k ps ≡ to_offered (found_at k ps) →
+    (if b then Some (offered f v) else offered_at k ps) ≡ to_offered (if b then Some (record { flags = f; value = v }) else found_at k ps)
+offered_found_by k f v ps true more = refl
+offered_found_by k f v ps false more = more
 
-value_found : (k : ℕ) (ps : Properties) → value_at k ps ≡ value_in (found_at k ps)
-value_found k no_properties = refl
-value_found k (property j f v ps) = value_found_by k f v ps (j == k) (value_found k ps)
+offered_found : (k : ℕ) (ps : Properties) → offered_at k ps ≡ to_offered (found_at k ps)
+offered_found k no_properties = refl
+offered_found k (property j f v ps) = offered_found_by k f v ps (j == k) (offered_found k ps)
 
-pub settled_found : (v : Tree) (qs : Properties) (key flags : ℕ) (other old new : List ℕ) → IsFound (found_at key qs) flags other →
-    ((w : Tree) → IsWritten w other → IsSettledBy (Some v) (Some w) key old new) → IsSettledBy (Some v) (value_at key qs) key old new
-settled_found v qs key flags other old new f p =
-    subst (λ o. IsSettledBy (Some v) o key old new) (sym (value_found key qs ∙ ap value_in f.is_found)) (p f.value f.written)
+pub met_found : (v : Tree) (qs : Properties) (key our_flags flags : ℕ) (other old new : List ℕ) → IsFound (found_at key qs) flags other →
+    ((w : Tree) → IsWritten w other → IsCommonPut v w key old new) → IsMetPut (Some (offered our_flags v)) (offered_at key qs) key old new
+met_found v qs key our_flags flags other old new f p =
+    let c = p f.value f.written in
+    let it : IsMetPut (Some (offered our_flags v)) (Some (offered flags f.value)) key old new =
+    record { value = c.value; met = (refl, c.put.plain, (c.supported, (c.value, c.common)), c.common); put = c.put } in
+    subst (λ o. IsMetPut (Some (offered our_flags v)) o key old new) (sym (offered_found key qs ∙ ap to_offered f.is_found)) it
 
-pub refused_found : (v : Tree) (qs : Properties) (key flags : ℕ) (other : List ℕ) (e : NegotiateError) → IsFound (found_at key qs) flags other →
-    ((w : Tree) → IsWritten w other → IsKeyRefusal key (Some v) (Some w) e) → IsKeyRefusal key (Some v) (value_at key qs) e
-refused_found v qs key flags other e f p =
-    subst (λ o. IsKeyRefusal key (Some v) o e) (sym (value_found key qs ∙ ap value_in f.is_found)) (p f.value f.written)
+pub refused_found : (v : Tree) (qs : Properties) (key our_flags flags : ℕ) (other : List ℕ) (e : NegotiateError) → IsFound (found_at key qs) flags other →
+    ((w : Tree) → IsWritten w other → IsValueRefusal key v w e) → IsKeyRefusal key (Some (offered our_flags v)) (offered_at key qs) e
+refused_found v qs key our_flags flags other e f p =
+    refused_value (offered our_flags v) (offered flags f.value) (offered_at key qs) (offered_found key qs ∙ ap to_offered f.is_found) key e (p f.value f.written)
 
-pub settled_alone : (v : Tree) (qs : Properties) (key : ℕ) (old new : List ℕ) → found_at key qs ≡ None → IsPut key (plain_of v) old new →
-    IsSettledBy (Some v) (value_at key qs) key old new
-settled_alone v qs key old new e p =
-    let alone : IsSettledBy (Some v) None key old new = record { value = plain_of v; settles = refl; put = p } in
-    subst (λ o. IsSettledBy (Some v) o key old new) (sym (value_found key qs ∙ ap value_in e)) alone
+pub put_alone : (v : Tree) (qs : Properties) (key our_flags : ℕ) (old new : List ℕ) → found_at key qs ≡ None → IsPut key (plain_of v) old new →
+    IsMetPut (Some (offered our_flags v)) (offered_at key qs) key old new
+put_alone v qs key our_flags old new e p =
+    record { value = plain_of v; met = met_alone (offered our_flags v) (offered_at key qs) (plain_of v) (offered_found key qs ∙ ap to_offered e) refl; put = p }

@@ -1,17 +1,16 @@
 //! Zero-copy views of offers.
-ghost use Rattle.std.specs.Prelude.{◌≡◌, ◌<◌, ◌≤◌, ◌⊎◌, IfSome, List, length, map, take, true};
+ghost use Rattle.std.specs.Prelude.{◌≡◌, ◌<◌, ◌≤◌, IfSome, List, length, take, true};
 ghost use Rattle.spa_format.specs.Kind.{Fixed, Kind, body_size, type_number};
 ghost use Rattle.spa_format.specs.Pod.{AreElements, IsBody, IsPod};
-ghost use Rattle.spa_format.specs.Tree.{Tree, choice_type, fixed, type_of};
+ghost use Rattle.spa_format.specs.Tree.{Tree, choice_type, type_of};
 ghost use Rattle.std.specs.List.{Contains};
-ghost use Rattle.spa_negotiate_objects.specs.Admits.{Admits, IsAtMostFixed};
-ghost use Rattle.spa_negotiate_pods.specs.Offering.{AreAdmitting, HasValues, IsElementType, IsOffer, IsShared, value_of};
-ghost use Rattle.spa_negotiate_objects.specs.declared.offer.Rule.TheVariants.{Among, Between, Only};
+ghost use Rattle.spa_filter_order.specs.Order.{IsAtMost};
+ghost use Rattle.spa_negotiate_objects.specs.Admits.{IsRangeKind};
+ghost use Rattle.spa_negotiate_pods.specs.Offering.{AreAdmitting, HasValues, IsElementType, IsOffer, IsShared, Offers, value_of};
 
 use spa_bodies::{CHOICE_HEADER_LEN, VALUE_TYPE_AT};
 use spa_bytes::{HEADER_LEN, open, u32_at, u64_at};
 use spa_fixed_sized::{ENUM_SHAPE, NONE_SHAPE, RANGE_SHAPE};
-use spa_negotiate_objects::Rule;
 use spa_utils::SpaTypes;
 use std::alloc::{AllocError, Global};
 
@@ -24,11 +23,11 @@ const TWO_WORDS: usize = 8;
 /// How long the values of an Enum are, in bytes, that are looked for one by one beside those of another: 16 values of two words.
 const SHORT_LEN: usize = 128;
 
-/// A zero-copy view of a value as an offer: a choice, or a plain value as the choice that admits it alone.
+/// A zero-copy view of a value as an offer: a choice, or a plain value as a None choice of it.
 #[derive(Clone, Copy)]
 pub(crate) struct OfferView<'a> {
-    /// Which values the offer admits.
-    pub(crate) rule: Rule,
+    /// The shape of the choice.
+    pub(crate) shape: u32,
     /// The type of the values.
     pub(crate) type_: u32,
     /// The length of a value in bytes.
@@ -50,7 +49,7 @@ pub(crate) fn offer_view(pod: &[u8]) -> Option<OfferView<'_>>
         return None;
     }
     Some(OfferView {
-        rule: Rule::Only,
+        shape: NONE_SHAPE,
         type_: front.type_,
         size: body.len(),
         values: body,
@@ -71,7 +70,7 @@ fn choice_view(body: &[u8]) -> Option<OfferView<'_>>
     let size = u32_at(body, HEADER_LEN) as usize;
     let (_, values) = body.split_at(CHOICE_HEADER_LEN);
     Some(OfferView {
-        rule: rule_by(u32_at(body, 0), type_),
+        shape: u32_at(body, 0),
         type_,
         size,
         values,
@@ -96,26 +95,6 @@ fn is_element_type(type_: u32) -> bool
     }
 }
 
-/// The rule of a choice of this shape over values of this type.
-fn rule_by(shape: u32, type_: u32) -> Rule
-    ensures only { result ≡ Only → shape ≡ 0 }
-    ensures among { result ≡ Among → shape ≡ 3 }
-    ensures between { result ≡ Between → shape ≡ 1 }
-    ensures ordered { result ≡ Between → (type_ ≡ 3) ⊎ (type_ ≡ 4) ⊎ (type_ ≡ 5) }
-{
-    match shape {
-        NONE_SHAPE => Rule::Only,
-        ENUM_SHAPE => Rule::Among,
-        RANGE_SHAPE => match SpaTypes(type_) {
-            SpaTypes::Id => Rule::Between,
-            SpaTypes::Int => Rule::Between,
-            SpaTypes::Long => Rule::Between,
-            _ => Rule::Unsupported,
-        },
-        _ => Rule::Unsupported,
-    }
-}
-
 /// Whether two values of this length are the same bytes. Others than the first ones don't count.
 #[inline(always)]
 fn is_same(size: usize, value: &[u8], other: &[u8]) -> bool
@@ -129,9 +108,9 @@ fn is_same(size: usize, value: &[u8], other: &[u8]) -> bool
     }
 }
 
-/// Whether the first value is no greater than the second, of a type that has an order.
+/// Whether the first value is no greater than the second, of a type over which Ranges are supported.
 fn is_at_most(type_: u32, value: &[u8], other: &[u8]) -> bool
-    ensures { result ≡ true → (k : Kind) → type_ ≡ type_number k → IsAtMostFixed (value_of k value.now) (value_of k other.now) }
+    ensures { result ≡ true → (k : Kind) → type_ ≡ type_number k → IsRangeKind k × IsAtMost (value_of k value.now) (value_of k other.now) }
 {
     match SpaTypes(type_) {
         SpaTypes::Id => {
@@ -168,7 +147,7 @@ fn is_at_most(type_: u32, value: &[u8], other: &[u8]) -> bool
 /// Whether the value is among these, by a linear search.
 fn is_among(size: usize, values: &[u8], value: &[u8]) -> bool
     requires { (0 < size) × (size ≤ length value.now) }
-    ensures { result ≡ true → (k : Kind) (ys : List Fixed) → size ≡ body_size k → AreElements k ys values.now → Contains (map (λ y. fixed y) ys) (fixed (value_of k value.now)) }
+    ensures { result ≡ true → (k : Kind) (ys : List Fixed) → size ≡ body_size k → AreElements k ys values.now → Contains ys (value_of k value.now) }
 {
     let mut left = values;
     while left.len() >= size {
@@ -181,17 +160,17 @@ fn is_among(size: usize, values: &[u8], value: &[u8]) -> bool
     false
 }
 
-/// Whether the offer admits a value of its type.
+/// Whether the offer is of a supported value, and admits a value of its type.
 fn admits(offer: &OfferView<'_>, value: &[u8]) -> bool
     requires values { HasValues offer.now }
     requires value { offer.now.size ≤ length value.now }
-    ensures { result ≡ true → (v : Tree) (o : IsOffer v offer.now) → Admits v (fixed (value_of o.kind value.now)) }
+    ensures { result ≡ true → (v : Tree) (o : IsOffer v offer.now) → Offers v (value_of o.kind value.now) }
 {
     let size = offer.size;
-    match offer.rule {
-        Rule::Only => is_same(size, offer.values, value),
-        Rule::Among => is_among(size, offer.values, value),
-        Rule::Between => {
+    match offer.shape {
+        NONE_SHAPE => is_same(size, offer.values, value),
+        ENUM_SHAPE => is_among(size, offer.values, value),
+        RANGE_SHAPE => {
             let (_, low) = offer.values.split_at(size);
             if low.len() < size {
                 return false;
@@ -202,7 +181,7 @@ fn admits(offer: &OfferView<'_>, value: &[u8]) -> bool
             }
             is_at_most(offer.type_, low, value) && is_at_most(offer.type_, value, high)
         }
-        Rule::Unsupported => false,
+        _ => false,
     }
 }
 
@@ -290,10 +269,9 @@ fn number_of(size: usize, value: &[u8]) -> u64
 
 /// Whether two offers are Enums, one of them with many values.
 fn are_long_enums(a: &OfferView<'_>, b: &OfferView<'_>) -> bool {
-    match (a.rule, b.rule) {
-        (Rule::Among, Rule::Among) => a.values.len() > SHORT_LEN || b.values.len() > SHORT_LEN,
-        _ => false,
-    }
+    a.shape == ENUM_SHAPE
+        && b.shape == ENUM_SHAPE
+        && (a.values.len() > SHORT_LEN || b.values.len() > SHORT_LEN)
 }
 
 /// The first of these that both offers admit: a's default, b's default, a's alternatives, b's alternatives, a's minimum, b's
@@ -321,23 +299,23 @@ pub(crate) fn first_common<'v>(
         let value = first_by_halves(alloc, a, b)?;
         return Some(value);
     }
-    if let Rule::Among = a.rule {
+    if a.shape == ENUM_SHAPE {
         if let Some(value) = first_of(b, a, a.values) {
             return Some(value);
         }
     }
-    if let Rule::Among = b.rule {
+    if b.shape == ENUM_SHAPE {
         if let Some(value) = first_of(a, b, b.values) {
             return Some(value);
         }
     }
-    if let Rule::Between = a.rule {
+    if a.shape == RANGE_SHAPE {
         let (_, low) = a.values.split_at(a.size);
         if low.len() >= a.size && both_admit(a, b, low) {
             return Some(low);
         }
     }
-    if let Rule::Between = b.rule {
+    if b.shape == RANGE_SHAPE {
         let (_, low) = b.values.split_at(b.size);
         if low.len() >= b.size && both_admit(a, b, low) {
             return Some(low);

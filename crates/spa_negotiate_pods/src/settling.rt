@@ -1,5 +1,5 @@
 //! Settles a key of the two sides, from their pods to the pod of the outcome.
-ghost use Rattle.std.specs.Prelude.{◌≡◌, ◌<◌, ◌≤◌, ◌++◌, IfErr, IfNone, IfOk, IfSome, OnOk, Some, true};
+ghost use Rattle.std.specs.Prelude.{◌≡◌, ◌<◌, ◌≤◌, ◌++◌, IfErr, IfNone, IfOk, IfSome, OnOk, true};
 ghost use Rattle.spa_format.specs.Kind.{Kind, body_size, type_number};
 ghost use Rattle.spa_format.specs.Pod.{IsPod};
 ghost use Rattle.spa_format.specs.Tree.{Tree, fixed};
@@ -8,10 +8,10 @@ ghost use Rattle.spa_object_view.specs.Written.{IsWritten};
 ghost use Rattle.spa_bodies.specs.Written.{IsLeaf};
 ghost use Rattle.spa_value.specs.View.{view};
 ghost use Rattle.spa_negotiate_objects.specs.Admits.{IsPlain, plain_of};
-ghost use Rattle.spa_negotiate_objects.specs.Refusals.{IsKeyRefusal};
+ghost use Rattle.spa_negotiate_objects.specs.Refusals.{IsValueRefusal};
 ghost use Rattle.spa_negotiate_objects.specs.declared.error.NegotiateError.TheVariants.{OutOfMemory};
 ghost use Rattle.spa_negotiate_pods.specs.Offering.{value_of};
-ghost use Rattle.spa_negotiate_pods.specs.Written.{IsCommonPut, IsPut, IsSettledBy};
+ghost use Rattle.spa_negotiate_pods.specs.Written.{IsCommonEncoded, IsCommonPut, IsPut};
 
 use crate::offer_view::{first_common, offer_view};
 use spa_bytes::{joined, open, two_words, u32_at, u64_at, wide_body, word_body};
@@ -52,8 +52,8 @@ pub(crate) fn put_common(
     pod: &[u8],
     other: &[u8],
 ) -> Result<(), NegotiateError>
-    ensures settled { OnOk result ((v w : Tree) → IsWritten v pod.now → IsWritten w other.now → IsSettledBy (Some v) (Some w) key out.old.items out.new.items) }
-    ensures cause { IfErr result (λ e. (v w : Tree) → IsWritten v pod.now → IsWritten w other.now → IsKeyRefusal key (Some v) (Some w) e) }
+    ensures put { OnOk result ((v w : Tree) → IsWritten v pod.now → IsWritten w other.now → IsCommonPut v w key out.old.items out.new.items) }
+    ensures cause { IfErr result (λ e. (v w : Tree) → IsWritten v pod.now → IsWritten w other.now → IsValueRefusal key v w e) }
 {
     if is_plain(pod) && is_plain(other) {
         return put_same(out, key, pod, other);
@@ -76,8 +76,8 @@ pub(crate) fn put_common(
 /// Appends a property with the value of two plain pods that are equal.
 fn put_same(out: &mut Vec<u8>, key: u32, pod: &[u8], other: &[u8]) -> Result<(), NegotiateError>
     requires { (v w : Tree) → IsPod pod.now v → IsPod other.now w → IsPlain v × IsPlain w }
-    ensures settled { OnOk result ((v w : Tree) → IsWritten v pod.now → IsWritten w other.now → IsSettledBy (Some v) (Some w) key out.old.items out.new.items) }
-    ensures cause { IfErr result (λ e. (v w : Tree) → IsWritten v pod.now → IsWritten w other.now → IsKeyRefusal key (Some v) (Some w) e) }
+    ensures put { OnOk result ((v w : Tree) → IsWritten v pod.now → IsWritten w other.now → IsCommonPut v w key out.old.items out.new.items) }
+    ensures cause { IfErr result (λ e. (v w : Tree) → IsWritten v pod.now → IsWritten w other.now → IsValueRefusal key v w e) }
 {
     if !are_same(pod, other) {
         return Err(NegotiateError::Disjoint(key));
@@ -97,8 +97,8 @@ fn put_read(
     pod: &[u8],
     other: &[u8],
 ) -> Result<(), NegotiateError>
-    ensures settled { OnOk result ((v w : Tree) → IsWritten v pod.now → IsWritten w other.now → IsSettledBy (Some v) (Some w) key out.old.items out.new.items) }
-    ensures cause { IfErr result (λ e. (v w : Tree) → IsWritten v pod.now → IsWritten w other.now → IsKeyRefusal key (Some v) (Some w) e) }
+    ensures put { OnOk result ((v w : Tree) → IsWritten v pod.now → IsWritten w other.now → IsCommonPut v w key out.old.items out.new.items) }
+    ensures cause { IfErr result (λ e. (v w : Tree) → IsWritten v pod.now → IsWritten w other.now → IsValueRefusal key v w e) }
 {
     let first = leaf_at(alloc, pod)?;
     let second = leaf_at(alloc, other)?;
@@ -145,8 +145,8 @@ fn put_met(
     ours: &Value,
     theirs: &Value,
 ) -> Result<(), NegotiateError>
-    ensures put { OnOk result (IsCommonPut (view ours.now) (view theirs.now) key out.old.items out.new.items) }
-    ensures cause { IfErr result (IsKeyRefusal key (Some (view ours.now)) (Some (view theirs.now))) }
+    ensures put { OnOk result (IsCommonEncoded (view ours.now) (view theirs.now) key out.old.items out.new.items) }
+    ensures cause { IfErr result (IsValueRefusal key (view ours.now) (view theirs.now)) }
 {
     let value = Held::from(common(alloc, key, ours, theirs)?);
     if !put_key(out, key, 0) {
@@ -161,8 +161,8 @@ fn put_met(
 /// The refusal where a value without members is to meet one with members.
 fn apart(key: u32, leaf: &Value) -> NegotiateError
     requires { IsLeaf (view leaf.now) }
-    ensures first { (v : Tree) → ¬ (IsLeaf v) → IsKeyRefusal key (Some v) (Some (view leaf.now)) result }
-    ensures second { (v : Tree) → ¬ (IsLeaf v) → IsKeyRefusal key (Some (view leaf.now)) (Some v) result }
+    ensures first { (v : Tree) → ¬ (IsLeaf v) → IsValueRefusal key v (view leaf.now) result }
+    ensures second { (v : Tree) → ¬ (IsLeaf v) → IsValueRefusal key (view leaf.now) v result }
 {
     if is_supported(leaf) {
         NegotiateError::Disjoint(key)

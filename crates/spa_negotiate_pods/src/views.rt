@@ -5,12 +5,12 @@ ghost use Rattle.spa_format.specs.Words.{size_limit};
 ghost use Rattle.spa_object_view.specs.Fronts.{BeginBoth, BeginsView};
 ghost use Rattle.spa_object_view.specs.KeyOrder.{IsKeyed};
 ghost use Rattle.spa_object_view.specs.Written.{AreWritten, IsWritten, open_header};
-ghost use Rattle.spa_negotiate_objects.specs.Keys.{value_at};
+ghost use Rattle.spa_keyed_objects.specs.Keys.{offered, offered_at};
 ghost use Rattle.spa_negotiate_objects.specs.Meeting.{CanMeet};
 ghost use Rattle.spa_negotiate_objects.specs.Refusals.{IsKeyRefusal, IsRefusal};
 ghost use Rattle.spa_negotiate_objects.specs.declared.error.NegotiateError.TheVariants.{OutOfMemory};
 ghost use Rattle.spa_negotiate_pods.specs.Fronts.{AreViewsRefused, MeetIn};
-ghost use Rattle.spa_negotiate_pods.specs.Written.{IsMetBehind, IsSettledBy};
+ghost use Rattle.spa_negotiate_pods.specs.Written.{IsMetBehind, IsMetPut};
 
 use crate::settling::{put_common, put_default};
 use spa_negotiate_objects::NegotiateError;
@@ -114,8 +114,8 @@ fn settle(
     theirs: &Keyed<'_>,
 ) -> Result<(), NegotiateError>
     requires { IsKeyed theirs.now }
-    ensures settled { OnOk result ((v : Tree) (qs : Properties) → IsWritten v first.now.pod.now → AreWritten qs theirs.now.properties.now → IsSettledBy (Some v) (value_at first.now.key qs) first.now.key out.old.items out.new.items) }
-    ensures cause { IfErr result (λ e. (v : Tree) (qs : Properties) → IsWritten v first.now.pod.now → AreWritten qs theirs.now.properties.now → IsKeyRefusal first.now.key (Some v) (value_at first.now.key qs) e) }
+    ensures settled { OnOk result ((v : Tree) (qs : Properties) → IsWritten v first.now.pod.now → AreWritten qs theirs.now.properties.now → IsMetPut (Some (offered first.now.flags v)) (offered_at first.now.key qs) first.now.key out.old.items out.new.items) }
+    ensures cause { IfErr result (λ e. (v : Tree) (qs : Properties) → IsWritten v first.now.pod.now → AreWritten qs theirs.now.properties.now → IsKeyRefusal first.now.key (Some (offered first.now.flags v)) (offered_at first.now.key qs) e) }
 {
     match theirs.find(first.key) {
         Some(other) => put_common(alloc, out, first.key, first.pod, other.pod),

@@ -26,8 +26,8 @@ mod raw {
         pub fn spav_fraction(input: *const u8, n: usize, key: u32, num: *mut u32, denom: *mut u32) -> i32;
         pub fn spav_events(input: *const u8, n: usize, out: *mut super::Event, room: usize, count: *mut usize) -> i32;
         pub fn spav_string(input: *const u8, n: usize, key: u32, out: *mut u8, cap: usize, len: *mut usize) -> i32;
-        pub fn spav_negotiate(a: *const u8, n: usize, b: *const u8, m: usize, out: *mut u8, cap: usize, written: *mut usize, told: *mut u32) -> i32;
-        pub fn spav_filter(a: *const u8, n: usize, b: *const u8, m: usize, out: *mut u8, cap: usize, written: *mut usize, told: *mut u32) -> i32;
+        pub fn spav_negotiate(a: *const u8, n: usize, b: *const u8, m: usize, out: *mut u8, cap: usize, written: *mut usize, key_or_side: *mut u32) -> i32;
+        pub fn spav_filter(a: *const u8, n: usize, b: *const u8, m: usize, out: *mut u8, cap: usize, written: *mut usize, key_or_side: *mut u32) -> i32;
         pub fn spav_build(
             calls: *const super::RawCall,
             count: usize,
@@ -332,35 +332,35 @@ impl fmt::Display for Apart {
 
 impl std::error::Error for Apart {}
 
-fn joined(answer: i32, out: &mut [u8], written: usize, told: u32) -> Result<&mut [u8], Apart> {
+fn joined(answer: i32, out: &mut [u8], written: usize, key_or_side: u32) -> Result<&mut [u8], Apart> {
     match answer {
         0 => Ok(&mut out[..written]),
-        -2 => Err(Apart::Missing(told)),
-        -22 => Err(Apart::NoObject(told)),
+        -2 => Err(Apart::Missing(key_or_side)),
+        -22 => Err(Apart::NoObject(key_or_side)),
         -28 => Err(Apart::NoRoom(written)),
-        -61 => Err(Apart::Disjoint(told)),
+        -61 => Err(Apart::Disjoint(key_or_side)),
         -71 => Err(Apart::Types),
         -75 => Err(Apart::TooLarge),
-        -95 => Err(Apart::Unsupported(told)),
+        -95 => Err(Apart::Unsupported(key_or_side)),
         _ => Err(Apart::OutOfMemory),
     }
 }
 
 /// Writes the object in which the objects at the fronts of two inputs meet to the front of `out`, and gives it.
 pub fn negotiate_into<'a>(a: &[u8], b: &[u8], out: &'a mut [u8]) -> Result<&'a mut [u8], Apart> {
-    let (mut written, mut told) = (0, 0);
+    let (mut written, mut key_or_side) = (0, 0);
     let (to, cap) = (out.as_mut_ptr(), out.len());
-    let answer = unsafe { raw::spav_negotiate(a.as_ptr(), a.len(), b.as_ptr(), b.len(), to, cap, &mut written, &mut told) };
-    joined(answer, out, written, told)
+    let answer = unsafe { raw::spav_negotiate(a.as_ptr(), a.len(), b.as_ptr(), b.len(), to, cap, &mut written, &mut key_or_side) };
+    joined(answer, out, written, key_or_side)
 }
 
 /// Writes the object to which the objects at the fronts of two inputs are filtered to the front of `out`, and gives it: it may still
 /// hold choices.
 pub fn filter_into<'a>(a: &[u8], b: &[u8], out: &'a mut [u8]) -> Result<&'a mut [u8], Apart> {
-    let (mut written, mut told) = (0, 0);
+    let (mut written, mut key_or_side) = (0, 0);
     let (to, cap) = (out.as_mut_ptr(), out.len());
-    let answer = unsafe { raw::spav_filter(a.as_ptr(), a.len(), b.as_ptr(), b.len(), to, cap, &mut written, &mut told) };
-    joined(answer, out, written, told)
+    let answer = unsafe { raw::spav_filter(a.as_ptr(), a.len(), b.as_ptr(), b.len(), to, cap, &mut written, &mut key_or_side) };
+    joined(answer, out, written, key_or_side)
 }
 
 /// A call of a builder: a value is added, a pod is begun or closed, or the key and the flags of a property are said.
@@ -526,7 +526,7 @@ impl<'a> Pod<'a> {
 /// The parent of a pod that stands in no other.
 pub const NO_PARENT: usize = usize::MAX;
 
-/// What is told of a pod that lies inside bytes.
+/// A pod inside bytes: its type, its size and where it is.
 #[repr(C)]
 #[derive(Clone, Copy, PartialEq, Eq, Debug, Default)]
 pub struct Event {
@@ -538,11 +538,11 @@ pub struct Event {
     pub depth: usize,
     /// The byte at which its header begins.
     pub at: usize,
-    /// Where in the list the innermost of these is told of, or NO_PARENT.
+    /// The index of the event of the innermost of these, or NO_PARENT.
     pub parent: usize,
 }
 
-/// Writes what is told of each pod of the input, and of each inside it, to the front of `out`, and gives it. An eighth of the input's
+/// Writes an event for each pod of the input, and for each inside it, to the front of `out`, and gives these events. An eighth of the input's
 /// length is room enough.
 pub fn events_into<'a>(input: &[u8], out: &'a mut [Event]) -> Result<&'a mut [Event], Error> {
     let mut count = 0;
@@ -556,22 +556,22 @@ pub fn events_into<'a>(input: &[u8], out: &'a mut [Event]) -> Result<&'a mut [Ev
 #[derive(Clone, Debug)]
 pub struct Events<'a> {
     input: &'a [u8],
-    told: std::vec::IntoIter<Event>,
+    events: std::vec::IntoIter<Event>,
 }
 
 /// The events of an input, each with the pod's body.
 pub fn events(input: &[u8]) -> Events<'_> {
-    let mut told = vec![Event::default(); input.len() / TWO_WORDS];
-    let count = events_into(input, &mut told).map_or(0, |told| told.len());
-    told.truncate(count);
-    Events { input, told: told.into_iter() }
+    let mut events = vec![Event::default(); input.len() / TWO_WORDS];
+    let count = events_into(input, &mut events).map_or(0, |events| events.len());
+    events.truncate(count);
+    Events { input, events: events.into_iter() }
 }
 
 impl<'a> Iterator for Events<'a> {
     type Item = (Event, &'a [u8]);
 
     fn next(&mut self) -> Option<(Event, &'a [u8])> {
-        let event = self.told.next()?;
+        let event = self.events.next()?;
         let start = event.at + TWO_WORDS;
         Some((event, &self.input[start..start + event.size as usize]))
     }
@@ -839,8 +839,8 @@ mod tests {
     #[test]
     fn events_come_in_order() {
         let pod = object();
-        let told: Vec<_> = events(&pod).map(|(it, body)| (it.type_, it.depth, it.at, it.parent, body.len())).collect();
-        assert_eq!(told, [(15, 0, 0, NO_PARENT, 104), (4, 1, 24, 0, 4), (19, 1, 48, 0, 28), (8, 1, 96, 0, 3)]);
+        let found: Vec<_> = events(&pod).map(|(it, body)| (it.type_, it.depth, it.at, it.parent, body.len())).collect();
+        assert_eq!(found, [(15, 0, 0, NO_PARENT, 104), (4, 1, 24, 0, 4), (19, 1, 48, 0, 28), (8, 1, 96, 0, 3)]);
         assert_eq!(events_into(&pod, &mut [Event::default(); 3]), Err(Error::NoRoom(14)));
         assert_eq!(events_into(&pod, &mut [Event::default(); 4]).map(|it| it.len()), Ok(4));
         assert_eq!(events(&pod[..111]).count(), 0);

@@ -21,7 +21,7 @@ filter_key-requires-clause-there c =
     let l = c.loop-property in
     key_found law.first law.cut c.args.ours.now.properties.now c.args.theirs.now.properties.now c.args.before.now
     c.args.side.now c.requires.part l.property-index c.property-item.result c.loop-property-test.true c.property-item.is
-    (record { met = l.met; keys = l.keys }) l.invariant
+    (record { met = l.met; keys = l.keys }) l.invariant _ _ c.in_ok-add_key.ensures c.if-branch.true
 
 pub returns-in_err-property-clause-cause : goal.returns-in_err-property-clause-cause
 returns-in_err-property-clause-cause c =

@@ -1,4 +1,4 @@
-use Rattle.spa_filter.proofs.Settled.{meetings_commute, meetings_repeat, meetings_narrow}
+use Rattle.spa_filter.proofs.FixedObjects.{meetings_commute, meetings_repeat, meetings_narrow}
 use Rattle.spa_filter.proofs.laws.filters_admit_the_same.Goals as goal
 
 pub returns : goal.returns

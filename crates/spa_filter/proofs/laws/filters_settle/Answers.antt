@@ -1,4 +1,4 @@
-use Rattle.spa_filter.proofs.Settled.{filters_settle}
+use Rattle.spa_filter.proofs.FixedObjects.{filters_settle}
 use Rattle.spa_filter.proofs.laws.filters_settle.Goals as goal
 
 pub returns : goal.returns

@@ -3,7 +3,7 @@ use Rattle.spa_format.specs.Tree.{join_properties, property, no_properties}
 use Rattle.spa_value.specs.View.{view}
 use Rattle.spa_value.specs.Views.{property_views, property_view}
 use Rattle.spa_filter.specs.Settling.{settled_properties}
-use Rattle.spa_filter.proofs.Settled.{settled_properties-join}
+use Rattle.spa_filter.proofs.FixedObjects.{settled_properties-join}
 use Rattle.spa_filter.proofs.settling.settled_list.Goals as goal
 
 pub loop-property-preserved : goal.loop-property-preserved

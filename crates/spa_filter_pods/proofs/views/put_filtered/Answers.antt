@@ -1,6 +1,5 @@
 use Rattle.std.proofs.Common.{Some, None}
-use Rattle.spa_keyed_objects.specs.Keys.{offered_at}
-use Rattle.spa_filter_pods.specs.Written.{offered}
+use Rattle.spa_keyed_objects.specs.Keys.{offered, offered_at}
 use Rattle.spa_filter_pods.proofs.Lookups.{offered_none, offered_some}
 use Rattle.spa_object_view.proofs.Passing.{if_err, on_ok}
 use Rattle.spa_filter_pods.proofs.Puts.{put_by, refused_by}

@@ -3,7 +3,7 @@ use Rattle.spa_format.specs.Tree.{property, no_properties, join_properties}
 use Rattle.spa_value.specs.View.{view}
 use Rattle.spa_value.specs.Views.{property_views}
 use Rattle.spa_negotiate_objects.specs.declared.negotiation.Settled.{Settled}
-use Rattle.spa_negotiate_objects.specs.PropertyLists.{SettlesListed}
+use Rattle.spa_negotiate_objects.specs.PropertyLists.{AreSettled}
 use Rattle.spa_negotiate_objects.proofs.Passing.{passed_on}
 use Rattle.spa_negotiate_objects.proofs.Steps.{firsts, first_seen, first_new, first_keys, first_refused}
 use Rattle.spa_negotiate_objects.proofs.negotiation.settle_first.Goals.{then-branch+in_ok-value+in_ok-push, else-branch}
@@ -44,14 +44,14 @@ loop-property-preserved c =
           record {
             settles =
                 first_new law.first law.cut ours theirs i p s _ _ added more is l.invariant w.if-branch.true
-                c.if-branch.met.properties.items (view x.value) pushed x.ensures.plain x.ensures.settles;
+                c.if-branch.met.properties.items (view x.value) pushed x.ensures.met;
             keys = keys;
           }
       | else-branch w ↦
           let seen = first_seen law.first law.cut ours theirs i p s _ _ added more is l.invariant w.if-branch.false in
           record {
             settles =
-                subst (λ v. SettlesListed ours theirs (firsts ours (i + 1)) v.properties.items) (sym w.met-is) seen;
+                subst (λ v. AreSettled ours theirs (firsts ours (i + 1)) v.properties.items) (sym w.met-is) seen;
             keys = keys;
           }
     ]

@@ -5,7 +5,7 @@ use Rattle.spa_value.specs.View.{view}
 use Rattle.spa_value.specs.Views.{property_views}
 use Rattle.spa_keyed_objects.proofs.KeySets.{join_properties-none}
 use Rattle.spa_negotiate_objects.specs.declared.negotiation.Settled.{Settled}
-use Rattle.spa_negotiate_objects.specs.PropertyLists.{SettlesListed, IsSettled}
+use Rattle.spa_negotiate_objects.specs.PropertyLists.{AreSettled, IsSettled}
 use Rattle.spa_negotiate_objects.proofs.Steps.{others, other_seen, other_new, other_keys}
 use Rattle.spa_negotiate_objects.proofs.negotiation.settle_rest.Goals.{then-branch+in_ok-value+in_ok-push, else-branch}
 use Rattle.spa_negotiate_objects.proofs.negotiation.settle_rest.Goals as goal
@@ -39,14 +39,14 @@ loop-property-preserved c = λ ours begun.
           record {
             settles =
                 other_new law.first law.cut ours theirs i p s _ _ added more is settled w.if-branch.true
-                c.if-branch.met.properties.items (view x.value) pushed x.ensures.plain x.ensures.settled;
+                c.if-branch.met.properties.items (view x.value) pushed x.ensures;
             keys = keys;
           }
       | else-branch w ↦
           let seen = other_seen law.first law.cut ours theirs i p s _ _ added more is settled w.if-branch.false in
           record {
             settles =
-                subst (λ v. SettlesListed ours theirs (others ours theirs (i + 1)) v.properties.items) (sym w.met-is)
+                subst (λ v. AreSettled ours theirs (others ours theirs (i + 1)) v.properties.items) (sym w.met-is)
                 seen;
             keys = keys;
           }
@@ -57,8 +57,8 @@ returns c = λ ours begun.
     let theirs = c.args.b.now in
     let met = c.loop-property.met.properties in
     let all = take_all c.loop-property.property-index theirs c.loop-property-test.false in
-    let settled : SettlesListed ours theirs (join_properties (property_views ours) (property_views theirs)) met.items =
-    subst (λ z. SettlesListed ours theirs (join_properties (property_views ours) (property_views z)) met.items) all
+    let settled : AreSettled ours theirs (join_properties (property_views ours) (property_views theirs)) met.items =
+    subst (λ z. AreSettled ours theirs (join_properties (property_views ours) (property_views z)) met.items) all
     (c.loop-property.invariant ours begun).settles in
-    subst (λ v. SettlesListed ours theirs (join_properties (property_views ours) (property_views theirs)) v.items)
+    subst (λ v. AreSettled ours theirs (join_properties (property_views ours) (property_views theirs)) v.items)
     (sym c.into_properties.ensures) settled

@@ -50,6 +50,7 @@ MOVED = {
     "crates/spa_spelling/": ("test_bytes",),
     "crates/spa_uses/": ("example_types",),
     "crates/spa_callers/": ("example_calls",),
+    "crates/example_tests/": ("spa_typed_tests",),
 }
 
 

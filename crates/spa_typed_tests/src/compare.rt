@@ -1,4 +1,5 @@
 //! Comparisons of what was written with what is wanted.
+use arrayvec::ArrayVec;
 use libspa::pod::serialize::{GenError, PodSerialize, PodSerializer};
 use std::alloc::Global;
 use std::process::Abort;
@@ -36,6 +37,14 @@ pub(crate) fn assert_written<P: PodSerialize>(
 ) -> Result<(), Fail> {
     let out = put(Vec::new(alloc), pod)?;
     assert_words(rt, alloc, out.as_slice(), words)
+}
+
+/// Why a pod isn't written to an output of so many bytes.
+pub(crate) fn refusal<P: PodSerialize, const N: usize>(
+    out: ArrayVec<u8, N>,
+    pod: &P,
+) -> Option<GenError> {
+    PodSerializer::serialize(out, pod).err()
 }
 
 /// Compares a refusal with the wanted one.

@@ -10,6 +10,8 @@ mod declared;
 #[cfg(test)]
 mod latency;
 #[cfg(test)]
+mod offers;
+#[cfg(test)]
 mod own_types;
 #[cfg(test)]
 mod reading;

@@ -3,11 +3,11 @@ ghost use Rattle.std.specs.Prelude.{[], ◌∷◌};
 ghost use Rattle.libspa.specs.Kind as kind;
 ghost use Rattle.libspa.specs.Tree.{array, fixed, member, no_properties, no_trees, object, property, struct};
 
-use crate::compare::{assert_refused, assert_words, assert_written};
+use crate::compare::{assert_refused, assert_words, assert_written, refusal};
 use arrayvec::ArrayVec;
 use bitflags::Flags;
 use example_types::{
-    Cover, Device, Level, Mode, Pair, Screen, Size, Song, put_mode, tagged_number,
+    Cover, Device, Level, Mode, Pair, Screen, Size, Song, is_number, put_mode, tagged_number,
 };
 use libspa::pod::serialize::{GenError, PodOutput, PodSerialize, PodSerializer, SerializeSuccess};
 use libspa::pod::{FixedSizedPod, PropertyFlags};
@@ -160,6 +160,17 @@ fn a_value_in_a_struct_is_written(rt: HostRuntime) -> Result<(), Fail> {
     assert_written(&rt, rt.alloc(), &tagged_number(Id(9), 313), words)
 }
 
+/// Whether a number under an id is one.
+fn is_tagged_number() -> bool {
+    let tagged = tagged_number(Id(9), 313);
+    is_number(&tagged.value)
+}
+
+#[test]
+fn a_value_in_a_struct_is_a_number(rt: HostRuntime) {
+    assert!(rt; is_tagged_number());
+}
+
 #[test]
 fn a_mode_is_put_where_it_fits(rt: HostRuntime) -> Result<(), Fail> {
     let (out, count) = put_mode(ArrayVec::new(), &MODE)?;
@@ -170,15 +181,14 @@ fn a_mode_is_put_where_it_fits(rt: HostRuntime) -> Result<(), Fail> {
     Ok(())
 }
 
-/// Why a device isn't written to an output of so many bytes.
-fn refusal<const N: usize>(out: ArrayVec<u8, N>) -> Option<GenError> {
-    PodSerializer::serialize(out, &DEVICE).err()
-}
-
 #[test]
 fn an_object_is_written_where_it_fits(rt: HostRuntime) {
-    assert!(rt; refusal(ArrayVec::<u8, 64>::new()).is_none());
-    assert_refused(&rt, refusal(ArrayVec::<u8, 63>::new()), GenError::Full);
+    assert!(rt; refusal(ArrayVec::<u8, 64>::new(), &DEVICE).is_none());
+    assert_refused(
+        &rt,
+        refusal(ArrayVec::<u8, 63>::new(), &DEVICE),
+        GenError::Full,
+    );
 }
 
 #[test]

@@ -1,5 +1,5 @@
 //! Typed reads, visitors and a user's own readers.
-mod answers;
+pub(crate) mod answers;
 mod built;
 mod declining;
 mod elements;

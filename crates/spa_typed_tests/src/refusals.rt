@@ -3,7 +3,7 @@ ghost use Rattle.std.specs.Prelude.{[]};
 ghost use Rattle.libspa.specs.Kind as kind;
 ghost use Rattle.libspa.specs.Tree.{array, fixed};
 
-use crate::compare::{assert_refused, assert_written};
+use crate::compare::{assert_refused, assert_written, refusal};
 use arrayvec::ArrayVec;
 use bitflags::Flags;
 use libspa::pod::PropertyFlags;
@@ -86,11 +86,6 @@ impl PodSerialize for RefusedProperty {
         };
         properties.end()
     }
-}
-
-/// Why a pod isn't written to an output of so many bytes.
-fn refusal<P: PodSerialize, const N: usize>(out: ArrayVec<u8, N>, pod: &P) -> Option<GenError> {
-    PodSerializer::serialize(out, pod).err()
 }
 
 #[test]

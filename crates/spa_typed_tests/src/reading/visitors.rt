@@ -4,6 +4,7 @@ ghost use Rattle.spa_bodies.specs.Reading.{IsRead};
 
 use crate::compare::assert_said;
 use crate::reading::answers::refused;
+use crate::reading::declining::{declined, number_visitor};
 use crate::reading::telling::TellingVisitor;
 use spa_fixed_sized::DeserializeError;
 use spa_typed_read::{DeserializeSuccess, PodDeserialize, PodDeserializer};
@@ -22,10 +23,10 @@ use test_bytes::bytes_of;
 
 /// The answer of a call, by its number, as a text. The first numbers are those of the pods' types.
 #[derive(Drop)]
-struct Answer<const CALL: u8>(String);
+pub(crate) struct Answer<const CALL: u8>(String);
 
 /// What a call's visitor made, as a text, and the rest that the call leaves; or the call's refusal.
-fn told<'de, T: Debug + Drop, const CALL: u8>(
+pub(crate) fn told<'de, T: Debug + Drop, const CALL: u8>(
     alloc: Global,
     read: Result<(T, DeserializeSuccess<'de>), DeserializeError<&'de [u8]>>,
 ) -> Result<(Answer<CALL>, DeserializeSuccess<'de>), DeserializeError<&'de [u8]>>
@@ -160,7 +161,8 @@ fn paired_call<'de, const CALL: u8>(
             alloc,
             deserializer.deserialize_choice(ChoiceFractionVisitor),
         ),
-        _ => told(alloc, deserializer.deserialize_choice(ChoiceFdVisitor)),
+        58 => told(alloc, deserializer.deserialize_choice(ChoiceFdVisitor)),
+        _ => number_visitor::<CALL>(alloc, deserializer),
     }
 }
 
@@ -176,7 +178,7 @@ impl<'de, const CALL: u8> PodDeserialize<'de> for Answer<CALL> {
 }
 
 /// What the call of this number answers, or its refusal's name.
-fn answered<const CALL: u8>(alloc: Global, input: &[u8]) -> Result<String, AllocError> {
+pub(crate) fn answered<const CALL: u8>(alloc: Global, input: &[u8]) -> Result<String, AllocError> {
     let read: Result<(&[u8], Answer<CALL>), DeserializeError<&[u8]>> =
         PodDeserializer::deserialize_from(alloc, input);
     match read {
@@ -218,7 +220,7 @@ pub(crate) fn called(alloc: Global, call: u8, input: &[u8]) -> Result<String, Al
         50 => answered::<50>(alloc, input),
         51 => answered::<51>(alloc, input),
         58 => answered::<58>(alloc, input),
-        _ => String::from_str(alloc, "no such call"),
+        _ => declined(alloc, call, input),
     }
 }
 

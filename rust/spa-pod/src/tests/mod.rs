@@ -1,6 +1,5 @@
 //! Made by rust/erase.py of the proved crates, a module each.
 pub mod example_calls;
-pub mod example_tests;
 pub mod example_types;
 pub mod libspa_tests;
 pub mod multiples_tests;

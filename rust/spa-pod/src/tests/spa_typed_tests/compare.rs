@@ -1,5 +1,6 @@
 //! Comparisons of what was written with what is wanted.
 use crate::shims::prelude::*;
+use crate::shims::array::ArrayVec;
 use crate::parts::libspa::pod::serialize::{GenError, PodSerialize, PodSerializer};
 use crate::shims::test::Fail;
 use crate::tests::test_bytes::bytes_spelled;
@@ -31,6 +32,14 @@ pub(crate) fn assert_written<P: PodSerialize>(
 ) -> Result<(), Fail> {
     let out = put(Vec::new(), pod)?;
     assert_words(out.as_slice(), words)
+}
+
+/// Why a pod isn't written to an output of so many bytes.
+pub(crate) fn refusal<P: PodSerialize, const N: usize>(
+    out: ArrayVec<u8, N>,
+    pod: &P,
+) -> Option<GenError> {
+    PodSerializer::serialize(out, pod).err()
 }
 
 /// Compares a refusal with the wanted one.

@@ -1,14 +1,12 @@
-//! Types that are declared by what they are made of: written, read back, cut short, and written where they don't fit.
+//! Types that are declared by what they are made of: written, and written where they don't fit.
 use crate::shims::prelude::*;
 use crate::tests::spa_typed_tests::compare::{assert_refused, assert_words, assert_written, put};
 use crate::shims::array::ArrayVec;
 use crate::tests::example_types::{AudioFormat, Curve, put_curve, put_format};
-use crate::parts::libspa::pod::deserialize::{DeserializeError, PodDeserialize, PodDeserializer};
-use crate::parts::libspa::pod::serialize::{GenError, PodSerialize};
+use crate::parts::libspa::pod::serialize::GenError;
 use crate::parts::libspa::utils::{Float32, Id};
 use crate::shims::memory::AllocError;
 use crate::shims::test::Fail;
-use crate::tests::test_bytes::bytes_spelled;
 
 /// A curve, in words: `up`, -2, the id 7 and three points.
 const CURVE: &str =
@@ -21,10 +19,6 @@ const FORMAT: &str =
 /// That format without its channels.
 const WITHOUT_CHANNELS: &str =
     "184 15 262147 4 65537 0 4 3 259 0 65539 0 4 4 48000 0 65541 0 16 13 4 3 3 4 65550 0 80 14 3 8 28789 0 4 4 4294967294 0 4 3 7 0 20 13 4 6 1138491392 0 1065353216 0";
-
-/// `FORMAT` in another order, with a property that isn't known among the others and a second rate behind the first.
-const MIXED: &str =
-    "248 15 262147 4 65550 0 80 14 3 8 28789 0 4 4 4294967294 0 4 3 7 0 20 13 4 6 1138491392 0 1065353216 0 65540 0 4 4 2 0 9 0 0 1 65541 0 16 13 4 3 3 4 65539 0 4 4 48000 0 65539 0 4 4 1 0 65537 0 4 3 259 0";
 
 /// The curve of these words.
 fn curve() -> Result<Curve, AllocError> {
@@ -79,198 +73,6 @@ fn declared_objects_are_written() {
 fn declared_objects_are_written_answers() -> Result<(), Fail> {
     assert_format(Some(2), FORMAT)?;
     assert_format(None, WITHOUT_CHANNELS)
-}
-
-/// How many bytes follow what is read, and that written again; or why it isn't read.
-type Again<'a> = Result<(usize, Result<Vec<u8>, GenError>), DeserializeError<&'a [u8]>>;
-
-/// Reads what these bytes begin with, and writes it again.
-fn read_again<'de, P: PodDeserialize<'de> + PodSerialize>(
-    input: &'de [u8],
-) -> Again<'de> {
-    match PodDeserializer::deserialize_from::<P>(input) {
-        Ok((rest, it)) => {
-            let written = put(Vec::new(), &it);
-            Ok((rest.len(), written))
-        }
-        Err(e) => Err(e),
-    }
-}
-
-/// A curve that is read, written again.
-fn curve_again(input: &[u8]) -> Again<'_> {
-    read_again::<Curve>(input)
-}
-
-/// A format that is read, written again.
-fn format_again(input: &[u8]) -> Again<'_> {
-    read_again::<AudioFormat>(input)
-}
-
-/// Compares what is read of these words, written again, with the wanted words.
-fn assert_again(
-    found: Again<'_>,
-    wanted: &str,
-) -> Result<(), Fail> {
-    match found {
-        Ok((0, Ok(written))) => assert_words(written.as_slice(), wanted),
-        Ok((0, Err(GenError::OutOfMemory))) | Err(DeserializeError::OutOfMemory) => {
-            Err(Fail::from(AllocError))
-        }
-        Ok((_, written)) => {
-            drop(written);
-            Err(Fail::new("bytes follow, or it isn't written"))
-        }
-        Err(e) => Err(Fail::new(e.kind())),
-    }
-}
-
-/// Compares what is read of these words as a format, written again, with the wanted words.
-fn assert_format_again(
-    words: &str,
-    wanted: &str,
-) -> Result<(), Fail> {
-    let input = bytes_spelled(words)?;
-    assert_again(format_again(input.as_slice()), wanted)
-}
-
-#[test]
-fn declared_types_come_back() {
-    crate::shims::test::run(declared_types_come_back_answers())
-}
-
-fn declared_types_come_back_answers() -> Result<(), Fail> {
-    let curve = bytes_spelled(CURVE)?;
-    let found = curve_again(curve.as_slice());
-    assert_again(found, CURVE)
-}
-
-#[test]
-fn properties_stand_in_any_order() {
-    crate::shims::test::run(properties_stand_in_any_order_answers())
-}
-
-fn properties_stand_in_any_order_answers() -> Result<(), Fail> {
-    assert_format_again(FORMAT, FORMAT)?;
-    assert_format_again(WITHOUT_CHANNELS, WITHOUT_CHANNELS)?;
-    assert_format_again(MIXED, FORMAT)
-}
-
-fn assert_kind(found: &str, wanted: &str, at: usize) {
-    assert_eq!(found, wanted, "at {at}");
-}
-
-/// Compares the refusal of these words, unless memory is wanting.
-fn assert_refusal(
-    found: Again<'_>,
-    wanted: &str,
-    at: usize,
-) -> Result<(), AllocError> {
-    match found {
-        Err(DeserializeError::OutOfMemory) => return Err(AllocError),
-        Err(e) => assert_kind(e.kind(), wanted, at),
-        Ok(again) => {
-            drop(again);
-            assert_kind("read", wanted, at);
-        }
-    }
-    Ok(())
-}
-
-/// Each beginning of a curve is refused as short.
-fn assert_short_curves(curve: &[u8]) -> Result<(), AllocError> {
-    for len in 0..curve.len() {
-        assert_refusal(curve_again(&curve[..len]), "Short", len)?;
-    }
-    Ok(())
-}
-
-/// Each beginning of a format is refused as short.
-fn assert_short_formats(format: &[u8]) -> Result<(), AllocError> {
-    for len in 0..format.len() {
-        assert_refusal(format_again(&format[..len]), "Short", len)?;
-    }
-    Ok(())
-}
-
-#[test]
-fn cut_structs_are_refused() {
-    crate::shims::test::run(cut_structs_are_refused_answers())
-}
-
-fn cut_structs_are_refused_answers() -> Result<(), Fail> {
-    let curve = bytes_spelled(CURVE)?;
-    assert_short_curves(curve.as_slice())?;
-    Ok(())
-}
-
-#[test]
-fn cut_objects_are_refused() {
-    crate::shims::test::run(cut_objects_are_refused_answers())
-}
-
-fn cut_objects_are_refused_answers() -> Result<(), Fail> {
-    let format = bytes_spelled(FORMAT)?;
-    assert_short_formats(format.as_slice())?;
-    Ok(())
-}
-
-/// What is no curve, and why: one member too few, one too many, another type.
-const NO_CURVES: &[(&str, &str)] = &[
-    ("16 14 3 8 28789 0", "PropertyMissing"),
-    (
-        "96 14 3 8 28789 0 4 4 1 0 4 3 7 0 20 13 4 6 1 2 3 0 4 4 1 0",
-        "UnreadMembers",
-    ),
-    ("80 14 3 8 28789 0 4 4 1 0 4 4 7 0 20 13 4 6 1 2 3 0", "Tag"),
-];
-
-/// Those rows. This function alone names them: one that does is proved with all of them.
-fn no_curves() -> &'static [(&'static str, &'static str)] {
-    NO_CURVES
-}
-
-/// What is no format, and why: another id, another type, without a property that has to be there.
-const NO_FORMATS: &[(&str, &str)] = &[
-    ("8 15 262147 3", "UnsupportedType"),
-    ("8 15 262146 4", "UnsupportedType"),
-    ("32 15 262147 4 65537 0 4 3 259 0", "PropertyMissing"),
-];
-
-/// Those rows. This function alone names them: one that does is proved with all of them.
-fn no_formats() -> &'static [(&'static str, &'static str)] {
-    NO_FORMATS
-}
-
-fn assert_no_curve(row: (&str, &str)) -> Result<(), Fail> {
-    let input = bytes_spelled(row.0)?;
-    assert_refusal(curve_again(input.as_slice()), row.1, input.len())?;
-    Ok(())
-}
-
-fn assert_no_format(row: (&str, &str)) -> Result<(), Fail> {
-    let input = bytes_spelled(row.0)?;
-    assert_refusal(
-        format_again(input.as_slice()),
-        row.1,
-        input.len(),
-    )?;
-    Ok(())
-}
-
-#[test]
-fn other_pods_are_refused() {
-    crate::shims::test::run(other_pods_are_refused_answers())
-}
-
-fn other_pods_are_refused_answers() -> Result<(), Fail> {
-    for row in no_curves() {
-        assert_no_curve(*row)?;
-    }
-    for row in no_formats() {
-        assert_no_format(*row)?;
-    }
-    Ok(())
 }
 
 /// An output that holds so many zeros.

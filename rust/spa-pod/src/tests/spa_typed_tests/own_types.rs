@@ -1,11 +1,11 @@
 //! What types of a program's own are written as.
 
 use crate::shims::prelude::*;
-use crate::tests::spa_typed_tests::compare::{assert_refused, assert_words, assert_written};
+use crate::tests::spa_typed_tests::compare::{assert_refused, assert_words, assert_written, refusal};
 use crate::shims::array::ArrayVec;
 use crate::shims::flags::Flags;
 use crate::tests::example_types::{
-    Cover, Device, Level, Mode, Pair, Screen, Size, Song, put_mode, tagged_number,
+    Cover, Device, Level, Mode, Pair, Screen, Size, Song, is_number, put_mode, tagged_number,
 };
 use crate::parts::libspa::pod::serialize::{GenError, PodOutput, PodSerialize, PodSerializer, SerializeSuccess};
 use crate::parts::libspa::pod::{FixedSizedPod, PropertyFlags};
@@ -176,6 +176,17 @@ fn a_value_in_a_struct_is_written_answers() -> Result<(), Fail> {
     assert_written(&tagged_number(Id(9), 313), words)
 }
 
+/// Whether a number under an id is one.
+fn is_tagged_number() -> bool {
+    let tagged = tagged_number(Id(9), 313);
+    is_number(&tagged.value)
+}
+
+#[test]
+fn a_value_in_a_struct_is_a_number() {
+    assert!(is_tagged_number());
+}
+
 #[test]
 fn a_mode_is_put_where_it_fits() {
     crate::shims::test::run(a_mode_is_put_where_it_fits_answers())
@@ -190,15 +201,13 @@ fn a_mode_is_put_where_it_fits_answers() -> Result<(), Fail> {
     Ok(())
 }
 
-/// Why a device isn't written to an output of so many bytes.
-fn refusal<const N: usize>(out: ArrayVec<u8, N>) -> Option<GenError> {
-    PodSerializer::serialize(out, &DEVICE).err()
-}
-
 #[test]
 fn an_object_is_written_where_it_fits() {
-    assert!(refusal(ArrayVec::<u8, 64>::new()).is_none());
-    assert_refused(refusal(ArrayVec::<u8, 63>::new()), GenError::Full);
+    assert!(refusal(ArrayVec::<u8, 64>::new(), &DEVICE).is_none());
+    assert_refused(
+        refusal(ArrayVec::<u8, 63>::new(), &DEVICE),
+        GenError::Full,
+    );
 }
 
 #[test]

@@ -1,6 +1,6 @@
 //! Typed reads, visitors and a user's own readers.
 use crate::shims::prelude::*;
-mod answers;
+pub(crate) mod answers;
 mod built;
 mod declining;
 mod elements;

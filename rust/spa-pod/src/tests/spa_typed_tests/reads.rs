@@ -1,99 +1,37 @@
 //! What types of a program's own are read as.
 use crate::shims::prelude::*;
 use crate::tests::spa_typed_tests::compare::{assert_holds, assert_said, assert_words};
-use crate::tests::example_types::{
-    Capture, Device, Gain, Level, Mode, Screen, Size, Song, Tagged, is_number, read_mode, sent,
-    with_volume,
-};
-use crate::parts::libspa::pod::deserialize::{DeserializeError, PodDeserialize, PodDeserializer};
+use crate::tests::spa_typed_tests::reading::answers::named;
+use crate::tests::example_types::{Capture, Gain, Mode, Size, read_mode, sent, with_volume};
+use crate::parts::libspa::pod::deserialize::PodDeserializer;
 use crate::parts::libspa::utils::Float32;
-use crate::shims::memory::AllocError;
 use crate::shims::test::Fail;
 use crate::tests::test_bytes::bytes_spelled;
 
-/// What a test compares.
-trait Told {
-    /// Its parts as a text.
-    fn told(&self) -> Result<String, AllocError>;
-}
-
-impl Told for Mode {
-    fn told(&self) -> Result<String, AllocError> {
-        let Size { width, height } = self.size;
-        crate::try_format!("{width} {height} {}", self.rate)
-    }
-}
-
-impl Told for Screen<Mode> {
-    fn told(&self) -> Result<String, AllocError> {
-        self.mode.told()
-    }
-}
-
-impl Told for Level {
-    fn told(&self) -> Result<String, AllocError> {
-        crate::try_format!("{}", self.steps)
-    }
-}
-
-impl Told for Song<'_> {
-    fn told(&self) -> Result<String, AllocError> {
-        let size = self.cover.size;
-        crate::try_format!("{} {} {} {}",
-            self.number, self.title, size.width, size.height
-        )
-    }
-}
-
-impl Told for Device<'_> {
-    fn told(&self) -> Result<String, AllocError> {
-        crate::try_format!("{} {}", self.name, self.volume.0)
-    }
-}
-
-impl Told for Tagged {
-    fn told(&self) -> Result<String, AllocError> {
-        crate::try_format!("{} {}", self.id.0, is_number(&self.value))
-    }
-}
-
-/// What a read answers: the parts of what is read and how many bytes follow it, or the refusal's name.
-fn read_told<'de, P: PodDeserialize<'de> + Told>(
-    input: &'de [u8],
-) -> Result<String, AllocError> {
-    match PodDeserializer::deserialize_from::<P>(input) {
-        Ok((rest, it)) => {
-            let told = it.told()?;
-            crate::try_format!("{told}, {}", rest.len())
-        }
-        Err(DeserializeError::OutOfMemory) => Err(AllocError),
-        Err(e) => String::try_from_str(e.kind()),
-    }
-}
-
-/// The answer of a read by the type of a program's own that has this name.
-pub(crate) fn used(name: &str, input: &[u8]) -> Result<String, AllocError> {
-    match name {
-        "mode" => read_told::<Mode>(input),
-        "song" => read_told::<Song>(input),
-        "tagged" => read_told::<Tagged>(input),
-        "named device" => read_told::<Device>(input),
-        "mode on a screen" => read_told::<Screen<Mode>>(input),
-        "level" => read_told::<Level>(input),
-        _ => String::try_from_str("no such type"),
-    }
-}
-
-/// Structs, an object whose second property has flags, an object of a struct, and a number; then a struct whose end is missing, one whose first
-/// member is of another type, and a number where an object is asked for.
-pub(crate) const USED: &str =
-    r#"mode | 56 14 32 14 4 4 640 0 4 4 4294966816 0 8 5 4294967236 4294967295 | 640 -480 -60, 0
-song | 56 14 4 4 313 0 4 8 7303014 0 16 14 8 10 31 14 | 313 foo 31 14, 0
-tagged | 32 14 4 3 9 0 4 4 313 0 | 9 true, 0
-named device | 56 15 5 3 1 0 5 8 809138024 0 2 1 4 6 1138491392 0 | hw:0 1138491392, 0
-mode on a screen | 80 15 5 3 1 0 56 14 32 14 4 4 640 0 4 4 4294966816 0 8 5 4294967236 4294967295 | 640 -480 -60, 0
+/// Types that are declared by what they are made of. Structs, objects whose second property has flags or whose properties stand in another order,
+/// one of them before a second one under its key and one among them that isn't known; and what is refused: a struct whose end is missing, members of
+/// another type, one too few, one too many, members that cross the end, another object, another id, properties that are missing.
+pub(crate) const DECLARED: &str =
+    r#"mode | 56 14 32 14 4 4 640 0 4 4 4294966816 0 8 5 4294967236 4294967295 | 0 left
+song | 56 14 4 4 313 0 4 8 7303014 0 16 14 8 10 31 14 | 0 left
+tagged | 32 14 4 3 9 0 4 4 313 0 | 0 left
+named device | 56 15 5 3 1 0 5 8 809138024 0 2 1 4 6 1138491392 0 | 0 left, written 56 15 5 3 1 0 5 8 809138024 0 2 0 4 6 1138491392 0
+mode on a screen | 80 15 5 3 1 0 56 14 32 14 4 4 640 0 4 4 4294966816 0 8 5 4294967236 4294967295 | 0 left
 mode | 56 14 32 14 | Short
-song | 32 14 4 3 9 0 4 4 313 0 | Tag"#;
+song | 32 14 4 3 9 0 4 4 313 0 | Tag
+song | 32 14 4 4 313 0 4 8 7303014 0 | PropertyMissing
+song | 64 14 4 4 313 0 4 8 7303014 0 16 14 8 10 31 14 0 1 | UnreadMembers
+song | 48 14 4 4 313 0 4 8 7303014 0 16 14 8 10 31 14 | Short
+curve | 80 14 3 8 28789 0 4 4 4294967294 0 4 3 7 0 20 13 4 6 1138491392 0 1065353216 0 | 0 left
+curve | 16 14 3 8 28789 0 | PropertyMissing
+curve | 96 14 3 8 28789 0 4 4 1 0 4 3 7 0 20 13 4 6 1 2 3 0 4 4 1 0 | UnreadMembers
+curve | 80 14 3 8 28789 0 4 4 1 0 4 4 7 0 20 13 4 6 1 2 3 0 | Tag
+format | 208 15 262147 4 65537 0 4 3 259 0 65539 0 4 4 48000 0 65540 0 4 4 2 0 65541 0 16 13 4 3 3 4 65550 0 80 14 3 8 28789 0 4 4 4294967294 0 4 3 7 0 20 13 4 6 1138491392 0 1065353216 0 | 0 left
+format | 184 15 262147 4 65537 0 4 3 259 0 65539 0 4 4 48000 0 65541 0 16 13 4 3 3 4 65550 0 80 14 3 8 28789 0 4 4 4294967294 0 4 3 7 0 20 13 4 6 1138491392 0 1065353216 0 | 0 left
+format | 248 15 262147 4 65550 0 80 14 3 8 28789 0 4 4 4294967294 0 4 3 7 0 20 13 4 6 1138491392 0 1065353216 0 65540 0 4 4 2 0 9 0 0 1 65541 0 16 13 4 3 3 4 65539 0 4 4 48000 0 65539 0 4 4 1 0 65537 0 4 3 259 0 | 0 left, written 208 15 262147 4 65537 0 4 3 259 0 65539 0 4 4 48000 0 65540 0 4 4 2 0 65541 0 16 13 4 3 3 4 65550 0 80 14 3 8 28789 0 4 4 4294967294 0 4 3 7 0 20 13 4 6 1138491392 0 1065353216 0
+format | 8 15 262147 3 | UnsupportedType
+format | 8 15 262146 4 | UnsupportedType
+format | 32 15 262147 4 65537 0 4 3 259 0 | PropertyMissing"#;
 
 /// A number with half of another one behind it.
 const LEVEL: &str = "4 4 4294967289 0 4 4";
@@ -101,7 +39,7 @@ const LEVEL: &str = "4 4 4294967289 0 4 4";
 /// Compares what the type of this name reads of that.
 fn assert_level(name: &str, wanted: &str) -> Result<(), Fail> {
     let input = bytes_spelled(LEVEL)?;
-    let found = used(name, input.as_slice())?;
+    let found = named(name, input.as_slice())?;
     assert_said(found.as_str(), wanted, LEVEL);
     Ok(())
 }
@@ -112,7 +50,8 @@ fn what_follows_a_number_is_left() {
 }
 
 fn what_follows_a_number_is_left_answers() -> Result<(), Fail> {
-    assert_level("level", "-7, 8")?;
+    assert_level("level", "8 left")?;
+    assert_level("int", "-7")?;
     assert_level("named device", "Tag")
 }
 

@@ -1,7 +1,7 @@
 //! What writers answer to too many elements or too few, and after a refusal.
 
 use crate::shims::prelude::*;
-use crate::tests::spa_typed_tests::compare::{assert_refused, assert_written};
+use crate::tests::spa_typed_tests::compare::{assert_refused, assert_written, refusal};
 use crate::shims::array::ArrayVec;
 use crate::shims::flags::Flags;
 use crate::parts::libspa::pod::PropertyFlags;
@@ -76,11 +76,6 @@ impl PodSerialize for RefusedProperty {
         };
         properties.end()
     }
-}
-
-/// Why a pod isn't written to an output of so many bytes.
-fn refusal<P: PodSerialize, const N: usize>(out: ArrayVec<u8, N>, pod: &P) -> Option<GenError> {
-    PodSerializer::serialize(out, pod).err()
 }
 
 #[test]

@@ -1,8 +1,9 @@
-//! What the library's visitors answer to a struct and to an object.
+//! What the library's visitors answer to a struct and to an object. They are calls from number 60 on.
 
 use crate::shims::prelude::*;
+use crate::tests::spa_typed_tests::reading::visitors::{Answer, answered, told};
 use crate::parts::spa_fixed_sized::DeserializeError;
-use crate::parts::spa_typed_read::{DeserializeSuccess, PodDeserialize, PodDeserializer};
+use crate::parts::spa_typed_read::{DeserializeSuccess, PodDeserializer};
 use crate::parts::spa_visitors::{
     BitmapVisitor, BoolVisitor, BytesVisitor, ChoiceBoolVisitor, ChoiceDoubleVisitor,
     ChoiceFdVisitor, ChoiceFloatVisitor, ChoiceFractionVisitor, ChoiceIdVisitor, ChoiceIntVisitor,
@@ -10,169 +11,119 @@ use crate::parts::spa_visitors::{
     FractionVisitor, IdVisitor, IntVisitor, LongVisitor, NoneVisitor, PointerVisitor,
     RectangleVisitor, StringVisitor, VecVisitor,
 };
-use crate::shims::test::Fail;
-use crate::tests::test_bytes::bytes_of;
-
-/// A read by a visitor, by the visitor's number.
-struct ReadBy<const VISITOR: u8>;
-
-/// What was made is let go.
-fn read_by<'de, T, const VISITOR: u8>(
-    read: Result<(T, DeserializeSuccess<'de>), DeserializeError<&'de [u8]>>,
-) -> Result<(ReadBy<VISITOR>, DeserializeSuccess<'de>), DeserializeError<&'de [u8]>> {
-    match read {
-        Ok((made, success)) => {
-            drop(made);
-            Ok((ReadBy, success))
-        }
-        Err(e) => Err(e),
-    }
-}
+use crate::shims::memory::AllocError;
 
 /// The visitors of lone numbers.
-fn number_visitor<'de, const VISITOR: u8>(
+pub(crate) fn number_visitor<'de, const CALL: u8>(
     deserializer: PodDeserializer<'de>,
-) -> Result<(ReadBy<VISITOR>, DeserializeSuccess<'de>), DeserializeError<&'de [u8]>> {
-    match VISITOR {
-        0 => read_by(deserializer.deserialize_struct(NoneVisitor)),
-        1 => read_by(deserializer.deserialize_struct(BoolVisitor)),
-        2 => read_by(deserializer.deserialize_struct(IdVisitor)),
-        3 => read_by(deserializer.deserialize_struct(IntVisitor)),
-        4 => read_by(deserializer.deserialize_struct(LongVisitor)),
-        5 => read_by(deserializer.deserialize_struct(FloatVisitor)),
-        _ => other_visitor::<VISITOR>(deserializer),
+) -> Result<(Answer<CALL>, DeserializeSuccess<'de>), DeserializeError<&'de [u8]>> {
+    match CALL {
+        60 => told(deserializer.deserialize_struct(NoneVisitor)),
+        61 => told(deserializer.deserialize_struct(BoolVisitor)),
+        62 => told(deserializer.deserialize_struct(IdVisitor)),
+        63 => told(deserializer.deserialize_struct(IntVisitor)),
+        64 => told(deserializer.deserialize_struct(LongVisitor)),
+        65 => told(deserializer.deserialize_struct(FloatVisitor)),
+        _ => other_visitor::<CALL>(deserializer),
     }
 }
 
 /// Those of pairs of numbers, texts and bytes.
-fn other_visitor<'de, const VISITOR: u8>(
+fn other_visitor<'de, const CALL: u8>(
     deserializer: PodDeserializer<'de>,
-) -> Result<(ReadBy<VISITOR>, DeserializeSuccess<'de>), DeserializeError<&'de [u8]>> {
-    match VISITOR {
-        6 => read_by(deserializer.deserialize_struct(DoubleVisitor)),
-        7 => read_by(deserializer.deserialize_struct(RectangleVisitor)),
-        8 => read_by(deserializer.deserialize_struct(FractionVisitor)),
-        9 => read_by(deserializer.deserialize_struct(FdVisitor)),
-        10 => read_by(deserializer.deserialize_struct(StringVisitor)),
-        11 => read_by(deserializer.deserialize_struct(BytesVisitor)),
-        _ => content_visitor::<VISITOR>(deserializer),
+) -> Result<(Answer<CALL>, DeserializeSuccess<'de>), DeserializeError<&'de [u8]>> {
+    match CALL {
+        66 => told(deserializer.deserialize_struct(DoubleVisitor)),
+        67 => told(deserializer.deserialize_struct(RectangleVisitor)),
+        68 => told(deserializer.deserialize_struct(FractionVisitor)),
+        69 => told(deserializer.deserialize_struct(FdVisitor)),
+        70 => told(deserializer.deserialize_struct(StringVisitor)),
+        71 => told(deserializer.deserialize_struct(BytesVisitor)),
+        _ => content_visitor::<CALL>(deserializer),
     }
 }
 
 /// Those of bitmaps, pointers and arrays, and some of choices.
-fn content_visitor<'de, const VISITOR: u8>(
+fn content_visitor<'de, const CALL: u8>(
     deserializer: PodDeserializer<'de>,
-) -> Result<(ReadBy<VISITOR>, DeserializeSuccess<'de>), DeserializeError<&'de [u8]>> {
-    match VISITOR {
-        12 => read_by(deserializer.deserialize_struct(BitmapVisitor)),
-        13 => read_by(deserializer.deserialize_struct(PointerVisitor)),
-        14 => read_by(deserializer.deserialize_struct(VecVisitor::<i32>::default())),
-        15 => read_by(deserializer.deserialize_struct(ChoiceBoolVisitor)),
-        16 => read_by(deserializer.deserialize_struct(ChoiceIdVisitor)),
-        17 => read_by(deserializer.deserialize_struct(ChoiceIntVisitor)),
-        _ => choice_visitor::<VISITOR>(deserializer),
+) -> Result<(Answer<CALL>, DeserializeSuccess<'de>), DeserializeError<&'de [u8]>> {
+    match CALL {
+        72 => told(deserializer.deserialize_struct(BitmapVisitor)),
+        73 => told(deserializer.deserialize_struct(PointerVisitor)),
+        74 => told(
+            deserializer.deserialize_struct(VecVisitor::<i32>::default()),
+        ),
+        75 => told(deserializer.deserialize_struct(ChoiceBoolVisitor)),
+        76 => told(deserializer.deserialize_struct(ChoiceIdVisitor)),
+        77 => told(deserializer.deserialize_struct(ChoiceIntVisitor)),
+        _ => choice_visitor::<CALL>(deserializer),
     }
 }
 
 /// The others of choices.
-fn choice_visitor<'de, const VISITOR: u8>(
+fn choice_visitor<'de, const CALL: u8>(
     deserializer: PodDeserializer<'de>,
-) -> Result<(ReadBy<VISITOR>, DeserializeSuccess<'de>), DeserializeError<&'de [u8]>> {
-    match VISITOR {
-        18 => read_by(deserializer.deserialize_struct(ChoiceLongVisitor)),
-        19 => read_by(deserializer.deserialize_struct(ChoiceFloatVisitor)),
-        20 => read_by(deserializer.deserialize_struct(ChoiceDoubleVisitor)),
-        21 => read_by(deserializer.deserialize_struct(ChoiceRectangleVisitor)),
-        22 => read_by(deserializer.deserialize_struct(ChoiceFractionVisitor)),
-        23 => read_by(deserializer.deserialize_struct(ChoiceFdVisitor)),
-        _ => object_visitor::<VISITOR>(deserializer),
+) -> Result<(Answer<CALL>, DeserializeSuccess<'de>), DeserializeError<&'de [u8]>> {
+    match CALL {
+        78 => told(deserializer.deserialize_struct(ChoiceLongVisitor)),
+        79 => told(deserializer.deserialize_struct(ChoiceFloatVisitor)),
+        80 => told(deserializer.deserialize_struct(ChoiceDoubleVisitor)),
+        81 => told(
+            deserializer.deserialize_struct(ChoiceRectangleVisitor),
+        ),
+        82 => told(
+            deserializer.deserialize_struct(ChoiceFractionVisitor),
+        ),
+        83 => told(deserializer.deserialize_struct(ChoiceFdVisitor)),
+        _ => object_visitor::<CALL>(deserializer),
     }
 }
 
 /// Some of each sort, which are lent an object.
-fn object_visitor<'de, const VISITOR: u8>(
+fn object_visitor<'de, const CALL: u8>(
     deserializer: PodDeserializer<'de>,
-) -> Result<(ReadBy<VISITOR>, DeserializeSuccess<'de>), DeserializeError<&'de [u8]>> {
-    match VISITOR {
-        24 => read_by(deserializer.deserialize_object(IntVisitor)),
-        25 => read_by(deserializer.deserialize_object(StringVisitor)),
-        26 => read_by(deserializer.deserialize_object(VecVisitor::<i32>::default())),
-        _ => read_by(deserializer.deserialize_object(ChoiceIntVisitor)),
+) -> Result<(Answer<CALL>, DeserializeSuccess<'de>), DeserializeError<&'de [u8]>> {
+    match CALL {
+        84 => told(deserializer.deserialize_object(IntVisitor)),
+        85 => told(deserializer.deserialize_object(StringVisitor)),
+        86 => told(
+            deserializer.deserialize_object(VecVisitor::<i32>::default()),
+        ),
+        _ => told(deserializer.deserialize_object(ChoiceIntVisitor)),
     }
 }
 
-impl<'de, const VISITOR: u8> PodDeserialize<'de> for ReadBy<VISITOR> {
-    fn deserialize(
-        deserializer: PodDeserializer<'de>,
-    ) -> Result<(ReadBy<VISITOR>, DeserializeSuccess<'de>), DeserializeError<&'de [u8]>> {
-        number_visitor::<VISITOR>(deserializer)
+/// What the call of this number answers.
+pub(crate) fn declined(call: u8, input: &[u8]) -> Result<String, AllocError> {
+    match call {
+        60 => answered::<60>(input),
+        61 => answered::<61>(input),
+        62 => answered::<62>(input),
+        63 => answered::<63>(input),
+        64 => answered::<64>(input),
+        65 => answered::<65>(input),
+        66 => answered::<66>(input),
+        67 => answered::<67>(input),
+        68 => answered::<68>(input),
+        69 => answered::<69>(input),
+        70 => answered::<70>(input),
+        71 => answered::<71>(input),
+        72 => answered::<72>(input),
+        73 => answered::<73>(input),
+        74 => answered::<74>(input),
+        75 => answered::<75>(input),
+        76 => answered::<76>(input),
+        77 => answered::<77>(input),
+        78 => answered::<78>(input),
+        79 => answered::<79>(input),
+        80 => answered::<80>(input),
+        81 => answered::<81>(input),
+        82 => answered::<82>(input),
+        83 => answered::<83>(input),
+        84 => answered::<84>(input),
+        85 => answered::<85>(input),
+        86 => answered::<86>(input),
+        87 => answered::<87>(input),
+        _ => String::try_from_str("no such call"),
     }
-}
-
-/// How a read by this visitor is refused.
-fn refusal<const VISITOR: u8>(input: &[u8]) -> &'static str {
-    match PodDeserializer::deserialize_from::<ReadBy<VISITOR>>(input) {
-        Ok(_) => "not at all",
-        Err(e) => e.kind(),
-    }
-}
-
-/// Is the read by this visitor refused as UnsupportedType?
-fn assert_declined<const VISITOR: u8>(input: &[u8]) {
-    assert_eq!(refusal::<VISITOR>(input), "UnsupportedType");
-}
-
-/// The first twelve visitors.
-fn structs_are_declined_by_the_first(input: &[u8]) {
-    assert_declined::<0>(input);
-    assert_declined::<1>(input);
-    assert_declined::<2>(input);
-    assert_declined::<3>(input);
-    assert_declined::<4>(input);
-    assert_declined::<5>(input);
-    assert_declined::<6>(input);
-    assert_declined::<7>(input);
-    assert_declined::<8>(input);
-    assert_declined::<9>(input);
-    assert_declined::<10>(input);
-    assert_declined::<11>(input);
-}
-
-/// The others.
-fn structs_are_declined_by_the_others(input: &[u8]) {
-    assert_declined::<12>(input);
-    assert_declined::<13>(input);
-    assert_declined::<14>(input);
-    assert_declined::<15>(input);
-    assert_declined::<16>(input);
-    assert_declined::<17>(input);
-    assert_declined::<18>(input);
-    assert_declined::<19>(input);
-    assert_declined::<20>(input);
-    assert_declined::<21>(input);
-    assert_declined::<22>(input);
-    assert_declined::<23>(input);
-}
-
-/// Those that are lent an object.
-fn objects_are_declined(input: &[u8]) {
-    assert_declined::<24>(input);
-    assert_declined::<25>(input);
-    assert_declined::<26>(input);
-    assert_declined::<27>(input);
-}
-
-#[test]
-fn structs_and_objects_are_declined() {
-    crate::shims::test::run(structs_and_objects_are_declined_answers())
-}
-
-fn structs_and_objects_are_declined_answers() -> Result<(), Fail> {
-    let an_empty_struct = bytes_of(&[0, 14])?;
-    structs_are_declined_by_the_first(an_empty_struct.as_slice());
-    let a_struct = bytes_of(&[16, 14, 4, 4, 313, 0])?;
-    structs_are_declined_by_the_others(a_struct.as_slice());
-    let an_object = bytes_of(&[8, 15, 5, 3])?;
-    objects_are_declined(an_object.as_slice());
-    Ok(())
 }

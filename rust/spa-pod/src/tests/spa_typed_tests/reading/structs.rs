@@ -1,128 +1,12 @@
-//! A user's own structs, read member by member.
+//! Visitors that read no member of a struct, or go on after a refusal.
 
 use crate::shims::prelude::*;
-use crate::tests::spa_typed_tests::reading::answers::refused;
 use crate::tests::spa_typed_tests::reading::telling::declined;
 use crate::parts::spa_fixed_sized::DeserializeError;
 use crate::parts::spa_typed_read::{
     DeserializeSuccess, Never, ObjectPodDeserializer, PodDeserialize, PodDeserializer,
     StructPodDeserializer, Visit, Visitor,
 };
-use crate::parts::spa_utils::Rectangle;
-use crate::shims::memory::AllocError;
-
-/// A struct of a rectangle.
-struct Frame {
-    size: Rectangle,
-}
-
-struct FrameVisitor;
-
-impl<'de> Visitor<'de> for FrameVisitor {
-    type Value = Frame;
-
-    type ArrayElem = Never;
-
-    fn visit(&self, given: Visit<'de, Never>) -> Result<Frame, DeserializeError<&'de [u8]>> {
-        Err(declined(given))
-    }
-
-    fn visit_struct(
-        &self,
-        reader: &mut StructPodDeserializer<'de>,
-    ) -> Result<Frame, DeserializeError<&'de [u8]>> {
-        let Some(size) = reader.deserialize_field::<Rectangle>()? else {
-            return Err(DeserializeError::PropertyMissing);
-        };
-        Ok(Frame { size })
-    }
-
-    fn visit_object(
-        &self,
-        _reader: &mut ObjectPodDeserializer<'de>,
-    ) -> Result<Frame, DeserializeError<&'de [u8]>> {
-        Err(DeserializeError::UnsupportedType)
-    }
-}
-
-impl<'de> PodDeserialize<'de> for Frame {
-    fn deserialize(
-        deserializer: PodDeserializer<'de>,
-    ) -> Result<(Frame, DeserializeSuccess<'de>), DeserializeError<&'de [u8]>> {
-        deserializer.deserialize_struct(FrameVisitor)
-    }
-}
-
-/// A struct of a number, a text and a struct.
-struct Screen<'de> {
-    number: i32,
-    name: &'de str,
-    frame: Frame,
-}
-
-struct ScreenVisitor;
-
-impl<'de> Visitor<'de> for ScreenVisitor {
-    type Value = Screen<'de>;
-
-    type ArrayElem = Never;
-
-    fn visit(&self, given: Visit<'de, Never>) -> Result<Screen<'de>, DeserializeError<&'de [u8]>> {
-        Err(declined(given))
-    }
-
-    fn visit_struct(
-        &self,
-        reader: &mut StructPodDeserializer<'de>,
-    ) -> Result<Screen<'de>, DeserializeError<&'de [u8]>> {
-        let Some(number) = reader.deserialize_field::<i32>()? else {
-            return Err(DeserializeError::PropertyMissing);
-        };
-        let Some(name) = reader.deserialize_field::<&str>()? else {
-            return Err(DeserializeError::PropertyMissing);
-        };
-        let Some(frame) = reader.deserialize_field::<Frame>()? else {
-            return Err(DeserializeError::PropertyMissing);
-        };
-        Ok(Screen {
-            number,
-            name,
-            frame,
-        })
-    }
-
-    fn visit_object(
-        &self,
-        _reader: &mut ObjectPodDeserializer<'de>,
-    ) -> Result<Screen<'de>, DeserializeError<&'de [u8]>> {
-        Err(DeserializeError::UnsupportedType)
-    }
-}
-
-impl<'de> PodDeserialize<'de> for Screen<'de> {
-    fn deserialize(
-        deserializer: PodDeserializer<'de>,
-    ) -> Result<(Screen<'de>, DeserializeSuccess<'de>), DeserializeError<&'de [u8]>> {
-        deserializer.deserialize_struct(ScreenVisitor)
-    }
-}
-
-/// What a screen is told as: the texts of its parts.
-fn told(screen: &Screen<'_>) -> Result<String, AllocError> {
-    let (number, name, size) = (screen.number, screen.name, screen.frame.size);
-    crate::try_format!("{number} {name} {} {}", size.width, size.height)
-}
-
-/// What a read of a screen answers: the texts of its parts, or the refusal's name.
-pub(crate) fn screen_said(input: &[u8]) -> Result<String, AllocError> {
-    let read: Result<(&[u8], Screen), DeserializeError<&[u8]>> = PodDeserializer::deserialize_from(
-        input,
-    );
-    match read {
-        Ok((_, screen)) => told(&screen),
-        Err(error) => refused(error),
-    }
-}
 
 /// Reads no member.
 struct IdleVisitor;

@@ -3,6 +3,7 @@
 use crate::shims::prelude::*;
 use crate::tests::spa_typed_tests::compare::assert_said;
 use crate::tests::spa_typed_tests::reading::answers::refused;
+use crate::tests::spa_typed_tests::reading::declining::{declined, number_visitor};
 use crate::tests::spa_typed_tests::reading::telling::TellingVisitor;
 use crate::parts::spa_fixed_sized::DeserializeError;
 use crate::parts::spa_typed_read::{DeserializeSuccess, PodDeserialize, PodDeserializer};
@@ -19,10 +20,10 @@ use crate::shims::test::Fail;
 use crate::tests::test_bytes::bytes_of;
 
 /// The answer of a call, by its number, as a text. The first numbers are those of the pods' types.
-struct Answer<const CALL: u8>(String);
+pub(crate) struct Answer<const CALL: u8>(String);
 
 /// What a call's visitor made, as a text, and the rest that the call leaves; or the call's refusal.
-fn told<'de, T: Debug, const CALL: u8>(
+pub(crate) fn told<'de, T: Debug, const CALL: u8>(
     read: Result<(T, DeserializeSuccess<'de>), DeserializeError<&'de [u8]>>,
 ) -> Result<(Answer<CALL>, DeserializeSuccess<'de>), DeserializeError<&'de [u8]>> {
     let (made, success) = read?;
@@ -123,7 +124,8 @@ fn paired_call<'de, const CALL: u8>(
         51 => told(
             deserializer.deserialize_choice(ChoiceFractionVisitor),
         ),
-        _ => told(deserializer.deserialize_choice(ChoiceFdVisitor)),
+        58 => told(deserializer.deserialize_choice(ChoiceFdVisitor)),
+        _ => number_visitor::<CALL>(deserializer),
     }
 }
 
@@ -136,7 +138,7 @@ impl<'de, const CALL: u8> PodDeserialize<'de> for Answer<CALL> {
 }
 
 /// What the call of this number answers, or its refusal's name.
-fn answered<const CALL: u8>(input: &[u8]) -> Result<String, AllocError> {
+pub(crate) fn answered<const CALL: u8>(input: &[u8]) -> Result<String, AllocError> {
     let read: Result<(&[u8], Answer<CALL>), DeserializeError<&[u8]>> =
         PodDeserializer::deserialize_from(input);
     match read {
@@ -178,7 +180,7 @@ pub(crate) fn called(call: u8, input: &[u8]) -> Result<String, AllocError> {
         50 => answered::<50>(input),
         51 => answered::<51>(input),
         58 => answered::<58>(input),
-        _ => String::try_from_str("no such call"),
+        _ => declined(call, input),
     }
 }
 

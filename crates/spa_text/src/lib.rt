@@ -10,4 +10,6 @@ mod printing;
 
 pub use pretty::print_pretty;
 pub use printing::{TextPrinter, print};
-pub use spa_text_read::{AtPath, Cause, FullType, InPlace, Misfit, Strictness, TextError, TextReader, read};
+pub use spa_text_read::{
+    AtPath, Cause, FullType, InPlace, Misfit, Strictness, TextError, TextReader, read,
+};

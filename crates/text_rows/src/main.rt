@@ -5,7 +5,7 @@
 use spa_names::laws::{names_come_back, numbers_are_named};
 use spa_names::{expected_under, ids_of, keys_of, name_of, number_of, path_of};
 use spa_text::laws::{print_pretty_then_read, print_then_read};
-use spa_text::{Cause, TextError, print, print_pretty, read};
+use spa_text::{Cause, Strictness, TextError, TextReader, print, print_pretty};
 use spa_utils::SpaTypes;
 use spa_value::{Held, Value, same};
 use std::alloc::{AllocError, Global};
@@ -63,9 +63,18 @@ fn number_in(word: Option<&str>) -> u32 {
 /// Adds what the text is read as, if it is.
 fn answer_text(alloc: Global, word: &str, text: &str, answers: &mut Vec<u8>) -> io::Result<()> {
     let text = text.replace(alloc, "⏎", "\n")?;
-    match read(alloc, text.as_str()) {
+    let mut reader = TextReader::new(alloc);
+    match reader.read_with(text.as_str(), strictness_of(word)) {
         Ok(value) => answer_value(alloc, word, &Held::from(value), answers),
         Err(error) => answer_refusal(word, &error, answers),
+    }
+}
+
+/// How strictly the text of a row with this word is read.
+fn strictness_of(word: &str) -> Strictness {
+    match word {
+        "strict" => Strictness::Strict,
+        _ => Strictness::Plain,
     }
 }
 
@@ -105,6 +114,7 @@ fn answer_refusal(word: &str, error: &TextError, answers: &mut Vec<u8>) -> io::R
     match word {
         _ if *cause == Cause::OutOfMemory => Err(io::Error::from(AllocError)),
         "cause" => write!(answers, "{cause:?}"),
+        "strict" => write!(answers, "{error}"),
         "place" => write!(answers, "{line}:{column}:{path}"),
         _ => answers.write_all(b"refused"),
     }

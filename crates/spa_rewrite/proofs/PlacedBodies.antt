@@ -253,13 +253,3 @@ choice_moved pod old x sub end n size shape child p less e is w8 w16 taken t y =
     subst (λ z. WritesPod pod old (sub ++ drop end z) end) (sym is)
     (choice_written pod old (take end pod) sub end n size shape child p less e refl w8 w16 taken
     (subst (λ z. TakesValues shape n (take end z) sub) is t) (y ∙ ap (λ z. length (take end z)) is))
-
--- there is room for the values
-pub values_room : (pod x old : List ℕ) (end n size : ℕ) → IsPodOf pod choice_type size → 16 + n ≤ size → end ≡ extent (16 + n) →
-    x ≡ take end pod ++ drop end old → 24 + n ≤ length (take end x)
-values_room pod x old end n size p less e is =
-    let u = padded_above (16 + n) in
-    let room = kept_room pod size (16 + n) end p less e in
-    let long = length-take-le end pod room in
-    let same = ap length (ap (take end) is ∙ take_at (take end pod) (drop end old) end long) in
-    omega arith

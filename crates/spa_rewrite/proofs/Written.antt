@@ -121,30 +121,6 @@ writes_more all keyed pods old left now keyed_out sub_old sub here body rest pod
     (writes_one all keyed pods old left now keyed_out sub here body rest pod to at len type w b o n fits put same
     (subst (λ x. WritesPod pod x sub len) is p) (y ∙ ap length is))
 
--- one without a key
-pub writes_next : (pods old left now sub_old sub body rest pod : List ℕ) (to len k type : ℕ) → WritesOn false false pods old left now to →
-    Opens left type body rest → pod ≡ take (length left - length rest) left → length pods ≤ length old → WritesPod pod sub_old sub len →
-    sub_old ≡ drop to now → length sub ≡ length sub_old → k ≡ length now - to → WritesOn false false pods old rest (put_mid to k now sub) (to + len)
-writes_next pods old left now sub_old sub body rest pod to len k type w o n fits p is y e =
-    let put : PutsKey false left now now to to = record { at = omega arith; front = sym (append-nil (take to now)); behind = refl } in
-    writes_more false false pods old left now now sub_old sub left body rest pod to to len k type w refl o n fits put refl p is y e
-
--- a key and flags are written
-pub key_written : (keyed : Bool) (bytes out sub sub_old : List ℕ) (to k : ℕ) → key_size keyed ≡ 8 → sub ≡ take 8 bytes ++ drop 8 sub_old →
-    sub_old ≡ drop to out → 8 ≤ length bytes → to + 8 ≤ length out → k ≡ length out - to → PutsKey keyed bytes out (put_mid to k out sub) to (to + 8)
-key_written keyed bytes out sub sub_old to k s e o l room z =
-    let front = take to out in
-    let key = take 8 bytes in
-    let tail = drop 8 (drop to out) in
-    let few : length front ≡ to = length-take-le to out (omega arith) in
-    let eight : length key ≡ 8 = length-take-le 8 bytes l in
-    let new : put_mid to k out sub ≡ front ++ (key ++ tail) = put_end to k out sub z ∙ ap (λ x. front ++ x) (e ∙ ap (λ x. key ++ drop 8 x) o) in
-    record {
-      at = ap (λ n. to + n) (sym s);
-      front = ap (take (to + 8)) new ∙ take_past front (key ++ tail) to 8 few ∙ ap (λ x. front ++ x) (take_at key tail 8 eight ∙ ap (λ n. take n bytes) (sym s));
-      behind = ap (drop (to + 8)) new ∙ drop_past front (key ++ tail) to 8 few ∙ drop_at key tail 8 eight ∙ drop-drop 8 to out;
-    }
-
 -- a word, and one more
 pub word_pod : (here : List ℕ) → BeginsWord here → IsPodOf (take 16 here) (word_at here 4) 4
 word_pod here w =
@@ -185,43 +161,6 @@ word_written pods out new body word w y i n e f z =
       within = omega arith;
       behind = drop_at new (drop 16 out) 16 long;
     }
-
-pub writes_word : (all keyed : Bool) (pods old left now keyed_out sub_old sub here : List ℕ) (to at k : ℕ) →
-    WritesOn all keyed pods old left now to → IsBehindKey keyed left here → BeginsWord here → length pods ≤ length old →
-    PutsKey keyed left now keyed_out to at → length keyed_out ≡ length now → WritesPod (take 16 here) sub_old sub 16 →
-    sub_old ≡ drop at keyed_out → length sub ≡ length sub_old → k ≡ length keyed_out - at →
-    WritesOn all keyed pods old (drop 16 here) (put_mid at k keyed_out sub) (at + 16)
-writes_word all keyed pods old left now keyed_out sub_old sub here to at k w b i fits put same p is y e =
-    let l = i.long in
-    let d = length-drop 16 here in
-    let n : take 16 here ≡ take (length here - length (drop 16 here)) here =
-    ap (λ m. take m here) (let m : 16 ≡ length here - length (drop 16 here) = omega arith in m) in
-    writes_more all keyed pods old left now keyed_out sub_old sub here (body_of here) (drop 16 here) (take 16 here) to at 16 k (word_at here 4)
-    w b (word_opens here i) n fits put same p is y e
-
--- there is room for it
-pub word_room : (keyed : Bool) (left here : List ℕ) → IsBehindKey keyed left here → BeginsWord here → key_size keyed + 16 ≤ length left
-word_room keyed left here k w =
-    let h = here_is keyed left here k in
-    let e = ap length h.1 ∙ length-drop (key_size keyed) left in
-    let l = w.long in
-    omega arith
-
--- there is room for a pod
-pub record HasRoom (keyed : Bool) (left here rest : List ℕ) : Type 0 where
-  pub whole : length (take (length here - length rest) here) ≤ length here
-  pub behind : length here + key_size keyed ≡ length left
-  pub its : length (take (length here - length rest) here) + length rest ≡ length here
-
-pub pod_room : (keyed : Bool) (left here body rest : List ℕ) (type : ℕ) → IsBehindKey keyed left here → Opens here type body rest → HasRoom keyed left here rest
-pod_room keyed left here body rest type k o =
-    let h = here_is keyed left here k in
-    let d = ap length h.1 ∙ length-drop (key_size keyed) left in
-    let e = h.0 in
-    let w = o.there.whole in
-    let r = ap length o.its_rest ∙ length-drop (extent (word_at here 0)) here in
-    let t = length-take-le (length here - length rest) here (omega arith) in
-    record { whole = omega arith; behind = omega arith; its = omega arith }
 
 -- none is left
 pub writes_all : (all keyed : Bool) (pods old left now : List ℕ) (to : ℕ) → WritesOn all keyed pods old left now to → ArePlaced keyed left [] →

@@ -16,6 +16,9 @@ pub trait Source: Copy {
         requires { fits self.now (length out.now) }
         ensures { result.now ≡ pods self.now out.now };
 
+    /// Whether the pods in others are looked through for runs, which are copied at once. To another buffer they are written faster without it.
+    fn looks_for_runs(&self) -> bool;
+
     /// The pods from one place to another, for the output from the place `at` on.
     fn part(&self, out: &[u8], from: usize, to: usize, at: usize) -> Self
         requires fits { fits self.now (length out.now) }
@@ -58,6 +61,11 @@ impl<'s> Source for Apart<'s> {
     }
 
     #[inline(always)]
+    fn looks_for_runs(&self) -> bool {
+        false
+    }
+
+    #[inline(always)]
     fn part(&self, _out: &[u8], from: usize, to: usize, _at: usize) -> Apart<'s> {
         Apart {
             bytes: &self.bytes[from..to],
@@ -93,6 +101,11 @@ impl Source for Within {
     #[inline(always)]
     fn read<'a>(&'a self, out: &'a [u8]) -> &'a [u8] {
         &out[self.start..self.end]
+    }
+
+    #[inline(always)]
+    fn looks_for_runs(&self) -> bool {
+        true
     }
 
     #[inline(always)]

@@ -96,6 +96,25 @@ fn run_len(
     if len == 0 { None } else { Some(len) }
 }
 
+/// Does what `run_len` does for pods in others, where `looks` is set; else there is none.
+#[inline(always)]
+fn run_inside(
+    looks: bool,
+    keyed: bool,
+    look_at: &mut usize,
+    unpatched: &mut bool,
+    from: usize,
+    left: &[u8],
+) -> Option<usize>
+    ensures { IfSome result (λ len. BeginsRun unpatched.new keyed left.now len) }
+{
+    if looks {
+        run_len(false, keyed, look_at, unpatched, from, left)
+    } else {
+        None
+    }
+}
+
 /// How many bytes the first canonical pods take; where these are few of the outermost pods, those whose encodings are as long as they are. Inside
 /// others only pods that hold none are looked at: a look at structs would be one at each level that they stand in.
 fn run_at(outermost: bool, keyed: bool, unpatched: &mut bool, left: &[u8]) -> usize
@@ -187,11 +206,12 @@ pub fn write_pods<S: Source>(keyed: bool, source: S, out: &mut [u8]) -> usize
     ensures { WritesPods keyed (S.pods source out.old) out.old out.new result }
 {
     let (mut look_at, mut unpatched) = (UNLOOKED, false);
+    let looks = source.looks_for_runs();
     let (mut from, mut to) = (0, 0);
     loop {
         let pods = source.read(out);
         let left = &pods[from..];
-        if let Some(run) = run_len(false, keyed, &mut look_at, &mut unpatched, from, left) {
+        if let Some(run) = run_inside(looks, keyed, &mut look_at, &mut unpatched, from, left) {
             put_run(unpatched, source, out, from, to, run);
             from += run;
             to += run;
@@ -310,14 +330,14 @@ fn write_leaf<S: Source>(type_: u32, size: usize, pod: S, out: &mut [u8]) -> usi
     requires no_inner { (keyed : Bool) → ¬ (HoldsWhole type_ size keyed) }
     ensures { WritesPod (S.pods pod out.old) out.old out.new result }
 {
-    if begins_word(pod.read(out)) {
-        return write_word(pod, out);
-    }
     match SpaTypes(type_) {
         SpaTypes::Struct => 0,
         SpaTypes::Object => 0,
         SpaTypes::Choice => write_choice(size, pod, out),
         _ => {
+            if begins_word(pod.read(out)) {
+                return write_word(pod, out);
+            }
             // No other encoding is shorter than its pod.
             let len = pod.read(out).len();
             pod.carry(out);

@@ -1,8 +1,6 @@
-use Rattle.std.proofs.Common.{◌≤◌, ◌≡◌, ◌-◌, ◌++◌, ◌∙◌, arith, drop, length, length-append, length-drop, refl, subst, sym, take}
+use Rattle.std.proofs.Common.{◌≤◌, ◌-◌, ◌++◌, ◌∙◌, arith, drop, length, length-append, length-drop, refl, subst, sym, take}
 use Rattle.std.proofs.lemmas.List.{length-take-le, take_all, take_rest}
 use Rattle.std.specs.Prelude.{false}
-use Rattle.spa_format.specs.Typed.{IsBytes}
-use Rattle.spa_format.proofs.WordLemmas.{IsBytes-take}
 use Rattle.spa_rewrite.specs.Placed.{WritesPods}
 use Rattle.spa_rewrite.specs.Shorter.{AreShorter}
 use Rattle.spa_in_place.proofs.ChangedPods.{changes_placed, tail_carried}

@@ -1,4 +1,4 @@
-use Rattle.std.proofs.Common.{◌≡◌, ◌≤◌, ◌+◌, ◌-◌, ◌++◌, ◌∙◌, ap, arith, drop, length, refl}
+use Rattle.std.proofs.Common.{◌≡◌, ◌+◌, ◌-◌, ◌++◌, ◌∙◌, ap, arith, drop, length, refl}
 use Rattle.std.proofs.lemmas.Slice.{drop-put_mid}
 use borrow.Rule.Slice.PartMut.{put_mid}
 use Rattle.spa_format.specs.Words.{word_bytes}

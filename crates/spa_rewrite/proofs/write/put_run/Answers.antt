@@ -1,5 +1,5 @@
-use Rattle.std.proofs.Common.{◌-◌, ◌≤◌, ◌+◌, ◌∙◌, ap, arith, drop, length, length-drop, refl, take}
-use Rattle.std.proofs.lemmas.List.{length-take-le, take_rest}
+use Rattle.std.proofs.Common.{◌-◌, ◌≤◌, ◌∙◌, ap, arith, length, length-drop, refl}
+use Rattle.std.proofs.lemmas.List.{take_rest}
 use borrow.Rule.Slice.PartMut.{put_mid}
 use Rattle.spa_rewrite.proofs.Patches.{length_put}
 use Rattle.spa_rewrite.proofs.Runs.{run_carried, run_patched, run_put}

@@ -7,8 +7,8 @@ use Rattle.spa_rewrite.proofs.Places.{no_object, no_struct}
 use Rattle.spa_rewrite.proofs.PlacedBodies.{leaf_moved, nothing_written}
 use Rattle.spa_rewrite.proofs.write.write_leaf.Goals as goal
 
-pub returns-in_default : goal.returns-in_default
-returns-in_default g c =
+pub returns-else-begins_word : goal.returns-else-begins_word
+returns-else-begins_word g c =
     let out = c.args.out.now in
     let pod = g.S.Source.pods c.args.pod out in
     let long = ap length c.read-len.ensures in

@@ -16,6 +16,6 @@ mod values;
 pub use common_pods::put_common;
 pub use error::FilterError;
 pub use filtering::filter;
-pub use settling::settle;
+pub use settling::{into_settled, settle, settled};
 pub use crate::parts::spa_keyed_objects::Side;
 pub use values::common;

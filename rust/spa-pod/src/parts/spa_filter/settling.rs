@@ -39,10 +39,18 @@ fn settled_list(properties: &[Property]) -> Result<Vec<Property>, AllocError> {
 }
 
 /// A copy of the value where it is plain, and the default where it is a choice. Refused only for want of memory.
-fn settled(value: &Value) -> Result<Value, AllocError> {
+pub fn settled(value: &Value) -> Result<Value, AllocError> {
     match value {
         Value::Choice(choice) => Ok(settled_choice(choice)),
         _ => Ok(value.try_clone()?),
+    }
+}
+
+/// The value itself where it is plain, and the default where it is a choice.
+pub fn into_settled(value: Value) -> Value {
+    match value {
+        Value::Choice(choice) => settled_choice(&choice),
+        plain => plain,
     }
 }
 

@@ -1,9 +1,9 @@
 //! Negotiates two objects.
 
 use crate::shims::prelude::*;
-use crate::parts::spa_negotiate_objects::admission::first_common;
 use crate::parts::spa_negotiate_objects::error::NegotiateError;
-use crate::parts::spa_negotiate_objects::offer::{Offer, offer_of, settled};
+use crate::parts::spa_negotiate_objects::support::is_supported;
+use crate::parts::spa_filter::{FilterError, into_settled, settled};
 use crate::parts::spa_keyed_objects::{Keyed, Met, add_key, push};
 use crate::parts::spa_value::laws::{objects_are_their_fields, property_lists_are_in_order};
 use crate::parts::spa_value::{Object, Property, Value};
@@ -79,41 +79,24 @@ fn settle_rest(first: Settled, b: &[Property]) -> Result<Vec<Property>, AllocErr
 
 /// The plain value that the outcome has under the key of a property of the first side, where `others` are the properties of the second.
 fn settle(property: &Property, others: &Keyed<'_>) -> Result<Value, NegotiateError> {
-    match value_of(others, property.key) {
-        Some(other) => common(property.key, &property.value, other),
+    match others.find(property.key) {
+        Some(other) => common(property.key, &property.value, &other.value),
         None => Ok(settled(&property.value)?),
     }
 }
 
-/// The value of the first property with this key. None: no property has it.
-fn value_of<'a>(properties: &Keyed<'a>, key: u32) -> Option<&'a Value> {
-    match properties.find(key) {
-        Some(property) => Some(&property.value),
-        None => None,
-    }
-}
-
 /// Negotiates two values: answers a plain value that both admit, which under a key of two objects is the value of the object in which they meet.
+/// It is the default of the value to which the two filter.
 ///
 /// Refused as `Unsupported` of the key where no common value is sought for one of the two, else as `Disjoint` of the key where no value is
 /// admitted by both, and as `OutOfMemory`.
 pub fn common(key: u32, a: &Value, b: &Value) -> Result<Value, NegotiateError> {
-    let first = offer_of(a)?;
-    let second = offer_of(b)?;
-    common_of(key, &first, &second)
-}
-
-/// A plain value that both offers admit, with the refusals of `common`.
-fn common_of(
-    key: u32,
-    first: &Offer,
-    second: &Offer,
-) -> Result<Value, NegotiateError> {
-    if !first.rule.is_supported() || !second.rule.is_supported() {
+    if !is_supported(a) || !is_supported(b) {
         return Err(NegotiateError::Unsupported(key));
     }
-    match first_common(first, second)? {
-        Some(value) => Ok(value.try_clone()?),
-        None => Err(NegotiateError::Disjoint(key)),
+    match crate::parts::spa_filter::common(key, a, b) {
+        Ok(met) => Ok(into_settled(met)),
+        Err(FilterError::OutOfMemory) => Err(NegotiateError::OutOfMemory),
+        Err(_) => Err(NegotiateError::Disjoint(key)),
     }
 }

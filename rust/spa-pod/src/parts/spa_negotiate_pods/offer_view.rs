@@ -4,7 +4,6 @@ use crate::shims::prelude::*;
 use crate::parts::spa_bodies::{CHOICE_HEADER_LEN, VALUE_TYPE_AT};
 use crate::parts::spa_bytes::{HEADER_LEN, open, u32_at, u64_at};
 use crate::parts::spa_fixed_sized::{ENUM_SHAPE, NONE_SHAPE, RANGE_SHAPE};
-use crate::parts::spa_negotiate_objects::Rule;
 use crate::parts::spa_utils::SpaTypes;
 use crate::shims::memory::AllocError;
 
@@ -17,11 +16,11 @@ const TWO_WORDS: usize = 8;
 /// How long the values of an Enum are, in bytes, that are looked for one by one beside those of another: 16 values of two words.
 const SHORT_LEN: usize = 128;
 
-/// A zero-copy view of a value as an offer: a choice, or a plain value as the choice that admits it alone.
+/// A zero-copy view of a value as an offer: a choice, or a plain value as a None choice of it.
 #[derive(Clone, Copy)]
 pub(crate) struct OfferView<'a> {
-    /// Which values the offer admits.
-    pub(crate) rule: Rule,
+    /// The shape of the choice.
+    pub(crate) shape: u32,
     /// The type of the values.
     pub(crate) type_: u32,
     /// The length of a value in bytes.
@@ -41,7 +40,7 @@ pub(crate) fn offer_view(pod: &[u8]) -> Option<OfferView<'_>> {
         return None;
     }
     Some(OfferView {
-        rule: Rule::Only,
+        shape: NONE_SHAPE,
         type_: front.type_,
         size: body.len(),
         values: body,
@@ -60,7 +59,7 @@ fn choice_view(body: &[u8]) -> Option<OfferView<'_>> {
     let size = u32_at(body, HEADER_LEN) as usize;
     let (_, values) = body.split_at(CHOICE_HEADER_LEN);
     Some(OfferView {
-        rule: rule_by(u32_at(body, 0), type_),
+        shape: u32_at(body, 0),
         type_,
         size,
         values,
@@ -83,21 +82,6 @@ fn is_element_type(type_: u32) -> bool {
     }
 }
 
-/// The rule of a choice of this shape over values of this type.
-fn rule_by(shape: u32, type_: u32) -> Rule {
-    match shape {
-        NONE_SHAPE => Rule::Only,
-        ENUM_SHAPE => Rule::Among,
-        RANGE_SHAPE => match SpaTypes(type_) {
-            SpaTypes::Id => Rule::Between,
-            SpaTypes::Int => Rule::Between,
-            SpaTypes::Long => Rule::Between,
-            _ => Rule::Unsupported,
-        },
-        _ => Rule::Unsupported,
-    }
-}
-
 /// Whether two values of this length are the same bytes. Others than the first ones don't count.
 #[cfg_attr(not(debug_assertions), inline(always))]
 fn is_same(size: usize, value: &[u8], other: &[u8]) -> bool {
@@ -108,7 +92,7 @@ fn is_same(size: usize, value: &[u8], other: &[u8]) -> bool {
     }
 }
 
-/// Whether the first value is no greater than the second, of a type that has an order.
+/// Whether the first value is no greater than the second, of a type over which Ranges are supported.
 fn is_at_most(type_: u32, value: &[u8], other: &[u8]) -> bool {
     match SpaTypes(type_) {
         SpaTypes::Id => {
@@ -155,13 +139,13 @@ fn is_among(size: usize, values: &[u8], value: &[u8]) -> bool {
     false
 }
 
-/// Whether the offer admits a value of its type.
+/// Whether the offer is of a supported value, and admits a value of its type.
 fn admits(offer: &OfferView<'_>, value: &[u8]) -> bool {
     let size = offer.size;
-    match offer.rule {
-        Rule::Only => is_same(size, offer.values, value),
-        Rule::Among => is_among(size, offer.values, value),
-        Rule::Between => {
+    match offer.shape {
+        NONE_SHAPE => is_same(size, offer.values, value),
+        ENUM_SHAPE => is_among(size, offer.values, value),
+        RANGE_SHAPE => {
             let (_, low) = offer.values.split_at(size);
             if low.len() < size {
                 return false;
@@ -172,7 +156,7 @@ fn admits(offer: &OfferView<'_>, value: &[u8]) -> bool {
             }
             is_at_most(offer.type_, low, value) && is_at_most(offer.type_, value, high)
         }
-        Rule::Unsupported => false,
+        _ => false,
     }
 }
 
@@ -239,10 +223,9 @@ fn number_of(size: usize, value: &[u8]) -> u64 {
 
 /// Whether two offers are Enums, one of them with many values.
 fn are_long_enums(a: &OfferView<'_>, b: &OfferView<'_>) -> bool {
-    match (a.rule, b.rule) {
-        (Rule::Among, Rule::Among) => a.values.len() > SHORT_LEN || b.values.len() > SHORT_LEN,
-        _ => false,
-    }
+    a.shape == ENUM_SHAPE
+        && b.shape == ENUM_SHAPE
+        && (a.values.len() > SHORT_LEN || b.values.len() > SHORT_LEN)
 }
 
 /// The first of these that both offers admit: a's default, b's default, a's alternatives, b's alternatives, a's minimum, b's
@@ -267,23 +250,23 @@ pub(crate) fn first_common<'v>(
         let value = first_by_halves(a, b)?;
         return Some(value);
     }
-    if let Rule::Among = a.rule {
+    if a.shape == ENUM_SHAPE {
         if let Some(value) = first_of(b, a, a.values) {
             return Some(value);
         }
     }
-    if let Rule::Among = b.rule {
+    if b.shape == ENUM_SHAPE {
         if let Some(value) = first_of(a, b, b.values) {
             return Some(value);
         }
     }
-    if let Rule::Between = a.rule {
+    if a.shape == RANGE_SHAPE {
         let (_, low) = a.values.split_at(a.size);
         if low.len() >= a.size && both_admit(a, b, low) {
             return Some(low);
         }
     }
-    if let Rule::Between = b.rule {
+    if b.shape == RANGE_SHAPE {
         let (_, low) = b.values.split_at(b.size);
         if low.len() >= b.size && both_admit(a, b, low) {
             return Some(low);

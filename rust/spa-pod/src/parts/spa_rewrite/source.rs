@@ -7,6 +7,9 @@ pub trait Source: Copy {
     /// The pods.
     fn read<'a>(&'a self, out: &'a [u8]) -> &'a [u8];
 
+    /// Whether the pods in others are looked through for runs, which are copied at once. To another buffer they are written faster without it.
+    fn looks_for_runs(&self) -> bool;
+
     /// The pods from one place to another, for the output from the place `at` on.
     fn part(&self, out: &[u8], from: usize, to: usize, at: usize) -> Self;
 
@@ -25,6 +28,11 @@ impl<'s> Source for Apart<'s> {
     #[cfg_attr(not(debug_assertions), inline(always))]
     fn read<'a>(&'a self, _out: &'a [u8]) -> &'a [u8] {
         self.bytes
+    }
+
+    #[cfg_attr(not(debug_assertions), inline(always))]
+    fn looks_for_runs(&self) -> bool {
+        false
     }
 
     #[cfg_attr(not(debug_assertions), inline(always))]
@@ -53,6 +61,11 @@ impl Source for Within {
     #[cfg_attr(not(debug_assertions), inline(always))]
     fn read<'a>(&'a self, out: &'a [u8]) -> &'a [u8] {
         &out[self.start..self.end]
+    }
+
+    #[cfg_attr(not(debug_assertions), inline(always))]
+    fn looks_for_runs(&self) -> bool {
+        true
     }
 
     #[cfg_attr(not(debug_assertions), inline(always))]

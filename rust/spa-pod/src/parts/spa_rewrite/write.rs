@@ -83,6 +83,23 @@ fn run_len(
     if len == 0 { None } else { Some(len) }
 }
 
+/// Does what `run_len` does for pods in others, where `looks` is set; else there is none.
+#[cfg_attr(not(debug_assertions), inline(always))]
+fn run_inside(
+    looks: bool,
+    keyed: bool,
+    look_at: &mut usize,
+    unpatched: &mut bool,
+    from: usize,
+    left: &[u8],
+) -> Option<usize> {
+    if looks {
+        run_len(false, keyed, look_at, unpatched, from, left)
+    } else {
+        None
+    }
+}
+
 /// How many bytes the first canonical pods take; where these are few of the outermost pods, those whose encodings are as long as they are. Inside
 /// others only pods that hold none are looked at: a look at structs would be one at each level that they stand in.
 fn run_at(outermost: bool, keyed: bool, unpatched: &mut bool, left: &[u8]) -> usize {
@@ -152,11 +169,12 @@ fn put_header<S: Source>(
 /// how many bytes they take. Of bytes that aren't such pods it promises only what stays as it was.
 pub fn write_pods<S: Source>(keyed: bool, source: S, out: &mut [u8]) -> usize {
     let (mut look_at, mut unpatched) = (UNLOOKED, false);
+    let looks = source.looks_for_runs();
     let (mut from, mut to) = (0, 0);
     loop {
         let pods = source.read(out);
         let left = &pods[from..];
-        if let Some(run) = run_len(false, keyed, &mut look_at, &mut unpatched, from, left) {
+        if let Some(run) = run_inside(looks, keyed, &mut look_at, &mut unpatched, from, left) {
             put_run(unpatched, source, out, from, to, run);
             from += run;
             to += run;
@@ -244,14 +262,14 @@ fn inner_type(keyed: bool) -> u32 {
 /// Writes the encoding of a pod that holds no others. Of one that no value says it promises only what stays as it was.
 #[cfg_attr(not(debug_assertions), inline(always))]
 fn write_leaf<S: Source>(type_: u32, size: usize, pod: S, out: &mut [u8]) -> usize {
-    if begins_word(pod.read(out)) {
-        return write_word(pod, out);
-    }
     match SpaTypes(type_) {
         SpaTypes::Struct => 0,
         SpaTypes::Object => 0,
         SpaTypes::Choice => write_choice(size, pod, out),
         _ => {
+            if begins_word(pod.read(out)) {
+                return write_word(pod, out);
+            }
             // No other encoding is shorter than its pod.
             let len = pod.read(out).len();
             pod.carry(out);

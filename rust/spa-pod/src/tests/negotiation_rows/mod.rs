@@ -3,10 +3,11 @@
 //!
 //! - `negotiate`: what they meet in, in two lines: by `negotiate_pods`, and by way of values;
 //! - `filter_pods` and `filter`: what they are filtered to, from bytes to bytes, and by way of values;
+//! - `agree`: that on which they agree, with what is left to choose fixated;
 //! - `settle`: what the one pod settles to;
 //! - `format`: behind the rows, each such pod is filtered with each, and what comes is settled.
 use crate::shims::prelude::*;
-use crate::tests::example_calls::negotiate_by_values;
+use crate::tests::example_calls::{agreed, negotiate_by_values};
 use crate::parts::spa_filter::{Side, filter, settle};
 use crate::parts::spa_filter_pods::{FilterError, filter_pods};
 use crate::parts::spa_fixed_sized::Refusal;
@@ -45,6 +46,7 @@ fn answer_row(row: &str, answers: &mut String) -> io::Result<()> {
         }
         "filter_pods" => push_both(answers, label, through_pods(a, b))?,
         "filter" => push_both(answers, label, through_values(a, b))?,
+        "agree" => push_both(answers, label, agreement(a, b))?,
         "settle" => push_settled(answers, label, settled(a))?,
         _ => (),
     }
@@ -173,6 +175,11 @@ fn by_values(a: &[u8], b: &[u8]) -> Both<NegotiateError> {
 /// What two pods are filtered to.
 fn through_pods(a: &[u8], b: &[u8]) -> Both<FilterError> {
     (filter_pods(a, b), filter_pods(b, a))
+}
+
+/// That on which two pods agree.
+fn agreement(a: &[u8], b: &[u8]) -> Both<FilterError> {
+    (agreed(a, b), agreed(b, a))
 }
 
 /// What two pods are filtered to, by way of values.

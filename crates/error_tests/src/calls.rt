@@ -67,6 +67,7 @@ fn refusals_of_texts_say_where(rt: HostRuntime) -> Result<(), Fail> {
         line: 1,
         column: 47,
         path: String::from_str(alloc, ".props.volum")?,
+        misfit: None,
     };
     let words = "line 1, column 47: a key or a name is unknown there at .props.volum";
     assert_words(&rt, alloc, &error, words)?;

@@ -7,9 +7,11 @@ use Rattle.spa_recordings.specs.declared.streaming.NotMade.{NotMade}
 use Rattle.spa_text_commands.specs.Answers.{ShowsAll}
 use Rattle.spa_text_commands.specs.Texts.{Prints}
 use Rattle.spa_text_commands.specs.declared.printing.Layout.{Layout}
+use Rattle.spa_text_commands.specs.declared.selection.Printout.{Printout}
+use Rattle.spa_text_commands.specs.declared.showing.Printed.{Printed}
 use Rattle.pod_commands.specs.Streaming.{MayRefuse, WritesOf}
 use Rattle.pod_commands.specs.declared.request.Streaming.{Streaming}
-use Rattle.pod_commands.specs.declared.request.Streaming.TheVariants.{Json, Show}
+use Rattle.pod_commands.specs.declared.request.Streaming.TheVariants.{Json, Print}
 
 -- all of a block is a first part of it
 begun : (Makes : List ℕ → List ℕ → ℕ → Type 0) (block out : List ℕ) (refused : ℕ) (old new : Option (List ℕ)) → Makes block out refused →
@@ -25,24 +27,17 @@ pub texts_begun : (layout : Layout) (count place : ℕ) (block out : List ℕ) (
     ((n : ℕ) × Appends old new (take n out)) → BeginsBlock (WritesOf (Json layout) count place) block old new
 texts_begun layout count place block out old new p w = begun (WritesOf (Json layout) count place) block out 0 old new (p, refl) w
 
--- the lines that were made are those of the block
-lines_of : (count place : ℕ) (block lines : List ℕ) (before made : Option (List ℕ)) (refused : ℕ) → before ≡ Some [] → made ≡ Some lines →
-    ShowsAll count place block before made refused → WritesOf Show count place block lines refused
-lines_of count place block lines before made refused b m s =
-    let e : lines ≡ s.out = subst (λ z. Appends (Some []) z s.out) m (subst (λ z. Appends z made s.out) b s.written) in
-    subst (λ z. WritesOf Show count place block z refused) (sym e) (s.whole, s.lines)
+pub printed_written : (printout : Printout) (count place : ℕ) (block : List ℕ) (printed : Printed) (old new : Option (List ℕ)) →
+    ShowsAll printout count place block printed → Appends old new printed.bytes.items →
+    WritesMade (WritesOf (Print printout) count place) block old new printed.refused
+printed_written printout count place block printed old new s w =
+    record { out = printed.bytes.items; made = (s.whole, s.prints); written = w; few = s.few }
 
-pub lines_written : (count place : ℕ) (block lines : List ℕ) (before made : Option (List ℕ)) (refused : ℕ) (old new : Option (List ℕ)) →
-    before ≡ Some [] → made ≡ Some lines → ShowsAll count place block before made refused → Appends old new lines →
-    WritesMade (WritesOf Show count place) block old new refused
-lines_written count place block lines before made refused old new b m s w =
-    record { out = lines; made = lines_of count place block lines before made refused b m s; written = w; few = s.few }
-
-pub lines_begun : (count place : ℕ) (block lines : List ℕ) (before made : Option (List ℕ)) (refused : ℕ) (old new : Option (List ℕ)) →
-    before ≡ Some [] → made ≡ Some lines → ShowsAll count place block before made refused → ((n : ℕ) × Appends old new (take n lines)) →
-    BeginsBlock (WritesOf Show count place) block old new
-lines_begun count place block lines before made refused old new b m s w =
-    begun (WritesOf Show count place) block lines refused old new (lines_of count place block lines before made refused b m s) w
+pub printed_begun : (printout : Printout) (count place : ℕ) (block : List ℕ) (printed : Printed) (old new : Option (List ℕ)) →
+    ShowsAll printout count place block printed → ((n : ℕ) × Appends old new (take n printed.bytes.items)) →
+    BeginsBlock (WritesOf (Print printout) count place) block old new
+printed_begun printout count place block printed old new s w =
+    begun (WritesOf (Print printout) count place) block printed.bytes.items printed.refused old new (s.whole, s.prints) w
 
 -- what is written by another name
 pub written_by : (s t : Streaming) (count place : ℕ) (block : List ℕ) (old new : Option (List ℕ)) (r : Result ℕ NotMade) → s ≡ t →

@@ -9,11 +9,12 @@ use Rattle.spa_recordings.specs.declared.reading.Reading.{Reading}
 use Rattle.spa_recordings.specs.Streaming.{EndsAtPod, MakesFirst, Stops, Streams}
 use Rattle.spa_recordings.specs.declared.streaming.Stop.{Stop}
 use Rattle.spa_recordings.specs.declared.streaming.Stop.TheVariants as stop
-use Rattle.pod_commands.specs.Answers.{AreUnshown, Gets, Gives, IsPlain, IsShown, IsShownIn, IsStreamed, IsUnread, IsUnwritten, IsWrittenAs, Outlet, outlet}
+use Rattle.pod_commands.specs.Answers.{AreUnshown, Gets, Gives, IsPlain, IsPrinted, IsShown, IsShownIn, IsStreamed, IsUnread, IsUnwritten, IsWrittenAs, Outlet, outlet}
 use Rattle.pod_commands.specs.Inputs.{AreMade, IsKnown, IsOpened, StopsAt, content_of, left_behind}
 use Rattle.pod_commands.specs.Sending.{IsSent}
 use Rattle.pod_commands.specs.StreamLaws.{nothing_written}
 use Rattle.pod_commands.specs.Streaming.{EndsIn, HasNoPod, IsBroken, IsBrokenAt, IsFailureOf, IsRefusedAs, IsWritten, MayRefuse, StreamsAs}
+use Rattle.spa_text_commands.specs.declared.selection.Printout.{Printout}
 use Rattle.pod_commands.specs.declared.answer.Failure.{Failure}
 use Rattle.pod_commands.specs.declared.answer.Failure.TheVariants.{Pods, Texts, Pair, Lists, OutOfMemory, Unread, Unwritten}
 use Rattle.pod_commands.specs.declared.answer.Answer.{Answer}
@@ -215,33 +216,36 @@ streamed s reading fate target answer remaining names old new before after p w =
 -- ---- Lines that go to a file
 
 -- the lines of all went to the file, or that couldn't be written
-pub shown_in : (remaining : Option (List ℕ)) (names : List (Bor (List ℕ))) (o : Outlet) (lines out : List ℕ) (refused : ℕ) (given answer : Answer) →
+pub shown_in : (printout : Printout) (remaining : Option (List ℕ)) (names : List (Bor (List ℕ))) (o : Outlet) (lines out : List ℕ) (refused : ℕ) (given answer : Answer) →
     (((refused ≡ 0) × (given ≡ Done)) ⊎ ((refused ≢ 0) × (given ≡ Shown refused))) →
-    AreMade (StreamsAs streaming.Show) remaining o.before names out refused → Appends (Some []) (Some lines) out → IsSent lines given answer o →
-    IsShownIn answer remaining names o
-shown_in remaining names o lines out refused given answer (inl e) made is (inl k) =
-    subst (λ a. IsShownIn a remaining names o) (sym (k.0 ∙ e.1))
-    (out, subst (AreMade (StreamsAs streaming.Show) remaining o.before names out) e.0 made, subst (Gets o.target o) is k.1)
-shown_in remaining names o lines out refused given answer (inr e) made is (inl k) =
-    subst (λ a. IsShownIn a remaining names o) (sym (k.0 ∙ e.1)) (e.0, (out, made, subst (Gets o.target o) is k.1))
-shown_in remaining names o lines out refused given answer e made is (inr k) =
-    subst (λ a. IsShownIn a remaining names o) (sym k.1) (inr (k.2, (lines, (refused, subst (λ z. AreMade (StreamsAs streaming.Show) remaining o.before names z refused) (sym is) made), k.3)))
+    AreMade (StreamsAs (streaming.Print printout)) remaining o.before names out refused → Appends (Some []) (Some lines) out → IsSent lines given answer o →
+    IsShownIn printout answer remaining names o
+shown_in printout remaining names o lines out refused given answer (inl e) made is (inl k) =
+    subst (λ a. IsShownIn printout a remaining names o) (sym (k.0 ∙ e.1))
+    (out, subst (AreMade (StreamsAs (streaming.Print printout)) remaining o.before names out) e.0 made, subst (Gets o.target o) is k.1)
+shown_in printout remaining names o lines out refused given answer (inr e) made is (inl k) =
+    subst (λ a. IsShownIn printout a remaining names o) (sym (k.0 ∙ e.1)) (e.0, (out, made, subst (Gets o.target o) is k.1))
+shown_in printout remaining names o lines out refused given answer e made is (inr k) =
+    subst (λ a. IsShownIn printout a remaining names o) (sym k.1) (inr (k.2, (lines, (refused, subst (λ z. AreMade (StreamsAs (streaming.Print printout)) remaining o.before names z refused) (sym is) made), k.3)))
 
 -- not all inputs are shown
-pub unshown : (target : Option (Bor (List ℕ))) (remaining : Option (List ℕ)) (holds : List ℕ → Option (List ℕ)) (names : List (Bor (List ℕ)))
-    (old first last : Option (List ℕ)) (why : Failure) → IsBroken streaming.Show remaining holds names first last why →
-    IsShownIn (Refused why) remaining names (outlet target old old holds holds)
-unshown target remaining holds names old first last why b = inl (inr (b.0, b.1), untouched target old holds)
+pub unshown : (printout : Printout) (target : Option (Bor (List ℕ))) (remaining : Option (List ℕ)) (holds : List ℕ → Option (List ℕ)) (names : List (Bor (List ℕ)))
+    (old first last : Option (List ℕ)) (why : Failure) → IsBroken (streaming.Print printout) remaining holds names first last why →
+    IsShownIn printout (Refused why) remaining names (outlet target old old holds holds)
+unshown printout target remaining holds names old first last why b = inl (inr (b.0, b.1), untouched target old holds)
 
-pub unshown_lines : (target : Option (Bor (List ℕ))) (remaining : Option (List ℕ)) (holds : List ℕ → Option (List ℕ)) (names : List (Bor (List ℕ)))
-    (old : Option (List ℕ)) → IsShownIn (Refused OutOfMemory) remaining names (outlet target old old holds holds)
-unshown_lines target remaining holds names old = inl (inl refl, untouched target old holds)
+pub unshown_lines : (printout : Printout) (target : Option (Bor (List ℕ))) (remaining : Option (List ℕ)) (holds : List ℕ → Option (List ℕ)) (names : List (Bor (List ℕ)))
+    (old : Option (List ℕ)) → IsShownIn printout (Refused OutOfMemory) remaining names (outlet target old old holds holds)
+unshown_lines printout target remaining holds names old = inl (inl refl, untouched target old holds)
 
--- where a file is written, and where none is
-pub in_file : (target : Option (Bor (List ℕ))) (name : Bor (List ℕ)) (answer : Answer) (remaining : Option (List ℕ)) (names : List (Bor (List ℕ)))
-    (o : Outlet) → target ≡ Some name → IsShownIn answer remaining names o → IsShown target answer remaining names o
-in_file target name answer remaining names o e h = subst (λ t. IsShown t answer remaining names o) (sym e) h
+-- with other options it is misuse, and without them it is done
+pub not_printed : (printout : Printout) (reading : Reading) (fate : Fate) (target : Option (Bor (List ℕ))) (remaining : Option (List ℕ))
+    (holds : List ℕ → Option (List ℕ)) (names : List (Bor (List ℕ))) (old : Option (List ℕ)) → ¬ (IsPlain reading fate None) →
+    IsPrinted printout reading fate Misused remaining names (outlet target old old holds holds)
+not_printed printout reading fate target remaining holds names old n = inr (n, (refl, untouched target old holds))
 
-pub in_none : (target : Option (Bor (List ℕ))) (answer : Answer) (remaining : Option (List ℕ)) (names : List (Bor (List ℕ))) (o : Outlet) →
-    target ≡ None → IsWrittenAs streaming.Show answer remaining names o → IsShown target answer remaining names o
-in_none target answer remaining names o e h = subst (λ t. IsShown t answer remaining names o) (sym e) h
+pub printed : (printout : Printout) (reading : Reading) (fate : Fate) (target : Option (Bor (List ℕ))) (answer : Answer) (remaining : Option (List ℕ))
+    (names : List (Bor (List ℕ))) (old new : Option (List ℕ)) (before after : List ℕ → Option (List ℕ)) → IsPlain reading fate None →
+    IsShown printout target answer remaining names (outlet target old new before after) →
+    IsPrinted printout reading fate answer remaining names (outlet target old new before after)
+printed printout reading fate target answer remaining names old new before after p w = inl (p, w)

@@ -19,6 +19,7 @@ use Rattle.spa_refusals.specs.Refusals.{refusal_text}
 use Rattle.spa_refusals.specs.declared.several.NamedRefusal.{NamedRefusal}
 use Rattle.spa_text_commands.specs.Answers as text
 use Rattle.spa_text_commands.specs.Differences.{Differ, SayTheSame}
+use Rattle.spa_text_commands.specs.declared.selection.Printout.{Printout}
 use Rattle.spa_meet_commands.specs.Answers as meet
 use Rattle.spa_meet_commands.specs.Lists.{AreListsRefused, ListsGive}
 use Rattle.spa_meet_commands.specs.declared.answer.Failure.{Failure as MeetFailure}
@@ -40,7 +41,7 @@ use Rattle.pod_commands.specs.declared.request.Request.{Request}
 use Rattle.pod_commands.specs.declared.request.Streaming.{Streaming}
 use Rattle.pod_commands.specs.declared.request.Streaming.TheVariants as streaming
 use Rattle.pod_commands.specs.declared.request.Word.{Word}
-use Rattle.pod_commands.specs.declared.request.Word.TheVariants.{Show, Make, Stream, Diff, Agree}
+use Rattle.pod_commands.specs.declared.request.Word.TheVariants.{Print, Make, Stream, Diff, Agree}
 
 -- ---- Where what is made goes
 
@@ -193,28 +194,35 @@ IsStreamed streaming reading fate answer remaining names o =
     (IsPlain reading fate o.target × IsWrittenAs streaming answer remaining names o)
     ⊎ (¬ (IsPlain reading fate o.target) × IsMisuse answer o)
 
--- why not all inputs are shown in a file: the work stops at one of them, or memory for the lines ran out
-abbrev pub AreUnshown : (remaining : Option (List ℕ)) → (holds : List ℕ → Option (List ℕ)) → List (Bor (List ℕ)) → Failure → Type 0
-AreUnshown remaining holds names why =
-    (why ≡ OutOfMemory) ⊎ ((out : List ℕ) × StopsAt (StreamsAs streaming.Show) (EndsIn streaming.Show) remaining holds names out why)
+-- why not all inputs are printed in a file: the work stops at one of them, or memory for what is printed ran out
+abbrev pub AreUnshown : Printout → (remaining : Option (List ℕ)) → (holds : List ℕ → Option (List ℕ)) → List (Bor (List ℕ)) → Failure → Type 0
+AreUnshown printout remaining holds names why =
+    (why ≡ OutOfMemory)
+    ⊎ ((out : List ℕ) × StopsAt (StreamsAs (streaming.Print printout)) (EndsIn (streaming.Print printout)) remaining holds names out why)
 
--- what it says of inputs that are shown in a file
-abbrev pub IsShownIn : Answer → (remaining : Option (List ℕ)) → List (Bor (List ℕ)) → Outlet → Type 0
-IsShownIn Done remaining names o = Gives (λ out. AreMade (StreamsAs streaming.Show) remaining o.before names out 0) o
-IsShownIn (Shown refused) remaining names o =
-    (refused ≢ 0) × Gives (λ out. AreMade (StreamsAs streaming.Show) remaining o.before names out refused) o
-IsShownIn (Refused why) remaining names o =
-    Refuses (λ out. (refused : ℕ) × AreMade (StreamsAs streaming.Show) remaining o.before names out refused) (AreUnshown remaining o.before names) o why
-IsShownIn _ remaining names o = ⊥
+-- what it says of inputs that are printed in a file
+abbrev pub IsShownIn : Printout → Answer → (remaining : Option (List ℕ)) → List (Bor (List ℕ)) → Outlet → Type 0
+IsShownIn printout Done remaining names o = Gives (λ out. AreMade (StreamsAs (streaming.Print printout)) remaining o.before names out 0) o
+IsShownIn printout (Shown refused) remaining names o =
+    (refused ≢ 0) × Gives (λ out. AreMade (StreamsAs (streaming.Print printout)) remaining o.before names out refused) o
+IsShownIn printout (Refused why) remaining names o =
+    Refuses (λ out. (refused : ℕ) × AreMade (StreamsAs (streaming.Print printout)) remaining o.before names out refused)
+    (AreUnshown printout remaining o.before names) o why
+IsShownIn printout _ remaining names o = ⊥
 
--- inputs are shown as they come, or where a file is written, all of them in it
-abbrev pub IsShown : Option (Bor (List ℕ)) → Answer → (remaining : Option (List ℕ)) → List (Bor (List ℕ)) → Outlet → Type 0
-IsShown None answer remaining names o = IsWrittenAs streaming.Show answer remaining names o
-IsShown (Some name) answer remaining names o = IsShownIn answer remaining names o
+-- inputs are printed as they come, or where a file is written, all of them in it
+abbrev pub IsShown : Printout → Option (Bor (List ℕ)) → Answer → (remaining : Option (List ℕ)) → List (Bor (List ℕ)) → Outlet → Type 0
+IsShown printout None answer remaining names o = IsWrittenAs (streaming.Print printout) answer remaining names o
+IsShown printout (Some name) answer remaining names o = IsShownIn printout answer remaining names o
+
+-- what it says of that where other options may be given: with these it is misuse
+abbrev pub IsPrinted : Printout → Reading → Fate → Answer → (remaining : Option (List ℕ)) → List (Bor (List ℕ)) → Outlet → Type 0
+IsPrinted printout reading fate answer remaining names o =
+    (IsPlain reading fate None × IsShown printout o.target answer remaining names o) ⊎ (¬ (IsPlain reading fate None) × IsMisuse answer o)
 
 -- what it says of a word's work on inputs of these names, where this is left of the standard input
 abbrev pub IsDone : Word → Answer → (remaining : Option (List ℕ)) → List (Bor (List ℕ)) → Outlet → Type 0
-IsDone Show answer remaining names o = IsShown o.target answer remaining names o
+IsDone (Print printout manner) answer remaining names o = IsPrinted printout manner.reading manner.fate answer remaining names o
 IsDone (Make making manner) answer remaining names o = IsMadeBy manner.reading manner.fate making answer remaining names o
 IsDone (Stream streaming manner) answer remaining names o = IsStreamed streaming manner.reading manner.fate answer remaining names o
 IsDone Diff answer remaining names o = IsCompared answer remaining names o

@@ -1,6 +1,7 @@
 -- What the words ask for.
-use Rattle.std.specs.Prelude.{◌≡◌, ⊤, ℕ, codes, Bool, true, false, List, [], ◌∷◌, Option, Some, None, if◌then◌else◌, option_map, unwrap_or}
+use Rattle.std.specs.Prelude.{◌≡◌, ◌<◌, ◌^◌, ◌⊎◌, ◌||◌, ⊤, ℕ, codes, Bool, true, false, not, List, [], ◌∷◌, Option, Some, None, IsSomeAnd, is_some, if◌then◌else◌, option_map, unwrap_or}
 use Rattle.std.specs.Str.{bytes_eq}
+use Rattle.std.specs.Str.Parse.{IsNumeral, digits_value, without_leading_plus}
 use Rattle.std.specs.Borrow.{Bor}
 use Rattle.clap.specs.Walk.{texts}
 use Rattle.clap.specs.Words.{Row, Text, all_of, first_of, subcommand_of}
@@ -11,7 +12,9 @@ use Rattle.pod_commands.specs.declared.request.Fate.TheVariants.{Stops, GoesOn}
 use Rattle.pod_commands.specs.declared.request.Making.TheVariants.{Json, Read, Rewrite, Fixate, Check}
 use Rattle.pod_commands.specs.declared.request.Streaming.TheVariants as Streaming
 use Rattle.pod_commands.specs.declared.request.Word.{Word}
-use Rattle.pod_commands.specs.declared.request.Word.TheVariants.{Show, Make, Stream, Diff, Agree}
+use Rattle.pod_commands.specs.declared.request.Word.TheVariants.{Print, Make, Stream, Diff, Agree}
+use Rattle.pod_commands.specs.declared.request.Manner.{Manner}
+use Rattle.pod_commands.specs.declared.request.Options.{Options}
 use Rattle.pod_commands.specs.declared.request.Request.{Request}
 use Rattle.spa_recordings.specs.declared.going_on.Refused.TheVariants.{LeftOut, Kept}
 use Rattle.spa_recordings.specs.declared.reading.Reading.{Reading}
@@ -19,18 +22,30 @@ use Rattle.spa_recordings.specs.declared.reading.Reading.TheVariants.{Exact, Len
 use Rattle.spa_meet_commands.specs.declared.pair.Work.TheVariants.{Negotiate, Filter}
 use Rattle.spa_text_commands.specs.declared.printing.Layout.{Layout}
 use Rattle.spa_text_commands.specs.declared.printing.Layout.TheVariants.{OneLine, Indented}
+use Rattle.spa_text_read.specs.declared.fitting.Strictness.{Strictness}
+use Rattle.spa_text_read.specs.declared.fitting.Strictness.TheVariants.{Plain, Strict}
+use Rattle.spa_text_commands.specs.declared.selection.Form.{Form}
+use Rattle.spa_text_commands.specs.declared.selection.Form.TheVariants.{Lines, LinesAndBytes, Bytes}
+use Rattle.spa_text_commands.specs.declared.selection.Form.TheVariants as form
+
+-- the word that prints pods in a form
+abbrev pub word_of_form : Form → Text
+word_of_form Lines = codes "show"
+word_of_form LinesAndBytes = codes "show"
+word_of_form (form.Text layout) = codes "json"
+word_of_form Bytes = codes "json"
 
 -- the text of a word
 abbrev pub name_of : Word → Text
-name_of Show = codes "show"
+name_of (Print printout manner) = word_of_form printout.form
 name_of (Make (Json layout) manner) = codes "json"
-name_of (Make Read manner) = codes "read"
+name_of (Make (Read strictness) manner) = codes "read"
 name_of (Make Rewrite manner) = codes "rewrite"
 name_of (Make Fixate manner) = codes "fixate"
 name_of (Make Check manner) = codes "check"
 name_of (Stream (Streaming.Json layout) manner) = codes "json"
 name_of (Stream Streaming.Rewrite manner) = codes "rewrite"
-name_of (Stream Streaming.Show manner) = codes "show"
+name_of (Stream (Streaming.Print printout) manner) = word_of_form printout.form
 name_of Diff = codes "diff"
 name_of (Agree Negotiate) = codes "meet"
 name_of (Agree Filter) = codes "filter"
@@ -50,10 +65,44 @@ layout_by is_pretty = if is_pretty then Indented else OneLine
 abbrev pub layout_in : List Row → Layout
 layout_in rows = layout_by (is_given (codes "pretty") rows)
 
-abbrev pub HasLayout : Layout → Word → Type 0
-HasLayout layout (Make (Json its) manner) = its ≡ layout
-HasLayout layout (Stream (Streaming.Json its) manner) = its ≡ layout
-HasLayout layout _ = ⊤
+-- neither a part of an input is asked for nor bytes are
+abbrev pub is_plain : Options → Bool
+is_plain options = not ((options.hex || is_some options.selection.nth) || is_some options.selection.key)
+
+-- the form that is asked for, by `show` and by `json`
+abbrev pub HasForm : Options → Form → Type 0
+HasForm options Lines = options.hex ≡ false
+HasForm options LinesAndBytes = options.hex ≡ true
+HasForm options (form.Text layout) = (options.hex ≡ false) × (layout ≡ options.layout) × (is_plain options ≡ false)
+HasForm options Bytes = options.hex ≡ true
+
+-- what is printed of which pods: of all where no part is asked for
+abbrev pub HasPrintout : Options → Word → Type 0
+HasPrintout options (Print printout manner) = HasForm options printout.form × (printout.selection ≡ options.selection)
+HasPrintout options (Stream (Streaming.Print printout) manner) = HasForm options printout.form × (printout.selection ≡ options.selection)
+HasPrintout options (Make (Json layout) manner) = (layout ≡ options.layout) × (is_plain options ≡ true)
+HasPrintout options (Stream (Streaming.Json layout) manner) = (layout ≡ options.layout) × (is_plain options ≡ true)
+HasPrintout options _ = ⊤
+
+-- a number is what digits say
+abbrev pub IsNumber : Option Text → Option ℕ → Type 0
+IsNumber None number = number ≡ None
+IsNumber (Some text) number = number ≡ Some (digits_value 10 (without_leading_plus text))
+
+-- these options are given
+pub record AreGiven (rows : List Row) (options : Options) : Type 0 where
+  pub layout : options.layout ≡ layout_in rows
+  pub hex : options.hex ≡ is_given (codes "hex") rows
+  pub nth : IsNumber (first_of (codes "nth") rows) options.selection.nth
+  pub key : option_map (λ s. s.now) options.selection.key ≡ first_of (codes "key") rows
+
+-- a number is asked for by other text, or one that is too large
+abbrev pub IsNoNumber : Option Text → Type 0
+IsNoNumber given =
+    IsSomeAnd given (λ text. ¬ (IsNumeral 10 (without_leading_plus text) × (digits_value 10 (without_leading_plus text) < 2 ^ 64)))
+
+abbrev pub HasNoNumber : List Row → Type 0
+HasNoNumber rows = IsNoNumber (first_of (codes "nth") rows)
 
 -- how inputs are read: leniently where `--lenient` is given
 abbrev pub reading_by : Bool → Reading
@@ -69,21 +118,38 @@ fate_by goes_on keeps = if keeps then GoesOn Kept else (if goes_on then GoesOn L
 abbrev pub fate_in : List Row → Fate
 fate_in rows = fate_by (is_given (codes "keep-going") rows) (is_given (codes "keep-refused") rows)
 
+abbrev pub HasMannerOf : Reading → Fate → Form → Manner → Type 0
+HasMannerOf reading fate Lines manner = (manner.reading ≡ Exact) × (manner.fate ≡ Stops)
+HasMannerOf reading fate LinesAndBytes manner = (manner.reading ≡ Exact) × (manner.fate ≡ Stops)
+HasMannerOf reading fate _ manner = (manner.reading ≡ reading) × (manner.fate ≡ fate)
+
 -- pods are read so; texts, and pods that are shown, as they are
 abbrev pub HasManner : Reading → Fate → Word → Type 0
-HasManner reading fate (Make Read manner) = (manner.reading ≡ Exact) × (manner.fate ≡ Stops)
+HasManner reading fate (Make (Read strictness) manner) = (manner.reading ≡ Exact) × (manner.fate ≡ Stops)
 HasManner reading fate (Make making manner) = (manner.reading ≡ reading) × (manner.fate ≡ fate)
-HasManner reading fate (Stream Streaming.Show manner) = (manner.reading ≡ Exact) × (manner.fate ≡ Stops)
+HasManner reading fate (Print printout manner) = HasMannerOf reading fate printout.form manner
+HasManner reading fate (Stream (Streaming.Print printout) manner) = HasMannerOf reading fate printout.form manner
 HasManner reading fate (Stream streaming manner) = (manner.reading ≡ reading) × (manner.fate ≡ fate)
 HasManner reading fate _ = ⊤
 
 -- what is written as input comes is so where `--stream` is given, and else not
 abbrev pub HasStream : Bool → Word → Type 0
-HasStream streams Show = streams ≡ false
+HasStream streams (Print printout manner) = streams ≡ false
 HasStream streams (Make (Json layout) manner) = streams ≡ false
 HasStream streams (Make Rewrite manner) = streams ≡ false
 HasStream streams (Stream streaming manner) = streams ≡ true
 HasStream streams _ = ⊤
+
+-- how texts are read: strictly where `--strict` is given
+abbrev pub strictness_by : Bool → Strictness
+strictness_by is_strict = if is_strict then Strict else Plain
+
+abbrev pub strictness_in : List Row → Strictness
+strictness_in rows = strictness_by (is_given (codes "strict") rows)
+
+abbrev pub HasStrictness : Strictness → Word → Type 0
+HasStrictness strictness (Make (Read its) manner) = its ≡ strictness
+HasStrictness strictness _ = ⊤
 
 -- the name that stands for the standard input, also where none is given
 abbrev pub dash : Text
@@ -101,13 +167,22 @@ pub record Asks (words : List (Bor (List ℕ))) (request : Request) : Type 0 whe
   pub accepted : fault_of program (texts words) ≡ []
   pub rows : List Row
   pub word : subcommand_of program (texts words) ≡ Some (name_of request.word, rows)
-  pub layout : HasLayout (layout_in rows) request.word
+  pub options : Options
+  pub given : AreGiven rows options
+  pub printout : HasPrintout options request.word
   pub manner : HasManner (reading_in rows) (fate_in rows) request.word
   pub stream : HasStream (is_given (codes "stream") rows) request.word
+  pub strictness : HasStrictness (strictness_in rows) request.word
   pub names : texts request.names.items ≡ names_in rows
   pub target : option_map (λ s. s.now) request.target ≡ first_of (codes "output") rows
 
--- clap accepts the words, and they name no word of the program's, which clap never does
+-- clap accepts the words, and they name no word of the program's or no number, which clap never does
 pub record AsksNothing (words : List (Bor (List ℕ))) : Type 0 where
   pub accepted : fault_of program (texts words) ≡ []
-  pub nothing : (word : Word) (rows : List Row) → subcommand_of program (texts words) ≡ Some (name_of word, rows) → ⊥
+  pub nothing : ((word : Word) (rows : List Row) → subcommand_of program (texts words) ≡ Some (name_of word, rows) → ⊥)
+      ⊎ ((name : Text) × (rows : List Row) × (subcommand_of program (texts words) ≡ Some (name, rows)) × HasNoNumber rows)
+
+-- All of each input is printed as JSON. Only private clauses cite it.
+abbrev pub IsAllAsJson : Layout → Manner → (streams : Bool) → Word → Type 0
+IsAllAsJson layout manner streams word =
+    word ≡ (if streams then Stream (Streaming.Json layout) manner else Make (Json layout) manner)

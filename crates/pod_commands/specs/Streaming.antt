@@ -23,13 +23,13 @@ use Rattle.pod_commands.specs.declared.request.Streaming.TheVariants as streamin
 abbrev pub WritesOf : Streaming → (count place : ℕ) → (pods out : List ℕ) → (refused : ℕ) → Type 0
 WritesOf (streaming.Json layout) count place pods out refused = Prints layout pods out × (refused ≡ 0)
 WritesOf streaming.Rewrite count place pods out refused = RewritesAll pods out refused
-WritesOf streaming.Show count place pods out refused = ShowsPods count place pods out refused
+WritesOf (streaming.Print printout) count place pods out refused = ShowsPods printout count place pods out refused
 
--- nothing is made of refused pods, which all but `show` refuse
+-- nothing is made of refused pods, which only what prints parts, or shows pods, passes
 abbrev pub MayRefuse : Streaming → Type 0
 MayRefuse (streaming.Json layout) = ⊤
 MayRefuse streaming.Rewrite = ⊤
-MayRefuse streaming.Show = ⊥
+MayRefuse (streaming.Print printout) = ⊥
 
 -- what is made of an input
 abbrev pub StreamsAs : Streaming → (input out : List ℕ) → (refused : ℕ) → Type 0

@@ -18,7 +18,7 @@ pub enum Answer<'a> {
     Differs,
     /// The work was done on what is read, and these pods, of which there are some, were refused.
     Passed(Vec<NamedRefusal<'a>>),
-    /// All was shown, and so many of the pods, of which there are some, are refused.
+    /// All was printed, and so many of the printed pods, of which there are some, are refused.
     Shown(usize),
     /// The work was refused, for this reason.
     Refused(Failure<'a>),
@@ -119,7 +119,7 @@ impl From<AllocError> for Failure<'_> {
 
 /// What is said of a word with another number of inputs than it takes, or with options that don't go together.
 const MISUSE: &str =
-    "pod: diff takes two FILEs, meet and filter one or two, --stream no other option but --pretty; pod --help says more";
+    "pod: diff takes two FILEs, meet and filter one or two, --stream, --nth, --key and --hex no other option but --pretty and one another; pod --help says more";
 
 /// Writes what is said of this answer: help and the version to the output, a refusal or a misuse to the other writer, of work that was
 /// done nothing.

@@ -4,6 +4,7 @@ ghost use Rattle.clap.specs.Words.{app_of, rule_of};
 ghost use Rattle.clap.specs.declared.builder.command.Command.TheViews.{out-Command};
 ghost use Rattle.pod_commands.specs.Program as spec;
 
+use clap::builder::ValueParser;
 use clap::{Arg, ArgAction, Command};
 use std::alloc::{AllocError, Global};
 
@@ -15,7 +16,7 @@ const ABOUT: &str =
 
 /// What stands behind the help of the program.
 const EXAMPLES: &str =
-    "Without a FILE, and for a FILE named -, the standard input is read. But for show and --stream, nothing is written before all input is accepted, or with --keep-going and --keep-refused read.
+    "Without a FILE, and for a FILE named -, the standard input is read. But for show, --stream, --nth, --key and --hex, nothing is written before all input is accepted, or with --keep-going and --keep-refused read.
 
 Status: 0 the work is done; 1 an input is refused, two differ, or something can't be read or written; 2 the words ask for nothing.
 
@@ -52,6 +53,41 @@ fn pretty<'a>(alloc: Global) -> Arg<'a>
         .long("pretty")
         .action(ArgAction::SetTrue)
         .help("Indents each text")
+}
+
+/// `--nth N`
+fn nth<'a>(alloc: Global) -> Arg<'a>
+    ensures rule { rule_of result ≡ spec.nth }
+    ensures local { result.global ≡ false }
+{
+    Arg::new(alloc, "nth")
+        .long("nth")
+        .value_name("N")
+        .value_parser(ValueParser::Unsigned(1, u64::MAX))
+        .help(
+            "Prints the N-th pod of each input alone, the first being 1; nothing of an input with fewer",
+        )
+}
+
+/// `--key NAME`
+fn key<'a>(alloc: Global) -> Arg<'a>
+    ensures rule { rule_of result ≡ spec.key }
+    ensures local { result.global ≡ false }
+{
+    Arg::new(alloc, "key").long("key").value_name("NAME").help(
+        "Prints, in place of objects, the values under their keys of this name, or number",
+    )
+}
+
+/// `--hex`
+fn hex<'a>(alloc: Global) -> Arg<'a>
+    ensures rule { rule_of result ≡ spec.hex }
+    ensures local { result.global ≡ false }
+{
+    Arg::new(alloc, "hex")
+        .long("hex")
+        .action(ArgAction::SetTrue)
+        .help("Prints the bytes in hex: below the lines of each pod, or by json as a string")
 }
 
 /// `--lenient`
@@ -100,6 +136,17 @@ fn stream<'a>(alloc: Global) -> Arg<'a>
         )
 }
 
+/// `--strict`
+fn strict<'a>(alloc: Global) -> Arg<'a>
+    ensures rule { rule_of result ≡ spec.strict }
+    ensures local { result.global ≡ false }
+{
+    Arg::new(alloc, "strict")
+        .long("strict")
+        .action(ArgAction::SetTrue)
+        .help("Refuses a value of another type than the one that belongs under its key")
+}
+
 /// A word of the program, with what help says of it and an example.
 fn word<'a>(
     alloc: Global,
@@ -144,6 +191,17 @@ fn to_pods<'a>(
     plain.arg(keep_refused(alloc))
 }
 
+/// A word that prints parts of inputs.
+fn with_parts<'a>(alloc: Global, command: Command<'a>) -> Result<Command<'a>, AllocError>
+    requires { (out-Command command).has_globals ≡ false }
+    ensures app { IfOk result (λ it. app_of it ≡ spec.with_parts (app_of command.entry)) }
+    ensures local { IfOk result (λ it. (out-Command it).has_globals ≡ false) }
+{
+    let with_nth = command.arg(nth(alloc))?;
+    let with_key = with_nth.arg(key(alloc))?;
+    with_key.arg(hex(alloc))
+}
+
 /// The word `show`.
 fn show<'a>(alloc: Global) -> Result<Command<'a>, AllocError>
     ensures app { IfOk result (λ it. app_of it ≡ spec.show) }
@@ -153,9 +211,10 @@ fn show<'a>(alloc: Global) -> Result<Command<'a>, AllocError>
         alloc,
         "show",
         "Shows pods, refused ones too, with names and what is inside them; the status is 1 where one is refused",
-        "Example: pod show recording.pods",
+        "Example: pod show --nth 17 --hex recording.pods",
     )?;
-    plain.arg(stream(alloc))
+    let with_parts = with_parts(alloc, plain)?;
+    with_parts.arg(stream(alloc))
 }
 
 /// The word `rewrite`.
@@ -181,10 +240,25 @@ fn json<'a>(alloc: Global) -> Result<Command<'a>, AllocError>
         alloc,
         "json",
         "Prints pods as JSON with names, each on a line",
-        "Example: pod json --pretty props.pod",
+        "Example: pod json --key rate formats.pods",
     )?;
     let with_pretty = plain.arg(pretty(alloc))?;
-    with_pretty.arg(stream(alloc))
+    let with_parts = with_parts(alloc, with_pretty)?;
+    with_parts.arg(stream(alloc))
+}
+
+/// The word `read`.
+fn read<'a>(alloc: Global) -> Result<Command<'a>, AllocError>
+    ensures app { IfOk result (λ it. app_of it ≡ spec.read) }
+    ensures local { IfOk result (λ it. (out-Command it).has_globals ≡ false) }
+{
+    let plain = word(
+        alloc,
+        "read",
+        "Reads JSON with names, and writes its pods",
+        "Example: pod read --strict formats.json -o formats.pods",
+    )?;
+    plain.arg(strict(alloc))
 }
 
 /// The program without its words.
@@ -231,14 +305,9 @@ fn with_json<'a>(alloc: Global, command: Command<'a>) -> Result<Command<'a>, All
     ensures { IfOk result (λ it. app_of it ≡ spec.with_json (app_of command.entry)) }
 {
     let one = json(alloc)?;
-    let both = command.subcommand(one)?;
-    with_word(
-        alloc,
-        both,
-        "read",
-        "Reads JSON with names, and writes its pods",
-        "Example: pod json props.pod | pod read -o copy.pod",
-    )
+    let first = command.subcommand(one)?;
+    let two = read(alloc)?;
+    first.subcommand(two)
 }
 
 fn with_writers<'a>(alloc: Global, command: Command<'a>) -> Result<Command<'a>, AllocError>

@@ -97,7 +97,7 @@ fn make<'a>(
             Ok(texts) => Ok(texts),
             Err(_) => Err(refused(alloc, Reading::Exact, name, bytes.as_slice())),
         },
-        Making::Read => match read_all(alloc, bytes.as_slice()) {
+        Making::Read(strictness) => match read_all(alloc, strictness, bytes.as_slice()) {
             Ok(pods) => Ok(pods),
             Err(why) => Err(Failure::Texts(name, why)),
         },

@@ -6,11 +6,12 @@ ghost use Rattle.clap.specs.Kinds.{HasKind};
 ghost use Rattle.clap.specs.Walk.{rows_of, texts};
 ghost use Rattle.clap.specs.Matches.{found_of};
 ghost use Rattle.pod_commands.specs.Program.{program};
-ghost use Rattle.pod_commands.specs.Requests.{Asks, AsksNothing, HasLayout, HasManner, HasStream, fate_in, is_given, is_true_text, layout_in, name_of, names_in, reading_in};
+ghost use Rattle.pod_commands.specs.Requests.{AreGiven, Asks, AsksNothing, HasManner, HasNoNumber, HasPrintout, HasStream, HasStrictness, IsAllAsJson, IsNoNumber, IsNumber, fate_in, is_given, is_true_text, layout_in, name_of, names_in, reading_in, strictness_in};
 ghost use Rattle.pod_commands.specs.declared.request.Word.{Word};
 ghost use Rattle.pod_commands.specs.declared.request.Fate.{Fate as FateOf};
+ghost use Rattle.pod_commands.specs.declared.request.Options.{Options as OptionsOf};
 ghost use Rattle.spa_recordings.specs.declared.reading.Reading.{Reading as ReadingOf};
-ghost use Rattle.spa_text_commands.specs.declared.printing.Layout.{Layout};
+ghost use Rattle.spa_text_read.specs.declared.fitting.Strictness.{Strictness as StrictnessOf};
 
 use crate::command::program;
 use clap::{ArgMatches, Error};
@@ -18,6 +19,8 @@ use spa_meet_commands::pair::Work;
 use spa_recordings::going_on::Refused;
 use spa_recordings::reading::Reading;
 use spa_text_commands::printing::Layout;
+use spa_text_commands::selection::{Form, Printout, Selection};
+use spa_text_read::Strictness;
 use std::alloc::{AllocError, Global};
 
 /// What is made of each input.
@@ -25,8 +28,8 @@ use std::alloc::{AllocError, Global};
 pub enum Making {
     /// The texts of its pods, as JSON in this layout.
     Json(Layout),
-    /// The pods of its texts.
-    Read,
+    /// The pods of its texts, which are read so.
+    Read(Strictness),
     /// The rewritings of its pods.
     Rewrite,
     /// Its pods, of which objects are fixated.
@@ -53,24 +56,25 @@ pub struct Manner {
 
 /// What is written block by block, as input comes.
 #[derive(Clone, Copy)]
-pub enum Streaming {
+pub enum Streaming<'a> {
     /// The texts of its pods, as JSON in this layout.
     Json(Layout),
     /// The rewritings of its pods.
     Rewrite,
-    /// The lines of its pods, refused ones too.
-    Show,
+    /// This of its pods, refused ones too.
+    Print(Printout<'a>),
 }
 
 /// What is done.
 #[derive(Clone, Copy)]
-pub enum Word {
-    /// Pods are shown with names, refused ones too: as they come, or where a file is written, all of them at the end.
-    Show,
+pub enum Word<'a> {
+    /// This is printed of pods, refused ones too: as they come, or where a file is written, all of it at the end. No manner but the plain one goes
+    /// with it.
+    Print(Printout<'a>, Manner),
     /// This is made of each input, which is read so.
     Make(Making, Manner),
     /// This is written of each input as it comes, which is read so: no manner but the plain one, and no file, goes with it.
-    Stream(Streaming, Manner),
+    Stream(Streaming<'a>, Manner),
     /// Two inputs are compared.
     Diff,
     /// The object is sought on which two of one input agree, or the first pair of two lists.
@@ -80,7 +84,7 @@ pub enum Word {
 /// What the words ask for.
 #[derive(Drop)]
 pub struct Request<'a> {
-    pub word: Word,
+    pub word: Word<'a>,
     /// The inputs' names; `-` is the standard input.
     pub names: Vec<&'a str>,
     /// The file that is written; without one, the standard output.
@@ -102,11 +106,15 @@ pub(crate) fn request_of<'a>(
     let Some((name, given)) = matches.subcommand() else {
         return Ok(None);
     };
+    let Some(options) = options_of(given) else {
+        return Ok(None);
+    };
     let Some(word) = word_of(
         name,
-        layout_of(given),
+        options,
         manner_of(given),
         is_set(given, "stream"),
+        strictness_of(given),
     ) else {
         return Ok(None);
     };
@@ -119,17 +127,24 @@ pub(crate) fn request_of<'a>(
 }
 
 /// The word of this name.
-fn word_of(name: &str, layout: Layout, manner: Manner, streams: bool) -> Option<Word>
+fn word_of<'a>(
+    name: &str,
+    options: Options<'a>,
+    manner: Manner,
+    streams: bool,
+    strictness: Strictness,
+) -> Option<Word<'a>>
     ensures word { IfSome result (λ word. name.now ≡ name_of word) }
-    ensures layout { IfSome result (HasLayout layout) }
+    ensures printout { IfSome result (HasPrintout options.entry) }
     ensures manner { IfSome result (HasManner manner.reading manner.fate) }
     ensures stream { IfSome result (HasStream streams) }
+    ensures strictness { IfSome result (HasStrictness strictness) }
     ensures none { IfNone result ((word : Word) → ¬ (name.now ≡ name_of word)) }
 {
     match name {
-        "show" => Some(showing(streams)),
-        "json" => Some(printing(layout, manner, streams)),
-        "read" => Some(Word::Make(Making::Read, PLAIN)),
+        "show" => Some(shown(options, streams)),
+        "json" => Some(as_json(options, manner, streams)),
+        "read" => Some(Word::Make(Making::Read(strictness), PLAIN)),
         "rewrite" => Some(rewriting(manner, streams)),
         "fixate" => Some(Word::Make(Making::Fixate, manner)),
         "check" => Some(Word::Make(Making::Check, manner)),
@@ -140,26 +155,111 @@ fn word_of(name: &str, layout: Layout, manner: Manner, streams: bool) -> Option<
     }
 }
 
-/// The word `show`, with `--stream` or without it.
-fn showing(streams: bool) -> Word
-    ensures word { codes "show" ≡ name_of result }
-    ensures layout { (layout : Layout) → HasLayout layout result }
-    ensures manner { (reading : ReadingOf) (fate : FateOf) → HasManner reading fate result }
-    ensures stream { HasStream streams result }
-{
-    if streams {
-        Word::Stream(Streaming::Show, PLAIN)
-    } else {
-        Word::Show
+/// What is printed of inputs, and how.
+#[derive(Clone, Copy)]
+pub struct Options<'a> {
+    /// The layout of texts.
+    pub layout: Layout,
+    /// Whether bytes are printed in hex.
+    pub hex: bool,
+    pub selection: Selection<'a>,
+}
+
+impl Options<'_> {
+    /// Whether neither a part of an input is asked for nor bytes are.
+    fn is_plain(&self) -> bool
+        ensures { result ≡ spec.is_plain self.now }
+    {
+        !(self.hex || self.selection.nth.is_some() || self.selection.key.is_some())
     }
 }
 
-/// The word `json` in this layout, with `--stream` or without it.
-fn printing(layout: Layout, manner: Manner, streams: bool) -> Word
+/// The options that are given: nothing where a number isn't one, which `clap` refuses.
+fn options_of<'a>(given: &ArgMatches<'a>) -> Option<Options<'a>>
+    ensures given { IfSome result (AreGiven (rows_of (found_of given.now))) }
+    ensures no_number { IfNone result (HasNoNumber (rows_of (found_of given.now))) }
+{
+    let Some(nth) = number_of(given.get_str("nth")) else {
+        return None;
+    };
+    Some(Options {
+        layout: layout_of(given),
+        hex: is_set(given, "hex"),
+        selection: Selection {
+            nth,
+            key: given.get_str("key"),
+        },
+    })
+}
+
+/// The number that a text says, if one is given: nothing where it says none.
+fn number_of(text: Option<&str>) -> Option<Option<usize>>
+    ensures number { IfSome result (IsNumber (option_map (λ s. s.now) text.entry)) }
+    ensures none { IfNone result (IsNoNumber (option_map (λ s. s.now) text.entry)) }
+{
+    let Some(text) = text else {
+        return Some(None);
+    };
+    match text.parse::<usize>() {
+        Ok(number) => Some(Some(number)),
+        Err(_) => None,
+    }
+}
+
+/// The word `show` with these options, with `--stream` or without it.
+fn shown<'a>(options: Options<'a>, streams: bool) -> Word<'a>
+    ensures word { codes "show" ≡ name_of result }
+    ensures printout { HasPrintout options.entry result }
+    ensures manner { (reading : ReadingOf) (fate : FateOf) → HasManner reading fate result }
+    ensures stream { HasStream streams result }
+    ensures strictness { (strictness : StrictnessOf) → HasStrictness strictness result }
+{
+    let form = if options.hex {
+        Form::LinesAndBytes
+    } else {
+        Form::Lines
+    };
+    let printout = Printout {
+        form,
+        selection: options.selection,
+    };
+    if streams {
+        Word::Stream(Streaming::Print(printout), PLAIN)
+    } else {
+        Word::Print(printout, PLAIN)
+    }
+}
+
+/// The word `json` with these options, with `--stream` or without it.
+fn as_json<'a>(options: Options<'a>, manner: Manner, streams: bool) -> Word<'a>
     ensures word { codes "json" ≡ name_of result }
-    ensures layout { HasLayout layout result }
+    ensures printout { HasPrintout options.entry result }
     ensures manner { HasManner manner.reading manner.fate result }
     ensures stream { HasStream streams result }
+    ensures strictness { (strictness : StrictnessOf) → HasStrictness strictness result }
+{
+    if options.is_plain() {
+        return all_as_json(options.layout, manner, streams);
+    }
+    let form = if options.hex {
+        Form::Bytes
+    } else {
+        Form::Text(options.layout)
+    };
+    let printout = Printout {
+        form,
+        selection: options.selection,
+    };
+    if streams {
+        Word::Stream(Streaming::Print(printout), manner)
+    } else {
+        Word::Print(printout, manner)
+    }
+}
+
+/// The word `json` in this layout of whole inputs, with `--stream` or without it.
+fn all_as_json<'a>(layout: Layout, manner: Manner, streams: bool) -> Word<'a>
+    ensures { IsAllAsJson layout manner streams result }
 {
     if streams {
         Word::Stream(Streaming::Json(layout), manner)
@@ -169,11 +269,12 @@ fn printing(layout: Layout, manner: Manner, streams: bool) -> Word
 }
 
 /// The word `rewrite`, with `--stream` or without it.
-fn rewriting(manner: Manner, streams: bool) -> Word
+fn rewriting<'a>(manner: Manner, streams: bool) -> Word<'a>
     ensures word { codes "rewrite" ≡ name_of result }
-    ensures layout { (layout : Layout) → HasLayout layout result }
+    ensures printout { (options : OptionsOf) → HasPrintout options result }
     ensures manner { HasManner manner.reading manner.fate result }
     ensures stream { HasStream streams result }
+    ensures strictness { (strictness : StrictnessOf) → HasStrictness strictness result }
 {
     if streams {
         Word::Stream(Streaming::Rewrite, manner)
@@ -255,6 +356,24 @@ fn layout_by(is_pretty: bool) -> Layout
         Layout::Indented
     } else {
         Layout::OneLine
+    }
+}
+
+/// How strictly texts are to be read.
+fn strictness_of(given: &ArgMatches<'_>) -> Strictness
+    ensures { result ≡ strictness_in (rows_of (found_of given.now)) }
+{
+    strictness_by(is_set(given, "strict"))
+}
+
+/// The strictness where `--strict` is given, or isn't.
+fn strictness_by(is_strict: bool) -> Strictness
+    ensures { result ≡ spec.strictness_by is_strict }
+{
+    if is_strict {
+        Strictness::Strict
+    } else {
+        Strictness::Plain
     }
 }
 

@@ -1,6 +1,6 @@
 //! The program's work, over a reader, files and a writer.
 ghost use Rattle.std.specs.Prelude.{◌≡◌, ◌≢◌, ◌⊎◌, None, false, true};
-ghost use Rattle.pod_commands.specs.Answers.{AreUnmade, Gives, IsAgreed, IsAnswer, IsCompared, IsDone, IsMadeBy, IsMadeInPart, IsPlain, IsShownIn, IsStreamed, IsWrittenAs, OnAnswer, Refuses, outlet};
+ghost use Rattle.pod_commands.specs.Answers.{AreUnmade, Gives, IsAgreed, IsAnswer, IsCompared, IsDone, IsMadeBy, IsMadeInPart, IsPlain, IsPrinted, IsShown, IsShownIn, IsStreamed, IsWrittenAs, OnAnswer, Refuses, outlet};
 ghost use Rattle.pod_commands.specs.declared.answer.Answer.TheVariants as answer;
 
 use crate::answer::{Answer, Failure};
@@ -14,13 +14,14 @@ use clap::error::ErrorKind;
 use spa_meet_commands::pair::Work;
 use spa_recordings::going_on as recordings;
 use spa_recordings::reading::Reading;
+use spa_text_commands::selection::Printout;
 use std::alloc::Global;
 use std::io::{Read, Write};
 
 /// Does what the words ask for, the program's own name not among them.
 ///
-/// The words are settled before anything is read. But for `show` and `--stream`, nothing is written before all inputs are read and accepted;
-/// a file that is to be written is written at the end, by all words.
+/// The words are settled before anything is read. But for `show`, `--stream`, and `json` with `--nth`, `--key` or `--hex`, nothing is written before all
+/// inputs are read and accepted; a file that is to be written is written at the end, by all words.
 pub fn run<'a, R: Read, S: Files, W: Write + Drop>(
     alloc: Global,
     words: &'a [&'a str],
@@ -55,7 +56,9 @@ fn do_work<'a, R: Read, S: Files, W: Write + Drop>(
     let target = request.target;
     let names = request.names.as_slice();
     match word {
-        Word::Show => show(alloc, names, target, input, files, device),
+        Word::Print(printout, manner) => {
+            print(alloc, printout, manner, names, target, input, files, device)
+        }
         Word::Make(making, manner) => {
             make(alloc, making, manner, names, target, input, files, device)
         }
@@ -138,7 +141,7 @@ fn is_plain(manner: Manner, target: Option<&str>) -> bool
 #[tactic(auto, using(crate::proofs::Streamed::streamed, crate::proofs::Streamed::misused))]
 fn stream<'a, R: Read, S: Files, W: Write + Drop>(
     alloc: Global,
-    streaming: Streaming,
+    streaming: Streaming<'a>,
     manner: Manner,
     names: &[&'a str],
     target: Option<&'a str>,
@@ -146,7 +149,7 @@ fn stream<'a, R: Read, S: Files, W: Write + Drop>(
     files: &mut S,
     device: W,
 ) -> (Answer<'a>, W)
-    ensures { IsStreamed streaming manner.reading manner.fate result.0 (R.remaining input.old) names.now
+    ensures { IsStreamed streaming.entry manner.reading manner.fate result.0 (R.remaining input.old) names.now
         (outlet target.entry (W.contents device) (W.contents result.1) (S.holds files.old) (S.holds files.new)) }
 {
     if !is_plain(manner, target) {
@@ -159,7 +162,7 @@ fn stream<'a, R: Read, S: Files, W: Write + Drop>(
 #[tactic(auto, using(crate::proofs::Streamed::all_written, crate::proofs::Streamed::part_written))]
 fn write_as<'a, R: Read, S: Files, W: Write + Drop>(
     alloc: Global,
-    streaming: Streaming,
+    streaming: Streaming<'a>,
     names: &[&'a str],
     target: Option<&'a str>,
     input: &mut R,
@@ -167,7 +170,7 @@ fn write_as<'a, R: Read, S: Files, W: Write + Drop>(
     device: W,
 ) -> (Answer<'a>, W)
     requires { target ≡ None }
-    ensures { IsWrittenAs streaming result.0 (R.remaining input.old) names.now
+    ensures { IsWrittenAs streaming.entry result.0 (R.remaining input.old) names.now
         (outlet target.entry (W.contents device) (W.contents result.1) (S.holds files.old) (S.holds files.new)) }
 {
     let mut output = device;
@@ -187,41 +190,77 @@ fn shown<'a>(refused: usize) -> Answer<'a>
     Answer::Shown(refused)
 }
 
-/// Shows the inputs of these names: as they come, or where a file is written, all of them at the end.
-#[tactic(auto, using(crate::proofs::Streamed::in_file, crate::proofs::Streamed::in_none))]
-fn show<'a, R: Read, S: Files, W: Write + Drop>(
+/// Prints this of the inputs of these names, where pods are read exactly and refused whole.
+#[tactic(auto, using(crate::proofs::Streamed::printed, crate::proofs::Streamed::not_printed))]
+fn print<'a, R: Read, S: Files, W: Write + Drop>(
     alloc: Global,
+    printout: Printout<'a>,
+    manner: Manner,
     names: &[&'a str],
     target: Option<&'a str>,
     input: &mut R,
     files: &mut S,
     device: W,
 ) -> (Answer<'a>, W)
-    ensures { IsDone Word.Show result.0 (R.remaining input.old) names.now
+    ensures { IsPrinted printout.entry manner.reading manner.fate result.0 (R.remaining input.old) names.now
+        (outlet target.entry (W.contents device) (W.contents result.1) (S.holds files.old) (S.holds files.new)) }
+{
+    if !is_plain(manner, None) {
+        return (Answer::Misused, device);
+    }
+    show(alloc, printout, names, target, input, files, device)
+}
+
+/// Prints this of the inputs of these names: as they come, or where a file is written, all of it at the end.
+fn show<'a, R: Read, S: Files, W: Write + Drop>(
+    alloc: Global,
+    printout: Printout<'a>,
+    names: &[&'a str],
+    target: Option<&'a str>,
+    input: &mut R,
+    files: &mut S,
+    device: W,
+) -> (Answer<'a>, W)
+    ensures { IsShown printout.entry target.entry result.0 (R.remaining input.old) names.now
         (outlet target.entry (W.contents device) (W.contents result.1) (S.holds files.old) (S.holds files.new)) }
 {
     match target {
-        None => write_as(alloc, Streaming::Show, names, None, input, files, device),
-        Some(_) => show_in_file(alloc, names, target, input, files, device),
+        None => write_as(
+            alloc,
+            Streaming::Print(printout),
+            names,
+            None,
+            input,
+            files,
+            device,
+        ),
+        Some(_) => show_in_file(alloc, printout, names, target, input, files, device),
     }
 }
 
-/// Shows the inputs of these names in the file that is written.
-#[tactic(auto, using(crate::proofs::Streamed::unshown, crate::proofs::Streamed::unshown_lines))]
+/// Prints this of the inputs of these names in the file that is written.
 fn show_in_file<'a, R: Read, S: Files, W: Write + Drop>(
     alloc: Global,
+    printout: Printout<'a>,
     names: &[&'a str],
     target: Option<&'a str>,
     input: &mut R,
     files: &mut S,
     device: W,
 ) -> (Answer<'a>, W)
-    ensures { IsShownIn result.0 (R.remaining input.old) names.now
+    ensures { IsShownIn printout.entry result.0 (R.remaining input.old) names.now
         (outlet target.entry (W.contents device) (W.contents result.1) (S.holds files.old) (S.holds files.new)) }
 {
-    let mut lines = Vec::new(alloc);
-    match stream_all(alloc, Streaming::Show, names, input, files, &mut lines) {
-        Ok(refused) => answered(files, target, device, Ok(lines), shown(refused)),
+    let mut printed = Vec::new(alloc);
+    match stream_all(
+        alloc,
+        Streaming::Print(printout),
+        names,
+        input,
+        files,
+        &mut printed,
+    ) {
+        Ok(refused) => answered(files, target, device, Ok(printed), shown(refused)),
         Err(Failure::Unwritten(_)) => (Answer::Refused(Failure::OutOfMemory), device),
         Err(why) => (Answer::Refused(why), device),
     }

@@ -16,6 +16,7 @@ use spa_recordings::streaming::{BlockWriter, NotMade, Rewriter, Stop, stream};
 use spa_refusals::refusal_of;
 use spa_text_commands::answer;
 use spa_text_commands::printing::{Layout, print_all};
+use spa_text_commands::selection::Printout;
 use spa_text_commands::showing::show_pods;
 use std::alloc::Global;
 use std::io::{Read, Write};
@@ -23,15 +24,15 @@ use std::io::{Read, Write};
 /// Writes this of the inputs of these names, and answers how many of their pods are refused.
 pub(crate) fn stream_all<'a, R: Read, S: Files, W: Write>(
     alloc: Global,
-    streaming: Streaming,
+    streaming: Streaming<'_>,
     names: &[&'a str],
     input: &mut R,
     files: &S,
     output: &mut W,
 ) -> Result<usize, Failure<'a>>
-    ensures streamed { IfOk result (λ refused. (out : List ℕ) × AreMade (StreamsAs streaming) (R.remaining input.old) (S.holds files.now) names.now out refused
+    ensures streamed { IfOk result (λ refused. (out : List ℕ) × AreMade (StreamsAs streaming.entry) (R.remaining input.old) (S.holds files.now) names.now out refused
         × Appends (W.contents output.old) (W.contents output.new) out) }
-    ensures broken { IfErr result (IsBroken streaming (R.remaining input.old) (S.holds files.now) names.now (W.contents output.old) (W.contents output.new)) }
+    ensures broken { IfErr result (IsBroken streaming.entry (R.remaining input.old) (S.holds files.now) names.now (W.contents output.old) (W.contents output.new)) }
 {
     let mut refused: usize = 0;
     for name in names {
@@ -50,15 +51,15 @@ pub(crate) fn stream_all<'a, R: Read, S: Files, W: Write>(
 /// Writes this of the input of this name, and answers how many of its pods are refused.
 fn stream_named<'a, R: Read, S: Files, W: Write>(
     alloc: Global,
-    streaming: Streaming,
+    streaming: Streaming<'_>,
     name: &'a str,
     input: &mut R,
     files: &S,
     output: &mut W,
 ) -> Result<usize, Failure<'a>>
-    ensures streamed { IfOk result (Streams (StreamsAs streaming) (content_of (R.remaining input.old) (S.holds files.now) name.entry.now)
+    ensures streamed { IfOk result (Streams (StreamsAs streaming.entry) (content_of (R.remaining input.old) (S.holds files.now) name.entry.now)
         (W.contents output.old) (W.contents output.new)) }
-    ensures broken { IfErr result (IsBrokenAt streaming name.entry.now (content_of (R.remaining input.old) (S.holds files.now) name.entry.now)
+    ensures broken { IfErr result (IsBrokenAt streaming.entry name.entry.now (content_of (R.remaining input.old) (S.holds files.now) name.entry.now)
         (W.contents output.old) (W.contents output.new)) }
     ensures left { IsKnown (left_behind (R.remaining input.old) name.entry.now) (R.remaining input.new) }
 {
@@ -71,13 +72,13 @@ fn stream_named<'a, R: Read, S: Files, W: Write>(
 /// Writes this of the file of this name, and answers how many of its pods are refused.
 fn stream_file<'a, S: Files, W: Write>(
     alloc: Global,
-    streaming: Streaming,
+    streaming: Streaming<'_>,
     name: &'a str,
     files: &S,
     output: &mut W,
 ) -> Result<usize, Failure<'a>>
-    ensures streamed { IfOk result (Streams (StreamsAs streaming) (S.holds files.now name.entry.now) (W.contents output.old) (W.contents output.new)) }
-    ensures broken { IfErr result (IsBrokenAt streaming name.entry.now (S.holds files.now name.entry.now) (W.contents output.old) (W.contents output.new)) }
+    ensures streamed { IfOk result (Streams (StreamsAs streaming.entry) (S.holds files.now name.entry.now) (W.contents output.old) (W.contents output.new)) }
+    ensures broken { IfErr result (IsBrokenAt streaming.entry name.entry.now (S.holds files.now name.entry.now) (W.contents output.old) (W.contents output.new)) }
 {
     let mut file = match open_named(alloc, name, files) {
         Ok(file) => file,
@@ -89,13 +90,13 @@ fn stream_file<'a, S: Files, W: Write>(
 /// Writes this of what the reader of this name gives, and answers how many of its pods are refused.
 fn stream_reader<'a, R: Read, W: Write>(
     alloc: Global,
-    streaming: Streaming,
+    streaming: Streaming<'_>,
     name: &'a str,
     input: &mut R,
     output: &mut W,
 ) -> Result<usize, Failure<'a>>
-    ensures streamed { IfOk result (Streams (StreamsAs streaming) (R.remaining input.old) (W.contents output.old) (W.contents output.new)) }
-    ensures broken { IfErr result (IsBrokenAt streaming name.entry.now (R.remaining input.old) (W.contents output.old) (W.contents output.new)) }
+    ensures streamed { IfOk result (Streams (StreamsAs streaming.entry) (R.remaining input.old) (W.contents output.old) (W.contents output.new)) }
+    ensures broken { IfErr result (IsBrokenAt streaming.entry name.entry.now (R.remaining input.old) (W.contents output.old) (W.contents output.new)) }
 {
     match stream(alloc, &streaming, input, output) {
         Ok(refused) => Ok(refused),
@@ -137,7 +138,7 @@ fn refused_at<'a>(
     }
 }
 
-impl BlockWriter for Streaming {
+impl BlockWriter for Streaming<'_> {
     ghost use Rattle.pod_commands.specs.StreamLaws.{nothing_written, written_more};
 
     ghost makes = { λ streaming count place pods out refused. WritesOf streaming count place pods out refused };
@@ -155,7 +156,9 @@ impl BlockWriter for Streaming {
         match self {
             Streaming::Json(layout) => write_texts(alloc, *layout, count, place, &*block, output),
             Streaming::Rewrite => Rewriter.write_block(alloc, count, place, block, output),
-            Streaming::Show => write_lines(alloc, count, place, &*block, output),
+            Streaming::Print(printout) => {
+                write_printed(alloc, *printout, count, place, &*block, output)
+            }
         }
     }
 
@@ -189,10 +192,12 @@ fn write_texts<W: Write>(
     }
 }
 
-/// Writes the lines of the pods of a block, which so many pods and bytes of the input stand before, and answers how many of them are refused.
-#[tactic(auto, using(crate::proofs::Blocks::lines_written, crate::proofs::Blocks::lines_begun))]
-fn write_lines<W: Write>(
+/// Writes what is printed of the pods of a block, which so many pods and bytes of the input stand before, and answers how many of the printed pods
+/// are refused.
+#[tactic(auto, using(crate::proofs::Blocks::printed_written, crate::proofs::Blocks::printed_begun))]
+fn write_printed<W: Write>(
     alloc: Global,
+    printout: Printout<'_>,
     count: usize,
     place: usize,
     block: &[u8],
@@ -200,17 +205,16 @@ fn write_lines<W: Write>(
 ) -> Result<usize, NotMade>
     requires count { count + length block.now < 2 ^ 64 }
     requires place { place + length block.now < 2 ^ 64 }
-    ensures written { IfOk result (WritesMade (WritesOf streaming.Show count place) block.now (W.contents output.old) (W.contents output.new)) }
-    ensures refused { IfErr result (IsNotMade (MayRefuse streaming.Show) (WritesOf streaming.Show count place) block.now block.now
+    ensures written { IfOk result (WritesMade (WritesOf (streaming.Print printout.entry) count place) block.now (W.contents output.old) (W.contents output.new)) }
+    ensures refused { IfErr result (IsNotMade (MayRefuse (streaming.Print printout.entry)) (WritesOf (streaming.Print printout.entry) count place) block.now block.now
         (W.contents output.old) (W.contents output.new)) }
 {
-    let (shown, lines) = show_pods(alloc, count, place, block, Vec::new(alloc));
-    let Ok(refused) = shown else {
-        // The whole pods that a block consists of are shown, unless memory runs out.
+    let Ok(printed) = show_pods(alloc, printout, count, place, block) else {
+        // What the whole pods that a block consists of are printed as is there, unless memory runs out.
         return Err(NotMade::OutOfMemory);
     };
-    match write(output, lines.as_slice()) {
-        Ok(()) => Ok(refused),
+    match write(output, printed.bytes.as_slice()) {
+        Ok(()) => Ok(printed.refused),
         Err(_) => Err(NotMade::Unwritten),
     }
 }

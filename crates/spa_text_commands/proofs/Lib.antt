@@ -1,4 +1,6 @@
 mod Saying
+mod Dumped
+mod Values
 pub mod PrintedPods
 pub mod Extents
 pub mod ReadTexts

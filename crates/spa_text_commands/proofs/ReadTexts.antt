@@ -7,30 +7,32 @@ use Rattle.spa_format.specs.Tree.{Tree, Trees, no_trees, member, join_members}
 use Rattle.spa_format.specs.Writable.{HasNul, IsTooLarge}
 use Rattle.std.proofs.lemmas.List.{take-append-drop}
 use Rattle.spa_text_commands.specs.Extent.{BeginsText, column_behind, line_behind}
-use Rattle.spa_text_commands.specs.Texts.{BeginTexts, HasNoPod, IsRefusedAt, IsText, Reads, RefusesTexts}
+use Rattle.spa_text_commands.specs.Texts.{BeginTexts, HasNoPod, IsRefusedAt, IsText, IsTextFor, Reads, RefusesTexts}
 use Rattle.spa_text_commands.specs.Unread.{IsFor, IsNoPod, IsNoText}
 use Rattle.spa_text_commands.specs.declared.answer.Failure.{Failure}
 use Rattle.spa_text_commands.specs.declared.answer.Failure.TheVariants.{NoPods, Line, OutOfMemory, WriteFailed}
 use Rattle.spa_text_commands.specs.declared.reading.Unread.{Unread}
 use Rattle.spa_text_commands.specs.declared.reading.Unread.TheVariants as unread
+use Rattle.spa_text_read.specs.Fitting.{Admits}
 use Rattle.spa_text_read.specs.declared.cause.Cause.{Cause}
 use Rattle.spa_text_read.specs.declared.cause.Cause.TheVariants as cause
+use Rattle.spa_text_read.specs.declared.fitting.Strictness.{Strictness}
 use Rattle.spa_text_commands.proofs.Extents.{line_bound, lines_append, some_item, text_fits, whole_of}
 use Rattle.spa_text_commands.proofs.PrintedPods.{empty}
 
 -- ---- Values
 
 -- how far the loop over texts is: the values of some first ones are encoded, and this is left, which begins with this line
-pub record ReadSoFar (input left pods : List ℕ) (line : ℕ) : Type 0 where
+pub record ReadSoFar (s : Strictness) (input left pods : List ℕ) (line : ℕ) : Type 0 where
   pub values : Trees
   pub before : List ℕ
   pub whole : input ≡ before ++ left
-  pub texts : BeginTexts values input left
+  pub texts : BeginTexts s values input left
   pub made : pods ≡ member_encodings values
   pub placed : left ≢ [] → (line ≡ line_behind 1 before) × (line + length left ≤ length input + 1)
 
-pub begins : (input pods : List ℕ) → pods ≡ [] → ReadSoFar input input pods 1
-begins input pods e =
+pub begins : (s : Strictness) (input pods : List ℕ) → pods ≡ [] → ReadSoFar s input input pods 1
+begins s input pods e =
     record { values = no_trees; before = []; whole = refl; texts = refl; made = e; placed = λ _. (refl, omega arith) }
 
 encodings_push : (vs : Trees) (v : Tree) → member_encodings (join_members vs (member v no_trees)) ≡ member_encodings vs ++ encoding_of v
@@ -38,10 +40,10 @@ encodings_push no_trees v = append-nil (encoding_of v)
 encodings_push (member w vs) v = ap (λ l. encoding_of w ++ l) (encodings_push vs v) ∙ sym (append_assoc (encoding_of w) (member_encodings vs) (encoding_of v))
 
 -- one text more
-texts_push : (vs : Trees) (v : Tree) (bytes left text others : List ℕ) → BeginTexts vs bytes left → BeginsText left text others → IsText v text →
-    BeginTexts (join_members vs (member v no_trees)) bytes others
-texts_push no_trees v bytes left text others e b t = (text, others, subst (λ l. BeginsText l text others) (sym e) b, t, refl)
-texts_push (member w vs) v bytes left text others h b t = (h.0, h.1, h.2, h.3, texts_push vs v h.1 left text others h.4 b t)
+texts_push : (s : Strictness) (vs : Trees) (v : Tree) (bytes left text others : List ℕ) → BeginTexts s vs bytes left → BeginsText left text others →
+    IsTextFor s v text → BeginTexts s (join_members vs (member v no_trees)) bytes others
+texts_push s no_trees v bytes left text others e b t = (text, others, subst (λ l. BeginsText l text others) (sym e) b, t, refl)
+texts_push s (member w vs) v bytes left text others h b t = (h.0, h.1, h.2, h.3, texts_push s vs v h.1 left text others h.4 b t)
 
 more_made : (vs : Trees) (v : Tree) (pods more : List ℕ) → pods ≡ member_encodings vs → more ≡ pods ++ encoding_of v →
     more ≡ member_encodings (join_members vs (member v no_trees))
@@ -55,18 +57,18 @@ next_line before text line last next e is n =
     ∙ ap (λ k. k + 1) (is ∙ ap (λ k. line_behind k text) e)
     ∙ sym (lines_append 1 before (text ++ 10 ∷ []) ∙ lines_append (line_behind 1 before) text (10 ∷ []))
 
-pub goes_on : (input left text behind pods more : List ℕ) (line last next : ℕ) (v : Tree) → ReadSoFar input left pods line →
-    BeginsText left text behind → IsText v text → more ≡ pods ++ encoding_of v → last ≡ line_behind line text → next ≡ last + 1 →
-    ReadSoFar input behind more next
-goes_on input left text [] pods more line last next v so b t m is n = record {
+pub goes_on : (s : Strictness) (input left text behind pods more : List ℕ) (line last next : ℕ) (v : Tree) → ReadSoFar s input left pods line →
+    BeginsText left text behind → IsTextFor s v text → more ≡ pods ++ encoding_of v → last ≡ line_behind line text → next ≡ last + 1 →
+    ReadSoFar s input behind more next
+goes_on s input left text [] pods more line last next v so b t m is n = record {
   values = join_members so.values (member v no_trees);
   before = input;
   whole = sym (append-nil input);
-  texts = texts_push so.values v input left text [] so.texts b t;
+  texts = texts_push s so.values v input left text [] so.texts b t;
   made = more_made so.values v pods more so.made m;
   placed = λ some. absurd (some refl);
 }
-goes_on input left text (y ∷ ys) pods more line last next v so b t m is n =
+goes_on s input left text (y ∷ ys) pods more line last next v so b t m is n =
     let e : left ≡ text ++ 10 ∷ y ∷ ys = whole_of left text (y ∷ ys) b (some_item y ys) in
     let l = ap length e ∙ length-append text (10 ∷ y ∷ ys) in
     let p = so.placed b.some in
@@ -79,27 +81,27 @@ goes_on input left text (y ∷ ys) pods more line last next v so b t m is n =
           so.whole
           ∙ ap (λ l. so.before ++ l) (e ∙ sym (append_assoc text (10 ∷ []) (y ∷ ys)))
           ∙ sym (append_assoc so.before (text ++ 10 ∷ []) (y ∷ ys));
-      texts = texts_push so.values v input left text (y ∷ ys) so.texts b t;
+      texts = texts_push s so.values v input left text (y ∷ ys) so.texts b t;
       made = more_made so.values v pods more so.made m;
       placed = λ _. (next_line so.before text line last next p.0 is n, omega (arith, is, n, l, r, k));
     }
 
 -- lines can be counted
-pub counted : (input left text behind pods : List ℕ) (line : ℕ) → ReadSoFar input left pods line → BeginsText left text behind →
+pub counted : (s : Strictness) (input left text behind pods : List ℕ) (line : ℕ) → ReadSoFar s input left pods line → BeginsText left text behind →
     line + length text ≤ length input + 1
-counted input left text behind pods line so b =
+counted s input left text behind pods line so b =
     let p = so.placed b.some in
     let r = p.1 in
     let f = text_fits left text behind b in omega (arith, r, f)
 
-pub ends : (input left pods : List ℕ) (line : ℕ) → ReadSoFar input left pods line → length left ≡ 0 → Reads input pods
-ends input left pods line so e = (so.values, subst (BeginTexts so.values input) (empty left e) so.texts, so.made)
+pub ends : (s : Strictness) (input left pods : List ℕ) (line : ℕ) → ReadSoFar s input left pods line → length left ≡ 0 → Reads s input pods
+ends s input left pods line so e = (so.values, subst (BeginTexts s so.values input) (empty left e) so.texts, so.made)
 
 -- ---- Refusals
 
-pub refused_at : (text part : List ℕ) (k first line column : ℕ) → HasNoPod text → part ≡ take k text → line ≡ line_behind first part →
-    column ≡ column_behind 1 part → IsRefusedAt text first line column
-refused_at text part k first line column none cut l c = record {
+pub refused_at : (s : Strictness) (text part : List ℕ) (k first line column : ℕ) → HasNoPod s text → part ≡ take k text → line ≡ line_behind first part →
+    column ≡ column_behind 1 part → IsRefusedAt s text first line column
+refused_at s text part k first line column none cut l c = record {
   against = none;
   part = part;
   rest = drop k text;
@@ -108,10 +110,10 @@ refused_at text part k first line column none cut l c = record {
   its_column = c;
 }
 
-pub not_read : (input left text behind pods : List ℕ) (line : ℕ) (why : Failure) → ReadSoFar input left pods line → BeginsText left text behind →
-    IsNoText text line why → RefusesTexts input why
-not_read input left text behind pods line NoPods so b h = absurd h
-not_read input left text behind pods line (Line l c k p) so b h = record {
+pub not_read : (s : Strictness) (input left text behind pods : List ℕ) (line : ℕ) (why : Failure) → ReadSoFar s input left pods line → BeginsText left text behind →
+    IsNoText s text line why → RefusesTexts s input why
+not_read s input left text behind pods line NoPods so b h = absurd h
+not_read s input left text behind pods line (Line l c k p m) so b h = record {
   values = so.values;
   before = so.before;
   left = left;
@@ -120,31 +122,31 @@ not_read input left text behind pods line (Line l c k p) so b h = record {
   text = text;
   others = behind;
   begins = b;
-  refused = subst (λ f. IsRefusedAt text f l c) (so.placed b.some).0 h;
+  refused = subst (λ f. IsRefusedAt s text f l c) (so.placed b.some).0 h;
 }
-not_read input left text behind pods line OutOfMemory so b h = tt
-not_read input left text behind pods line WriteFailed so b h = absurd h
+not_read s input left text behind pods line OutOfMemory so b h = tt
+not_read s input left text behind pods line WriteFailed so b h = absurd h
 
 -- ---- Why a text has no pod
 
-pub not_utf8 : (line : List ℕ) → ¬ (IsUtf8 line) → HasNoPod line
-not_utf8 line h = inl h
+pub not_utf8 : (s : Strictness) (line : List ℕ) → ¬ (IsUtf8 line) → HasNoPod s line
+not_utf8 s line h = inl h
 
-pub no_text : (line : List ℕ) → ((v : Tree) → ¬ (IsText v line)) → HasNoPod line
-no_text line h = inr (inl h)
+pub no_text : (s : Strictness) (line : List ℕ) → ((v : Tree) → ¬ (IsTextFor s v line)) → HasNoPod s line
+no_text s line h = inr (inl h)
 
-pub no_encoding : (line : List ℕ) (v : Tree) → IsText v line → HasNul v ⊎ IsTooLarge v → HasNoPod line
-no_encoding line v t h = inr (inr (v, t, h))
+pub no_encoding : (s : Strictness) (line : List ℕ) (v : Tree) → IsTextFor s v line → HasNul v ⊎ IsTooLarge v → HasNoPod s line
+no_encoding s line v t h = inr (inr (v, t, h))
 
 -- a value that is the same one, and its text
-pub text_of : (v w : Tree) (text line : List ℕ) → w ≡ v → text ≡ line → IsText v text → IsText w line
-text_of v w text line e t h = subst (IsText w) t (subst (λ u. IsText u text) (sym e) h)
+pub text_of : (s : Strictness) (v w : Tree) (text line : List ℕ) → w ≡ v → text ≡ line → IsText v text → Admits s v → IsTextFor s w line
+text_of s v w text line e t h a = subst (IsTextFor s w) t (subst (λ u. IsTextFor s u text) (sym e) (h, a))
 
 -- a refusal that memory isn't the cause of
-pub is_for : (line : List ℕ) (u : Unread) → HasNoPod line → IsFor u → IsNoPod line u
-is_for line unread.OutOfMemory h w = tt
-is_for line (unread.For kind offset path) h w = h
+pub is_for : (s : Strictness) (line : List ℕ) (u : Unread) → HasNoPod s line → IsFor u → IsNoPod s line u
+is_for s line unread.OutOfMemory h w = tt
+is_for s line (unread.For kind offset path misfit) h w = h
 
-pub no_value : (line text : List ℕ) (c : Cause) → text ≡ line → (c ≢ cause.OutOfMemory → (v : Tree) → ¬ (IsText v text)) → c ≢ cause.OutOfMemory →
-    HasNoPod line
-no_value line text c e h w = no_text line (λ v t. h w v (subst (IsText v) (sym e) t))
+pub no_value : (s : Strictness) (line text : List ℕ) (c : Cause) → text ≡ line →
+    (c ≢ cause.OutOfMemory → (v : Tree) → IsText v text → ¬ (Admits s v)) → c ≢ cause.OutOfMemory → HasNoPod s line
+no_value s line text c e h w = no_text s line (λ v t. h w v (subst (IsText v) (sym e) t.0) t.1)

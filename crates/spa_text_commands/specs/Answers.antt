@@ -1,37 +1,31 @@
 -- What pods are shown as, and what is said where they or texts are refused: docs/PROVED.md, "The programs".
-use Rattle.std.specs.Prelude.{◌≡◌, ◌≤◌, ◌<◌, ◌⊎◌, ⊤, ℕ, codes, List, ◌++◌, Option, length, string_bytes}
+use Rattle.std.specs.Prelude.{◌≡◌, ◌≤◌, ◌<◌, ⊤, ℕ, codes, List, ◌++◌, length, string_bytes}
 use Rattle.std.specs.Fmt.{decimal}
-use Rattle.std.specs.Io.KnownBytes.{Appends}
 use Rattle.spa_format.specs.Walk.{walk}
 use Rattle.spa_format.specs.Fixation.{walk_size}
-use Rattle.spa_text_read.specs.ErrorTexts.{path_text}
-use Rattle.spa_text_commands.specs.Lines.{Shows}
+use Rattle.spa_text_read.specs.ErrorTexts.{misfit_text, path_text}
+use Rattle.spa_text_commands.specs.Lines.{PrintsSelected}
 use Rattle.spa_text_commands.specs.declared.answer.Failure.{Failure}
 use Rattle.spa_text_commands.specs.declared.answer.Failure.TheVariants.{NoPods, Line, OutOfMemory, WriteFailed}
+use Rattle.spa_text_commands.specs.declared.selection.Printout.{Printout}
+use Rattle.spa_text_commands.specs.declared.showing.Printed.{Printed}
 
 -- what is said of a refusal
 abbrev pub failure_text : Failure → List ℕ
 failure_text NoPods = codes "no pods"
-failure_text (Line line column kind path) =
-    codes "line " ++ (decimal line ++ (codes ", column " ++ (decimal column ++ (codes ": " ++ (kind.now ++ path_text (string_bytes path))))))
+failure_text (Line line column kind path misfit) =
+    codes "line " ++ (decimal line ++ (codes ", column " ++ (decimal column ++ (codes ": " ++ (kind.now ++ (path_text (string_bytes path) ++ misfit_text misfit))))))
 failure_text OutOfMemory = codes "out of memory"
 failure_text WriteFailed = codes "write failed"
 
--- These bytes consist of whole pods, of which so many are refused, and their lines were written; so many pods and bytes stand before them.
-pub record ShowsAll (count place : ℕ) (pods : List ℕ) (old new : Option (List ℕ)) (refused : ℕ) : Type 0 where
+-- These bytes consist of whole pods, and this is printed of them; so many pods and bytes stand before them.
+pub record ShowsAll (printout : Printout) (count place : ℕ) (pods : List ℕ) (printed : Printed) : Type 0 where
   pub whole : walk_size (walk pods) ≡ length pods
-  pub out : List ℕ
-  pub lines : Shows count place (walk pods) out refused
-  pub written : Appends old new out
-  pub few : refused ≤ length pods
+  pub prints : PrintsSelected printout count place (walk pods) printed.bytes.items printed.refused
+  pub few : printed.refused ≤ length pods
 
--- why bytes aren't shown as pods: something follows the whole ones
+-- why bytes aren't printed so: something follows the whole pods
 abbrev pub IsNotShown : List ℕ → Failure → Type 0
 IsNotShown input NoPods = walk_size (walk input) < length input
-IsNotShown input (Line line column kind path) = ⊥
 IsNotShown input OutOfMemory = ⊤
-IsNotShown input WriteFailed = ⊤
-
--- a reason that may end a listing after it has begun
-abbrev pub IsCutOff : Failure → Type 0
-IsCutOff why = (why ≡ OutOfMemory) ⊎ (why ≡ WriteFailed)
+IsNotShown input _ = ⊥

@@ -1,7 +1,9 @@
 pub mod Answers
 pub mod Differences
+pub mod Dump
 pub mod Extent
 pub mod Lines
 pub mod Parts
+pub mod Selection
 pub mod Texts
 pub mod Unread

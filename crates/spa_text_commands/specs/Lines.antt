@@ -1,11 +1,18 @@
 -- The lines of pods: docs/TEXT.md, "What `show` writes".
-use Rattle.std.specs.Prelude.{◌≡◌, ◌≤◌, ◌+◌, ◌-◌, ◌⊎◌, ℕ, codes, List, [], ◌∷◌, ◌++◌, Option, length}
+use Rattle.std.specs.Prelude.{◌≡◌, ◌≢◌, ◌≤◌, ◌+◌, ◌⊎◌, ℕ, codes, List, [], ◌∷◌, ◌++◌, length}
 use Rattle.std.specs.Fmt.{decimal}
-use Rattle.std.specs.Io.KnownBytes.{Appends}
+use Rattle.hex.specs.Hex.{encode_lower}
+use Rattle.json.specs.Ascii.{quote}
 use Rattle.spa_format.specs.Pod.{AreMembers}
 use Rattle.spa_format.specs.Tree.{Trees}
 use Rattle.spa_format.specs.Walk.{walk}
 use Rattle.spa_format.specs.Fixation.{walk_size}
+use Rattle.spa_text_commands.specs.Dump.{hex_lines}
+use Rattle.spa_text_commands.specs.Selection.{Part, selected}
+use Rattle.spa_text_commands.specs.Texts.{Prints}
+use Rattle.spa_text_commands.specs.declared.selection.Form.{Form}
+use Rattle.spa_text_commands.specs.declared.selection.Form.TheVariants as form
+use Rattle.spa_text_commands.specs.declared.selection.Printout.{Printout}
 use Rattle.spa_text_commands.specs.declared.showing.Listed.{Listed}
 
 -- one line or more: the last byte ends a line
@@ -16,48 +23,68 @@ AreLines out = (before : List ℕ) × (out ≡ before ++ (10 ∷ []))
 abbrev pub head_line : (count place : ℕ) → List ℕ
 head_line count place = codes "pod " ++ (decimal (count + 1) ++ (codes ", byte " ++ (decimal place ++ 10 ∷ [])))
 
--- a whole pod that is accepted counts for none, and a refused one for one
+-- a pod that is accepted counts for none, and a refused one for one
 abbrev pub IsCounted : List ℕ → ℕ → Type 0
 IsCounted p n = (((vs : Trees) × AreMembers vs p) × (n ≡ 0)) ⊎ (((vs : Trees) → ¬ (AreMembers vs p)) × (n ≡ 1))
 
--- A line with its number and its byte, and lines of what it is, for each of these pods, in order; so many pods and bytes of the input stand before
--- them, and so many of them are refused.
-abbrev pub Shows : (count place : ℕ) → List (List ℕ) → List ℕ → (refused : ℕ) → Type 0
-Shows count place [] out refused = (out ≡ []) × (refused ≡ 0)
-Shows count place (p ∷ ps) out refused =
-    (first : List ℕ) × (others : List ℕ) × (n : ℕ) × (m : ℕ) × (out ≡ head_line count place ++ (first ++ others)) × (refused ≡ n + m) × AreLines first
-    × IsCounted p n × Shows (count + 1) (place + length p) ps others m
+-- the line with the pod's number and byte, and lines of what it is
+abbrev pub ArePodLines : Part → List ℕ → Type 0
+ArePodLines part out = (lines : List ℕ) × AreLines lines × (out ≡ head_line part.count part.place ++ lines)
 
--- these bytes were said: a part of them was written behind what waited, and the rest waits
-pub record Says (old : Option (List ℕ)) (waited : List ℕ) (new : Option (List ℕ)) (waiting said : List ℕ) : Type 0 where
-  pub part : List ℕ
-  pub written : Appends old new part
-  pub all : waited ++ said ≡ part ++ waiting
+-- what is printed of a pod in this form; the number says whether it is refused
+abbrev pub PrintsPart : Form → Part → (out : List ℕ) → (refused : ℕ) → Type 0
+PrintsPart form.Lines part out refused = ArePodLines part out
+PrintsPart form.LinesAndBytes part out refused = (lines : List ℕ) × ArePodLines part lines × (out ≡ lines ++ hex_lines part.place part.pod)
+PrintsPart (form.Text layout) part out refused = ((refused ≡ 0) × Prints layout part.pod out) ⊎ ((refused ≢ 0) × (out ≡ []))
+PrintsPart form.Bytes part out refused = out ≡ quote ∷ (encode_lower part.pod ++ (quote ∷ 10 ∷ []))
 
--- lines were said
-pub record Adds (old : Option (List ℕ)) (waited : List ℕ) (new : Option (List ℕ)) (waiting : List ℕ) : Type 0 where
+-- what is printed of these pods, one behind another; so many of them are refused
+abbrev pub PrintsParts : Form → List Part → (out : List ℕ) → (refused : ℕ) → Type 0
+PrintsParts form [] out refused = (out ≡ []) × (refused ≡ 0)
+PrintsParts form (part ∷ parts) out refused =
+    (first : List ℕ) × (others : List ℕ) × (n : ℕ) × (m : ℕ) × (out ≡ first ++ others) × (refused ≡ n + m) × IsCounted part.pod n
+    × PrintsPart form part first n × PrintsParts form parts others m
+
+-- what is printed of top-level pods, which so many pods and bytes of the input stand before; so many of the printed pods are refused
+abbrev pub PrintsSelected : Printout → (count place : ℕ) → List (List ℕ) → (out : List ℕ) → (refused : ℕ) → Type 0
+PrintsSelected printout count place pods out refused = PrintsParts printout.form (selected printout.selection count place pods) out refused
+
+-- ---- Only private clauses cite these.
+
+-- lines were added
+pub record Adds (old new : List ℕ) : Type 0 where
   pub said : List ℕ
-  pub says : Says old waited new waiting said
+  pub added : new ≡ old ++ said
   pub lines : AreLines said
 
--- lines were said, or nothing
-pub record MayAdd (old : Option (List ℕ)) (waited : List ℕ) (new : Option (List ℕ)) (waiting : List ℕ) : Type 0 where
+-- lines were added, or nothing
+pub record MayAdd (old new : List ℕ) : Type 0 where
   pub said : List ℕ
-  pub says : Says old waited new waiting said
+  pub added : new ≡ old ++ said
   pub lines : (said ≡ []) ⊎ AreLines said
 
--- the line with its number and its byte, and lines of this pod, were said; it counts for so many refused ones
-pub record AddsPod (count place : ℕ) (pod : List ℕ) (old : Option (List ℕ)) (waited : List ℕ) (new : Option (List ℕ)) (waiting : List ℕ)
-    (refused : ℕ) : Type 0 where
-  pub first : List ℕ
-  pub lines : AreLines first
-  pub says : Says old waited new waiting (head_line count place ++ first)
-  pub counted : IsCounted pod refused
-
--- The lines of the whole pods that the bytes begin with were written, behind those that waited.
-pub record Lists (count place : ℕ) (bytes : List ℕ) (old : Option (List ℕ)) (waited : List ℕ) (new : Option (List ℕ)) (listed : Listed) : Type 0 where
+-- the line with the pod's number and byte, and lines of what it is, were added
+pub record AddsPodLines (part : Part) (old new : List ℕ) : Type 0 where
   pub out : List ℕ
-  pub lines : Shows count place (walk bytes) out listed.refused
-  pub written : Appends old new (waited ++ out)
+  pub lines : ArePodLines part out
+  pub added : new ≡ old ++ out
+
+-- what is printed of this pod was added; the number says whether it is refused
+pub record AddsPart (form : Form) (part : Part) (refused : ℕ) (old new : List ℕ) : Type 0 where
+  pub out : List ℕ
+  pub prints : PrintsPart form part out refused
+  pub added : new ≡ old ++ out
+
+-- what is printed of these pods was added
+pub record AddsParts (form : Form) (parts : List Part) (old new : List ℕ) (refused : ℕ) : Type 0 where
+  pub out : List ℕ
+  pub prints : PrintsParts form parts out refused
+  pub added : new ≡ old ++ out
+
+-- what is printed of the whole pods that the bytes begin with was added
+pub record Lists (printout : Printout) (count place : ℕ) (bytes old new : List ℕ) (listed : Listed) : Type 0 where
+  pub out : List ℕ
+  pub prints : PrintsSelected printout count place (walk bytes) out listed.refused
+  pub added : new ≡ old ++ out
   pub behind : walk_size (walk bytes) + listed.left ≡ length bytes
   pub few : listed.refused ≤ length bytes

@@ -11,9 +11,13 @@ use Rattle.spa_format.specs.Words.{extent, word_at}
 use Rattle.spa_format.proofs.Sequences.{members_joined}
 use Rattle.spa_format.proofs.WalkLemmas.{walk-end, walk-there}
 use Rattle.spa_format.proofs.WordLemmas.{word_at-append}
-use Rattle.spa_text_commands.specs.Lines.{Shows, head_line}
+use Rattle.spa_text_commands.specs.Lines.{PrintsParts, PrintsSelected}
+use Rattle.spa_text_commands.specs.Selection.{Part, selected, selected_of}
 use Rattle.spa_text_commands.specs.Texts.{AreTexts, Prints}
 use Rattle.spa_text_commands.specs.declared.printing.Layout.{Layout}
+use Rattle.spa_text_commands.specs.declared.selection.Form.{Form}
+use Rattle.spa_text_commands.specs.declared.selection.Printout.{Printout}
+use Rattle.spa_text_commands.specs.declared.selection.Selection.{Selection}
 
 -- ---- Texts
 
@@ -91,51 +95,65 @@ sizes_joined : (ps qs : List (List ℕ)) → walk_size (ps ++ qs) ≡ walk_size 
 sizes_joined [] qs = let e : walk_size qs ≡ 0 + walk_size qs = omega arith in e
 sizes_joined (p ∷ ps) qs = let e = sizes_joined ps qs in omega (arith, e)
 
-shows_joined : (count place : ℕ) (ps qs : List (List ℕ)) (out more : List ℕ) (m n : ℕ) → Shows count place ps out m →
-    Shows (count + length ps) (place + walk_size ps) qs more n → Shows count place (ps ++ qs) (out ++ more) (m + n)
-shows_joined count place [] qs out more m n h k =
-    let c : count + 0 ≡ count = omega arith in
-    let p : place + 0 ≡ place = omega arith in
+-- what is printed of two lists of pods is that of both
+pub parts_joined : (form : Form) (ps qs : List Part) (out more : List ℕ) (m n : ℕ) → PrintsParts form ps out m → PrintsParts form qs more n →
+    PrintsParts form (ps ++ qs) (out ++ more) (m + n)
+parts_joined form [] qs out more m n h k =
     let z = h.1 in
     let e : n ≡ m + n = omega (arith, z) in
-    subst (λ i. Shows count place qs (out ++ more) i) e
-    (subst (λ l. Shows count place qs l n) (sym (ap (λ l. l ++ more) h.0))
-    (subst (λ i. Shows i place qs more n) c (subst (λ i. Shows (count + 0) i qs more n) p k)))
-shows_joined count place (p ∷ ps) qs out more m n h k =
-    let first = h.0 in
-    let others = h.1 in
-    let s = h.5 in
-    let c : count + length (p ∷ ps) ≡ (count + 1) + length ps = omega arith in
-    let at : place + walk_size (p ∷ ps) ≡ (place + length p) + walk_size ps = omega arith in (
-      first,
-      others ++ more,
+    subst (PrintsParts form qs (out ++ more)) e (subst (λ l. PrintsParts form qs l n) (sym (ap (λ l. l ++ more) h.0)) k)
+parts_joined form (p ∷ ps) qs out more m n h k =
+    let s = h.5 in (
+      h.0,
+      h.1 ++ more,
       h.2,
       h.3 + n,
-      ap (λ l. l ++ more) h.4 ∙ append_assoc (head_line count place) (first ++ others) more ∙ ap (λ l. head_line count place ++ l) (append_assoc first others more),
+      ap (λ l. l ++ more) h.4 ∙ append_assoc h.0 h.1 more,
       omega (arith, s),
       h.6,
       h.7,
-      shows_joined (count + 1) (place + length p) ps qs others more h.3 n h.8
-          (subst (λ i. Shows i ((place + length p) + walk_size ps) qs more n) c (subst (λ i. Shows (count + length (p ∷ ps)) i qs more n) at k)),
+      parts_joined form ps qs h.1 more h.3 n h.8 k,
     )
 
--- the pods are whole, and these are their lines; so many pods and bytes of the input stand before them, and so many of them are refused
-abbrev pub ShowsPods : (count place : ℕ) → (pods out : List ℕ) → (refused : ℕ) → Type 0
-ShowsPods count place pods out refused = (walk_size (walk pods) ≡ length pods) × Shows count place (walk pods) out refused
+selected_joined : (s : Selection) (count place : ℕ) (ps qs : List (List ℕ)) →
+    selected s count place (ps ++ qs) ≡ selected s count place ps ++ selected s (count + length ps) (place + walk_size ps) qs
+selected_joined s count place [] qs =
+    let c : count ≡ count + 0 = omega arith in
+    let p : place ≡ place + 0 = omega arith in
+    ap (λ i. selected s i place qs) c ∙ ap (λ i. selected s (count + 0) i qs) p
+selected_joined s count place (p ∷ ps) qs =
+    let first = selected_of s count place p in
+    let others = selected s (count + 1) (place + length p) ps in
+    let c : (count + 1) + length ps ≡ count + length (p ∷ ps) = omega arith in
+    let at : (place + length p) + walk_size ps ≡ place + walk_size (p ∷ ps) = omega arith in
+    ap (λ l. first ++ l) (selected_joined s (count + 1) (place + length p) ps qs)
+    ∙ ap (λ i. first ++ (others ++ selected s i ((place + length p) + walk_size ps) qs)) c
+    ∙ ap (λ i. first ++ (others ++ selected s (count + length (p ∷ ps)) i qs)) at
+    ∙ sym (append_assoc first others (selected s (count + length (p ∷ ps)) (place + walk_size (p ∷ ps)) qs))
 
-pub nothing_shown : (count place : ℕ) → ShowsPods count place [] [] 0
-nothing_shown count place = (ap walk_size none_walked, subst (λ ps. Shows count place ps [] 0) (sym none_walked) (refl, refl))
+-- the pods are whole, and this is printed of them; so many pods and bytes of the input stand before them, and so many of the printed ones are refused
+abbrev pub ShowsPods : Printout → (count place : ℕ) → (pods out : List ℕ) → (refused : ℕ) → Type 0
+ShowsPods printout count place pods out refused =
+    (walk_size (walk pods) ≡ length pods) × PrintsSelected printout count place (walk pods) out refused
 
-pub shown_more : (count place : ℕ) (first others out more : List ℕ) (m n : ℕ) → ShowsPods count place first out m →
-    ShowsPods (count + length (walk first)) (place + length first) others more n → ShowsPods count place (first ++ others) (out ++ more) (m + n)
-shown_more count place first others out more m n h k =
+pub nothing_shown : (printout : Printout) (count place : ℕ) → ShowsPods printout count place [] [] 0
+nothing_shown printout count place =
+    (ap walk_size none_walked, subst (λ ps. PrintsSelected printout count place ps [] 0) (sym none_walked) (refl, refl))
+
+pub shown_more : (printout : Printout) (count place : ℕ) (first others out more : List ℕ) (m n : ℕ) → ShowsPods printout count place first out m →
+    ShowsPods printout (count + length (walk first)) (place + length first) others more n →
+    ShowsPods printout count place (first ++ others) (out ++ more) (m + n)
+shown_more printout count place first others out more m n h k =
+    let sel = printout.selection in
     let all = walk_joined (walk first) first others refl h.0 in
     let s = ap walk_size all ∙ sizes_joined (walk first) (walk others) in
     let a = h.0 in
     let b = k.0 in
-    let l = length-append first others in (
+    let l = length-append first others in
+    let parts = ap (selected sel count place) all ∙ selected_joined sel count place (walk first) (walk others) in
+    let at : ℕ → List Part = λ z. selected sel (count + length (walk first)) z (walk others) in (
       omega (arith, s, a, b, l),
-      subst (λ ps. Shows count place ps (out ++ more) (m + n)) (sym all)
-          (shows_joined count place (walk first) (walk others) out more m n h.1
-          (subst (λ z. Shows (count + length (walk first)) z (walk others) more n) (ap (λ z. place + z) (sym a)) k.1)),
+      subst (λ ps. PrintsParts printout.form ps (out ++ more) (m + n)) (sym parts)
+          (parts_joined printout.form (selected sel count place (walk first)) (at (place + walk_size (walk first))) out more m n h.1
+          (subst (λ z. PrintsParts printout.form (at z) more n) (ap (λ z. place + z) (sym a)) k.1)),
     )

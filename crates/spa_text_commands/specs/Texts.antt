@@ -9,7 +9,9 @@ use Rattle.spa_format.specs.Encoding.{member_encodings}
 use Rattle.spa_format.specs.Front.{IsRefused}
 use Rattle.spa_format.specs.Writable.{HasNul, IsTooLarge}
 use Rattle.spa_rewrite.specs.Rewriting.{IsLeft}
+use Rattle.spa_text_read.specs.Fitting.{Admits}
 use Rattle.spa_text_read.specs.Grammar.{ReadsAs, nothing}
+use Rattle.spa_text_read.specs.declared.fitting.Strictness.{Strictness}
 use Rattle.spa_text.specs.Line.{HasNoEnd}
 use Rattle.spa_text_commands.specs.Extent.{BeginsText, column_behind, line_behind}
 use Rattle.spa_text_commands.specs.declared.answer.Failure.{Failure}
@@ -21,7 +23,11 @@ use Rattle.spa_text_commands.specs.declared.printing.Layout.TheVariants.{OneLine
 abbrev pub IsText : Tree → List ℕ → Type 0
 IsText v text = ReadsAs nothing v (tokens text) []
 
--- it does so on one line, or with each member and each property on one of its own
+-- it reads as this value, which a reader of this strictness takes
+abbrev pub IsTextFor : Strictness → Tree → List ℕ → Type 0
+IsTextFor strictness v text = IsText v text × Admits strictness v
+
+-- it reads so on one line, or with each member and each property on one of its own
 abbrev pub IsTextIn : Layout → Tree → List ℕ → Type 0
 IsTextIn OneLine v text = IsText v text × HasNoEnd text
 IsTextIn Indented v text = IsText v text × (text ≡ pretty (tokens text))
@@ -37,23 +43,23 @@ abbrev pub Prints : Layout → List ℕ → List ℕ → Type 0
 Prints layout input out = (vs : Trees) × AreMembers vs input × AreTexts layout [] vs out
 
 -- the bytes begin with texts of these values, in order, and this is left
-abbrev pub BeginTexts : Trees → (bytes left : List ℕ) → Type 0
-BeginTexts no_trees bytes left = bytes ≡ left
-BeginTexts (member v vs) bytes left =
-    (text : List ℕ) × (others : List ℕ) × BeginsText bytes text others × IsText v text × BeginTexts vs others left
+abbrev pub BeginTexts : Strictness → Trees → (bytes left : List ℕ) → Type 0
+BeginTexts s no_trees bytes left = bytes ≡ left
+BeginTexts s (member v vs) bytes left =
+    (text : List ℕ) × (others : List ℕ) × BeginsText bytes text others × IsTextFor s v text × BeginTexts s vs others left
 
 -- the pods of the values of which the input is texts, one after another
-abbrev pub Reads : List ℕ → List ℕ → Type 0
-Reads input out = (vs : Trees) × BeginTexts vs input [] × (out ≡ member_encodings vs)
+abbrev pub Reads : Strictness → List ℕ → List ℕ → Type 0
+Reads s input out = (vs : Trees) × BeginTexts s vs input [] × (out ≡ member_encodings vs)
 
--- the bytes aren't UTF-8, or no text of a value, or one of a value that has no pod
-abbrev pub HasNoPod : List ℕ → Type 0
-HasNoPod text =
-    ¬ (IsUtf8 text) ⊎ ((v : Tree) → ¬ (IsText v text)) ⊎ ((v : Tree) × IsText v text × (HasNul v ⊎ IsTooLarge v))
+-- the bytes aren't UTF-8, or no text of a value that is taken, or one of a value that has no pod
+abbrev pub HasNoPod : Strictness → List ℕ → Type 0
+HasNoPod s text =
+    ¬ (IsUtf8 text) ⊎ ((v : Tree) → ¬ (IsTextFor s v text)) ⊎ ((v : Tree) × IsTextFor s v text × (HasNul v ⊎ IsTooLarge v))
 
 -- the text, which begins with this line, has no pod, and what is read of it ends in this line and this column
-pub record IsRefusedAt (text : List ℕ) (first line column : ℕ) : Type 0 where
-  pub against : HasNoPod text
+pub record IsRefusedAt (s : Strictness) (text : List ℕ) (first line column : ℕ) : Type 0 where
+  pub against : HasNoPod s text
   pub part : List ℕ
   pub rest : List ℕ
   pub cut : text ≡ part ++ rest
@@ -61,22 +67,22 @@ pub record IsRefusedAt (text : List ℕ) (first line column : ℕ) : Type 0 wher
   pub its_column : column ≡ column_behind 1 part
 
 -- behind some first texts stands one that has no pod; lines and columns are counted from 1
-pub record HasNoTextAt (input : List ℕ) (line column : ℕ) : Type 0 where
+pub record HasNoTextAt (s : Strictness) (input : List ℕ) (line column : ℕ) : Type 0 where
   pub values : Trees
   pub before : List ℕ
   pub left : List ℕ
   pub whole : input ≡ before ++ left
-  pub texts : BeginTexts values input left
+  pub texts : BeginTexts s values input left
   pub text : List ℕ
   pub others : List ℕ
   pub begins : BeginsText left text others
-  pub refused : IsRefusedAt text (line_behind 1 before) line column
+  pub refused : IsRefusedAt s text (line_behind 1 before) line column
 
 -- why texts aren't read
-abbrev pub RefusesTexts : List ℕ → Failure → Type 0
-RefusesTexts input (Line line column kind path) = HasNoTextAt input line column
-RefusesTexts input OutOfMemory = ⊤
-RefusesTexts input _ = ⊥
+abbrev pub RefusesTexts : Strictness → List ℕ → Failure → Type 0
+RefusesTexts s input (Line line column kind path misfit) = HasNoTextAt s input line column
+RefusesTexts s input OutOfMemory = ⊤
+RefusesTexts s input _ = ⊥
 
 -- the input isn't pods one after another: behind some first pods begins none
 pub record HasRefused (input : List ℕ) : Type 0 where

@@ -1,5 +1,5 @@
 //! Why pods or texts aren't read, and what is said of it.
-use spa_text::AtPath;
+use spa_text::{AtPath, InPlace, Misfit};
 use std::alloc::AllocError;
 use std::fmt;
 
@@ -8,13 +8,14 @@ use std::fmt;
 pub enum Failure {
     /// An input, or one of two, isn't pods one after another.
     NoPods,
-    /// The name of a refusal, the line up to which was read and the byte of it, both from 1, and the path of the value that was being
-    /// read there, as `.props.rate`, or nothing.
+    /// The name of a refusal, the line up to which was read and the byte of it, both from 1, the path of the value that was being
+    /// read there, as `.props.rate`, or nothing, and the two types where the value isn't of the type that belongs under its key.
     Line {
         line: usize,
         column: usize,
         kind: &'static str,
         path: String,
+        misfit: Option<Misfit>,
     },
     /// A growth was refused.
     OutOfMemory,
@@ -36,10 +37,12 @@ impl fmt::Display for Failure {
                 column,
                 kind,
                 path,
+                misfit,
             } => write!(
                 f,
-                "line {line}, column {column}: {kind}{}",
-                AtPath(path.as_str())
+                "line {line}, column {column}: {kind}{}{}",
+                AtPath(path.as_str()),
+                InPlace(*misfit)
             ),
             Failure::OutOfMemory => write!(f, "out of memory"),
             Failure::WriteFailed => write!(f, "write failed"),

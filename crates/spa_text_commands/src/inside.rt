@@ -1,11 +1,9 @@
 //! What stands inside a value, one item after another: members, properties, controls, elements, rows of bytes.
+use crate::dump::ROW_LEN;
 use crate::parts::{Parts, Shown, split_words};
 use spa_names::{Table, expected_under, keys_of};
 use spa_utils::SpaTypes;
 use spa_view::split_first;
-
-/// How many bytes a row of a dump shows.
-const ROW_LEN: usize = 16;
 
 /// How many bytes the words at the front of the body of an object, an array or a sequence take.
 const SHORT_FRONT_LEN: usize = 8;

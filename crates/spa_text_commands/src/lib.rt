@@ -3,6 +3,7 @@
 
 pub mod answer;
 pub mod comparing;
+mod dump;
 mod extent;
 mod inside;
 mod lines;
@@ -12,4 +13,5 @@ mod page;
 mod parts;
 pub mod printing;
 pub mod reading;
+pub mod selection;
 pub mod showing;

@@ -30,7 +30,7 @@ fn path_or_unknown(table: Table, number: u32) -> &'static str {
 }
 
 /// Begins a line inside so many values.
-fn put_indent(text: &mut String, depth: usize) -> Result<(), AllocError> {
+pub(crate) fn put_indent(text: &mut String, depth: usize) -> Result<(), AllocError> {
     for _ in 0..depth.min(DEEPEST) {
         text.push_str("  ")?;
     }
@@ -261,19 +261,4 @@ pub(crate) fn put_refusal(
 ) -> Result<(), AllocError> {
     put_indent(text, depth)?;
     put_pair(text, "! byte", place, ": ", refusal)
-}
-
-/// Writes a row of a dump: the place of its first byte, and its bytes.
-pub(crate) fn put_row(
-    text: &mut String,
-    depth: usize,
-    place: usize,
-    row: &[u8],
-) -> Result<(), AllocError> {
-    put_indent(text, depth)?;
-    write!(text, "{place:08x}:")?;
-    for byte in row {
-        write!(text, " {byte:02x}")?;
-    }
-    Ok(())
 }

@@ -1,22 +1,26 @@
 //! Pods shown: a line for each value, each key and each sixteen bytes.
-ghost use Rattle.std.specs.Prelude.{◌+◌, ◌<◌, ◌^◌, IfErr, IfNone, IfOk, IfSome, List, ℕ, OnOk, string_bytes};
+ghost use Rattle.std.specs.Prelude.{◌≡◌, ◌≤◌, ◌+◌, ◌<◌, ◌^◌, ◌∷◌, ◌++◌, [], IfNone, IfOk, IfSome, List, ℕ, OnOk, if◌then◌else◌, is_some, length};
+ghost use Rattle.hex.specs.Hex.{encode_lower};
+ghost use Rattle.json.specs.Ascii.{quote};
 ghost use Rattle.spa_format.specs.Pod.{AreMembers};
 ghost use Rattle.spa_format.specs.Tree.{Trees};
-ghost use Rattle.spa_text_commands.specs.Answers.{IsCutOff};
-ghost use Rattle.spa_text_commands.specs.Lines.{Adds, AddsPod, MayAdd};
-ghost use Rattle.spa_view.specs.View.{pod_bytes};
+ghost use Rattle.spa_text_commands.specs.Lines.{Adds, AddsPart, AddsParts, AddsPodLines, MayAdd};
+ghost use Rattle.spa_text_commands.specs.Selection.{part_of, selected_of, value_at, values_in, values_of};
+ghost use Rattle.spa_text_commands.specs.Unread.{AddsTexts};
+ghost use Rattle.spa_view.specs.View.{object_bytes, pod_bytes, prop_bytes};
 
-use crate::answer::Failure;
+use crate::dump::{add_hex, add_rows};
 use crate::inside::{Inside, Item, Label};
-use crate::lines::{put_label, put_refusal, put_rest, put_row, put_value};
+use crate::lines::{put_indent, put_label, put_refusal, put_rest, put_value};
 use crate::page::Page;
 use crate::parts::{Parts, Shown};
+use crate::printing::{Layout, add_texts};
+use crate::selection::{Form, Printout, is_named};
 use spa_fixed_sized::DeserializeError;
-use spa_names::Table;
+use spa_names::{Table, expected_under, keys_of};
 use spa_rewrite::accept_all;
-use spa_view::{Pod, whole_bytes};
-use std::alloc::Global;
-use std::io::Write;
+use spa_view::{Pod, PodObject, PodProp, whole_bytes};
+use std::alloc::{AllocError, Global};
 
 /// How many bytes stand before the value of a property or a control.
 const FRONT_LEN: usize = 8;
@@ -34,21 +38,210 @@ struct Listing<'a> {
     alloc: Global,
 }
 
-/// Lists a top-level pod, which so many pods and bytes of the input stand before, and what is inside it, and answers how many pods are refused: it or
-/// none.
-pub(crate) fn list<W: Write + Drop>(
+/// Adds what is printed of a selected pod, which so many pods and bytes of the input stand before, and answers how many of the printed pods are refused.
+pub(crate) fn add_selected(
     alloc: Global,
-    page: &mut Page<W>,
+    page: &mut Page,
+    printout: Printout<'_>,
     pod: Pod<'_>,
     count: usize,
     place: usize,
-) -> Result<usize, Failure>
-    requires { count + 1 < 2 ^ 64 }
-    ensures listed { IfOk result (AddsPod count place (pod_bytes pod.entry) (W.contents page.old.device) (string_bytes page.old.waiting)
-        (W.contents page.new.device) (string_bytes page.new.waiting)) }
-    ensures cause { IfErr result IsCutOff }
+) -> Result<usize, AllocError>
+    requires count { count + 1 < 2 ^ 64 }
+    requires place { place + length (pod_bytes pod) < 2 ^ 64 }
+    ensures added { IfOk result (AddsParts printout.entry.form (selected_of printout.entry.selection count place (pod_bytes pod.entry)) page.old.lines.items page.new.lines.items) }
+    ensures few { IfOk result (λ refused. refused ≤ length (pod_bytes pod.entry)) }
+{
+    if !printout.selection.has_pod(count) {
+        return Ok(0);
+    }
+    match printout.selection.key {
+        Some(name) => add_values(alloc, page, printout.form, name, pod, count, place),
+        None => add_part(
+            alloc,
+            page,
+            printout.form,
+            pod,
+            Table::Nothing,
+            count,
+            place,
+        ),
+    }
+}
+
+/// Adds what is printed of the values of the properties of this name, where the pod is an object, and answers how many of them are refused.
+fn add_values(
+    alloc: Global,
+    page: &mut Page,
+    form: Form,
+    name: &str,
+    pod: Pod<'_>,
+    count: usize,
+    place: usize,
+) -> Result<usize, AllocError>
+    requires count { count + 1 < 2 ^ 64 }
+    requires place { place + length (pod_bytes pod) < 2 ^ 64 }
+    ensures added { IfOk result (AddsParts form (values_in name.now count place (pod_bytes pod.entry)) page.old.lines.items page.new.lines.items) }
+    ensures few { IfOk result (λ refused. refused ≤ length (pod_bytes pod.entry)) }
+{
+    match pod.as_object() {
+        Ok(object) => add_object_values(alloc, page, form, name, object, count, place),
+        Err(_) => Ok(0),
+    }
+}
+
+/// Adds what is printed of the values of the properties of this name, and answers how many of them are refused.
+fn add_object_values(
+    alloc: Global,
+    page: &mut Page,
+    form: Form,
+    name: &str,
+    object: PodObject<'_>,
+    count: usize,
+    place: usize,
+) -> Result<usize, AllocError>
+    requires count { count + 1 < 2 ^ 64 }
+    requires place { place + length (object_bytes object) < 2 ^ 64 }
+    ensures added { IfOk result (AddsParts form (values_of name.now count place (object_bytes object.entry)) page.old.lines.items page.new.lines.items) }
+    ensures few { IfOk result (λ refused. refused ≤ length (object_bytes object.entry)) }
+{
+    let keys = keys_of(object.type_());
+    let mut at = place + FRONT_LEN + FRONT_LEN;
+    let mut refused: usize = 0;
+    for property in object.props() {
+        refused += add_value_of(alloc, page, form, keys, name, property, count, at)?;
+        at += FRONT_LEN + property.value().extent();
+    }
+    Ok(refused)
+}
+
+/// Adds what is printed of the value of a property, where it has this name, and answers how many pods are refused: it or none.
+fn add_value_of(
+    alloc: Global,
+    page: &mut Page,
+    form: Form,
+    keys: Table,
+    name: &str,
+    property: PodProp<'_>,
+    count: usize,
+    place: usize,
+) -> Result<usize, AllocError>
+    requires count { count + 1 < 2 ^ 64 }
+    requires place { place + length (prop_bytes property) < 2 ^ 64 }
+    ensures added { IfOk result (AddsParts form (value_at keys name.now count place (prop_bytes property.entry)) page.old.lines.items page.new.lines.items) }
+    ensures few { IfOk result (λ refused. refused ≤ 1) }
+{
+    let key = property.key().0;
+    if !is_named(keys, key, name) {
+        return Ok(0);
+    }
+    let ids = expected_under(keys, key).ids;
+    let value = property.value();
+    add_part(alloc, page, form, value, ids, count, place + FRONT_LEN)
+}
+
+/// Adds what is printed of a pod, which so many pods and bytes of the input stand before and where ids have these names, and answers 1 where it is
+/// refused, else 0.
+fn add_part(
+    alloc: Global,
+    page: &mut Page,
+    form: Form,
+    pod: Pod<'_>,
+    ids: Table,
+    count: usize,
+    place: usize,
+) -> Result<usize, AllocError>
+    requires count { count + 1 < 2 ^ 64 }
+    requires place { place + length (pod_bytes pod) < 2 ^ 64 }
+    ensures added { IfOk result (AddsParts form (part_of count place (pod_bytes pod.entry) ∷ []) page.old.lines.items page.new.lines.items) }
+    ensures few { IfOk result (λ refused. refused ≤ 1) }
 {
     let refusal = refusal_of(alloc, pod)?;
+    let refused = count_of(refusal);
+    print_part(alloc, page, form, pod, ids, refusal, refused, count, place)?;
+    Ok(refused)
+}
+
+/// Adds what is printed of a pod that is refused for this reason, and counts for so many refused ones.
+fn print_part(
+    alloc: Global,
+    page: &mut Page,
+    form: Form,
+    pod: Pod<'_>,
+    ids: Table,
+    refusal: Option<&'static str>,
+    refused: usize,
+    count: usize,
+    place: usize,
+) -> Result<(), AllocError>
+    requires count { count + 1 < 2 ^ 64 }
+    requires place { place + length (pod_bytes pod) < 2 ^ 64 }
+    ensures { OnOk result (AddsPart form (part_of count place (pod_bytes pod.entry)) refused page.old.lines.items page.new.lines.items) }
+{
+    match form {
+        Form::Lines => list(alloc, page, pod, ids, refusal, count, place),
+        Form::LinesAndBytes => {
+            list(alloc, page, pod, ids, refusal, count, place)?;
+            add_rows(&mut page.lines, place, whole_bytes(&pod))
+        }
+        Form::Text(layout) => {
+            if refused > 0 {
+                return Ok(());
+            }
+            add_pod_text(alloc, &mut page.lines, layout, pod)
+        }
+        Form::Bytes => add_string(&mut page.lines, whole_bytes(&pod)),
+    }
+}
+
+/// How many pods are refused: one where there is a refusal, else none.
+fn count_of(refusal: Option<&'static str>) -> usize
+    ensures { result ≡ (if is_some refusal.entry then 1 else 0) }
+{
+    match refusal {
+        Some(_) => 1,
+        None => 0,
+    }
+}
+
+/// Adds the text of an accepted pod.
+fn add_pod_text(
+    alloc: Global,
+    lines: &mut Vec<u8>,
+    layout: Layout,
+    pod: Pod<'_>,
+) -> Result<(), AllocError>
+    ensures { OnOk result (AddsTexts layout [] (pod_bytes pod.entry) lines.old.items lines.new.items) }
+{
+    // What is accepted isn't printed for lack of memory alone.
+    match add_texts(alloc, layout, "", whole_bytes(&pod), lines) {
+        Ok(()) => Ok(()),
+        Err(_) => Err(AllocError),
+    }
+}
+
+/// Adds bytes as a JSON string of their hex digits, on a line.
+fn add_string(lines: &mut Vec<u8>, bytes: &[u8]) -> Result<(), AllocError>
+    ensures { OnOk result (lines.new.items ≡ lines.old.items ++ (quote ∷ (encode_lower bytes.now ++ (quote ∷ 10 ∷ [])))) }
+{
+    lines.push(b'"')?;
+    add_hex(lines, bytes)?;
+    lines.extend_from_slice(b"\"\n")
+}
+
+/// Adds the line before those of a pod and the lines of what it is; it is refused for this reason, or accepted.
+fn list(
+    alloc: Global,
+    page: &mut Page,
+    pod: Pod<'_>,
+    ids: Table,
+    refusal: Option<&'static str>,
+    count: usize,
+    place: usize,
+) -> Result<(), AllocError>
+    requires { count + 1 < 2 ^ 64 }
+    ensures { OnOk result (AddsPodLines (part_of count place (pod_bytes pod.entry)) page.old.lines.items page.new.lines.items) }
+{
     let levels = Vec::new(alloc);
     let mut listing = Listing {
         levels,
@@ -56,25 +249,15 @@ pub(crate) fn list<W: Write + Drop>(
         alloc,
     };
     page.add_head(count, place)?;
-    listing.add_pod(page, pod, place)?;
-    match refusal {
-        Some(_) => Ok(1),
-        None => Ok(0),
-    }
+    listing.add_pod(page, Shown::of_pod(pod, ids), place)
 }
 
 impl<'a> Listing<'a> {
     /// Adds the lines of the top-level pod, which begins at this byte, and of what is inside it.
-    fn add_pod<W: Write + Drop>(
-        &mut self,
-        page: &mut Page<W>,
-        pod: Pod<'a>,
-        place: usize,
-    ) -> Result<(), Failure>
-        ensures added { OnOk result (Adds (W.contents page.old.device) (string_bytes page.old.waiting) (W.contents page.new.device) (string_bytes page.new.waiting)) }
-        ensures cause { IfErr result IsCutOff }
+    fn add_pod(&mut self, page: &mut Page, value: Shown<'a>, place: usize) -> Result<(), AllocError>
+        ensures { OnOk result (Adds page.old.lines.items page.new.lines.items) }
     {
-        self.add_value(page, Shown::of_pod(pod, Table::Nothing), place, 0)?;
+        self.add_value(page, value, place, 0)?;
         // Each turn shows an item or closes a value, of which an input has far fewer than this.
         for _ in 0..u64::MAX {
             if self.levels.is_empty() {
@@ -86,9 +269,8 @@ impl<'a> Listing<'a> {
     }
 
     /// Adds the lines of the next item of the innermost open value, or closes the value where it has none left.
-    fn add_next<W: Write + Drop>(&mut self, page: &mut Page<W>) -> Result<(), Failure>
-        ensures added { OnOk result (MayAdd (W.contents page.old.device) (string_bytes page.old.waiting) (W.contents page.new.device) (string_bytes page.new.waiting)) }
-        ensures cause { IfErr result IsCutOff }
+    fn add_next(&mut self, page: &mut Page) -> Result<(), AllocError>
+        ensures { OnOk result (MayAdd page.old.lines.items page.new.lines.items) }
     {
         let Some(level) = self.levels.last_mut() else {
             return Ok(());
@@ -105,15 +287,14 @@ impl<'a> Listing<'a> {
     }
 
     /// Adds the lines of an item that begins at this byte.
-    fn add_item<W: Write + Drop>(
+    fn add_item(
         &mut self,
-        page: &mut Page<W>,
+        page: &mut Page,
         item: Item<'a>,
         place: usize,
         depth: usize,
-    ) -> Result<(), Failure>
-        ensures added { OnOk result (Adds (W.contents page.old.device) (string_bytes page.old.waiting) (W.contents page.new.device) (string_bytes page.new.waiting)) }
-        ensures cause { IfErr result IsCutOff }
+    ) -> Result<(), AllocError>
+        ensures { OnOk result (Adds page.old.lines.items page.new.lines.items) }
     {
         match item {
             Item::Value(Label::Bare, value) => self.add_value(page, value, place, depth),
@@ -128,23 +309,22 @@ impl<'a> Listing<'a> {
                 )
             }
             Item::Row(row) => {
-                let begun = put_row(&mut page.line, depth, place, row);
-                page.end_line(begun)
+                let begun = put_indent(&mut page.line, depth);
+                page.end_row(begun, place, row)
             }
             Item::Rest(bytes) => self.add_rest(page, bytes, place, depth),
         }
     }
 
     /// Adds the line of bytes that are no whole item.
-    fn add_rest<W: Write + Drop>(
+    fn add_rest(
         &mut self,
-        page: &mut Page<W>,
+        page: &mut Page,
         bytes: &'a [u8],
         place: usize,
         depth: usize,
-    ) -> Result<(), Failure>
-        ensures added { OnOk result (Adds (W.contents page.old.device) (string_bytes page.old.waiting) (W.contents page.new.device) (string_bytes page.new.waiting)) }
-        ensures cause { IfErr result IsCutOff }
+    ) -> Result<(), AllocError>
+        ensures { OnOk result (Adds page.old.lines.items page.new.lines.items) }
     {
         let begun = put_rest(&mut page.line, depth, bytes.len());
         page.end_line(begun)?;
@@ -154,15 +334,14 @@ impl<'a> Listing<'a> {
     }
 
     /// Adds the line of a value that begins at this byte, and opens it where it has others inside.
-    fn add_value<W: Write + Drop>(
+    fn add_value(
         &mut self,
-        page: &mut Page<W>,
+        page: &mut Page,
         value: Shown<'a>,
         place: usize,
         depth: usize,
-    ) -> Result<(), Failure>
-        ensures added { OnOk result (Adds (W.contents page.old.device) (string_bytes page.old.waiting) (W.contents page.new.device) (string_bytes page.new.waiting)) }
-        ensures cause { IfErr result IsCutOff }
+    ) -> Result<(), AllocError>
+        ensures { OnOk result (Adds page.old.lines.items page.new.lines.items) }
     {
         let parts = value.parts();
         let begun = put_value(&mut page.line, depth, value, parts);
@@ -172,16 +351,15 @@ impl<'a> Listing<'a> {
     }
 
     /// Adds the line of the refusal, where it isn't shown yet and is that of this value.
-    fn add_refusal_of<W: Write + Drop>(
+    fn add_refusal_of(
         &mut self,
-        page: &mut Page<W>,
+        page: &mut Page,
         value: Shown<'a>,
         parts: Parts<'a>,
         place: usize,
         depth: usize,
-    ) -> Result<(), Failure>
-        ensures added { OnOk result (MayAdd (W.contents page.old.device) (string_bytes page.old.waiting) (W.contents page.new.device) (string_bytes page.new.waiting)) }
-        ensures cause { IfErr result IsCutOff }
+    ) -> Result<(), AllocError>
+        ensures { OnOk result (MayAdd page.old.lines.items page.new.lines.items) }
     {
         if self.refusal.is_none() || has_members(parts) {
             return Ok(());
@@ -194,15 +372,14 @@ impl<'a> Listing<'a> {
     }
 
     /// Adds the line of this refusal, where it is the reader's and isn't shown yet.
-    fn add_refusal<W: Write + Drop>(
+    fn add_refusal(
         &mut self,
-        page: &mut Page<W>,
+        page: &mut Page,
         wanted: Option<&'static str>,
         place: usize,
         depth: usize,
-    ) -> Result<(), Failure>
-        ensures added { OnOk result (MayAdd (W.contents page.old.device) (string_bytes page.old.waiting) (W.contents page.new.device) (string_bytes page.new.waiting)) }
-        ensures cause { IfErr result IsCutOff }
+    ) -> Result<(), AllocError>
+        ensures { OnOk result (MayAdd page.old.lines.items page.new.lines.items) }
     {
         if self.refusal != wanted {
             return Ok(());
@@ -215,15 +392,11 @@ impl<'a> Listing<'a> {
     }
 
     /// Opens a value, where it has something inside.
-    fn open(&mut self, inside: Option<Inside<'a>>) -> Result<(), Failure>
-        ensures cause { IfErr result IsCutOff }
-    {
+    fn open(&mut self, inside: Option<Inside<'a>>) -> Result<(), AllocError> {
         let Some(inside) = inside else {
             return Ok(());
         };
-        if self.levels.push(inside).is_err() {
-            return Err(Failure::OutOfMemory);
-        }
+        self.levels.push(inside)?;
         Ok(())
     }
 }
@@ -234,16 +407,15 @@ fn has_members(parts: Parts<'_>) -> bool {
 }
 
 /// Why the reader refuses the pod, if it does.
-fn refusal_of(alloc: Global, pod: Pod<'_>) -> Result<Option<&'static str>, Failure>
+fn refusal_of(alloc: Global, pod: Pod<'_>) -> Result<Option<&'static str>, AllocError>
     ensures accepted { IfOk result (λ found. IfNone found ((vs : Trees) × AreMembers vs (pod_bytes pod.entry))) }
     ensures refused { IfOk result (λ found. IfSome found (λ _. (vs : Trees) → ¬ (AreMembers vs (pod_bytes pod.entry)))) }
-    ensures cause { IfErr result IsCutOff }
 {
     let Err((_, error)) = accept_all(alloc, whole_bytes(&pod)) else {
         return Ok(None);
     };
     match error {
-        DeserializeError::OutOfMemory => Err(Failure::OutOfMemory),
+        DeserializeError::OutOfMemory => Err(AllocError),
         _ => Ok(Some(error.kind())),
     }
 }

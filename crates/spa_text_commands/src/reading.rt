@@ -1,15 +1,16 @@
 //! Texts read as pods.
 ghost use Rattle.std.specs.Prelude.{◌≡◌, ◌≢◌, ◌+◌, ◌<◌, ◌^◌, ◌++◌, IfErr, IfOk, IfSome, OnOk, length};
-ghost use Rattle.spa_text_commands.specs.Texts.{IsText, Reads, RefusesTexts};
+ghost use Rattle.spa_text_commands.specs.Texts.{IsTextFor, Reads, RefusesTexts};
 ghost use Rattle.spa_text_commands.specs.Unread.{IsFor, IsNoPod, IsNoText};
 ghost use Rattle.spa_format.specs.Encoding.{encoding_of};
 ghost use Rattle.spa_format.specs.Tree.{Tree};
 ghost use Rattle.spa_text_read.specs.declared.cause.Cause as Cause;
+ghost use Rattle.spa_text_read.specs.declared.fitting.Strictness.{Strictness as StrictnessOf};
 
 use crate::answer::Failure;
 use crate::extent::{position_behind, split_text};
 use spa_sink::GenError;
-use spa_text::{Cause, TextReader};
+use spa_text::{Cause, Misfit, Strictness, TextReader};
 use spa_value::Held;
 use spa_write::write_value;
 use std::alloc::Global;
@@ -23,14 +24,15 @@ enum Unread {
         /// How many bytes of it stand before the place up to which it was read.
         offset: usize,
         path: String,
+        misfit: Option<Misfit>,
     },
 }
 
-/// The pods of the values of which the bytes are texts.
+/// The pods of the values of which the bytes are texts; read strictly, of no value with another type than the one that belongs under a key.
 #[tactic(auto, using(crate::proofs::ReadTexts::ends, crate::proofs::ReadTexts::counted, crate::proofs::ReadTexts::not_read))]
-pub fn read_all(alloc: Global, bytes: &[u8]) -> Result<Vec<u8>, Failure>
-    ensures read { IfOk result (λ pods. Reads bytes.now pods.items) }
-    ensures refused { IfErr result (RefusesTexts bytes.now) }
+pub fn read_all(alloc: Global, strictness: Strictness, bytes: &[u8]) -> Result<Vec<u8>, Failure>
+    ensures read { IfOk result (λ pods. Reads strictness bytes.now pods.items) }
+    ensures refused { IfErr result (RefusesTexts strictness bytes.now) }
 {
     let mut reader = TextReader::new(alloc);
     let mut pods = Vec::new(alloc);
@@ -38,7 +40,7 @@ pub fn read_all(alloc: Global, bytes: &[u8]) -> Result<Vec<u8>, Failure>
     let mut line = 1;
     while !left.is_empty() {
         let (text, behind) = split_text(left);
-        match add_pod(alloc, &mut reader, text, &mut pods) {
+        match add_pod(alloc, &mut reader, strictness, text, &mut pods) {
             Ok(()) => {
                 let (last, _) = position_behind(text, line);
                 line = last + 1;
@@ -53,11 +55,16 @@ pub fn read_all(alloc: Global, bytes: &[u8]) -> Result<Vec<u8>, Failure>
 /// The refusal of a text that begins with this line.
 fn failure_at(why: Unread, text: &[u8], first: usize) -> Failure
     requires { first + length text.now < 2 ^ 64 }
-    ensures { IsNoPod text.now why → IsNoText text.now first result }
+    ensures { (s : StrictnessOf) → IsNoPod s text.now why → IsNoText s text.now first result }
 {
     match why {
         Unread::OutOfMemory => Failure::OutOfMemory,
-        Unread::For { kind, offset, path } => {
+        Unread::For {
+            kind,
+            offset,
+            path,
+            misfit,
+        } => {
             let part = &text[..offset.min(text.len())];
             let (line, column) = position_behind(part, first);
             Failure::Line {
@@ -65,6 +72,7 @@ fn failure_at(why: Unread, text: &[u8], first: usize) -> Failure
                 column,
                 kind,
                 path,
+                misfit,
             }
         }
     }
@@ -74,17 +82,18 @@ fn failure_at(why: Unread, text: &[u8], first: usize) -> Failure
 fn add_pod(
     alloc: Global,
     reader: &mut TextReader,
+    strictness: Strictness,
     bytes: &[u8],
     pods: &mut Vec<u8>,
 ) -> Result<(), Unread>
-    ensures added { OnOk result ((v : Tree) × IsText v bytes.now × (pods.new.items ≡ pods.old.items ++ encoding_of v)) }
-    ensures refused { IfErr result (λ why. IsNoPod bytes.now why) }
+    ensures added { OnOk result ((v : Tree) × IsTextFor strictness v bytes.now × (pods.new.items ≡ pods.old.items ++ encoding_of v)) }
+    ensures refused { IfErr result (λ why. IsNoPod strictness bytes.now why) }
 {
     let text = match str::from_utf8(bytes) {
         Ok(text) => text,
         Err(error) => return Err(unread_at(alloc, "Text", error.valid_up_to())),
     };
-    let value = match reader.read(text) {
+    let value = match reader.read_with(text, strictness) {
         Ok(value) => Held::from(value),
         Err(error) => {
             let Some(kind) = kind_of(error.cause) else {
@@ -94,6 +103,7 @@ fn add_pod(
                 kind,
                 offset: error.offset,
                 path: error.path,
+                misfit: error.misfit,
             });
         }
     };
@@ -115,6 +125,7 @@ fn unread_at(alloc: Global, kind: &'static str, offset: usize) -> Unread
         kind,
         offset,
         path: String::new(alloc),
+        misfit: None,
     }
 }
 

@@ -1,41 +1,46 @@
-//! Pods shown one after another, refused ones too.
-ghost use Rattle.std.specs.Prelude.{◌+◌, ◌<◌, ◌^◌, IfErr, IfOk, length, string_bytes};
-ghost use Rattle.spa_text_commands.specs.Answers.{IsCutOff, IsNotShown, ShowsAll};
+//! Pods printed one after another, refused ones too.
+ghost use Rattle.std.specs.Prelude.{◌+◌, ◌<◌, ◌^◌, IfErr, IfOk, length};
+ghost use Rattle.spa_text_commands.specs.Answers.{IsNotShown, ShowsAll};
 ghost use Rattle.spa_text_commands.specs.Lines.{Lists};
 
 use crate::answer::Failure;
-use crate::listing::list;
+use crate::listing::add_selected;
 use crate::page::Page;
+use crate::selection::Printout;
 use spa_view::split_first;
-use std::alloc::Global;
-use std::io::Write;
+use std::alloc::{AllocError, Global};
 
-/// Writes the lines of pods that stand one after another, refused ones too, behind so many pods and bytes of an input, and answers how many of them
-/// are refused.
-pub fn show_pods<W: Write + Drop>(
+/// What is printed of some pods.
+#[derive(Drop)]
+pub struct Printed {
+    pub bytes: Vec<u8>,
+    /// How many of the pods that are printed are refused.
+    pub refused: usize,
+}
+
+/// What is printed of pods that stand one after another, refused ones too, behind so many pods and bytes of an input. Only what isn't whole pods is
+/// refused.
+pub fn show_pods(
     alloc: Global,
+    printout: Printout<'_>,
     count: usize,
     place: usize,
     bytes: &[u8],
-    device: W,
-) -> (Result<usize, Failure>, W)
+) -> Result<Printed, Failure>
     requires count { count + length bytes.now < 2 ^ 64 }
     requires place { place + length bytes.now < 2 ^ 64 }
-    ensures shown { IfOk result.0 (ShowsAll count place bytes.now (W.contents device) (W.contents result.1)) }
-    ensures cause { IfErr result.0 (IsNotShown bytes.now) }
+    ensures shown { IfOk result (ShowsAll printout.entry count place bytes.now) }
+    ensures cause { IfErr result (IsNotShown bytes.now) }
 {
-    let mut page = Page::new(alloc, device);
-    let listed = match list_all(alloc, count, place, bytes, &mut page) {
-        Ok(listed) => listed,
-        Err(why) => return (Err(why), page.device),
-    };
-    if page.device.flush().is_err() {
-        return (Err(Failure::WriteFailed), page.device);
-    }
+    let mut page = Page::new(alloc);
+    let listed = list_all(alloc, printout, count, place, bytes, &mut page)?;
     if listed.left > 0 {
-        return (Err(Failure::NoPods), page.device);
+        return Err(Failure::NoPods);
     }
-    (Ok(listed.refused), page.device)
+    Ok(Printed {
+        bytes: page.lines,
+        refused: listed.refused,
+    })
 }
 
 /// What was listed of some bytes.
@@ -43,32 +48,32 @@ pub fn show_pods<W: Write + Drop>(
 pub(crate) struct Listed {
     /// How many bytes follow the whole pods.
     pub(crate) left: usize,
-    /// How many of the pods are refused.
+    /// How many of the printed pods are refused.
     pub(crate) refused: usize,
 }
 
 /// Lists the pods that the bytes begin with, behind so many pods and bytes of an input.
-fn list_all<W: Write + Drop>(
+fn list_all(
     alloc: Global,
+    printout: Printout<'_>,
     count: usize,
     place: usize,
     bytes: &[u8],
-    page: &mut Page<W>,
-) -> Result<Listed, Failure>
+    page: &mut Page,
+) -> Result<Listed, AllocError>
     requires count { count + length bytes.now < 2 ^ 64 }
     requires place { place + length bytes.now < 2 ^ 64 }
-    ensures listed { IfOk result (Lists count place bytes.now (W.contents page.old.device) (string_bytes page.old.waiting) (W.contents page.new.device)) }
-    ensures cause { IfErr result IsCutOff }
+    ensures { IfOk result (Lists printout.entry count place bytes.now page.old.lines.items page.new.lines.items) }
 {
     let mut left = bytes;
     let mut before = count;
     let mut refused: usize = 0;
     while let Some((pod, behind)) = split_first(left) {
-        refused += list(alloc, page, pod, before, place + (bytes.len() - left.len()))?;
+        let at = place + (bytes.len() - left.len());
+        refused += add_selected(alloc, page, printout, pod, before, at)?;
         before += 1;
         left = behind;
     }
-    page.write()?;
     Ok(Listed {
         left: left.len(),
         refused,

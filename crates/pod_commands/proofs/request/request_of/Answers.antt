@@ -1,11 +1,11 @@
-use Rattle.std.proofs.Common.{◌≡◌, ◌∙◌, ap, codes, subst, Some}
+use Rattle.std.proofs.Common.{◌≡◌, ◌∙◌, ap, codes, inl, inr, subst, Some}
 use Rattle.clap.specs.Kinds.{HasKind}
 use Rattle.clap.specs.Faults.{fault_of}
 use Rattle.clap.specs.Walk.{rows_of, texts}
 use Rattle.clap.specs.Words.{app_of, found_of, subcommand_of}
 use Rattle.clap.proofs.WalkLemmas.{first_value-rows}
 use Rattle.pod_commands.specs.Program.{program}
-use Rattle.pod_commands.specs.Requests.{HasLayout, HasManner, HasStream, reading_in}
+use Rattle.pod_commands.specs.Requests.{HasManner, HasStream, HasStrictness, reading_in}
 use Rattle.pod_commands.proofs.Requested.{fault_is, found_is, no_fault, one_name, told}
 use Rattle.pod_commands.proofs.request.request_of.Goals as goal
 
@@ -23,7 +23,19 @@ returns-in_default-word_of-clause-nothing c =
     c.in_ok-matches.ensures.matches c.in-Some.ensures.name c.in-Some.ensures.rows in
     record {
       accepted = no_fault app ws c.in_ok-command.ensures c.in_ok-matches.ensures.kinds;
-      nothing = λ word rows i. c.in_default-word_of.ensures.none word (one_name (subcommand_of program ws) _ _ _ rows found i);
+      nothing = inl (λ word rows i. c.in_default-word_of.ensures.none word (one_name (subcommand_of program ws) _ _ _ rows found i));
+    }
+
+pub returns-in_default-options_of-clause-nothing : goal.returns-in_default-options_of-clause-nothing
+returns-in_default-options_of-clause-nothing c =
+    let ws = texts c.args.words.now in
+    let app = app_of c.in_ok-command.command in
+    let found : subcommand_of program ws ≡ Some (c.in-Some.name.now, rows_of (found_of c.in-Some.given.now)) =
+    found_is app ws c.in_ok-matches.matches c.in-Some.name.now (rows_of (found_of c.in-Some.given.now)) c.in_ok-command.ensures
+    c.in_ok-matches.ensures.matches c.in-Some.ensures.name c.in-Some.ensures.rows in
+    record {
+      accepted = no_fault app ws c.in_ok-command.ensures c.in_ok-matches.ensures.kinds;
+      nothing = inr (c.in-Some.name.now, rows_of (found_of c.in-Some.given.now), found, c.in_default-options_of.ensures.no_number);
     }
 
 pub returns-clause-asked : goal.returns-clause-asked
@@ -38,10 +50,13 @@ returns-clause-asked c =
       accepted = no_fault app ws c.in_ok-command.ensures c.in_ok-matches.ensures.kinds;
       rows = rows;
       word = found ∙ ap (λ name. Some (name, rows)) c.in-Some-word_of.ensures.word;
-      layout = subst (λ layout. HasLayout layout c.in-Some-word_of.word) c.layout_of.ensures c.in-Some-word_of.ensures.layout;
+      options = c.in-Some-options_of.options;
+      given = c.in-Some-options_of.ensures.given;
+      printout = c.in-Some-word_of.ensures.printout;
       manner = subst (λ fate. HasManner (reading_in rows) fate c.in-Some-word_of.word) c.manner_of.ensures.fate
           (subst (λ reading. HasManner reading c.manner_of.result.fate c.in-Some-word_of.word) c.manner_of.ensures.reading c.in-Some-word_of.ensures.manner);
       stream = subst (λ streams. HasStream streams c.in-Some-word_of.word) c.is_set.ensures c.in-Some-word_of.ensures.stream;
+      strictness = subst (λ strictness. HasStrictness strictness c.in-Some-word_of.word) c.strictness_of.ensures c.in-Some-word_of.ensures.strictness;
       names = c.in_ok-names.ensures;
       target = c.get_str.ensures ∙ first_value-rows (found_of c.in-Some.given.now) (codes "output");
     }

@@ -1,10 +1,10 @@
 use Rattle.std.proofs.Common.{◌+◌, ap, arith, length, refl}
 use Rattle.spa_text_commands.proofs.Extents.{shorter}
-use Rattle.spa_text_commands.proofs.ReadTexts.{begins, goes_on}
+use Rattle.spa_text_commands.proofs.ReadTexts.{begins, goes_on, not_read}
 use Rattle.spa_text_commands.proofs.reading.read_all.Goals as goal
 
 pub loop-left-init : goal.loop-left-init
-loop-left-init c = begins _ _ c.new-pods.ensures.items
+loop-left-init c = begins _ _ _ c.new-pods.ensures.items
 
 pub loop-left-smaller : goal.loop-left-smaller
 loop-left-smaller c =
@@ -13,8 +13,15 @@ loop-left-smaller c =
 
 pub loop-left-preserved : goal.loop-left-preserved
 loop-left-preserved c =
-    goes_on c.args.bytes.now c.loop-left.left.now c.split_text.result.0.now c.split_text.result.1.now c.loop-left.pods.items
+    goes_on c.args.strictness c.args.bytes.now c.loop-left.left.now c.split_text.result.0.now c.split_text.result.1.now c.loop-left.pods.items
     c.add_pod.new.pods.items c.loop-left.line c.position_behind-last.result.0 (c.position_behind-last.result.0 + 1)
     c.in-Ok.ensures.added.0 c.loop-left.invariant
     (c.split_text.ensures (λ e. let l = ap length e in grind (arith, l, c.loop-left-test.true, c.is_empty.ensures)))
     c.in-Ok.ensures.added.1 c.in-Ok.ensures.added.2 c.position_behind-last.ensures.line refl
+
+pub returns-in-Err-clause-refused : goal.returns-in-Err-clause-refused
+returns-in-Err-clause-refused c =
+    not_read c.args.strictness c.args.bytes.now c.loop-left.left.now c.split_text.result.0.now c.split_text.result.1.now c.loop-left.pods.items
+    c.loop-left.line c.failure_at.result c.loop-left.invariant
+    (c.split_text.ensures (λ e. let l = ap length e in grind (arith, l, c.loop-left-test.true, c.is_empty.ensures)))
+    (c.failure_at.ensures c.args.strictness c.in-Err.ensures.refused)

@@ -1,4 +1,4 @@
-use Rattle.pod_commands.specs.declared.request.Streaming.TheVariants.{Json, Rewrite, Show}
+use Rattle.pod_commands.specs.declared.request.Streaming.TheVariants.{Json, Rewrite, Print}
 use Rattle.pod_commands.proofs.Blocks.{unmade_by, written_by}
 use Rattle.pod_commands.proofs.streaming.StreamingBlockWriter.write_block.Goals as goal
 
@@ -18,10 +18,10 @@ pub returns-in-Rewrite-clause-refused : goal.returns-in-Rewrite-clause-refused
 returns-in-Rewrite-clause-refused g c =
     unmade_by c.args.self.now Rewrite c.args.count c.args.place _ _ _ _ c.write_block.result c.in-Rewrite.is c.write_block.ensures.refused
 
-pub returns-in-Show-clause-written : goal.returns-in-Show-clause-written
-returns-in-Show-clause-written g c =
-    written_by c.args.self.now Show c.args.count c.args.place _ _ _ c.write_lines.result c.in-Show.is c.write_lines.ensures.written
+pub returns-in-Print-clause-written : goal.returns-in-Print-clause-written
+returns-in-Print-clause-written g c =
+    written_by c.args.self.now (Print c.in-Print.printout) c.args.count c.args.place _ _ _ c.write_printed.result c.in-Print.is c.write_printed.ensures.written
 
-pub returns-in-Show-clause-refused : goal.returns-in-Show-clause-refused
-returns-in-Show-clause-refused g c =
-    unmade_by c.args.self.now Show c.args.count c.args.place _ _ _ _ c.write_lines.result c.in-Show.is c.write_lines.ensures.refused
+pub returns-in-Print-clause-refused : goal.returns-in-Print-clause-refused
+returns-in-Print-clause-refused g c =
+    unmade_by c.args.self.now (Print c.in-Print.printout) c.args.count c.args.place _ _ _ _ c.write_printed.result c.in-Print.is c.write_printed.ensures.refused

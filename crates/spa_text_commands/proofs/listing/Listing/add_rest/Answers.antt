@@ -1,6 +1,5 @@
 use Rattle.spa_text_commands.proofs.Saying.{adds_may, on_any}
 use Rattle.spa_text_commands.proofs.listing.Listing.add_rest.Goals as goal
 
-pub returns-clause-added : goal.returns-clause-added
-returns-clause-added g c =
-    on_any c.open.result (adds_may _ _ _ _ _ _ c.in_ok-end_line.ensures.added c.in_ok-add_refusal.ensures.added)
+pub returns : goal.returns
+returns c = on_any c.open.result (adds_may _ _ _ c.in_ok-end_line.ensures c.in_ok-add_refusal.ensures)

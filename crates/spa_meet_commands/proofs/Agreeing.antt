@@ -1,5 +1,5 @@
 -- Two inputs that agree or are refused, and an input that consists of two.
-use Rattle.std.proofs.Common.{◌≡◌, ◌≤◌, ℕ, List, [], append-nil, refl, subst, sym, inl, inr, arith, length, length-drop}
+use Rattle.std.proofs.Common.{◌≡◌, ℕ, List, [], append-nil, refl, subst, sym, inl, inr, arith, length, length-drop}
 use Rattle.std.proofs.lemmas.Bool.{cases_lt}
 use Rattle.std.proofs.lemmas.List.{nil_from_length}
 use Rattle.spa_format.specs.Words.{extent, word_at}

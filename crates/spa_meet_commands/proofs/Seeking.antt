@@ -1,9 +1,8 @@
 -- The steps of passing a list, and of looking for the first pair of two.
-use Rattle.std.proofs.Common.{◌≡◌, ◌≤◌, ◌<◌, ◌+◌, ◌-◌, ℕ, List, [], ◌∷◌, ◌++◌, Bool, true, false, refl, sym, inl, inr, arith, take, drop, length, ◌∙◌, ap, subst, Option, Some, None, length-append, length-drop, length-take, append_assoc, append-nil, ◌⊎◌}
-use Rattle.std.specs.Prelude.{Result, Ok, Err, IfErr, IfNone, IfOk, IfSome, ⊤}
-use Rattle.std.proofs.lemmas.List.{drop-drop, length-take-le, nil_from_length}
+use Rattle.std.proofs.Common.{◌≡◌, ◌<◌, ◌+◌, ◌-◌, ℕ, List, [], ◌∷◌, ◌++◌, refl, sym, inl, inr, arith, take, drop, length, ◌∙◌, ap, subst, Option, Some, None, length-drop, append_assoc, append-nil}
+use Rattle.std.specs.Prelude.{Result, IfNone}
+use Rattle.std.proofs.lemmas.List.{drop-drop, length-take-le, take-append-drop}
 use Rattle.spa_format.specs.Words.{extent, word_at}
-use Rattle.spa_format.specs.Tree.{Tree}
 use Rattle.spa_format.specs.Front.{HasFront, IsRefused, front_of, rest_of}
 use Rattle.spa_format.specs.Walk.{walk}
 use Rattle.spa_format.specs.Fixation.{walk_size}
@@ -12,8 +11,8 @@ use Rattle.spa_filter.specs.declared.error.FilterError.{FilterError}
 use Rattle.spa_filter.specs.declared.error.FilterError.TheVariants as cause
 use Rattle.spa_keyed_objects.specs.declared.side.Side.{Side}
 use Rattle.spa_object_view.specs.Fronts.{BeginsObject, BeginsOther}
-use Rattle.spa_meet_commands.specs.Agreeing.{Agree, AgreeIn, ArentAgreed}
-use Rattle.spa_meet_commands.specs.Lists.{AgreesWithNone, AreOfObjects, FirstGives, FirstPairGives, Gives, IsBehindObjects, IsList, IsNoList, IsOfDisagreement, NoneAgree, StopsAt}
+use Rattle.spa_meet_commands.specs.Agreeing.{Agree, ArentAgreed}
+use Rattle.spa_meet_commands.specs.Lists.{AgreesWithNone, AreApart, AreOfObjects, FirstGives, FirstPairGives, Gives, IsBehindObjects, IsList, IsNoList, IsOfDisagreement, NoneAgree, StopsAt}
 use Rattle.spa_meet_commands.specs.declared.pair.Work.{Work}
 use Rattle.spa_meet_commands.specs.declared.answer.Failure.{Failure}
 use Rattle.spa_meet_commands.specs.declared.answer.Failure.TheVariants.{Apart, More, NoPair, NoPod, NoObject, OutOfMemory}
@@ -182,3 +181,17 @@ disagrees work p q (cause.Unread s) r h = absurd h
 disagrees work p q (cause.NotObject s) r h = absurd h
 disagrees work p q cause.TooLarge r h = absurd h
 disagrees work p q cause.OutOfMemory r h = absurd h
+
+-- the walk over one pod finds that pod alone
+single : (a : List ℕ) → HasFront a → rest_of a ≡ [] → walk a ≡ a ∷ []
+single a there none =
+    let whole : front_of a ≡ a = sym (append-nil (front_of a)) ∙ ap (λ z. front_of a ++ z) (sym none) ∙ take-append-drop (extent (word_at a 0)) a in
+    let nothing : walk (rest_of a) ≡ [] = ap walk none ∙ walk-end [] (λ f. let x = f.header in absurd (omega arith)) in
+    walk-there a there ∙ ap (λ z. front_of a ∷ z) nothing ∙ ap (λ z. z ∷ []) whole
+
+-- of two lists of one object each no two agree: then these don't
+pub one_apart : (a b : List ℕ) → AreApart a b → rest_of a ≡ [] → rest_of b ≡ [] → ¬ (Agree a b)
+one_apart a b apart one other agree =
+    let none = subst (NoneAgree (walk a)) (single b agree.second.there other) apart.none in
+    let pair = subst (λ z. NoneAgree z (b ∷ [])) (single a agree.first.there one) none in
+    pair.0.0 agree

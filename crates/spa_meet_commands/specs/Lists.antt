@@ -99,23 +99,25 @@ pub record AreApart (a b : List ℕ) : Type 0 where
   pub theirs : IsList b
   pub none : NoneAgree (walk a) (walk b)
 
+-- the input isn't empty, and nothing follows the pod at its front
+abbrev pub IsOnePod : List ℕ → Type 0
+IsOnePod input = (input ≢ []) × (rest_of input ≡ [])
+
 -- each input has one object, and this is the refusal of the two
 pub record IsOnePairApart (work : Work) (a b : List ℕ) (e : FilterError) : Type 0 where
   pub apart : AreApart a b
-  pub ours : length a ≢ 0
-  pub theirs : length b ≢ 0
-  pub one : rest_of a ≡ []
-  pub other : rest_of b ≡ []
+  pub ours : IsOnePod a
+  pub theirs : IsOnePod b
   pub cause : ArentAgreed work a b e
 
--- The refusal of two inputs: one of the first comes before one of the second, and both before one of a pair. The refusal of two objects is
--- given where each list has one object.
+-- The refusal of two inputs: one of the first comes before one of the second, and both before one of a pair. Where each list has one object,
+-- the refusal is that of the two, and never that no two agree.
 abbrev pub AreListsRefused : Work → Failure → (a b : List ℕ) → Type 0
 AreListsRefused work (NoPod First place) a b = IsNoList First (NoPod First place) a
 AreListsRefused work (NoPod Second place) a b = IsList a × IsNoList Second (NoPod Second place) b
 AreListsRefused work (NoObject First place) a b = IsNoList First (NoObject First place) a
 AreListsRefused work (NoObject Second place) a b = IsList a × IsNoList Second (NoObject Second place) b
-AreListsRefused work NoPair a b = AreApart a b
+AreListsRefused work NoPair a b = AreApart a b × ¬ (IsOnePod a × IsOnePod b)
 AreListsRefused work (Apart type e) a b = HasType a type × (ListsGive work (Err e) a b ⊎ IsOnePairApart work a b e)
 AreListsRefused work OutOfMemory a b = ⊤
 AreListsRefused work _ a b = ⊥

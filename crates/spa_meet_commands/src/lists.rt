@@ -1,10 +1,10 @@
 //! Two lists of objects, and the first pair of them that agrees.
-ghost use Rattle.std.specs.Prelude.{◌≡◌, ◌↔◌, ◌∷◌, ◌+◌, ◌<◌, Err, IfErr, IfNone, IfOk, IfSome, IsTrue, Ok, OnOk, [], length};
+ghost use Rattle.std.specs.Prelude.{◌≡◌, ◌↔◌, ◌∷◌, ◌+◌, ◌<◌, Err, IfErr, IfNone, IfOk, IfSome, IsTrue, Ok, OnOk, [], false, length, true};
 ghost use Rattle.spa_format.specs.Front.{rest_of};
 ghost use Rattle.spa_format.specs.Walk.{walk};
 ghost use Rattle.spa_object_view.specs.Fronts.{BeginsObject, IsObject};
 ghost use Rattle.spa_value.specs.View.{view};
-ghost use Rattle.spa_meet_commands.specs.Lists.{AgreesWithNone, AreApart, AreListsRefused, FirstGives, FirstPairGives, IsList, IsNoList, IsOfDisagreement, ListsGive, NoneAgree, StopsAt};
+ghost use Rattle.spa_meet_commands.specs.Lists.{AgreesWithNone, AreApart, AreListsRefused, FirstGives, FirstPairGives, IsList, IsNoList, IsOfDisagreement, IsOnePod, ListsGive, NoneAgree, StopsAt};
 
 use crate::answer::Failure;
 use crate::pair::{Work, agreed, behind_front, type_at};
@@ -36,16 +36,24 @@ fn no_pair(alloc: Global, work: Work, a: &[u8], b: &[u8]) -> Failure
     requires { AreApart a.now b.now }
     ensures { AreListsRefused work result a.now b.now }
 {
-    if a.is_empty() || b.is_empty() {
+    if !is_one_pod(a) {
         return Failure::NoPair;
     }
-    if !behind_front(a).is_empty() || !behind_front(b).is_empty() {
+    if !is_one_pod(b) {
         return Failure::NoPair;
     }
     match agreed(alloc, work, a, b) {
-        Ok(_) => Failure::NoPair,
+        Ok(_) => unreachable!(),
         Err(cause) => Failure::Apart(type_at(a), cause),
     }
+}
+
+/// Whether the bytes are the whole pod at their front, and nothing else.
+fn is_one_pod(bytes: &[u8]) -> bool
+    ensures one { result ≡ true → IsOnePod bytes.now }
+    ensures other { result ≡ false → ¬ (IsOnePod bytes.now) }
+{
+    !bytes.is_empty() && behind_front(bytes).is_empty()
 }
 
 /// The outcome of the first pair that agrees. None: no pair does.

@@ -1,5 +1,5 @@
 //! Two objects, and the one on which they agree.
-ghost use Rattle.std.specs.Prelude.{◌≡◌, IfErr, IfOk};
+ghost use Rattle.std.specs.Prelude.{◌≡◌, IfErr, IfOk, OnOk};
 ghost use Rattle.spa_format.specs.Encoding.{encoding_of};
 ghost use Rattle.spa_format.specs.Front.{rest_of};
 ghost use Rattle.spa_format.specs.Pod.{IsPod};
@@ -7,7 +7,7 @@ ghost use Rattle.spa_format.specs.Tree.{Tree};
 ghost use Rattle.spa_filter.specs.Settling.{settled_of};
 ghost use Rattle.spa_object_view.specs.Fronts.{IsObject};
 ghost use Rattle.spa_value.specs.View.{object_view};
-ghost use Rattle.spa_meet_commands.specs.Agreeing.{AgreeIn, ArentAgreed, IsUnsettled, IsUnwritten};
+ghost use Rattle.spa_meet_commands.specs.Agreeing.{Agree, AgreeIn, ArentAgreed, IsUnsettled, IsUnwritten};
 ghost use Rattle.spa_meet_commands.specs.Answers.{HasType, IsPairRefused, PairIn};
 
 use crate::answer::Failure;
@@ -51,6 +51,7 @@ pub fn of_pair(alloc: Global, work: Work, input: &[u8]) -> Result<Vec<u8>, Failu
 /// The encoding of the object on which those at the fronts of two inputs agree.
 #[tactic(auto, using(crate::proofs::Agreeing::unfiltered_apart, crate::proofs::Agreeing::unsettled_apart, crate::proofs::Agreeing::meet, crate::proofs::Agreeing::filtered))]
 pub(crate) fn agreed(alloc: Global, work: Work, a: &[u8], b: &[u8]) -> Result<Vec<u8>, FilterError>
+    ensures accepted { OnOk result (Agree a.now b.now) }
     ensures agreed { IfOk result (λ met. AgreeIn work a.now b.now met.items) }
     ensures cause { IfErr result (ArentAgreed work a.now b.now) }
 {

@@ -16,6 +16,7 @@ pub record BuilderFields : Type 0 where
   pub bytes : List ℕ
   pub frames : List BegunPod
 
+-- the fields of a builder of these bytes and frames
 abbrev pub fields_of : List ℕ → List BegunPod → BuilderFields
 fields_of bytes frames = record { bytes = bytes; frames = frames }
 
@@ -36,6 +37,7 @@ what_of (open_property t i ps k f) = record { stage = Property; elements = no_el
 what_of (open_array xs) = record { stage = Array; elements = record { shape = 0; first = first_type xs; count = 0 } }
 what_of (open_choice h f xs) = record { stage = Choice; elements = record { shape = shape_number h; first = first_type xs; count = min 4 (length xs) } }
 
+-- the type number of an open tree
 abbrev pub type_of_partial : Partial → ℕ
 type_of_partial (open_struct vs) = struct_type
 type_of_partial (open_object t i ps) = object_type
@@ -55,6 +57,7 @@ body_so_far (open_choice h f xs) = word_bytes (shape_number h) ++ (word_bytes f 
 abbrev pub so_far : Partial → List ℕ
 so_far p = word_bytes 0 ++ (word_bytes (type_of_partial p) ++ body_so_far p)
 
+-- the bytes of these open trees so far, the outermost first
 abbrev pub all_so_far : List Partial → List ℕ
 all_so_far [] = []
 all_so_far (p ∷ ps) = all_so_far ps ++ so_far p

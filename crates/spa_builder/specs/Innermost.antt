@@ -53,6 +53,7 @@ has_elements (open_property t i qs k f) = false
 has_elements (open_array xs) = true
 has_elements (open_choice h f xs) = true
 
+-- the innermost open tree is an array or a choice
 abbrev pub takes_elements : List Partial → Bool
 takes_elements [] = false
 takes_elements (p ∷ ps) = has_elements p
@@ -67,6 +68,7 @@ is_first (open_array (x ∷ xs)) = false
 is_first (open_choice h f []) = true
 is_first (open_choice h f (x ∷ xs)) = false
 
+-- the open tree is an array or a choice, and takes this element
 abbrev pub takes_element : Partial → Fixed → Bool
 takes_element (open_struct vs) x = false
 takes_element (open_object t i qs) x = false
@@ -74,6 +76,7 @@ takes_element (open_property t i qs k f) x = false
 takes_element (open_array xs) x = array_takes xs x
 takes_element (open_choice h f xs) x = choice_takes h xs x
 
+-- an open array or choice with one more element; any other open tree as it is
 abbrev pub with_element : Partial → Fixed → Partial
 with_element (open_struct vs) x = open_struct vs
 with_element (open_object t i qs) x = open_object t i qs

@@ -36,9 +36,11 @@ call_of (PushObject t i) = push_object t i
 call_of (Pop f) = pop f.0
 call_of (Abandon f) = abandon f.0
 
+-- the model's calls for these calls
 abbrev pub calls_of : List BuildCall → List Call
 calls_of calls = map call_of calls
 
+-- the answer of a call
 abbrev pub Answer : Type 0
 Answer = Result (Unit {0}) Errno
 
@@ -75,6 +77,7 @@ abbrev pub state_from : State → List Call → Option State
 state_from s [] = Some s
 state_from s (c ∷ cs) = elim (step s c) as (λ _. Option State) [ Accepts t ↦ state_from t cs | Inval ↦ None | Nospc ↦ None ]
 
+-- the state after these calls on a new builder; None where the model's step accepts not all of them
 abbrev pub state_after_calls : List Call → Option State
 state_after_calls cs = state_from start cs
 

@@ -10,6 +10,7 @@ use Rattle.spa_format.specs.Faults.{choice_header_size}
 use Rattle.spa_format.specs.Encoding.{encoded_body, fixed_bodies}
 use Rattle.spa_builder.specs.State.{Partial, open_struct, open_object, open_property, open_array, open_choice, State, with_tree, with_property}
 
+-- the calls of a builder
 pub data Call : Type 0 where
   add : Tree → Call
   add_prop : (key flags : ℕ) → Call
@@ -23,6 +24,7 @@ pub data Call : Type 0 where
   -- gives up the innermost tree; its frame is the number of open trees after it was opened
   abandon : ℕ → Call
 
+-- what a call comes to: the next state, or a refusal as INVAL or NOSPC
 pub data Outcome : Type 0 where
   Accepts : State → Outcome
   Inval : Outcome
@@ -32,6 +34,7 @@ pub data Outcome : Type 0 where
 abbrev pub shape_of : ℕ → Option Shape
 shape_of n = cond (nat_eq n 0) (Some none_choice) (cond (nat_eq n 1) (Some range_choice) (cond (nat_eq n 2) (Some step_choice) (cond (nat_eq n 3) (Some enum_choice) (cond (nat_eq n 4) (Some flags_choice) None))))
 
+-- whether the byte is NUL
 abbrev pub is_nul : ℕ → Bool
 is_nul x = nat_eq x 0
 
@@ -51,6 +54,7 @@ abbrev mutual
   some_value_has_nul no_properties = false
   some_value_has_nul (property k f v ps) = has_nul v || some_value_has_nul ps
 
+-- whether two values of fixed size are of one kind
 abbrev pub same_kind : Fixed → Fixed → Bool
 same_kind x y = nat_eq (type_number (kind_of x)) (type_number (kind_of y))
 
@@ -72,7 +76,7 @@ abbrev pub choice_takes : Shape → List Fixed → Fixed → Bool
 choice_takes h [] x = not (same_kind none x)
 choice_takes h (y ∷ ys) x = same_kind y x && has_place h (length (y ∷ ys))
 
--- the open tree with one more value; None where it doesn't take that value
+-- the open tree with one more value; None where it doesn't take that value. An open array of Ints takes an Int, and no Long.
 abbrev pub tree_with_value : Partial → Tree → Option Partial
 tree_with_value (open_struct vs) v = Some (open_struct (with_tree vs v))
 tree_with_value (open_object t i ps) v = None
@@ -101,6 +105,7 @@ takes_trees (open_property t i qs k f ∷ ps) = true
 takes_trees (open_array xs ∷ ps) = false
 takes_trees (open_choice h f xs ∷ ps) = false
 
+-- the state after this tree is opened, in the innermost open tree or beside the closed values; None where no tree is allowed there
 abbrev pub state_with_tree : Partial → State → Option State
 state_with_tree p s = cond (takes_trees s.opened) (Some (record { closed = s.closed; opened = p ∷ s.opened })) None
 
@@ -135,7 +140,8 @@ own_size (open_array xs) = length (encoded_body (array_of xs))
 own_size (open_choice h f xs) = choice_header_size + length (fixed_bodies xs)
 
 -- The size of each open tree fits a word of 32 bits, where `inside` bytes are added to the innermost, and the open trees inside each are
--- counted as closed.
+-- counted as closed. Where the inner of two structs has a member of 16 bytes, and the outer one of 8 before it, the inner's size is 16, its extent 24,
+-- and the outer's size 32: `all_fit 0` asks whether 16 and 32 are below 4294967296.
 abbrev pub all_fit : ℕ → List Partial → Bool
 all_fit inside [] = true
 all_fit inside (p ∷ ps) = nat_lt (own_size p + inside) size_limit && all_fit (extent (own_size p + inside)) ps
@@ -160,6 +166,8 @@ abbrev pub state_after_abandon : Trees → List Partial → ℕ → Option State
 state_after_abandon closed [] frame = None
 state_after_abandon closed (p ∷ ps) frame = cond (nat_eq frame (length (p ∷ ps))) (Some (record { closed = closed; opened = ps })) None
 
+-- the outcome of a call in a state: of `push_struct` and then `add (fixed (int 3))` from the start, Accepts of a state with one open struct, which has the
+-- member Int 3; of `pop 2` then Inval, as the struct's frame is 1
 abbrev pub step : State → Call → Outcome
 step s (add v) = cond (has_nul v) Inval (outcome_if_fits (nat_lt (length (encoded_body v)) size_limit) (state_with_value s.closed s.opened v))
 step s (add_prop k f) = outcome_if_fits true (state_with_key s.closed s.opened k f)

@@ -26,10 +26,12 @@ pub record IsOrder (ps : Properties) (b order : List ℕ) : Type 0 where
   pub short : length b < size_limit
   pub same : IsPermutation (place_words (length b) ps b) order
 
+-- the index, where there is one, has the numbers of these properties
 abbrev pub MayBeOrder : Properties → List ℕ → Option (Vec ℕ Global) → Type 0
 MayBeOrder ps b None = ⊤
 MayBeOrder ps b (Some order) = IsOrder ps b order.items
 
+-- the index, where there is one, is ascending
 abbrev pub MayAscend : Option (Vec ℕ Global) → Type 0
 MayAscend None = ⊤
 MayAscend (Some order) = IsNonDecreasingBy (λ x. x) order.items

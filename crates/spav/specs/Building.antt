@@ -12,13 +12,15 @@ use Rattle.spa_builder.specs.Step as builder
 use Rattle.spa_builder.specs.Step.{Outcome, Accepts, Inval, Nospc, add, add_prop, pop, push_array, push_choice, push_object, push_struct, step}
 use Rattle.spav.specs.declared.building.Call.{Call}
 
--- the numbers of the calls that aren't type numbers
+-- the number of a call that adds a key; those of calls that add a value or open a container are the numbers of its type
 abbrev pub key_number : ℕ
 key_number = 256
 
+-- the number of a call that closes a container
 abbrev pub pop_number : ℕ
 pop_number = 257
 
+-- the number of a call that adds a whole array
 abbrev pub array_number : ℕ
 array_number = 258
 
@@ -101,6 +103,7 @@ abbrev pub outcome_of : State → Option builder.Call → Outcome
 outcome_of s None = Inval
 outcome_of s (Some call) = step s call
 
+-- the outcome of a call over these texts
 abbrev pub outcome_in : List ℕ → State → Call → Outcome
 outcome_in texts s c = outcome_of s (said_by s c.what texts c)
 

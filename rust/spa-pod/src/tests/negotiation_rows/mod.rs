@@ -129,7 +129,10 @@ fn push_met(
 }
 
 /// A sample rate in the one order and in the other.
-type Rates = (Result<Option<i32>, NegotiateError>, Result<Option<i32>, NegotiateError>);
+type Rates = (
+    Result<Option<i32>, NegotiateError>,
+    Result<Option<i32>, NegotiateError>,
+);
 
 /// Appends the line of a sample rate.
 fn push_rates(answers: &mut String, label: &str, rates: Rates) -> Result<(), AllocError> {
